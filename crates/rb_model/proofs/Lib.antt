@@ -3,3 +3,4 @@ pub mod Fragments
 pub mod Expiring
 pub mod ReplyHeads
 pub mod AskedArgs
+pub mod CostBounds

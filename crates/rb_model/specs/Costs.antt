@@ -1,10 +1,14 @@
 -- What events cost at most, in counted steps.
-use Rattle.std.specs.Prelude.{ℕ, ◌+◌, ◌*◌, List, [], ◌∷◌, length, Option, Some, None}
+use Rattle.std.specs.Prelude.{ℕ, ◌+◌, ◌*◌, Bool, false, if◌then◌else◌, List, [], ◌∷◌, length, Option, Some, None}
+use Rattle.rb_xdr.specs.Ordered.{looks}
 use Rattle.rb_forward.specs.Costs.{end_cost, sent_cost, unsent_cost}
 use Rattle.rb_forward.specs.Forwards.{Unsent as UnsentCall}
 use Rattle.rb_proto.specs.Costs.{note_cost, forward_cost, statistics_cost}
 use Rattle.rb_proto.specs.ListReplies.{part_room}
-use Rattle.rb_model.specs.Calls.{longest_reply, kept_of}
+use Rattle.rb_proto.specs.Puts.{walks_rows}
+use Rattle.rb_model.specs.declared.message.Message.{Message}
+use Rattle.rb_model.specs.declared.message.Message.TheVariants as says
+use Rattle.rb_model.specs.Calls.{longest_reply, kept_of, message_of}
 use Rattle.rb_model.specs.State.{Connection, State}
 use Rattle.rb_model.specs.Connections.{Taking, taking_of, live_connection}
 use Rattle.rb_model.specs.Connections.Taking.{TakesNone, GoesOn, Ends}
@@ -13,22 +17,55 @@ use Rattle.rb_model.specs.Step.Event.{Open, Bytes, Pending, Gave, Closed, NextLo
 
 -- ---- what costs depend on
 
--- how many connections there are, Lost ones too; how many rows are kept, live or retained, before a call and after it
--- (`left`); and how many forwarded calls there may be
+-- how many connections there are, Lost ones too; how many looks a search for a row takes; how many forwarded calls there
+-- may be; and what a message costs by that changes or lists rows: how many connections may give lists, how many rows are
+-- kept, live or retained, before a call and after it (`left`), and what the change of one row costs
 pub record Sizes : Type 0 where
   pub connections : ℕ
+  pub looks : ℕ
+  pub forwards : ℕ
+  pub lists : ℕ
   pub rows : ℕ
   pub left : ℕ
-  pub forwards : ℕ
+  pub change : ℕ
+
+-- what the change of a row costs among so many: two searches of so many looks, and what moves in the index
+abbrev pub change_cost : ℕ → ℕ → ℕ
+change_cost search rows = 2 * search + rows + 2
 
 -- those of a state, where the rows count by their limit
 abbrev pub sizes_in : State → Sizes
 sizes_in s = record {
   connections = length s.connections.all;
+  looks = looks s.setting.limits.rows;
+  forwards = s.setting.limits.forwards;
+  lists = length s.connections.all;
   rows = s.setting.limits.rows;
   left = s.setting.limits.rows;
-  forwards = s.setting.limits.forwards;
+  change = change_cost (looks s.setting.limits.rows) s.setting.limits.rows;
 }
+
+-- the message is a SET, an UNSET or a call for a list of rows
+abbrev pub asks_for_rows : Message → Bool
+asks_for_rows (says.Asked call) = walks_rows call.request
+asks_for_rows says.NoCall = false
+asks_for_rows (says.Refused head) = false
+asks_for_rows (says.Garbage head) = false
+
+-- what a message costs by: no other one walks rows or lists
+abbrev pub walked : Bool → ℕ → ℕ
+walked walks size = if walks then size else 0
+
+abbrev pub sizes_where : Bool → Sizes → Sizes
+sizes_where walks sizes = record sizes {
+  lists = walked walks sizes.lists;
+  rows = walked walks sizes.rows;
+  left = walked walks sizes.left;
+  change = walked walks sizes.change;
+}
+
+abbrev pub sizes_for : Message → Sizes → Sizes
+sizes_for message sizes = sizes_where (asks_for_rows message) sizes
 
 -- ---- parts of calls
 
@@ -37,11 +74,11 @@ sizes_in s = record {
 abbrev pub results_cost : ℕ → ℕ → ℕ
 results_cost rows written = 4 * rows + 72 + written + statistics_cost
 
--- what it costs to serve a message over so many rows, where so many are left: the procedure walks the rows, twice for
--- an UNSET, results are put in a reply of so many bytes, a look-up is noted, and what is forwarded is kept, of so many bytes
--- of arguments
-abbrev pub serve_cost : ℕ → ℕ → ℕ → ℕ → ℕ
-serve_cost rows left args written = 6 * rows + results_cost left written + 4 + note_cost + forward_cost args
+-- what it costs to serve a message: a row of each netid is changed, or two searches find one, results are put in a reply of
+-- so many bytes, a look-up is noted, and what is forwarded is kept, of so many bytes of arguments
+abbrev pub serve_cost : Sizes → ℕ → ℕ → ℕ
+serve_cost sizes args written =
+    5 * sizes.change + 2 * sizes.looks + results_cost sizes.left written + 4 + note_cost + forward_cost args
 
 -- what it costs to show a fragment: the window is emptied, and a header of 4 bytes and at most 1,024 of data are written
 abbrev pub show_cost : ℕ
@@ -86,12 +123,12 @@ evict_cost connections = 3 * connections + 1
 
 -- what it costs to check whether there is room for a row, and whether a message wants it, and to make it
 abbrev pub room_cost : Sizes → ℕ
-room_cost sizes = 14 * sizes.rows + 2 * oldest_cost sizes.connections + evict_cost sizes.connections + 12
+room_cost sizes = 8 * sizes.rows + sizes.looks + 2 * oldest_cost sizes.lists + evict_cost sizes.lists + 12
 
 -- what it costs to serve a message with so many bytes of arguments, once there is room for the row that it adds, where a
 -- reply of so many bytes is written
 abbrev pub message_cost : Sizes → ℕ → ℕ → ℕ
-message_cost sizes args written = room_cost sizes + serve_cost sizes.rows sizes.left args written
+message_cost sizes args written = room_cost sizes + serve_cost sizes args written
 
 -- what it costs to answer a record of whose arguments so many bytes are kept: the look at how many they are, they themselves,
 -- and the buffer emptied; to serve it; and to begin a list on its connection, of the rows that are left, or a reply
@@ -99,6 +136,16 @@ abbrev pub answer_cost : Sizes → ℕ → ℕ
 answer_cost sizes args =
     args + 2 + message_cost sizes args longest_reply + find_cost sizes.connections + listed_cost sizes.left + 1
     + recount_cost
+
+-- what a message that asks for no rows costs at most to serve: by the looks of a search, by its bytes and by those of its
+-- reply, and by nothing that is registered or retained
+abbrev pub plain_cost : ℕ → ℕ → ℕ → ℕ
+plain_cost search args written = 4 * search + args + written + 1700
+
+-- and a record of so many bytes with such a message, of whose arguments so many are kept, on one of so many connections
+abbrev pub plain_record_cost : ℕ → ℕ → ℕ → ℕ → ℕ
+plain_record_cost search connections taken args =
+    plain_cost search (2 * args) longest_reply + taken + 2 * find_cost connections + part_room + 2100
 
 -- what it costs to end one of so many forwarded calls, and to note its outcome
 abbrev pub entry_cost : ℕ → ℕ
@@ -124,7 +171,8 @@ count_taken piece (Ends n content) = n
 abbrev pub record_cost : Sizes → Taking → ℕ
 record_cost sizes TakesNone = 0
 record_cost sizes (GoesOn fed) = 0
-record_cost sizes (Ends n content) = swap_cost + answer_cost sizes (length (kept_of content))
+record_cost sizes (Ends n content) =
+    swap_cost + answer_cost (sizes_for (message_of content) sizes) (length (kept_of content))
 
 -- to take bytes where this is the connection, if there is one
 abbrev pub bytes_cost : Sizes → List ℕ → Option Connection → ℕ
@@ -173,7 +221,7 @@ event_cost s (Gave now id n) = find_cost (length s.connections.all) + 1 + gave_c
 event_cost s (Closed id) = close_cost (sizes_in s)
 event_cost s NextLost = find_cost (length s.connections.all)
 event_cost s (Datagram now peer content) =
-    datagram_cost (sizes_in s) (length content) (reply_count s (Datagram now peer content))
+    datagram_cost (sizes_for (message_of content) (sizes_in s)) (length content) (reply_count s (Datagram now peer content))
     + reply_cost s (Datagram now peer content)
 event_cost s Unsent = unsent_cost s.setting.limits.forwards (unsent_count (unsent_call s))
 event_cost s (Sent number) = sent_cost s.setting.limits.forwards

@@ -1,20 +1,55 @@
 -- What serving a message costs at most, by what is kept.
-use Rattle.std.specs.Prelude.{ℕ, List, length}
+use Rattle.std.specs.Prelude.{ℕ, Bool, true, false, IsTrue, List, length}
 use Rattle.rb_xdr.specs.Kept.{Kept}
 use Rattle.rb_xdr.specs.Meter.{Meter, PaysAtMost}
+use Rattle.rb_xdr.specs.Ordered.{looks}
 use Rattle.rb_registry.specs.Registry.{slots_of}
+use Rattle.rb_proto.specs.declared.answers.Answer.{Answer}
 use Rattle.rb_proto.specs.declared.books.Books.{Books}
-use Rattle.rb_model.specs.Costs.{results_cost, serve_cost}
+use Rattle.rb_proto.specs.Puts.{shows_rows}
+use Rattle.rb_model.specs.declared.message.Message.{Message}
+use Rattle.rb_model.specs.declared.served.Served.{Served}
+use Rattle.rb_model.specs.declared.served.Served.TheVariants.{Answered, Listed}
+use Rattle.rb_model.specs.Costs.{Sizes, change_cost, walked, sizes_for, asks_for_rows, results_cost, serve_cost}
 
 -- how many rows the books keep
 abbrev pub row_count_of : Books → ℕ
 row_count_of books = length (slots_of books.registry)
 
--- to put results into this buffer
-abbrev pub PaysForResults : Books → Kept → Meter → Meter → Type 0
-PaysForResults books out before now = PaysAtMost before now (results_cost (row_count_of books) (length out.bytes))
+-- what the costs of serving a message depend on, with so many connections; `old` and `new` are the books before and
+-- after it
+abbrev pub sizes_over : ℕ → Books → Books → Sizes
+sizes_over connections old new = record {
+  connections = connections;
+  looks = looks old.registry.limit;
+  forwards = old.forwards.cap;
+  lists = connections;
+  rows = row_count_of old;
+  left = row_count_of new;
+  change = change_cost (looks old.registry.limit) (row_count_of old);
+}
+
+-- to put results into this buffer; rows of the books are among them, or not
+abbrev pub PaysForResults : Bool → Books → Kept → Meter → Meter → Type 0
+PaysForResults rows books out before now =
+    PaysAtMost before now (results_cost (walked rows (row_count_of books)) (length out.bytes))
 
 -- to serve a message with these arguments, whose reply is in this buffer
-abbrev pub PaysToServe : Books → Books → List ℕ → Kept → Meter → Meter → Type 0
-PaysToServe old new args out before now =
-    PaysAtMost before now (serve_cost (row_count_of old) (row_count_of new) (length args) (length out.bytes))
+abbrev pub PaysToServe : Message → Books → Books → List ℕ → Kept → Meter → Meter → Type 0
+PaysToServe message old new args out before now =
+    PaysAtMost before now (serve_cost (sizes_for message (sizes_over 0 old new)) (length args) (length out.bytes))
+
+-- ---- lists
+
+-- a list is to be given
+abbrev pub is_listed : Served → Bool
+is_listed (Answered given) = false
+is_listed (Listed xid listing) = true
+
+-- rows are shown where they are to be listed
+abbrev pub ListsAnswer : Answer → Served → Type 0
+ListsAnswer answer served = IsTrue (is_listed served) → IsTrue (shows_rows answer)
+
+-- a list is given to a message that asks for rows alone
+abbrev pub ListsIfAsked : Message → Served → Type 0
+ListsIfAsked message served = IsTrue (is_listed served) → IsTrue (asks_for_rows message)

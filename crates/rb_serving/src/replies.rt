@@ -6,6 +6,7 @@ ghost use Rattle.rb_registry.specs.Cursors.{GoesOn};
 ghost use Rattle.rb_proto.specs.Books.{AreTied, SameFrame};
 ghost use Rattle.rb_proto.specs.Ledger.{Ledger, StandsForLedger};
 ghost use Rattle.rb_proto.specs.Results.{results_at, shown_in, shown_of};
+ghost use Rattle.rb_proto.specs.Puts.{are_rows, shows_rows};
 ghost use Rattle.rb_forward.specs.Forwards.{longest_results};
 ghost use Rattle.rb_forward.specs.Outcomes.{PassesWithin};
 ghost use Rattle.rb_proto.specs.Forwarding.{forwarded_bytes};
@@ -16,7 +17,7 @@ ghost use Rattle.rb_model.specs.Ending.{outcome_of_failure, outcome_at_end};
 ghost use Rattle.rb_model.specs.Grammar.{HasArgsIn};
 ghost use Rattle.rb_serving.specs.Serving.{kind_of, HasRoom, outcome_in, TellsAnswer, ServesMessage, ServesNull, CanServe, IsEmptyReply, LeavesBooks, WritesReply, IsStreamedTo, list_streamed};
 ghost use Rattle.rb_model.specs.Served.{kind_in, IsWritten};
-ghost use Rattle.rb_serving.specs.Costs.{PaysForResults, PaysToServe};
+ghost use Rattle.rb_serving.specs.Costs.{PaysForResults, PaysToServe, ListsAnswer, ListsIfAsked};
 ghost use Rattle.rb_model.specs.Costs.{put_end_cost};
 
 use rb_forward::{Ended, Forward, Outcome as End};
@@ -68,7 +69,7 @@ fn put_system_err(xid: u32, out: &mut Kept, meter: &mut Meter)
 }
 
 /// Writes a whole reply into an empty buffer, or SYSTEM_ERR where it does not fit.
-#[tactic(auto, using(rb_model::proofs::ReplyHeads::some_fitting), unfolding(rb_model::specs::Calls::fitting_reply, rb_model::specs::Calls::longest_reply))]
+#[tactic(auto, using(rb_model::proofs::ReplyHeads::some_fitting, crate::proofs::Costs::results_few), unfolding(rb_model::specs::Calls::fitting_reply, rb_model::specs::Calls::longest_reply))]
 fn put_reply_with(
     results: &Results,
     xid: u32,
@@ -84,7 +85,7 @@ fn put_reply_with(
     ensures shows { (l : Ledger) → StandsForLedger books.now l
         → shown_in books.now ≡ shown_of l }
     ensures some { 0 < length out.new.bytes }
-    ensures cost { PaysForResults books.now out.new meter.old meter.new }
+    ensures cost { PaysForResults (are_rows results.now) books.now out.new meter.old meter.new }
 {
     put_success(xid, out, meter);
     if put_results(results, books, listener, LONGEST_REPLY, out, meter).is_err() {
@@ -123,7 +124,8 @@ fn put_answer(
     ensures list { IsStreamedTo context.now.caller result }
     ensures written { IsWritten result out.new.bytes }
     ensures out { WritesReply out.old out.new }
-    ensures cost { PaysForResults books.now out.new meter.old meter.new }
+    ensures listed { ListsAnswer answer.now result }
+    ensures cost { PaysForResults (shows_rows answer.now) books.now out.new meter.old meter.new }
 {
     match answer {
         Answer::Results(results) => {
@@ -163,7 +165,9 @@ pub fn serve(
     ensures cursors { GoesOn books.old.registry books.new.registry }
     ensures floor { books.new.registry.floor ≡ books.old.registry.floor }
     ensures leaves { LeavesBooks context.now books.old books.new result out.old out.new }
-    ensures cost { PaysToServe books.old books.new arguments.now out.new meter.old meter.new }
+    ensures listed { ListsIfAsked message.now result }
+    ensures cost { PaysToServe message.now
+        books.old books.new arguments.now out.new meter.old meter.new }
 {
     match message {
         Message::NoCall => Served::Answered(Outcome::NoCall),
