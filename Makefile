@@ -25,7 +25,7 @@ all:
 run:
 	@PORT=$(PORT) examples/run.sh
 
-# Every proof from nothing, the edits that must be refused, each test, and the rows of tests/rows.
+# Each test, every proof from nothing, the edits that must be refused, and the rows.
 test:
 	@tests/run-all.sh
 

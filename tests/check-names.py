@@ -14,8 +14,8 @@ from itertools import chain
 from pathlib import Path
 
 ROOT = Path(__file__).resolve().parent.parent
-CRATES = sorted(p.name for p in (ROOT / "crates").iterdir() if (p / "src").is_dir())
-DOCUMENTS = [ROOT / "README.md", *sorted((ROOT / "docs").glob("*.md")), *sorted(ROOT.glob("crates/*/README.md"))]
+CRATES = sorted([p.parent.name for p in ROOT.glob("crates/*/src")] + [p.parent.name for p in ROOT.glob("tests/crates/*/lib.rs")])
+DOCUMENTS = [ROOT / "README.md", *sorted((ROOT / "docs").glob("*.md")), *sorted(ROOT.glob("crates/*/README.md")), *sorted(ROOT.glob("tests/crates/*/README.md"))]
 OTHERS = set((ROOT / "tests" / "names-of-others").read_text().split())
 
 TICKED = re.compile(r"`([^`\n]+)`(?: \(([^)`]*)\))?(?: of `?(rb_\w+|rpcinfo|rpcbind)`?)?")
@@ -29,7 +29,7 @@ class Crate:
         folder = ROOT / "crates" / name
         self.definitions = {f.stem: spec_names(f.read_text()) for f in folder.glob("specs/**/*.antt")}
         self.functions = set()
-        for file in folder.glob("src/**/*.rt"):
+        for file in chain(folder.glob("src/**/*.rt"), (ROOT / "tests" / "crates" / name).glob("*.rs")):
             self.functions |= source_names(file.read_text())
             self.functions |= {f"{file.stem}::{n}" for n in source_names(file.read_text())}
         self.edits = {f.stem for f in folder.glob("must-fail/*.edit")}
@@ -136,7 +136,7 @@ def check_rules(text):
 def looks_like_ours(name):
     if re.search(r"[\s=<>{}\[\]|$@,]|NAME|/?out/|\.\.$|^\.\.", name) or name.startswith(("-", "/", "~", "$", "::")):
         return False
-    return bool(re.search(r"_|::|/|[a-z][A-Z]", name) or re.search(r"\.(rt|antt|md|sh|py|edit|events|txt)$", name)
+    return bool(re.search(r"_|::|/|[a-z][A-Z]", name) or re.search(r"\.(rt|rs|antt|md|sh|py|edit|events|txt)$", name)
                 or re.fullmatch(r"[A-Z]\w*\.\w+", name))
 
 

@@ -45,6 +45,16 @@ count_memory() {
     echo "$free"
 }
 
+# How many commands may work side by side here, where each takes so many MiB of memory.
+count_slots() {
+    local slots cores
+    slots=$(($(count_memory) / $1))
+    cores=$(count_cores)
+    [ "$slots" -gt 0 ] || slots=1
+    [ "$slots" -lt "$cores" ] || slots=$cores
+    echo "$slots"
+}
+
 # The crates of crates.txt, one a line.
 list_crates() {
     sed -nE 's/^([a-z0-9_]+)([: ].*)?$/\1/p' crates.txt

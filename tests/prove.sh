@@ -263,9 +263,7 @@ tell_outcome() {
 
 say_kit || exit 1
 cores=$(count_cores)
-slots=$(($(count_memory) / memory_of_one))
-[ "$slots" -gt 0 ] || slots=1
-[ "$slots" -lt "$cores" ] || slots=$cores
+slots=$(count_slots "$memory_of_one")
 free=$slots
 read_crates
 measure_chains

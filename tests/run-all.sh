@@ -1,7 +1,7 @@
 #!/usr/bin/env bash
-# The whole test: `rt ci` (every proof from nothing, the edits that must be refused, each test and each program),
-# then the rows. The last line is 'N passed, N failed' over both; the status is 1 where one failed. With --anew, nothing
-# that this machine passed before is kept.
+# The whole test: the tests without proof, `rt ci` (every proof from nothing, the edits that must be refused, and each
+# program), and the rows. The last line is 'N passed, N failed' over all; the status is 1 where one failed. With --anew,
+# nothing that this machine passed before is kept.
 set -u
 cd "$(dirname "$0")/.." || exit 1
 . tests/machine.sh
@@ -34,7 +34,6 @@ show_progress() {
     while IFS= read -r line || [ -n "$line" ]; do
         printf '%s\n' "$line"
         case $line in
-            'rt: '*': its tests'*) continue ;;
             'rt: '*' proved' | 'rt: '*' NOT PROVED'* | 'rt: '*' is kept: '*) proved=$((proved + 1)) ;;
             'rt: '*': trying its must-fail edits'*) tried=$((tried + 1)) ;;
             *) continue ;;
@@ -54,6 +53,7 @@ echo "make test: $crates crates on $cores cores: from nothing about $(minutes_of
 if [ "${1:-}" = --anew ] && ! rt help 2>&1 | grep -q -e --anew; then
     shift
 fi
+add tests/run-tests.sh
 add rt ci "$@"
 add tests/run-rows.sh
 echo "$passed passed, $failed failed"

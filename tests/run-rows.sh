@@ -592,7 +592,7 @@ check_crates_are_named() {
         name=${line%%[: ]*}
         [ -n "$name" ] || continue
         grep -qw -- "$name" README.md || unnamed="$unnamed $name"
-    done < crates.txt
+    done < <(cat crates.txt tests/crates/uses.txt)
     [ -z "$unnamed" ]
     judge $? "README.md does not name:$unnamed"
 }

@@ -1,0 +1,43 @@
+//! What the tests begin with: a core, and bytes that are written as words.
+
+use rb_core::{Core, CoreFault, Limits, Listener, Peer};
+use rb_xdr::Meter;
+use std::alloc::{AllocError, Global};
+
+/// Who calls.
+pub(crate) const LOOPBACK: Peer = Peer {
+    host: [127, 0, 0, 1],
+    port: 900,
+};
+
+pub(crate) const LISTENER: Listener = Listener {
+    host: [192, 0, 2, 1],
+    port: 111,
+};
+
+/// Room for four connections and four forwarded calls, and for so many rows.
+pub(crate) fn limits_of(rows: usize) -> Limits {
+    Limits {
+        conns: 4,
+        rows,
+        forwards: 4,
+    }
+}
+
+/// Its first forwarded call has the xid 1000, and its first moment is 0.
+pub(crate) fn core_of(alloc: Global, rows: usize, meter: &mut Meter) -> Result<Core, CoreFault> {
+    Core::new(alloc, limits_of(rows), LISTENER, 1000, 0, meter)
+}
+
+pub(crate) fn bytes_of(alloc: Global, words: &[u32]) -> Result<Vec<u8>, AllocError> {
+    let mut bytes = Vec::new(alloc);
+    for word in words {
+        bytes.extend_from_slice(&word.to_be_bytes())?;
+    }
+    Ok(bytes)
+}
+
+/// A SET of version 2 by nobody: the program, version 1, of a protocol, at port 2049.
+pub(crate) fn set_call(xid: u32, prog: u32, prot: u32) -> [u32; 14] {
+    [xid, 0, 2, 100_000, 2, 1, 0, 0, 0, 0, prog, 1, prot, 2049]
+}

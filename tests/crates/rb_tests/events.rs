@@ -1,0 +1,363 @@
+use rb_core::{
+    Core, CoreFault, Exchanged, Limits, Listener, NoMemory, Outcome, Peer, Standing, Taken,
+};
+use rb_replay::{Event, Output, replay};
+use rb_xdr::Meter;
+use std::alloc::{AllocError, Global};
+use std::process::Abort;
+use std::test::Fail;
+
+const LOOPBACK: Peer = Peer {
+    host: [127, 0, 0, 1],
+    port: 900,
+};
+
+const LISTENER: Listener = Listener {
+    host: [192, 0, 2, 1],
+    port: 111,
+};
+
+const LIMITS: Limits = Limits {
+    conns: 4,
+    rows: 300,
+    forwards: 4,
+};
+
+// A NULL call of version 2, of xid 1.
+const NULL: [u32; 10] = [1, 0, 2, 100_000, 2, 0, 0, 0, 0, 0];
+
+// The reply to that call.
+const NULL_REPLY: &[u8] = b"\0\0\0\x01\0\0\0\x01\0\0\0\0\0\0\0\0\0\0\0\0\0\0\0\0";
+
+// A whole record with that call.
+const NULL_RECORD: [u32; 11] = [0x8000_0028, 1, 0, 2, 100_000, 2, 0, 0, 0, 0, 0];
+
+// The first bytes of a record with that call and 100,000 bytes behind it.
+const OVERLONG: [u32; 11] = [0x8001_86c8, 1, 0, 2, 100_000, 2, 0, 0, 0, 0, 0];
+
+fn new_core(alloc: Global, meter: &mut Meter) -> Result<Core, CoreFault> {
+    Core::new(alloc, LIMITS, LISTENER, 1000, 0, meter)
+}
+
+fn words(alloc: Global, numbers: &[u32]) -> Result<Vec<u8>, AllocError> {
+    let mut bytes = Vec::new(alloc);
+    for n in numbers {
+        bytes.extend_from_slice(&n.to_be_bytes())?;
+    }
+    Ok(bytes)
+}
+
+// The outputs of the events.
+fn outputs(
+    alloc: Global,
+    core: &mut Core,
+    events: &[Event],
+    meter: &mut Meter,
+) -> Result<Vec<Output>, NoMemory> {
+    let mut outputs = Vec::new(alloc);
+    replay(alloc, core, events, &mut outputs, meter)?;
+    Ok(outputs)
+}
+
+// The call is answered, and the 24 bytes of its reply are held.
+fn null_is_answered(rt: &impl Abort, core: &mut Core, call: &[u8], meter: &mut Meter) {
+    assert_eq!(rt; core.held(), 270);
+    assert_eq!(rt; core.datagram(0, LOOPBACK, call, meter), Outcome::Reply);
+    assert_eq!(rt; core.udp_reply(meter), NULL_REPLY);
+    assert_eq!(rt; core.held(), 294);
+    assert!(rt; core.held() <= core.bytes_bound());
+}
+
+#[test]
+fn new_core_has_memory(rt: HostRuntime) -> Result<(), Fail> {
+    let mut meter = Meter::new();
+    let call = words(rt.alloc(), &NULL)?;
+    let mut core = new_core(rt.alloc(), &mut meter)?;
+    null_is_answered(&rt, &mut core, &call, &mut meter);
+    Ok(())
+}
+
+#[test]
+fn limits_and_numbers(rt: HostRuntime) {
+    for (conns, rows, forwards) in [(0, 8, 0), (257, 8, 0), (1, 7, 0), (1, 4097, 0), (1, 8, 65)] {
+        let limits = Limits {
+            conns,
+            rows,
+            forwards,
+        };
+        let made = Core::new(rt.alloc(), limits, LISTENER, 1000, 0, &mut Meter::new());
+        assert!(rt; matches!(made, Err(CoreFault::BadLimits)));
+    }
+}
+
+fn set_and_nothing(alloc: Global) -> Result<Vec<Event>, AllocError> {
+    let set = [3, 0, 2, 100_000, 2, 1, 0, 0, 0, 0, 200_001, 1, 6, 2049];
+    let mut events = Vec::new(alloc);
+    events.push(Event::Datagram(0, LOOPBACK, words(alloc, &set)?))?;
+    events.push(Event::Datagram(0, LOOPBACK, Vec::new(alloc)))?;
+    Ok(events)
+}
+
+#[test]
+fn replay_has_memory(rt: HostRuntime) -> Result<(), Fail> {
+    let mut meter = Meter::new();
+    let events = set_and_nothing(rt.alloc())?;
+    let mut core = new_core(rt.alloc(), &mut meter)?;
+    let given = outputs(rt.alloc(), &mut core, &events, &mut meter)?;
+    assert!(rt; matches!(given.as_slice(), [Output::Replied(_), Output::Silent]));
+    Ok(())
+}
+
+/// A connection is opened, calls, is answered and is closed: each call of a connection once.
+fn one_connection(alloc: Global) -> Result<Vec<Event>, AllocError> {
+    let mut events = Vec::new(alloc);
+    events.push(Event::Open(0, LOOPBACK))?;
+    events.push(Event::Bytes(0, 1, words(alloc, &NULL_RECORD)?))?;
+    events.push(Event::Gave(0, 1, 3))?;
+    events.push(Event::Pending(1))?;
+    events.push(Event::NextLost)?;
+    events.push(Event::Closed(1))?;
+    Ok(events)
+}
+
+/// The reply to that call, marked, behind its first 3 bytes.
+const REST: [u8; 25] = [
+    24, 0, 0, 0, 1, 0, 0, 0, 1, 0, 0, 0, 0, 0, 0, 0, 0, 0, 0, 0, 0, 0, 0, 0, 0,
+];
+
+fn rest_is_pending(outputs: &[Output]) -> bool {
+    matches!(outputs.get(3), Some(Output::Pending(rest)) if rest.as_slice() == REST.as_slice())
+}
+
+fn connection_is_served(
+    rt: &impl Abort,
+    alloc: Global,
+    core: &mut Core,
+    meter: &mut Meter,
+) -> Result<(), Fail> {
+    let events = one_connection(alloc)?;
+    let given = outputs(alloc, core, &events, meter)?;
+    assert!(rt; given.len() == 6 && rest_is_pending(&given));
+    assert!(rt; matches!(given.last(), Some(Output::Done)));
+    assert_eq!(rt; core.held(), 270);
+    Ok(())
+}
+
+#[test]
+fn connections_have_memory(rt: HostRuntime) -> Result<(), Fail> {
+    let mut meter = Meter::new();
+    let mut core = new_core(rt.alloc(), &mut meter)?;
+    connection_is_served(&rt, rt.alloc(), &mut core, &mut meter)
+}
+
+fn null_call(alloc: Global) -> Result<Vec<Event>, AllocError> {
+    let mut events = Vec::new(alloc);
+    events.push(Event::Datagram(0, LOOPBACK, words(alloc, &NULL)?))?;
+    Ok(events)
+}
+
+fn is_null_reply(outputs: &[Output]) -> bool {
+    matches!(outputs, [Output::Replied(reply)] if reply.as_slice() == NULL_REPLY)
+}
+
+/// A NULL call and its reply, of which 24 bytes are held.
+#[test]
+fn null_reply(rt: HostRuntime) -> Result<(), Fail> {
+    let mut meter = Meter::new();
+    let events = null_call(rt.alloc())?;
+    let mut core = new_core(rt.alloc(), &mut meter)?;
+    assert_eq!(rt; core.held(), 270);
+    let given = outputs(rt.alloc(), &mut core, &events, &mut meter)?;
+    assert!(rt; is_null_reply(&given));
+    assert_eq!(rt; core.held(), 294);
+    Ok(())
+}
+
+fn opening(alloc: Global) -> Result<Vec<Event>, AllocError> {
+    let mut events = Vec::new(alloc);
+    events.push(Event::Open(0, LOOPBACK))?;
+    Ok(events)
+}
+
+fn arrival(alloc: Global, piece: &[u8]) -> Result<Vec<Event>, AllocError> {
+    let mut bytes = Vec::new(alloc);
+    bytes.extend_from_slice(piece)?;
+    let mut events = Vec::new(alloc);
+    events.push(Event::Bytes(0, 1, bytes))?;
+    Ok(events)
+}
+
+fn took(outputs: &[Output], count: usize) -> bool {
+    matches!(outputs, [Output::Took(n)] if *n == count)
+}
+
+// A piece of 1,000 bytes arrives 99 times, each time whole, and never more than 9,214 bytes are held.
+fn stays_small(
+    alloc: Global,
+    core: &mut Core,
+    piece: &[Event],
+    meter: &mut Meter,
+) -> Result<bool, NoMemory> {
+    for _i in 0..99 {
+        let given = outputs(alloc, core, piece, meter)?;
+        if !took(&given, 1000) || core.held() > 9214 {
+            return Ok(false);
+        }
+    }
+    Ok(true)
+}
+
+fn connection_opens(
+    rt: &impl Abort,
+    alloc: Global,
+    core: &mut Core,
+    meter: &mut Meter,
+) -> Result<(), Fail> {
+    let open = opening(alloc)?;
+    let given = outputs(alloc, core, &open, meter)?;
+    assert!(rt; matches!(given.as_slice(), [Output::Opened(1)]) && core.held() == 398);
+    Ok(())
+}
+
+// The first 44 bytes of the record.
+fn record_begins(
+    rt: &impl Abort,
+    alloc: Global,
+    core: &mut Core,
+    meter: &mut Meter,
+) -> Result<(), Fail> {
+    let first = arrival(alloc, &words(alloc, &OVERLONG)?)?;
+    let given = outputs(alloc, core, &first, meter)?;
+    assert!(rt; took(&given, 44) && core.held() == 398);
+    Ok(())
+}
+
+// The 100,000 bytes behind them.
+fn record_ends(
+    rt: &impl Abort,
+    alloc: Global,
+    core: &mut Core,
+    meter: &mut Meter,
+) -> Result<(), Fail> {
+    let next = arrival(alloc, &[0xff; 1000])?;
+    assert!(rt; stays_small(alloc, core, &next, meter)?);
+    let given = outputs(alloc, core, &next, meter)?;
+    assert!(rt; took(&given, 1000) && core.held() == 450);
+    assert!(rt; core.held() <= core.bytes_bound());
+    Ok(())
+}
+
+/// What is held while a record of 100,044 bytes comes in, in 101 pieces.
+#[test]
+fn overlong_record_is_answered(rt: HostRuntime) -> Result<(), Fail> {
+    let mut meter = Meter::new();
+    let mut core = new_core(rt.alloc(), &mut meter)?;
+    assert_eq!(rt; core.held(), 270);
+    connection_opens(&rt, rt.alloc(), &mut core, &mut meter)?;
+    record_begins(&rt, rt.alloc(), &mut core, &mut meter)?;
+    record_ends(&rt, rt.alloc(), &mut core, &mut meter)
+}
+
+/// The whole reply to a NULL call of xid 1 on a connection.
+const NULL_MARKED: [u8; 28] = [
+    0x80, 0, 0, 24, 0, 0, 0, 1, 0, 0, 0, 1, 0, 0, 0, 0, 0, 0, 0, 0, 0, 0, 0, 0, 0, 0, 0, 0,
+];
+
+// The whole record is taken, and so many bytes of its reply are given at once, with which the connection stands so.
+fn gives_at_once(
+    core: &mut Core,
+    record: &[u8],
+    room: &mut [u8],
+    given: usize,
+    standing: Standing,
+    meter: &mut Meter,
+) -> bool {
+    let taken = Taken {
+        count: 44,
+        closed: false,
+    };
+    core.exchange(0, 1, record, room, meter)
+        == Ok(Exchanged {
+            taken,
+            given,
+            standing,
+        })
+}
+
+// Where there is room for the longest fragment the reply is given at once, and is pending no more.
+fn gives_with_room(core: &mut Core, record: &[u8], meter: &mut Meter) -> bool {
+    let mut room = [0; 1028];
+    gives_at_once(core, record, &mut room, 28, Standing::Idle, meter)
+        && room.starts_with(&NULL_MARKED)
+        && core.pending(1, meter) == Ok(&[])
+}
+
+// Where there is a byte less the reply is pending.
+fn waits_without_room(core: &mut Core, record: &[u8], meter: &mut Meter) -> bool {
+    let mut room = [0; 1027];
+    gives_at_once(core, record, &mut room, 0, Standing::Owing, meter)
+        && core.pending(1, meter) == Ok(NULL_MARKED.as_slice())
+}
+
+#[test]
+fn replies_are_given_at_once(rt: HostRuntime) -> Result<(), Fail> {
+    let mut meter = Meter::new();
+    let record = words(rt.alloc(), &NULL_RECORD)?;
+    let mut core = new_core(rt.alloc(), &mut meter)?;
+    connection_opens(&rt, rt.alloc(), &mut core, &mut meter)?;
+    assert!(rt; gives_with_room(&mut core, &record, &mut meter));
+    assert!(rt; waits_without_room(&mut core, &record, &mut meter));
+    Ok(())
+}
+
+// Each byte of the record is taken by itself, in at most 328 steps.
+fn bytes_are_cheap(core: &mut Core, front: &[u8], meter: &mut Meter) -> Result<bool, CoreFault> {
+    for byte in front {
+        let Taken { count, closed } = core.bytes(0, 1, &[*byte], meter)?;
+        if count != 1 || closed || core.steps(meter) > 328 {
+            return Ok(false);
+        }
+    }
+    Ok(true)
+}
+
+// CALLIT with 8,800 bytes of arguments, in one fragment.
+fn greatest_callit(alloc: Global) -> Result<Vec<u8>, AllocError> {
+    let head = [
+        0x8000_2298,
+        18,
+        0,
+        2,
+        100_000,
+        2,
+        5,
+        0,
+        0,
+        0,
+        0,
+        200_001,
+        1,
+        0,
+        8800,
+    ];
+    let mut record = words(alloc, &head)?;
+    record.extend_from_slice(&[7; 8800])?;
+    Ok(record)
+}
+
+/// At limits of 4 connections a byte that ends no record takes at most 8 steps, 64 for each connection, and 64.
+#[test]
+fn single_bytes_are_cheap(rt: HostRuntime) -> Result<(), Fail> {
+    let mut meter = Meter::new();
+    let limits = Limits {
+        conns: 4,
+        rows: 8,
+        forwards: 1,
+    };
+    let record = greatest_callit(rt.alloc())?;
+    let (_, front) = record.split_last().ok_or("empty")?;
+    let mut core = Core::new(rt.alloc(), limits, LISTENER, 1000, 0, &mut meter)?;
+    assert_eq!(rt; core.open(0, LOOPBACK, &mut meter), Ok(1));
+    assert_eq!(rt; bytes_are_cheap(&mut core, front, &mut meter), Ok(true));
+    Ok(())
+}

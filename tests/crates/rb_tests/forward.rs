@@ -1,0 +1,35 @@
+use rb_forward::{Forward, Forwards};
+use rb_rpc::{Caller, Kind, Peer};
+use rb_xdr::Meter;
+use std::test::Fail;
+
+const TARGET: Peer = Peer {
+    host: [127, 0, 0, 1],
+    port: 2049,
+};
+
+// Procedure 0 of program 200001, version 1, for a datagram of xid 15.
+fn forward() -> Forward {
+    Forward {
+        caller: Caller::Udp(Peer {
+            host: [127, 0, 0, 1],
+            port: 900,
+        }),
+        xid: 15,
+        kind: Kind::Indirect,
+        target: TARGET,
+        shown: TARGET,
+        prog: 200_001,
+        vers: 1,
+        proc: 0,
+    }
+}
+
+#[test]
+fn forwards_has_memory(rt: HostRuntime) -> Result<(), Fail> {
+    let mut meter = Meter::new();
+    let mut forwards = Forwards::new(rt.alloc(), 1, 7, &mut meter)?;
+    assert!(rt; forwards.start(0, &forward(), b"", &mut meter).is_ok());
+    assert!(rt; forwards.start(0, &forward(), b"", &mut meter).is_err());
+    Ok(())
+}

@@ -1,0 +1,24 @@
+//! Tests of the public calls of the libraries, apart from them, so that no library is proved a second time for its tests.
+
+#[cfg(test)]
+mod arguments;
+#[cfg(test)]
+mod events;
+#[cfg(test)]
+mod feed;
+#[cfg(test)]
+mod forward;
+#[cfg(test)]
+mod lines;
+#[cfg(test)]
+mod proto;
+#[cfg(test)]
+mod registry;
+#[cfg(test)]
+mod rpc;
+#[cfg(test)]
+mod stats;
+#[cfg(test)]
+mod uaddr;
+#[cfg(test)]
+mod xdr;

@@ -1,0 +1,97 @@
+use rb_registry::{Cursor, Netid, Owner, Registry, RegistryFault, Row, Transport, Which};
+use rb_uaddr::Uaddr;
+use rb_xdr::Meter;
+use std::process::Abort;
+use std::test::Fail;
+
+// A row at port 111 of every host.
+fn row(prog: u32, vers: u32, netid: Netid, owner: Owner) -> Row {
+    Row {
+        prog,
+        vers,
+        netid,
+        owner,
+        addr: Uaddr::any(111).text(),
+    }
+}
+
+// Program 100000, versions 4, 3 and 2, on tcp and then on udp.
+fn own_rows() -> [Row; 6] {
+    [
+        row(100_000, 4, Netid::Tcp, Owner::SUPERUSER),
+        row(100_000, 3, Netid::Tcp, Owner::SUPERUSER),
+        row(100_000, 2, Netid::Tcp, Owner::SUPERUSER),
+        row(100_000, 4, Netid::Udp, Owner::SUPERUSER),
+        row(100_000, 3, Netid::Udp, Owner::SUPERUSER),
+        row(100_000, 2, Netid::Udp, Owner::SUPERUSER),
+    ]
+}
+
+// The last digit of each row's version, in the order of the rows.
+fn versions(registry: &Registry, meter: &mut Meter) -> u64 {
+    let stamp = registry.stamp();
+    let mut digits: u64 = 0;
+    let mut cursor = Cursor::start();
+    'rows: while let Some((next, row)) = registry.next_row(stamp, cursor, meter) {
+        digits = digits
+            .wrapping_mul(10)
+            .wrapping_add(u64::from(row.vers % 10));
+        cursor = next;
+    }
+    digits
+}
+
+#[test]
+fn registry_has_memory(rt: HostRuntime) -> Result<(), Fail> {
+    let mut meter = Meter::new();
+    let registry = Registry::new(rt.alloc(), 8, own_rows(), &mut meter)?;
+    assert_eq!(rt; registry.len(&mut meter), 6);
+    let refused = Registry::new(rt.alloc(), 5, own_rows(), &mut meter);
+    assert!(rt; matches!(refused, Err(RegistryFault::BadLimits)));
+    let refused = Registry::new(rt.alloc(), usize::MAX, own_rows(), &mut meter);
+    assert!(rt; matches!(refused, Err(RegistryFault::NoMemory)));
+    Ok(())
+}
+
+// Two versions of a program are set, and the first of them no second time.
+fn two_are_set(rt: &impl Abort, registry: &mut Registry, meter: &mut Meter) {
+    let uid = Owner::Uid(500);
+    assert!(rt; registry.set(row(200_001, 1, Netid::Tcp, uid), meter));
+    assert!(rt; !registry.set(row(200_001, 1, Netid::Tcp, uid), meter));
+    assert!(rt; registry.set(row(200_001, 3, Netid::Tcp, uid), meter));
+    assert_eq!(rt; registry.stamp(), 2);
+}
+
+// They are found, behind the own rows.
+fn two_are_found(rt: &impl Abort, registry: &Registry, meter: &mut Meter) -> Result<(), Fail> {
+    let newest = registry
+        .find(200_001, 9, Netid::Tcp, meter)
+        .ok_or("no row")?;
+    assert_eq!(rt; newest.vers, 3);
+    assert!(rt; registry.find_exact(200_001, 9, Netid::Tcp, meter).is_none());
+    assert_eq!(rt; versions(registry, meter), 43_243_213);
+    Ok(())
+}
+
+#[test]
+fn rows_are_set_and_found(rt: HostRuntime) -> Result<(), Fail> {
+    assert_eq!(rt; Transport::Udp.netid().text(), b"udp".as_slice());
+    let mut meter = Meter::new();
+    let mut registry = Registry::new(rt.alloc(), 300, own_rows(), &mut meter)?;
+    two_are_set(&rt, &mut registry, &mut meter);
+    two_are_found(&rt, &registry, &mut meter)
+}
+
+#[test]
+fn rows_are_removed(rt: HostRuntime) -> Result<(), Fail> {
+    let mut meter = Meter::new();
+    let mut registry = Registry::new(rt.alloc(), 300, own_rows(), &mut meter)?;
+    let uid = Owner::Uid(500);
+    assert!(rt; registry.set(row(200_001, 1, Netid::Tcp, uid), &mut meter));
+    assert!(rt; !registry.unset(200_001, 1, Which::Inet, Owner::Unknown, &mut meter));
+    assert!(rt; !registry.unset(100_000, 2, Which::All, Owner::SUPERUSER, &mut meter));
+    assert!(rt; registry.unset(200_001, 1, Which::One(Netid::Tcp), uid, &mut meter));
+    assert_eq!(rt; registry.stamp(), 2);
+    assert_eq!(rt; registry.len(&mut meter), 6);
+    Ok(())
+}
