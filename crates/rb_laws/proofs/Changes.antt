@@ -1,6 +1,6 @@
 -- Which events change the rows, and by which calls.
 use Rattle.std.specs.Prelude.{bytes_eq, option_map}
-use Rattle.std.proofs.Common.{◌≡◌, ◌≢◌, ℕ, max, Bool, true, false, cond, ◌&&◌, Option, Some, None, Result, Ok, Err, List, [], ◌∷◌, ◌++◌, map, get_or, refl, sym, ap, subst, ◌∙◌, append-nil, append_assoc, arith}
+use Rattle.std.proofs.Common.{◌≡◌, ◌≢◌, ℕ, max, Bool, true, false, cond, ◌&&◌, Option, Some, None, Ok, List, [], ◌∷◌, ◌++◌, map, get_or, refl, sym, ap, subst, ◌∙◌, append-nil, append_assoc, arith}
 use Rattle.std.proofs.lemmas.Bool.{and_parts}
 use Rattle.std.proofs.lemmas.Option.{same_Some}
 use Rattle.std.proofs.lemmas.Slice.Eq.{bytes_eq-Decides}
@@ -8,7 +8,6 @@ use Rattle.rb_xdr.specs.Xdr.{number, boolean, opaque}
 use Rattle.rb_rpc.specs.Replies.{reply_head}
 use Rattle.rb_rpc.specs.declared.peer.Caller.{Caller}
 use Rattle.rb_rpc.specs.declared.peer.Caller.TheVariants.{Tcp, Udp}
-use Rattle.rb_rpc.specs.declared.peer.Peer.{Peer}
 use Rattle.rb_rpc.specs.declared.peer.Kind.{Kind}
 use Rattle.rb_rpc.specs.declared.call.CallHead.{CallHead}
 use Rattle.rb_feed.specs.Feeds.{arguments_of}
@@ -34,23 +33,19 @@ use Rattle.rb_proto.specs.Answers.{comes_from_here, can_be_set, accepts_row, set
 use Rattle.rb_model.specs.declared.message.Message.{Message}
 use Rattle.rb_model.specs.declared.message.Message.TheVariants as says
 use Rattle.rb_model.specs.Calls.{Outcome, Outcome as outcomes, message_of, outcome, success, fitting_reply, longest_reply, reply_with}
-use Rattle.rb_forward.specs.declared.types.Ended.{Ended as EntryEnd}
 use Rattle.rb_forward.specs.Forwards.{can_be_sent}
 use Rattle.rb_proto.specs.Forwarding.{forward_call, target_replied, fell_due, caller_dropped, call_sent}
-use Rattle.rb_model.specs.declared.types.Told.{Told}
-use Rattle.rb_model.specs.declared.types.CoreFault.{CoreFault}
-use Rattle.rb_model.specs.declared.types.CoreFault.TheVariants.{Gone}
-use Rattle.rb_model.specs.Losses.{first_due, with_lost, expire_first, stamp_in, evict_early, evict}
-use Rattle.rb_model.specs.Ending.{tell_end, at_fresh_moment, forward_reply, lost_as, expire_connection, expired_as, expire}
+use Rattle.rb_model.specs.Losses.{stamp_in, evict_early, evict}
 use Rattle.rb_model.specs.State.{State, Phase, Connection, Connections, at_moment, opening}
 use Rattle.rb_model.specs.State.Phase.{Idle, Reading, Owing, Awaiting, Lost}
-use Rattle.rb_model.specs.Connections.{Taking, taking_of, settle, live_connection, changed_at, close_in_table}
+use Rattle.rb_model.specs.Connections.{Taking, taking_of, settle, live_connection, is_there, changed_at}
 use Rattle.rb_model.specs.Connections.Taking.{TakesNone, GoesOn, Ends}
-use Rattle.rb_model.specs.Step.{Event, Output, context_in, serve, serve_record, when_taken, with_count, bytes_to, bytes, on_connection, dropped_with, sent_call, show_end, show_expired, unless_refused, pending, gave, is_too_much, open_connection, close_connection, with_reply, datagram, output_or, show_taken, show_done, show_outcome, step, after}
+use Rattle.rb_model.specs.Step.{Event, Output, context_in, serve, serve_record, when_taken, with_count, bytes_to, bytes, on_connection, with_reply, datagram, output_or, show_taken, show_outcome, step, after}
 use Rattle.rb_model.specs.Step.Event.{Open, Bytes, Pending, Gave, Closed, NextLost, Datagram, Unsent, Sent, Forward, Expire}
-use Rattle.rb_model.specs.Step.Output.{Opened, TooMuch, IsPending, Replied}
+use Rattle.rb_model.specs.Step.Output.{Replied}
 use Rattle.rb_model.specs.ChangeLaws.{change_asked, change_where, change_told, told_true, is_told_true, Brought, record_in, record_on, brought_by, said_to, change_from, change_by, changes_by, Asks, Owes, GetsReply, MayBeMade, ChangesAtMostOnce, ChangesAreAccepted, ChangesAreThoseAccepted}
 use Rattle.rb_model.specs.ChangeLaws.ChangesAtMostOnce.{Same, OneMore}
+use Rattle.rb_laws.proofs.LedgerSteps.{ledger_from, ledger_left, step-ledger}
 use Rattle.rb_laws.proofs.Cuts.{find-changed}
 use Rattle.rb_laws.proofs.Live.{replying-feeds}
 use Rattle.rb_laws.proofs.Crowds.{plain_lives}
@@ -66,7 +61,7 @@ unfolding fitting_reply longest_reply reply_head number boolean opaque
 not_both xid e =
     apart (get_or (success xid (boolean false)) 27 0) (get_or (success xid (boolean true)) 27 0) refl refl (ap (λ (bytes : List ℕ). get_or bytes 27 0) e)
 
-told-true : (xid : ℕ) (b : Bool) → is_told_true xid (outcomes.Reply (success xid (boolean b)) None) ≡ b
+pub told-true : (xid : ℕ) (b : Bool) → is_told_true xid (outcomes.Reply (success xid (boolean b)) None) ≡ b
 told-true xid true = (bytes_eq-Decides (success xid (boolean true)) (success xid (boolean true))).1 refl
 told-true xid false = by_test (bytes_eq (success xid (boolean false)) (success xid (boolean true))) refl
   where
@@ -146,97 +141,36 @@ outcome-appends context (says.Asked call) arguments l = (answer-fits context cal
 
 -- ---- what an event changes
 
-serve-appends : (s : State) (now : ℕ) (caller : Caller) (content : List ℕ)
-    → (serve (at_moment now s) caller content).1.ledger.changes ≡ s.ledger.changes ++ change_from s (Some (record { now = now; caller = caller; content = content }))
+message-appends : (s : State) (o : Option Brought) → Appends s.ledger (change_from s o) (ledger_from s o)
 unfolding serve
-serve-appends s now caller content = outcome-appends (context_in (at_moment now s) caller) (message_of content) (arguments_of content) s.ledger
+message-appends s None = sym (append-nil s.ledger.changes)
+message-appends s (Some m) = outcome-appends (context_in (at_moment m.now s) m.caller) (message_of m.content) (arguments_of m.content) s.ledger
 
-pub outcome-shown : (r : Outcome × State) → (show_outcome (with_reply r)).1.ledger.changes ≡ r.1.ledger.changes
-outcome-shown (outcomes.NoCall, t) = refl
-outcome-shown (outcomes.Reply reply stamp, t) = refl
-outcome-shown (outcomes.Forwarded, t) = refl
-outcome-shown (outcomes.Silent, t) = refl
-
-bytes-append : (s : State) (now id : ℕ) (piece : List ℕ) (o : Option Connection)
-    → (output_or show_taken (bytes_to s now id piece o)).1.ledger.changes ≡ s.ledger.changes ++ change_from s (record_on now id piece o)
-unfolding serve_record
-bytes-append s now id piece None = sym (append-nil s.ledger.changes)
-bytes-append s now id piece (Some c) = by_taking (taking_of c.phase piece)
+-- what no message brings leaves them
+left-appends : (s : State) (event : Event) → Appends s.ledger (change_by s event) (ledger_left s event)
+unfolding target_replied fell_due caller_dropped call_sent
+left-appends s (Open now peer) = sym (append-nil s.ledger.changes)
+left-appends s (Bytes now id piece) = message-appends s (record_on now id piece (live_connection id s.connections.all))
+left-appends s (Pending id) = sym (append-nil s.ledger.changes)
+left-appends s (Gave now id n) = sym (append-nil s.ledger.changes)
+left-appends s (Closed id) = by_test (is_there id s.connections)
   where
-    by_taking : (t : Taking) → (when_taken (at_moment now s) id piece c t).1.ledger.changes ≡ s.ledger.changes ++ change_from s (record_in now id c.peer t)
-    by_taking TakesNone = sym (append-nil s.ledger.changes)
-    by_taking (GoesOn fed) = sym (append-nil s.ledger.changes)
-    by_taking (Ends n content) = serve-appends s now (Tcp id c.peer) content
-
--- an event that brings no message leaves them
-abbrev Leaves : State → State → Type 0
-Leaves s u = u.ledger.changes ≡ s.ledger.changes
-
-moved-leaves : {A : Type 0} (s : State) (now : ℕ) (show : A → Output) (r : Result A CoreFault × Connections) → Leaves s (output_or show (unless_refused now s r)).1
-moved-leaves s now show r = grind arith
-
-shown-leaves : {A : Type 0} (s : State) (show : A → Output) (r : Result A CoreFault) → Leaves s (output_or show (r, s)).1
-shown-leaves s show r = grind arith
-
-closed-leaves : (s : State) (id : ℕ) (r : Result (Unit {0}) CoreFault × Connections) → Leaves s (output_or show_done (dropped_with s id r)).1
-unfolding caller_dropped
-closed-leaves s id r = grind arith
-
-sent-leaves : (s : State) (number : ℕ) (b : Bool) → Leaves s (output_or show_done (cond b (Ok tt, record s { ledger = call_sent number s.ledger }) (Err Gone, s))).1
-unfolding call_sent
-sent-leaves s number b = grind arith
-
-tell-leaves : (s : State) (at : ℕ) (message : List ℕ) (r : Option EntryEnd × Ledger) → r.1.changes ≡ s.ledger.changes → Leaves s (tell_end message (at_fresh_moment at s) r).1
-tell-leaves s at message r e = grind arith
-
-end-leaves : (s : State) (r : Option Told × State) → Leaves s r.1 → Leaves s (show_end r).1
-end-leaves s (None, t) f = f
-end-leaves s (Some told, t) f = f
-
-expired-leaves : (s : State) (r : Option Told × State) → Leaves s r.1 → Leaves s (show_expired (expired_as r)).1
-unfolding expire_connection expire_first
-expired-leaves s (Some told, t) f = f
-expired-leaves s (None, t) f = by_found (first_due t.clock t.connections)
+    by_test : (b : Bool) → Appends s.ledger [] (cond b (caller_dropped id s.ledger).1 s.ledger)
+    by_test true = sym (append-nil s.ledger.changes)
+    by_test false = sym (append-nil s.ledger.changes)
+left-appends s NextLost = sym (append-nil s.ledger.changes)
+left-appends s (Datagram now peer content) = message-appends s (Some (record { now = now; caller = Udp peer; content = content }))
+left-appends s Unsent = sym (append-nil s.ledger.changes)
+left-appends s (Sent number) = by_test (can_be_sent number s.ledger.forwards)
   where
-    by_found : (o : Option ℕ) → Leaves s (show_expired (lost_as o, record t { connections = with_lost o t.connections })).1
-    by_found None = f
-    by_found (Some id) = f
+    by_test : (b : Bool) → Appends s.ledger [] (cond b (call_sent number s.ledger) s.ledger)
+    by_test true = sym (append-nil s.ledger.changes)
+    by_test false = sym (append-nil s.ledger.changes)
+left-appends s (Forward now from message) = sym (append-nil s.ledger.changes)
+left-appends s (Expire now) = sym (append-nil s.ledger.changes)
 
-replied-leaves : (l : Ledger) (first_xid clock : ℕ) (from : Peer) (message : List ℕ) → (target_replied first_xid clock from message l).1.changes ≡ l.changes
-unfolding target_replied
-replied-leaves l first_xid clock from message = refl
-
-due-leaves : (l : Ledger) (clock : ℕ) → (fell_due clock l).1.changes ≡ l.changes
-unfolding fell_due
-due-leaves l clock = refl
-
-either-leaves : (s : State) (b : Bool) (x y : Output × State) → Leaves s x.1 → Leaves s y.1 → Leaves s (cond b x y).1
-either-leaves s true x y left right = left
-either-leaves s false x y left right = right
-
-nothing-more : (s u : State) → Leaves s u → u.ledger.changes ≡ s.ledger.changes ++ []
-nothing-more s u e = e ∙ sym (append-nil s.ledger.changes)
-
-pub step-appends : (s : State) (event : Event) → (step s event).1.ledger.changes ≡ s.ledger.changes ++ change_by s event
-unfolding step bytes open_connection gave close_connection datagram sent_call forward_reply expire
-step-appends s (Open now peer) = nothing-more s (step s (Open now peer)).1 (moved-leaves s now Opened _)
-step-appends s (Bytes now id piece) = bytes-append s now id piece (live_connection id s.connections.all)
-step-appends s (Pending id) = nothing-more s (step s (Pending id)).1 (shown-leaves s IsPending (pending s id))
-step-appends s (Gave now id n) = nothing-more s (step s (Gave now id n)).1 (either-leaves s (is_too_much n (pending s id)) (TooMuch, s) (output_or show_done (gave s now id n)) refl (moved-leaves s now show_done _))
-step-appends s (Closed id) = nothing-more s (step s (Closed id)).1 (closed-leaves s id (close_in_table id s.connections))
-step-appends s NextLost = nothing-more s s refl
-step-appends s (Datagram now peer content) =
-    outcome-shown (serve (at_moment now s) (Udp peer) content) ∙ serve-appends s now (Udp peer) content
-step-appends s Unsent = nothing-more s s refl
-step-appends s (Sent number) = nothing-more s (step s (Sent number)).1 (sent-leaves s number (can_be_sent number s.ledger.forwards))
-step-appends s (Forward now from message) =
-    nothing-more s (step s (Forward now from message)).1
-    (end-leaves s (tell_end message (at_fresh_moment now s) (target_replied s.setting.first_xid (max s.clock now) from message s.ledger))
-    (tell-leaves s now message (target_replied s.setting.first_xid (max s.clock now) from message s.ledger) (replied-leaves s.ledger s.setting.first_xid (max s.clock now) from message)))
-step-appends s (Expire now) =
-    nothing-more s (step s (Expire now)).1
-    (expired-leaves s (tell_end [] (at_fresh_moment now s) (fell_due (max s.clock now) s.ledger))
-    (tell-leaves s now [] (fell_due (max s.clock now) s.ledger) (due-leaves s.ledger (max s.clock now))))
+pub step-appends : (s : State) (event : Event) → Appends s.ledger (change_by s event) (step s event).1.ledger
+step-appends s event = subst (Appends s.ledger (change_by s event)) (sym (step-ledger s event)) (left-appends s event)
 
 -- ---- runs
 

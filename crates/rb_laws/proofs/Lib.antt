@@ -35,6 +35,8 @@ pub mod RepliesShown
 pub mod KeptLengths
 pub mod Waiting
 pub mod WholeRuns
+pub mod LedgerSteps
 pub mod Changes
+pub mod History
 pub mod Restoring
 pub mod Spelling

@@ -45,7 +45,8 @@ use Rattle.rb_model.specs.ChangeLaws.{credential_for, MayBeMade, ChangesAtMostOn
 use Rattle.rb_model.specs.ChangeLaws.ChangesAtMostOnce.{Same, OneMore}
 use Rattle.rb_laws.proofs.Grammar.{by_verdict_again}
 use Rattle.rb_laws.proofs.Ledgers.{settable-short, step-own, step-setting, ledgers_are_well_kept}
-use Rattle.rb_laws.proofs.Changes.{outcome-shown, shown-replied, at-most-once}
+use Rattle.rb_laws.proofs.Changes.{shown-replied, at-most-once}
+use Rattle.rb_laws.proofs.LedgerSteps.{step-ledger}
 
 -- ---- the bytes of a call are read back
 
@@ -124,9 +125,8 @@ told-true context row arguments l here may place = rw (row-again row, from-here 
 
 set-step : (t : State) (now : ℕ) (row : Row) → IsSpelled row → can_be_set row ≡ true → has_place t.setting.limits.rows (rows_in t.ledger) (length t.ledger.changes) row ≡ true
     → (step t (set_call now row)).1.ledger.changes ≡ t.ledger.changes ++ Added row ∷ []
-unfolding step datagram serve
 set-step t now row is may place =
-    outcome-shown (serve (at_moment now t) (Udp this_machine) (set_bytes row))
+    ap (λ (l : Ledger). l.changes) (step-ledger t (set_call now row))
     ∙ ap (λ (m : Message). (outcome (context_in (at_moment now t) (Udp this_machine)) m (arguments_of (set_bytes row)) t.ledger).1.changes) (read-again row is may)
     ∙ sets (context_in (at_moment now t) (Udp this_machine)) row (arguments_of (set_bytes row)) t.ledger refl may place
 

@@ -3,6 +3,7 @@ ghost use Rattle.rb_model.specs.Grammar.{AskedMessagesAreOfTheGrammar, RefusedMe
 ghost use Rattle.rb_model.specs.State.{State};
 ghost use Rattle.rb_model.specs.Laws.{RunsAppend, StatesAppend, RefusedEventsChangeNothing, NumbersNeverRecur, CutsDoNotMatter, NextLostIsLeast, BytesAreTakenExactly, RepliesAreGivenWhole, OwedRepliesStay, LedgersAreWellKept};
 ghost use Rattle.rb_model.specs.ChangeLaws.{ChangesAreAccepted, ChangesAreThoseAccepted, RowsCanBeSet, RowsAreSpelled, KeptCallsAreShort, RowsCanBeSetAgain, KeptRowsAreRestored};
+ghost use Rattle.rb_model.specs.HistoryLaws.{EventsAreNoted, HistoryIsOfItsEvents};
 ghost use Rattle.rb_model.specs.Closings.{ConnectionsCloseExactly};
 ghost use Rattle.rb_model.specs.ForwardLaws.{ConnectionsAwait, RepliesEndTheirOwn, DeadlinesEndOne, UdpCallersAreTold, EventsChangeAtMostOne, EntriesEndOnce};
 ghost use Rattle.rb_model.specs.Sessions.{SessionsAreWhole};
@@ -148,6 +149,14 @@ pub fn whole_runs_are_bounded()
 pub fn changes_are_accepted()
     ensures events { ChangesAreAccepted }
     ensures runs { ChangesAreThoseAccepted }
+{}
+
+/// From every state, an event appends to the history its notes and nothing else: a whole call that it brings counts as
+/// called where it reaches its procedure, and as what it did there; a forwarded call that it ends counts by its outcome. In
+/// every run from an opening, the history is the notes of its events, in order.
+pub fn calls_are_noted()
+    ensures events { EventsAreNoted }
+    ensures runs { HistoryIsOfItsEvents }
 {}
 
 /// In each state that a run reaches, each row that was set may be set: it is of another program than the portmapper, at an

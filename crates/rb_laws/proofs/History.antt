@@ -1,0 +1,165 @@
+-- What each event appends to the history.
+use Rattle.std.proofs.Common.{◌≡◌, ℕ, Bool, true, false, cond, Option, Some, None, List, [], ◌∷◌, ◌++◌, refl, sym, ap, subst, ◌∙◌, append-nil, append_assoc}
+use Rattle.rb_rpc.specs.declared.call.CallHead.{CallHead}
+use Rattle.rb_rpc.specs.declared.peer.Caller.TheVariants.{Udp}
+use Rattle.rb_rpc.specs.declared.peer.Peer.{Peer}
+use Rattle.rb_rpc.specs.declared.peer.Kind.{Kind}
+use Rattle.rb_rpc.specs.declared.peer.Kind.TheVariants.{Callit2, Callit3, Bcast, Indirect}
+use Rattle.rb_feed.specs.Feeds.{arguments_of}
+use Rattle.rb_registry.specs.declared.row.Row.{Row}
+use Rattle.rb_registry.specs.declared.row.Transport.{Transport}
+use Rattle.rb_registry.specs.declared.row.Which.{Which}
+use Rattle.rb_registry.specs.Rows.{Change}
+use Rattle.rb_registry.specs.Rows.Change.{Added}
+use Rattle.rb_stats.specs.Statistics.{Note}
+use Rattle.rb_stats.specs.Statistics.Note.{WasSet, WasUnset}
+use Rattle.rb_forward.specs.Forwards.{can_be_sent, can_start}
+use Rattle.rb_arguments.specs.declared.mapping.Mapping.{Mapping}
+use Rattle.rb_arguments.specs.declared.remote.RemoteCall.{RemoteCall}
+use Rattle.rb_arguments.specs.declared.procedure.MappingProcedure.TheVariants as mappings
+use Rattle.rb_arguments.specs.declared.procedure.RpcbProcedure.TheVariants as rpcbs
+use Rattle.rb_arguments.specs.declared.request.Request.{Request}
+use Rattle.rb_arguments.specs.declared.request.Request.TheVariants as requests
+use Rattle.rb_arguments.specs.Remote.{args_of}
+use Rattle.rb_proto.specs.declared.answers.Answer.{Answer}
+use Rattle.rb_proto.specs.declared.answers.Value.TheVariants as values
+use Rattle.rb_proto.specs.declared.context.Context.{Context}
+use Rattle.rb_proto.specs.Ledger.{Ledger, rows_in, version_of, with_call_noted}
+use Rattle.rb_proto.specs.Netids.{transport_of_prot}
+use Rattle.rb_proto.specs.Results.{result_bytes}
+use Rattle.rb_proto.specs.Answers.{accepts_row, set_row, accepts_removal, removal_of, unset_rows, change_if, port_on, getport, getaddr, getversaddr, answer_to, answer, tell_done}
+use Rattle.rb_proto.specs.Forwarding.{outcome_note, peer_to_forward, forward_to, forward_call, end_notes, target_replied, fell_due, caller_dropped, call_sent}
+use Rattle.rb_model.specs.declared.message.Message.{Message}
+use Rattle.rb_model.specs.declared.message.Message.TheVariants as says
+use Rattle.rb_model.specs.Calls.{message_of, outcome, reply_with}
+use Rattle.rb_model.specs.Connections.{live_connection, is_there}
+use Rattle.rb_model.specs.State.{State, at_moment, opening}
+use Rattle.rb_model.specs.Step.{Event, context_in, serve, step, after}
+use Rattle.rb_model.specs.Step.Event.{Open, Bytes, Pending, Gave, Closed, NextLost, Datagram, Unsent, Sent, Forward, Expire}
+use Rattle.rb_model.specs.ChangeLaws.{is_told_true, Brought, record_on}
+use Rattle.rb_model.specs.HistoryLaws.{call_note, notes_where, getport_notes, failure_notes, notes_done, notes_of, notes_from, notes_by, history_by, EventsAreNoted, HistoryIsOfItsEvents}
+use Rattle.rb_laws.proofs.Changes.{told-true}
+use Rattle.rb_laws.proofs.LedgerSteps.{ledger_from, ledger_left, step-ledger}
+
+-- ---- what a call is noted as
+
+abbrev Notes : Ledger → List Note → Ledger → Type 0
+Notes old more new = new.history ≡ old.history ++ more
+
+-- an answer, and the notes of what was done
+record Fits (context : Context) (head : CallHead) (request : Request) (l : Ledger) (given : Answer × Ledger) : Type 0 where
+  notes : Notes l (notes_done context head request (reply_with context head.xid given).0 (rows_in l)) given.1
+
+change-noted : (change : Change) (note : Note) (l : Ledger) (b : Bool) → Notes l (notes_where b note) (change_if b change note l).1
+change-noted change note l true = refl
+change-noted change note l false = sym (append-nil l.history)
+
+done-noted : (context : Context) (xid : ℕ) (note : Note) (l : Ledger) (done : Bool × Ledger) → Notes l (notes_where done.0 note) done.1
+    → Notes l (notes_where (is_told_true xid (reply_with context xid (tell_done values.Bool done)).0) note) (tell_done values.Bool done).1
+unfolding result_bytes
+done-noted context xid note l (b, new) e = rw (told-true xid b) e
+
+set-noted : (context : Context) (head : CallHead) (o : Option Row) (l : Ledger) → Notes l (notes_where (set_row context head o l).0 (WasSet (version_of head.vers))) (set_row context head o l).1
+unfolding set_row
+set-noted context head None l = sym (append-nil l.history)
+set-noted context head (Some row) l = change-noted (Added row) (WasSet (version_of head.vers)) l (accepts_row context l row)
+
+unset-noted : (context : Context) (head : CallHead) (prog vers : ℕ) (o : Option Which) (l : Ledger) → Notes l (notes_where (unset_rows context head prog vers o l).0 (WasUnset (version_of head.vers))) (unset_rows context head prog vers o l).1
+unfolding unset_rows
+unset-noted context head prog vers None l = sym (append-nil l.history)
+unset-noted context head prog vers (Some which) l =
+    change-noted (removal_of head prog vers which) (WasUnset (version_of head.vers)) l (accepts_removal context l (removal_of head prog vers which))
+
+getport-noted : (head : CallHead) (m : Mapping) (l : Ledger) (o : Option Transport) → Notes l (getport_notes head m (rows_in l) o) (port_on head m o l).1
+getport-noted head m l None = sym (append-nil l.history)
+getport-noted head m l (Some transport) = refl
+
+forward-noted : (context : Context) (xid : ℕ) (kind : Kind) (remote : RemoteCall) (args : List ℕ) (o : Option Peer) (l : Ledger)
+    → Notes l (failure_notes (reply_with context xid (forward_to context xid kind remote args o l)).0 (outcome_note kind context.caller remote.prog remote.vers remote.proc false)) (forward_to context xid kind remote args o l).1
+forward-noted context xid kind remote args None l = refused kind
+  where
+    refused : (kind : Kind) → Notes l (failure_notes (reply_with context xid (forward_to context xid kind remote args None l)).0 (outcome_note kind context.caller remote.prog remote.vers remote.proc false)) (forward_to context xid kind remote args None l).1
+    refused Callit2 = refl
+    refused Callit3 = refl
+    refused Bcast = refl
+    refused Indirect = refl
+forward-noted context xid kind remote args (Some registered) l = by_place kind (can_start context.forwards l.forwards) refl
+  where
+    by_place : (kind : Kind) (b : Bool) → can_start context.forwards l.forwards ≡ b
+        → Notes l (failure_notes (reply_with context xid (forward_to context xid kind remote args (Some registered) l)).0 (outcome_note kind context.caller remote.prog remote.vers remote.proc false)) (forward_to context xid kind remote args (Some registered) l).1
+    by_place kind true e = rw e (sym (append-nil l.history))
+    by_place Callit2 false e = rw e refl
+    by_place Callit3 false e = rw e refl
+    by_place Bcast false e = rw e refl
+    by_place Indirect false e = rw e refl
+
+answer-noted : (context : Context) (head : CallHead) (request : Request) (arguments : List ℕ) (l : Ledger) → Fits context head request l (answer_to context head request arguments l)
+unfolding getport getaddr getversaddr forward_call
+answer-noted context head (requests.Mapping mappings.Set m) arguments l = record { notes = done-noted context head.xid _ l (set_row context head _ l) (set-noted context head _ l) }
+answer-noted context head (requests.Mapping mappings.Unset m) arguments l = record { notes = done-noted context head.xid _ l (unset_rows context head m.prog m.vers _ l) (unset-noted context head m.prog m.vers _ l) }
+answer-noted context head (requests.Mapping mappings.Getport m) arguments l = record { notes = getport-noted head m l (transport_of_prot m.prot) }
+answer-noted context head (requests.Rpcb rpcbs.Set r) arguments l = record { notes = done-noted context head.xid _ l (set_row context head _ l) (set-noted context head _ l) }
+answer-noted context head (requests.Rpcb rpcbs.Unset r) arguments l = record { notes = done-noted context head.xid _ l (unset_rows context head r.prog r.vers _ l) (unset-noted context head r.prog r.vers _ l) }
+answer-noted context head (requests.Rpcb rpcbs.Getaddr r) arguments l = record { notes = refl }
+answer-noted context head (requests.Rpcb rpcbs.Getversaddr r) arguments l = record { notes = refl }
+answer-noted context head (requests.Rpcb rpcbs.Getaddrlist r) arguments l = record { notes = sym (append-nil l.history) }
+answer-noted context head (requests.Void procedure) arguments l = record { notes = sym (append-nil l.history) }
+answer-noted context head (requests.Uaddr2taddr text) arguments l = record { notes = sym (append-nil l.history) }
+answer-noted context head (requests.Taddr2uaddr netbuf) arguments l = record { notes = sym (append-nil l.history) }
+answer-noted context head (requests.Forward kind remote) arguments l =
+    record { notes = forward-noted context head.xid kind remote (args_of remote arguments) (peer_to_forward remote.prog remote.vers (rows_in l)) l }
+
+outcome-noted : (context : Context) (message : Message) (arguments : List ℕ) (l : Ledger)
+    → Notes l (notes_of context message (outcome context message arguments l).0 (rows_in l)) (outcome context message arguments l).1
+unfolding outcome answer with_call_noted
+outcome-noted context says.NoCall arguments l = sym (append-nil l.history)
+outcome-noted context (says.Refused head) arguments l = sym (append-nil l.history)
+outcome-noted context (says.Garbage head) arguments l = refl
+outcome-noted context (says.Asked call) arguments l =
+    (answer-noted context call.head call.request arguments (with_call_noted call.head l)).notes ∙ append_assoc l.history (call_note call.head ∷ []) _
+
+-- ---- what an event is noted as
+
+message-noted : (s : State) (o : Option Brought) → Notes s.ledger (notes_from s o ++ []) (ledger_from s o)
+unfolding serve
+message-noted s None = sym (append-nil s.ledger.history)
+message-noted s (Some m) =
+    outcome-noted (context_in (at_moment m.now s) m.caller) (message_of m.content) (arguments_of m.content) s.ledger
+    ∙ ap (λ (notes : List Note). s.ledger.history ++ notes) (sym (append-nil (notes_from s (Some m))))
+
+left-noted : (s : State) (event : Event) → Notes s.ledger (notes_by s event) (ledger_left s event)
+unfolding target_replied fell_due caller_dropped call_sent
+left-noted s (Open now peer) = sym (append-nil s.ledger.history)
+left-noted s (Bytes now id piece) = message-noted s (record_on now id piece (live_connection id s.connections.all))
+left-noted s (Pending id) = sym (append-nil s.ledger.history)
+left-noted s (Gave now id n) = sym (append-nil s.ledger.history)
+left-noted s (Closed id) = by_test (is_there id s.connections)
+  where
+    by_test : (b : Bool) → Notes s.ledger (end_notes (cond b (caller_dropped id s.ledger).0 None)) (cond b (caller_dropped id s.ledger).1 s.ledger)
+    by_test true = refl
+    by_test false = sym (append-nil s.ledger.history)
+left-noted s NextLost = sym (append-nil s.ledger.history)
+left-noted s (Datagram now peer content) = message-noted s (Some (record { now = now; caller = Udp peer; content = content }))
+left-noted s Unsent = sym (append-nil s.ledger.history)
+left-noted s (Sent number) = by_test (can_be_sent number s.ledger.forwards)
+  where
+    by_test : (b : Bool) → Notes s.ledger [] (cond b (call_sent number s.ledger) s.ledger)
+    by_test true = sym (append-nil s.ledger.history)
+    by_test false = sym (append-nil s.ledger.history)
+left-noted s (Forward now from message) = refl
+left-noted s (Expire now) = refl
+
+pub events_are_noted : EventsAreNoted
+events_are_noted s event = subst (Notes s.ledger (notes_by s event)) (sym (step-ledger s event)) (left-noted s event)
+
+-- ---- runs
+
+after-noted : (s : State) (events : List Event) → (after s events).ledger.history ≡ s.ledger.history ++ history_by s events
+after-noted s [] = sym (append-nil s.ledger.history)
+after-noted s (event ∷ events) =
+    after-noted (step s event).1 events
+    ∙ ap (λ (history : List Note). history ++ history_by (step s event).1 events) (events_are_noted s event)
+    ∙ append_assoc s.ledger.history (notes_by s event) (history_by (step s event).1 events)
+
+pub history_is_of_its_events : HistoryIsOfItsEvents
+history_is_of_its_events limits listener first_xid now events = after-noted (opening limits listener first_xid now) events
