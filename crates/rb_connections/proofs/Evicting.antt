@@ -2,13 +2,14 @@
 use Rattle.std.specs.Prelude.{All, Contains, filter_map}
 use Rattle.std.specs.List.{AllZip, list_any, list_all}
 use Rattle.std.specs.Map.{values_of}
-use Rattle.std.proofs.Common.{◌≡◌, ◌≤◌, ◌<◌, ℕ, Bool, true, false, nat_lt, zero, suc, List, [], ◌∷◌, length, map, min, slice_index_or, Option, Some, None, refl, sym, subst, ◌∙◌, arith, inl, inr}
+use Rattle.std.proofs.Common.{◌≡◌, ◌≤◌, ◌<◌, ℕ, Bool, true, false, nat_lt, suc, List, [], ◌∷◌, length, map, min, Option, Some, None, refl, sym, ◌∙◌, arith, inl, inr}
 use Rattle.std.proofs.lemmas.Bool.{lt-ltb, ltb-true, cases_lt}
 use Rattle.std.proofs.lemmas.List.Elements.{All-head, All-tail, All-cons, All-nil, All-contains}
 use Rattle.std.proofs.lemmas.List.Sums.{AllPass-from_list_all, list_all-from_AllPass}
 use Rattle.std.proofs.lemmas.Grind.{common_steps}
 use Rattle.rb_xdr.specs.Kept.{Kept}
 use Rattle.rb_xdr.specs.Pool.{Pool, value_at, HasDistinctKeys}
+use Rattle.rb_forward.specs.Deadlines.{sooner_of, soonest_of}
 use Rattle.rb_model.specs.State.{Phase, Connection, Connections}
 use Rattle.rb_model.specs.Losses.{stamp_in, began_before, evict_early, evict}
 use Rattle.rb_connections.specs.declared.slot.Slot.{Slot}
@@ -19,7 +20,7 @@ use Rattle.rb_model.specs.Served.{Source}
 use Rattle.rb_connections.specs.StandsFor.{Table, StandsForPhase, StandsForConnection, StandsForConnections, charge, held_in, IsWithin}
 use Rattle.rb_connections.specs.Slots.{IsTable, StaysTable, HasBuffers, AreNumbered, is_numbered}
 use Rattle.rb_connections.specs.Awaits.{is_free_slot, is_free, is_idle_slot, has_idle, NoneIsFreed}
-use Rattle.rb_connections.specs.Listings.{stamp_of_stage, stamp_of_slot, CanContinueSlot, IsOldest, earlier_of, IsEarliest, began_before_earliest, evicted_slot, with_evicted}
+use Rattle.rb_connections.specs.Listings.{stamp_of_stage, stamp_of_slot, CanContinueSlot, IsOldest, IsEarliest, began_before_earliest, evicted_slot, with_evicted}
 use Rattle.rb_connections.proofs.Phases.{by_phase}
 
 -- ---- one slot
@@ -164,35 +165,26 @@ none_freed_by_eviction earliest table = λ id none. rw (any_free earliest id tab
 
 -- ---- the oldest list
 
-abbrev joined : Option ℕ → List ℕ → List ℕ
-joined None ns = ns
-joined (Some n) ns = n ∷ ns
-
-least_of_two : (a b : ℕ) (ns : List ℕ) (oldest : Option ℕ) → IsOldest (min a b ∷ ns) oldest → IsOldest (a ∷ b ∷ ns) oldest
-least_of_two a b ns None h = absurd cc
-least_of_two a b ns (Some k) h =
-    let low : k ≤ min a b = All-head (λ n. k ≤ n) (min a b) ns h.1 in
-    (one h.0.0 h.0.1 h.0.2, All-cons (λ n. k ≤ n) a (b ∷ ns) (omega (arith, low)) (All-cons (λ n. k ≤ n) b ns (omega (arith, low)) (All-tail (λ n. k ≤ n) (min a b) ns h.1)))
+-- the lesser of a number and the least of some others is the least of all
+least_of_more : (m : ℕ) (ns : List ℕ) (oldest : Option ℕ) → IsOldest ns oldest → IsOldest (m ∷ ns) (sooner_of (Some m) oldest)
+least_of_more m ns None h = rw h ((0, omega arith, refl), All-cons (λ n. m ≤ n) m [] (omega arith) (All-nil (λ n. m ≤ n)))
+least_of_more m ns (Some k) h = elim (cases_lt k m) [ inl less ↦ by_rest less | inr more ↦ by_first more ]
   where
-    one : (i : ℕ) → i < length (min a b ∷ ns) → slice_index_or (min a b ∷ ns) i k ≡ k → Contains (a ∷ b ∷ ns) k
-    one zero lt e = elim (cases_lt b a) [ inl less ↦ (1, omega arith, omega (arith, e, less)) | inr more ↦ (0, omega arith, omega (arith, e, more)) ]
-    one (suc i) lt e = (suc (suc i), omega arith, e)
+    by_rest : k < m → IsOldest (m ∷ ns) (Some (min m k))
+    by_rest less =
+        let e : min m k ≡ k = omega (arith, less) in
+        rw e ((suc h.0.0, omega (arith, h.0.1), h.0.2), All-cons (λ n. k ≤ n) m ns (omega (arith, less)) h.1)
 
-abbrev pub oldest_from : Option ℕ → List Slot → Option ℕ
-oldest_from oldest [] = oldest
-oldest_from oldest (slot ∷ slots) = oldest_from (earlier_of oldest (stamp_of_slot slot)) slots
+    by_first : m ≤ k → IsOldest (m ∷ ns) (Some (min m k))
+    by_first more =
+        let e : min m k ≡ m = omega (arith, more) in
+        rw e ((0, omega arith, refl), All-cons (λ n. m ≤ n) m ns (omega arith) (λ i d within. omega (arith, more, h.1 i d within)))
 
-oldest_is : (oldest : Option ℕ) (slots : List Slot) → IsOldest (joined oldest (filter_map stamp_of_slot slots)) (oldest_from oldest slots)
-oldest_is None [] = refl
-oldest_is (Some n) [] = ((0, omega arith, refl), All-cons (λ m. n ≤ m) n [] (omega arith) (All-nil (λ m. n ≤ m)))
-oldest_is oldest (slot ∷ slots) = by_began oldest (stamp_of_slot slot) refl (λ o. oldest_is o slots)
+pub oldest_found : (slots : List Slot) → IsOldest (filter_map stamp_of_slot slots) (soonest_of (map stamp_of_slot slots))
+oldest_found [] = refl
+oldest_found (slot ∷ slots) = by_stamp (stamp_of_slot slot) refl (oldest_found slots)
   where
-    by_began : (oldest : Option ℕ) (began : Option ℕ) → stamp_of_slot slot ≡ began → ((o : Option ℕ) → IsOldest (joined o (filter_map stamp_of_slot slots)) (oldest_from o slots))
-        → IsOldest (joined oldest (filter_map stamp_of_slot (slot ∷ slots))) (oldest_from oldest (slot ∷ slots))
-    by_began None None b further = rw b (further None)
-    by_began None (Some m) b further = rw b (further (Some m))
-    by_began (Some n) None b further = rw b (further (Some n))
-    by_began (Some n) (Some m) b further = rw b (least_of_two n m _ _ (further (Some (min n m))))
-
-pub oldest_found : (slots : List Slot) (oldest : Option ℕ) → oldest ≡ oldest_from None slots → IsOldest (filter_map stamp_of_slot slots) oldest
-oldest_found slots oldest is = subst (IsOldest (filter_map stamp_of_slot slots)) (sym is) (oldest_is None slots)
+    by_stamp : (stamp : Option ℕ) → stamp_of_slot slot ≡ stamp → IsOldest (filter_map stamp_of_slot slots) (soonest_of (map stamp_of_slot slots))
+        → IsOldest (filter_map stamp_of_slot (slot ∷ slots)) (soonest_of (map stamp_of_slot (slot ∷ slots)))
+    by_stamp None e further = rw e further
+    by_stamp (Some m) e further = rw e (least_of_more m (filter_map stamp_of_slot slots) _ further)

@@ -1,5 +1,5 @@
 -- The lists that are given on the connections of a table, and which of these connections become Lost for room.
-use Rattle.std.specs.Prelude.{◌≡◌, ◌≤◌, ⊤, ℕ, nat_lt, min, Bool, false, if◌then◌else◌, List, [], map, filter_map, All, Contains, Option, Some, None}
+use Rattle.std.specs.Prelude.{◌≡◌, ◌≤◌, ⊤, ℕ, nat_lt, Bool, false, if◌then◌else◌, List, [], map, filter_map, All, Contains, Option, Some, None}
 use Rattle.std.specs.Map.{values_of}
 use Rattle.rb_xdr.specs.Pool.{Pool}
 use Rattle.rb_model.specs.Losses.{evict}
@@ -62,12 +62,6 @@ stamps_of table = stamps_in table.slots
 abbrev pub IsOldest : List ℕ → Option ℕ → Type 0
 IsOldest numbers None = numbers ≡ []
 IsOldest numbers (Some oldest) = Contains numbers oldest × All (λ n. oldest ≤ n) numbers
-
--- the lesser of two numbers, each of which may be missing
-abbrev pub earlier_of : Option ℕ → Option ℕ → Option ℕ
-earlier_of None b = b
-earlier_of (Some a) None = Some a
-earlier_of (Some a) (Some b) = Some (min a b)
 
 -- ---- eviction
 

@@ -1,5 +1,5 @@
 -- Where the connections of a table stand, by their slots.
-use Rattle.std.specs.Prelude.{◌≡◌, ℕ, Result, Ok, Err, IfOk}
+use Rattle.std.specs.Prelude.{◌≡◌, ℕ, Result, IfOk}
 use Rattle.rb_model.specs.declared.types.CoreFault.{CoreFault}
 use Rattle.rb_model.specs.declared.types.Standing.{Standing}
 use Rattle.rb_model.specs.State.{Connections}
@@ -22,11 +22,6 @@ IsStanding id table standing =
 -- the same of a result, if it is none that is refused
 abbrev pub TellsStanding : ℕ → Table → Result Standing CoreFault → Type 0
 TellsStanding id table result = IfOk result (IsStanding id table)
-
--- what was received, without where the connection stands then
-abbrev pub received_part : Result (Received × Standing) CoreFault → Result Received CoreFault
-received_part (Ok got) = Ok got.0
-received_part (Err fault) = Err fault
 
 -- where it stands then, if bytes were received
 abbrev pub TellsReceived : ℕ → Table → Result (Received × Standing) CoreFault → Type 0

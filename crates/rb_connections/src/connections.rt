@@ -8,14 +8,12 @@ ghost use Rattle.rb_xdr.specs.Pool.{HasDistinctKeys};
 ghost use Rattle.rb_connections.specs.Slots.{wanted_slot, AreBuffers, AreSpare, HasBuffers, HasDistinctNumbers};
 ghost use Rattle.rb_connections.specs.LiveSlots.{charge_of, count_cost, FindsLive, LendsLive};
 ghost use Rattle.rb_connections.specs.StandsFor.{held_in};
-ghost use Rattle.rb_connections.specs.Listings.{earlier_of, began_before_earliest, with_evicted, stamps_in, IsOldest};
-ghost use Rattle.rb_connections.specs.Deadlines.{slot_deadlines};
-ghost use Rattle.rb_forward.specs.Deadlines.{soonest_of, next_deadline_cost};
-ghost use Rattle.rb_model.specs.Costs.{oldest_cost, evict_cost};
+ghost use Rattle.rb_connections.specs.Listings.{began_before_earliest, with_evicted};
+ghost use Rattle.rb_model.specs.Costs.{evict_cost};
 
 use crate::hints::Hints;
 use crate::slot::{Buffers, CHARGE, Received, Slot, Stage, Wanted, WholeRecord};
-use rb_forward::sooner;
+use rb_forward::soonest_in;
 use rb_model::{CoreFault, LONGEST_KEPT, LONGEST_REPLY, Served, Standing};
 use rb_registry::Registry;
 use rb_rpc::{LONGEST_FRAGMENT, Peer, one_fragment};
@@ -130,48 +128,6 @@ fn put_slot(slots: &mut Pool<Slot>, slot: Slot, meter: &mut Meter) -> usize
     key
 }
 
-/// The smaller of two optional numbers.
-fn earlier(a: Option<u64>, b: Option<u64>) -> Option<u64>
-    ensures { result ≡ earlier_of a b }
-{
-    match (a, b) {
-        (Some(a), Some(b)) => Some(a.min(b)),
-        (Some(a), None) => Some(a),
-        (None, b) => b,
-    }
-}
-
-/// The least stamp of the lists that are being given.
-fn oldest_in(slots: &Pool<Slot>, meter: &mut Meter) -> Option<u64>
-    requires tie { meter.old.tie ≡ slots.now.tie }
-    ensures oldest { IsOldest (stamps_in slots.now.entries) result }
-    ensures cost { PaysAtMost meter.old meter.new (oldest_cost (length slots.now.entries)) }
-{
-    let mut oldest = None;
-    let mut place = None;
-    'slots: while let Some((key, slot)) = slots.entry_after(place, meter) {
-        oldest = earlier(oldest, slot.stamp());
-        place = Some(key);
-    }
-    oldest
-}
-
-/// The least deadline of the slots.
-fn soonest_in(slots: &Pool<Slot>, meter: &mut Meter) -> Option<u64>
-    requires tie { meter.old.tie ≡ slots.now.tie }
-    ensures soonest { result ≡ soonest_of (slot_deadlines slots.now.entries) }
-    ensures cost { PaysAtMost meter.old meter.new
-        (next_deadline_cost (length slots.now.entries)) }
-{
-    let mut soonest = None;
-    let mut place = None;
-    'slots: while let Some((key, slot)) = slots.entry_after(place, meter) {
-        soonest = sooner(soonest, slot.deadline());
-        place = Some(key);
-    }
-    soonest
-}
-
 /// Whether a list with this stamp began before a change.
 fn began_before_earliest(stamp: Option<u64>, earliest: u64) -> bool
     ensures { result ≡ began_before_earliest earliest stamp }
@@ -276,8 +232,8 @@ impl Connections {
     ghost use Rattle.rb_model.specs.Served.{kind_in, IsWritten, source_for};
     ghost use Rattle.rb_connections.specs.Listings.{CanContinueAll, KeepsListing, EvictsBefore, stamps_of, IsOldest};
     ghost use Rattle.rb_model.specs.Losses.{expire_first};
-    ghost use Rattle.rb_model.specs.Standings.{is_done};
-    ghost use Rattle.rb_connections.specs.Standings.{TellsStanding, TellsReceived, IsStanding, received_part};
+    ghost use Rattle.rb_model.specs.Standings.{as_done, without_standing};
+    ghost use Rattle.rb_connections.specs.Standings.{TellsStanding, TellsReceived, IsStanding};
     ghost use Rattle.rb_connections.specs.Slots.{Finds, TableActs, TableGives, TableHasArguments, TableLends, TableShows, TakesWhole, KeepsWhole, StaysTable, IsDraft, IsEmptyDraft, empty_table, take_piece, HasBuffers};
     ghost use Rattle.rb_model.specs.Step.{pending_at};
     ghost use Rattle.rb_connections.specs.Costs.{slot_count, look_cost, received_cost, taken_cost, settling_cost, giving_cost};
@@ -393,18 +349,18 @@ impl Connections {
         requires tie { meter.old.tie ≡ self.old.tie }
         requires arguments { IsDraft meter.old.tie arguments.old }
         ensures acts { TableActs (on_live id (take_piece clock piece.now)) self.old self.new
-            (received_part result) }
+            (without_standing result) }
         ensures stands { TellsReceived id self.new result }
         ensures arguments { TableHasArguments id piece.now self.old arguments.old arguments.new }
         ensures goes_on { GoOn self.old self.new }
-        ensures ends { EndsOnFree id clock self.old self.new (received_part result) }
+        ensures ends { EndsOnFree id clock self.old self.new (without_standing result) }
         ensures within { IfOk result (λ got. got.0.count ≤ length piece.now) }
         ensures refused { OnErr result (self.new ≡ self.old) }
         ensures kept { OnErr result (arguments.new ≡ arguments.old) }
         ensures draft { IsDraft meter.old.tie arguments.new }
         ensures as_many { length self.new.slots ≡ length self.old.slots }
         ensures cost { PaysAtMost meter.old meter.new
-            (2 * slot_count self.old + 3 + taken_cost (received_part result)) }
+            (2 * slot_count self.old + 3 + taken_cost (without_standing result)) }
     {
         let Some(slot) = live_slot(&mut self.slots, &mut self.hints, &mut self.held, id, meter)
         else {
@@ -455,8 +411,9 @@ impl Connections {
         standing
     }
 
-    /// Counts n of the pending bytes of the live connection of the number as given, or as many as there are, and returns
-    /// where it stands then: `Gone` where there is none. The next fragment of a list is made in a buffer that is empty before and after.
+    /// Counts n of the pending bytes of the live connection of the number as given, or as many as there are, and
+    /// returns where it stands then: `Gone` where there is none. The next fragment of a list is made in a buffer that
+    /// is empty before and after.
     pub fn give(
         &mut self,
         id: u64,
@@ -472,7 +429,7 @@ impl Connections {
         requires draft { IsEmptyDraft meter.old.tie draft.old }
         requires lists { CanContinueAll (source_for host registry.now) self.old }
         ensures acts { TableGives
-            (source_for host registry.now) id clock n self.old self.new (is_done result) }
+            (source_for host registry.now) id clock n self.old self.new (as_done result) }
         ensures stands { TellsStanding id self.new result }
         ensures lists { CanContinueAll (source_for host registry.now) self.new }
         ensures free { NoneIsFreed self.old self.new }
@@ -497,7 +454,7 @@ impl Connections {
         ensures oldest { IsOldest (stamps_of self.now) result }
         ensures cost { PaysAtMost meter.old meter.new (oldest_cost (slot_count self.now)) }
     {
-        oldest_in(&self.slots, meter)
+        soonest_in(&self.slots, |slot| slot.stamp(), meter)
     }
 
     /// Makes each connection Lost whose list began before this change.
@@ -596,7 +553,7 @@ impl Connections {
 impl Connections {
     ghost use Rattle.std.specs.Prelude.{◌≡◌};
     ghost use Rattle.rb_xdr.specs.Meter.{PaysAtMost};
-    ghost use Rattle.rb_forward.specs.Deadlines.{next_deadline_cost};
+    ghost use Rattle.rb_forward.specs.Deadlines.{soonest_cost};
     ghost use Rattle.rb_model.specs.NextDeadlines.{next_connection_deadline};
     ghost use Rattle.rb_connections.specs.Costs.{slot_count};
     ghost use Rattle.rb_connections.specs.Slots.{TableShows};
@@ -605,8 +562,8 @@ impl Connections {
     pub fn next_deadline(&self, meter: &mut Meter) -> Option<u64>
         requires { meter.old.tie ≡ self.now.tie }
         ensures soonest { TableShows next_connection_deadline self.now result }
-        ensures cost { PaysAtMost meter.old meter.new (next_deadline_cost (slot_count self.now)) }
+        ensures cost { PaysAtMost meter.old meter.new (soonest_cost (slot_count self.now)) }
     {
-        soonest_in(&self.slots, meter)
+        soonest_in(&self.slots, |slot| slot.deadline(), meter)
     }
 }
