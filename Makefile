@@ -5,6 +5,7 @@
 PREFIX = /usr/local
 DESTDIR =
 UNITS = $(PREFIX)/lib/systemd/system
+SYSUSERS = $(PREFIX)/lib/sysusers.d
 SBINDIR = $(DESTDIR)$(PREFIX)/sbin
 MANDIR = $(DESTDIR)$(PREFIX)/share/man/man8
 DOCDIR = $(DESTDIR)$(PREFIX)/share/doc/rpcbind-proved
@@ -14,7 +15,7 @@ NAMES = proved
 SUFFIX = $(if $(filter plain,$(NAMES)),,-proved)
 PLACED = sed 's|@PREFIX@|$(PREFIX)|g; s|@SUFFIX@|$(SUFFIX)|g'
 
-.PHONY: all run test rows peers memory hostile bench measure install uninstall clean
+.PHONY: all run test rows peers memory hostile units bench measure install uninstall clean
 
 # Proves each crate, side by side, and builds the programs, crates/rpcbind/out/rpcbind and crates/rpcinfo/out/rpcinfo.
 all:
@@ -41,9 +42,15 @@ peers:
 memory:
 	tests/run-memory.sh
 
-# Attacks on the built daemon over sockets, each beside a good client. PROGRAM=PATH takes another program.
+# Attacks on the built daemon over sockets, each beside a good client, and faults of its system calls, by strace.
+# PROGRAM=PATH takes another program.
 hostile:
 	tests/run-hostile.sh
+
+# The units of systemd with the built programs, under a systemd of its own in a Debian that debootstrap makes. Needs root.
+# CACHE=FOLDER keeps that Debian there for the next time.
+units:
+	@CACHE=$(CACHE) tests/systemd.sh
 
 # The time of a call, over the built program: TCP in single bytes and in one piece, datagrams over 300 rows, and long lists.
 bench:
@@ -53,10 +60,12 @@ bench:
 measure:
 	tests/measure-gate.py > timings.new && mv timings.new docs/TIMINGS.md
 
-# The built programs, their man pages, and the units of systemd, with PREFIX and the programs' names in them.
+# The built programs, their man pages, and the units of systemd, with PREFIX and the programs' names in them; the line
+# for systemd-sysusers that makes their user, and beside the documents a file of options and two drop-ins.
 install:
-	install -d $(SBINDIR) $(MANDIR) $(DOCDIR) $(DESTDIR)$(UNITS)
-	install -m 644 LICENSE CHANGELOG packaging/rpcbind-proved.default $(DOCDIR)
+	install -d $(SBINDIR) $(MANDIR) $(DOCDIR) $(DESTDIR)$(UNITS) $(DESTDIR)$(SYSUSERS)
+	install -m 644 LICENSE CHANGELOG packaging/rpcbind-proved.default packaging/*.conf $(DOCDIR)
+	install -m 644 packaging/rpcbind-proved.sysusers $(DESTDIR)$(SYSUSERS)/rpcbind-proved.conf
 	install -m 755 crates/rpcbind/out/rpcbind $(SBINDIR)/rpcbind$(SUFFIX)
 	install -m 755 crates/rpcinfo/out/rpcinfo $(SBINDIR)/rpcinfo$(SUFFIX)
 	install -m 644 man/rpcbind.8 $(MANDIR)/rpcbind$(SUFFIX).8
@@ -70,6 +79,7 @@ uninstall:
 	rm -f $(SBINDIR)/rpcbind$(SUFFIX) $(SBINDIR)/rpcinfo$(SUFFIX)
 	rm -f $(MANDIR)/rpcbind$(SUFFIX).8 $(MANDIR)/rpcinfo$(SUFFIX).8
 	rm -f $(DESTDIR)$(UNITS)/rpcbind-proved.service $(DESTDIR)$(UNITS)/rpcbind-proved.socket
+	rm -f $(DESTDIR)$(SYSUSERS)/rpcbind-proved.conf
 	rm -rf $(DOCDIR)
 
 clean:

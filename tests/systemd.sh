@@ -1,0 +1,162 @@
+#!/usr/bin/env bash
+# Boots a Debian with the built programs installed, by its systemd as process 1 of namespaces of its own, and checks what
+# the units of packaging/ do there beside Debian's rpcbind: tests/units/checks.sh has the checks. It boots twice, the
+# second time with ours enabled and /var mounted as NFS is. Nothing of the machine is touched, and no network.
+#
+# The Debian is made by debootstrap, of the machine's own release and from the mirror of its package sources, in a folder
+# under /var/tmp that goes at the end. With CACHE=FOLDER in the environment it is kept there for the next time. Needs root,
+# and says what is missing. Each check is a line 'ok' or 'FAILED'; the last line is 'N passed, N failed'; the status is 1
+# where one failed.
+set -u
+cd "$(dirname "$0")/.." || exit 1
+
+longest=180 # how many seconds a boot takes at most, with its checks
+packages=systemd,systemd-sysv,rpcbind,nfs-common
+
+skip() {
+    echo "skipped: $*"
+    exit 0
+}
+
+fail() {
+    echo "make units: $*" >&2
+    exit 1
+}
+
+[ -x crates/rpcbind/out/rpcbind ] && [ -x crates/rpcinfo/out/rpcinfo ] || fail "no built programs: run 'make' first"
+[ "$(id -u)" -eq 0 ] || skip "namespaces of its own want root"
+for tool in debootstrap apt-get unshare pivot_root chroot setpriv; do
+    command -v "$tool" > /dev/null || skip "there is no $tool"
+done
+unshare --pid --fork --mount --net --uts --ipc --cgroup true 2> /dev/null || skip "namespaces are not allowed here"
+
+work=$(mktemp -d /var/tmp/rpcbind-units.XXXXXX) || exit 1
+tree=$work/tree
+cgroup=
+
+# Ends what still runs in the control group, which is nothing where all went well.
+finish() {
+    if [ -n "$cgroup" ]; then
+        echo 1 2> /dev/null > "$cgroup/cgroup.kill"
+        sleep 0.2
+        find "$cgroup" -depth -type d -exec rmdir {} + 2> /dev/null
+    fi
+    rm -rf --one-file-system "$work"
+}
+trap finish EXIT
+trap 'exit 1' INT TERM HUP
+
+# ---- the Debian
+
+# Where the packages of this machine's release come from.
+mirror_of() {
+    apt-get indextargets --format '$(RELEASE) $(COMPONENT) $(REPO_URI)' 'Created-By: Packages' |
+        awk -v release="$1" '$1 == release && $2 == "main" { print $3; exit }'
+}
+
+make_debian() {
+    local release mirror kept
+    release=$(. /etc/os-release && echo "${VERSION_CODENAME:-}")
+    mirror=$(mirror_of "$release")
+    [ -n "$mirror" ] || skip "this machine has no package sources of Debian"
+    kept=${CACHE:-$work}/$release
+    if [ ! -d "$kept" ]; then
+        echo "making a Debian $release from $mirror, in a few minutes .."
+        mkdir -p "${CACHE:-$work}"
+        rm -rf "$kept.new"
+        debootstrap --variant=minbase --include="$packages" "$release" "$kept.new" "$mirror" > "$work/made" 2>&1 ||
+            fail "debootstrap: $(grep -v '^I:' "$work/made" | tail -n 1)"
+        mv "$kept.new" "$kept"
+    fi
+    if [ -n "${CACHE:-}" ]; then cp -a --reflink=auto "$kept" "$tree"; else mv "$kept" "$tree"; fi
+}
+
+# The lines of README.md with systemd's commands, block N of them: 1 puts ours in the place of the other, 2 goes back.
+lines_of_readme() {
+    awk -v wanted="$1" '
+        /^    sudo system/ { if (!inside) block++; inside = 1; if (block == wanted) print $0; next }
+        { inside = 0 }' README.md | sed 's/^ *sudo //'
+}
+
+prepare() {
+    local unit
+    make --no-print-directory install DESTDIR="$tree" > "$work/made" 2>&1 || fail "make install: $(tail -n 1 "$work/made")"
+    mkdir "$tree/checks"
+    lines_of_readme 1 > "$tree/checks/to-ours"
+    lines_of_readme 2 > "$tree/checks/back"
+    cp tests/units/checks.sh "$tree/checks/"
+    : > "$tree/etc/machine-id"
+    # timers that would ask for the network
+    for unit in apt-daily.timer apt-daily-upgrade.timer fstrim.timer e2scrub_all.timer; do
+        ln -sf /dev/null "$tree/etc/systemd/system/$unit"
+    done
+    cat > "$tree/etc/systemd/system/checks.service" << 'END'
+[Unit]
+After=multi-user.target
+[Service]
+Type=oneshot
+ExecStart=/bin/sh -c 'exec bash /checks/checks.sh > /checks/output 2>&1'
+ExecStopPost=/bin/systemctl --no-block exit
+END
+    mkdir -p "$tree/etc/systemd/system/default.target.wants"
+    ln -s ../checks.service "$tree/etc/systemd/system/default.target.wants/"
+}
+
+# A folder as /var far away: what mounts NFS binds it in place of asking a server. By _netdev it stays a mount of the
+# network for systemd.
+prepare_far_var() {
+    cp -a "$tree/var" "$tree/far"
+    cat > "$tree/usr/sbin/mount.nfs" << 'END'
+#!/bin/sh
+exec mount -o bind,_netdev /far /var
+END
+    cat > "$tree/etc/systemd/system/var.mount" << 'END'
+[Mount]
+What=192.0.2.9:/var
+Where=/var
+Type=nfs
+END
+    mkdir -p "$tree/etc/systemd/system/remote-fs.target.wants"
+    ln -s ../var.mount "$tree/etc/systemd/system/remote-fs.target.wants/"
+}
+
+# ---- the boots
+
+# A control group of their own: systemd as process 1 takes the one that it finds itself in for all there is.
+make_cgroup() {
+    local top path
+    top=$(awk '$3 == "cgroup2" { print $2; exit }' /proc/mounts)
+    path=$(sed -n 's/^0:://p' /proc/self/cgroup)
+    [ -n "$top" ] || skip "there are no control groups of version 2"
+    cgroup=$top/${path#/}/rpcbind-units-$$
+    mkdir "$cgroup" || skip "no control group can be made"
+}
+
+# Boots, with the checks of this name, and shows what they wrote.
+boot() {
+    echo "$1" > "$tree/checks/name"
+    rm -f "$tree/checks/output"
+    (
+        echo "$BASHPID" > "$cgroup/cgroup.procs" || exit 1
+        exec timeout --signal=KILL "$longest" unshare --pid --fork --kill-child --mount --propagation private --net --uts --ipc \
+            --cgroup tests/units/boot.sh "$tree" > "$work/console" 2>&1 < /dev/null
+    ) &
+    wait $!
+    if ! grep -q '^end of the checks$' "$tree/checks/output" 2> /dev/null; then
+        cat "$work/console" "$tree/checks/output" 2> /dev/null
+        journalctl --directory="$tree/var/log/journal" --no-pager --lines=30 2> /dev/null
+        fail "the checks '$1' did not come to their end"
+    fi
+    sed '/^end of the checks$/d' "$tree/checks/output" | tee -a "$work/output"
+}
+
+make_cgroup
+make_debian
+prepare
+boot first
+prepare_far_var
+boot second
+passed=$(grep -c '^ok ' "$work/output")
+failed=$(grep -c '^FAILED ' "$work/output")
+echo "$passed passed, $failed failed"
+[ "$failed" -eq 0 ]
