@@ -8,7 +8,7 @@ use Rattle.rb_rpc.specs.Records.{first_record}
 use Rattle.rb_feed.specs.Feeds.{arguments_of}
 use Rattle.rb_registry.specs.Registry.{slots_of}
 use Rattle.rb_forward.specs.Costs.{sent_cost, unsent_cost}
-use Rattle.rb_forward.specs.Deadlines.{next_deadline_cost}
+use Rattle.rb_forward.specs.Deadlines.{soonest_cost}
 use Rattle.rb_rpc.specs.Forwarded.{longest_forwarded as longest_args}
 use Rattle.rb_model.specs.Calls.{Outcome, longest_reply, longest_kept}
 use Rattle.rb_model.specs.State.{State, Setting, Connection, Connections, at_moment}
@@ -81,8 +81,8 @@ module _ (core : Held) (a b : Meter) where
   pub unsent_within : (given : ℕ) → PaysAtMost a b (unsent_cost core.books.forwards.cap given) → StaysWithinSteps core 0 given a b
   unsent_within given pays = record { within = λ s h reached. at_most a b (unsent_cost core.books.forwards.cap given) _ (omega (arith, entries s h)) pays }
 
-  pub deadline_within : PaysAtMost a b (next_deadline_cost (slot_count core.connections) + next_deadline_cost core.books.forwards.cap) → StaysWithinSteps core 0 0 a b
-  deadline_within pays = record { within = λ s h reached. at_most a b (next_deadline_cost (slot_count core.connections) + next_deadline_cost core.books.forwards.cap) _ (omega (arith, few_connections s h reached, entries s h)) pays }
+  pub deadline_within : PaysAtMost a b (soonest_cost (slot_count core.connections) + soonest_cost core.books.forwards.cap) → StaysWithinSteps core 0 0 a b
+  deadline_within pays = record { within = λ s h reached. at_most a b (soonest_cost (slot_count core.connections) + soonest_cost core.books.forwards.cap) _ (omega (arith, few_connections s h reached, entries s h)) pays }
 
   pub ending_within : (taken : ℕ) → PaysAtMost a b (ended_cost (sizes_of core core)) → StaysWithinSteps core taken 0 a b
   unfolding longest_reply longest_kept buffer_size longest_args

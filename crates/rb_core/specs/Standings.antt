@@ -1,9 +1,17 @@
--- Where a connection stands after a piece of bytes.
+-- Where a connection stands after a call on it.
 use Rattle.std.specs.Prelude.{◌≡◌, ℕ, None}
+use Rattle.rb_model.specs.declared.types.Standing.{Standing}
+use Rattle.rb_model.specs.Standings.{standing_of}
 use Rattle.rb_connections.specs.StandsFor.{Table}
+use Rattle.rb_connections.specs.Slots.{Shows}
 use Rattle.rb_connections.specs.Standings.{IsStanding}
 use Rattle.rb_core.specs.declared.calls.Piece.{Piece}
+use Rattle.rb_core.specs.StandsFor.{Held, StandsFor}
 
--- where no record ended in the piece
+-- So stands the connection of the number in each state that the core stands for.
+abbrev pub StandsThen : ℕ → Held → Standing → Type 0
+StandsThen id held standing = Shows StandsFor (standing_of id) held standing
+
+-- the same by the table, where no record ended in the piece
 abbrev pub TellsIfQuiet : ℕ → Table → Piece → Type 0
 TellsIfQuiet id table got = got.received.ended ≡ None → IsStanding id table got.standing

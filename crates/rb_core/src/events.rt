@@ -170,7 +170,8 @@ impl Core {
     ghost use Rattle.rb_core.specs.StandsFor.{StandsFor};
     ghost use Rattle.rb_core.specs.Core.{ActsWithReply, TellsCaller, context_of};
     ghost use Rattle.rb_model.specs.Exchanges.{count_given};
-    ghost use Rattle.rb_model.specs.Standings.{is_done, standing_of};
+    ghost use Rattle.rb_model.specs.Standings.{as_done, without_standing};
+    ghost use Rattle.rb_core.specs.Standings.{StandsThen};
     ghost use Rattle.rb_core.specs.AtOnce.{AnswersGiving, CountsGiven, Exchanges, GivesAtOnce};
     ghost use Rattle.rb_core.specs.CallCosts.{sizes_of, PaysForBytes, PaysForDatagram, PaysForExchange, PaysToAnswer, lending_cost};
     ghost use Rattle.rb_connections.specs.Costs.{look_cost, slot_count};
@@ -318,8 +319,9 @@ impl Core {
     }
 
     /// Takes bytes that arrive on a connection at the moment `now`, at most up to the end of a record (RFC 5531 section
-    /// 11), which is answered. Takes none while a reply is owed or awaited. The connection is Lost where the record is no
-    /// call. `Gone` where there is no such connection, or it is Lost.
+    /// 11), which is answered, and returns where the connection stands then. Takes none while a reply is owed or
+    /// awaited. The connection is Lost where the record is no call. `Gone` where there is no such connection, or it is
+    /// Lost.
     #[tactic(auto, using(crate::proofs::HeldBytes::never_passes))]
     pub fn bytes(
         &mut self,
@@ -327,21 +329,29 @@ impl Core {
         id: u64,
         piece: &[u8],
         meter: &mut Meter,
-    ) -> Result<Taken, CoreFault>
+    ) -> Result<(Taken, Standing), CoreFault>
         requires { meter.old.tie ≡ self.old.tie }
-        ensures acts { Acts StandsFor (λ s. bytes s now id piece.now) self.old self.new result }
-        ensures within { IfOk result (λ taken. taken.count ≤ length piece.now) }
+        ensures acts { Acts StandsFor (λ s. bytes s now id piece.now) self.old self.new
+            (without_standing result) }
+        ensures stands { IfOk result (λ done. StandsThen id self.new done.1) }
+        ensures within { IfOk result (λ done. done.0.count ≤ length piece.now) }
         ensures refused { OnErr result (OnlyBegins self.old self.new) }
         ensures tie { self.new.tie ≡ self.old.tie }
         ensures begun { self.new.steps_before ≡ count_shown meter.old }
         ensures held { NeverPasses self.new }
         ensures same_meter { meter.new.tie ≡ meter.old.tie }
         ensures cost { PaysForBytes self.old self.new id piece.now meter.old meter.new }
-        ensures bound { StaysWithinSteps self.old (length_taken result) 0 meter.old meter.new }
-        ensures quiet { StaysCheapIfQuiet self.old id piece.now result meter.old meter.new }
+        ensures bound { StaysWithinSteps self.old
+            (length_taken (without_standing result)) 0 meter.old meter.new }
+        ensures quiet { StaysCheapIfQuiet self.old id piece.now
+            (without_standing result) meter.old meter.new }
     {
-        let Exchanged { taken, .. } = self.exchange(now, id, piece, &mut [], meter)?;
-        Ok(taken)
+        let Exchanged {
+            taken,
+            given: _,
+            standing,
+        } = self.exchange(now, id, piece, &mut [], meter)?;
+        Ok((taken, standing))
     }
 
     /// Takes bytes as `bytes` does. Where a record ends and its reply is one fragment and no list, and `room` has place
@@ -359,7 +369,7 @@ impl Core {
         requires { meter.old.tie ≡ self.old.tie }
         ensures acts { Exchanges now id piece.now self.old self.new result room.new }
         ensures count { CountsGiven now id piece.now room.old self.old result }
-        ensures stands { IfOk result (λ done. Shows StandsFor (standing_of id) self.new done.standing) }
+        ensures stands { IfOk result (λ done. StandsThen id self.new done.standing) }
         ensures fits { count_given result ≤ length room.new }
         ensures within { IfOk result (λ done. done.taken.count ≤ length piece.now) }
         ensures refused { OnErr result (OnlyBegins self.old self.new) }
@@ -414,7 +424,7 @@ impl Core {
         requires caller { is_waiting id (slots_of self.old.books.forwards) ≡ false }
         ensures acts { AnswersGiving id ended arguments.entry self.old self.new
             (result.0, result.1) room.new }
-        ensures stands { Shows StandsFor (standing_of id) self.new result.2 }
+        ensures stands { StandsThen id self.new result.2 }
         ensures within { result.1 ≤ length room.new }
         ensures count { GivesAtOnce room.old id ended arguments.entry self.old result.1 }
         ensures tie { self.new.tie ≡ self.old.tie }
@@ -475,9 +485,9 @@ impl Core {
         self.connections.pending(id, meter)
     }
 
-    /// Records that `n` pending bytes were given at the moment `now`, or all if fewer are pending. The next fragment
-    /// is pending then, or the connection takes the next record; where it stands then is returned. `Gone` where there is no such connection, or it is
-    /// Lost.
+    /// Records that `n` pending bytes were given at the moment `now`, or all if fewer are pending, and returns where
+    /// the connection stands then: the next fragment is pending, or it takes the next record. `Gone` where there is no
+    /// such connection, or it is Lost.
     #[tactic(auto, using(crate::proofs::HeldBytes::never_passes, crate::proofs::CallBounds::gave_within))]
     pub fn gave(
         &mut self,
@@ -487,15 +497,15 @@ impl Core {
         meter: &mut Meter,
     ) -> Result<Standing, CoreFault>
         requires { meter.old.tie ≡ self.old.tie }
-        ensures acts { Acts StandsFor (λ s. gave s now id n) self.old self.new (is_done result) }
-        ensures stands { IfOk result (Shows StandsFor (standing_of id) self.new) }
+        ensures acts { Acts StandsFor (λ s. gave s now id n) self.old self.new (as_done result) }
+        ensures stands { IfOk result (StandsThen id self.new) }
         ensures refused { OnErr result (OnlyBegins self.old self.new) }
         ensures tie { self.new.tie ≡ self.old.tie }
         ensures begun { self.new.steps_before ≡ count_shown meter.old }
         ensures held { NeverPasses self.new }
         ensures cost { PaysAtMost meter.old meter.new (gave_cost (sizes_of self.old self.new)) }
         ensures bound { StaysWithinSteps self.old 0
-            (length_given (is_done result) n) meter.old meter.new }
+            (length_given (as_done result) n) meter.old meter.new }
     {
         self.steps_before = meter.count();
         let clock = self.clock.max(now);
@@ -719,23 +729,23 @@ impl Core {
 impl Core {
     ghost use Rattle.std.specs.Prelude.{◌≡◌, ◌+◌};
     ghost use Rattle.rb_xdr.specs.Meter.{PaysAtMost};
-    ghost use Rattle.rb_forward.specs.Deadlines.{next_deadline_cost};
+    ghost use Rattle.rb_forward.specs.Deadlines.{soonest_cost};
     ghost use Rattle.rb_model.specs.NextDeadlines.{next_deadline};
     ghost use Rattle.rb_connections.specs.Costs.{slot_count};
     ghost use Rattle.rb_connections.specs.Slots.{Shows};
     ghost use Rattle.rb_core.specs.StandsFor.{StandsFor};
     ghost use Rattle.rb_core.specs.Events.{BeginsAt, StaysWithinSteps};
 
-    /// The moment from which `expire` finds something: the least deadline of the connections and of the forwarded calls.
-    /// Before it `expire` finds nothing, and nothing at all where it is `None`.
+    /// The moment from which `expire` finds something: the least deadline of the connections and of the forwarded
+    /// calls. Before it `expire` finds nothing, nor ever where there is none. It changes nothing but the count from
+    /// which `steps` starts.
     #[tactic(auto, using(crate::proofs::CallBounds::deadline_within))]
     pub fn next_deadline(&mut self, meter: &mut Meter) -> Option<u64>
         requires { meter.old.tie ≡ self.old.tie }
         ensures begun { BeginsAt meter.old self.old self.new }
         ensures soonest { Shows StandsFor next_deadline self.old result }
         ensures cost { PaysAtMost meter.old meter.new
-            (next_deadline_cost (slot_count self.old.connections)
-            + next_deadline_cost self.old.books.forwards.cap) }
+            (soonest_cost (slot_count self.old.connections) + soonest_cost self.old.books.forwards.cap) }
         ensures bound { StaysWithinSteps self.old 0 0 meter.old meter.new }
     {
         self.steps_before = meter.count();
