@@ -2,6 +2,7 @@
 use Rattle.std.proofs.Common.{◌≡◌, ℕ, List, length, refl, ◌≤◌, ◌+◌, true, false, cond, Option, Some, None, [], ◌∷◌, ◌++◌, sym, ap, ◌∙◌, arith}
 use Rattle.std.proofs.lemmas.List.{length-take}
 use Rattle.std.proofs.lemmas.Grind.{common_steps}
+use Rattle.rb_xdr.specs.Ordered.{looks}
 use Rattle.rb_feed.specs.Feeds.{arguments_of}
 use Rattle.rb_rpc.specs.Forwarded.{longest_forwarded as longest_args}
 use Rattle.rb_model.specs.State.{State, Connection, at_moment, opening, are_good}
@@ -9,10 +10,11 @@ use Rattle.rb_model.specs.Connections.{Taking, taking_of, live_connection}
 use Rattle.rb_model.specs.Connections.Taking.{TakesNone, GoesOn, Ends}
 use Rattle.rb_model.specs.Step.{when_taken, Event, Output, bytes_to, bytes, output_or, show_taken, step, after, IsReached}
 use Rattle.rb_model.specs.declared.types.Taken.{Taken}
-use Rattle.rb_model.specs.Costs.{sizes_in, count_taken, record_cost, bytes_cost, find_cost, event_cost}
-use Rattle.rb_model.specs.Calls.{longest_reply, longest_kept}
+use Rattle.rb_model.specs.Costs.{sizes_in, asks_for_rows, sizes_for, datagram_cost, count_taken, record_cost, bytes_cost, find_cost, event_cost}
+use Rattle.rb_model.specs.Calls.{longest_reply, longest_kept, kept_of, message_of}
 use Rattle.rb_model.specs.Bounds.{count_in, steps_bound, bound_at}
 use Rattle.rb_model.specs.BoundLaws.{StepsAreBounded, RunsAreBounded}
+use Rattle.rb_model.proofs.CostBounds.{looks_few, message_most, answer_most}
 use Rattle.rb_laws.proofs.Ledgers.{step-setting}
 use Rattle.rb_laws.proofs.Room.{reached-room}
 use Rattle.rb_laws.proofs.RunLaws.{after-append}
@@ -35,6 +37,14 @@ module _ (s : State) (reached : IsReached s) (good : are_good s.setting.limits �
   pub conns_few : length s.connections.all ≤ s.setting.limits.conns
   conns_few = reached-room s reached
 
+  -- a search takes no more looks than there may be rows
+  pub rows_looks : looks s.setting.limits.rows ≤ s.setting.limits.rows
+  rows_looks = looks_few s.setting.limits.rows
+
+  -- a message costs no more than one that asks for rows
+  pub datagram_most : (content : List ℕ) (count written : ℕ) → datagram_cost (sizes_for (message_of content) (sizes_in s)) count written ≤ datagram_cost (sizes_in s) count written
+  datagram_most content count written = let most = message_most (asks_for_rows (message_of content)) (sizes_in s) count written in omega (arith, most)
+
   -- ---- a piece of bytes
 
   module _ (now id : ℕ) (piece : List ℕ) where
@@ -51,13 +61,15 @@ module _ (s : State) (reached : IsReached s) (good : are_good s.setting.limits �
             → find_cost (length s.connections.all) + (count_taken piece t + 1) + 4 + record_cost (sizes_in s) t ≤ steps_bound s.setting.limits (count_in (show_taken (when_taken (at_moment now s) id piece c t).0)) 0
         by_taking TakesNone k = omega (arith, conns_few, k)
         by_taking (GoesOn fed) k = omega (arith, conns_few, k)
-        by_taking (Ends n content) k = omega (arith, conns_few, k, length-take longest_kept (arguments_of content))
+        by_taking (Ends n content) k =
+            let most = answer_most (asks_for_rows (message_of content)) (sizes_in s) (length (kept_of content)) in
+            omega (arith, conns_few, rows_looks, k, length-take longest_kept (arguments_of content), most)
 
   -- ---- every event
 
   event_within : (event : Event) → event_cost s event ≤ bound_at s event
   unfolding longest_reply longest_kept longest_args step bytes
-  event_within event = grind (arith, common_steps, piece_within, conns_few, datagram-shown, unsent-shown, forward-shown, expiry-shown)
+  event_within event = grind (arith, common_steps, piece_within, conns_few, rows_looks, datagram_most, datagram-shown, unsent-shown, forward-shown, expiry-shown)
 
 pub steps_are_bounded : StepsAreBounded
 steps_are_bounded s reached good event = event_within s reached good event

@@ -6,23 +6,25 @@ use Rattle.std.proofs.lemmas.Grind.{common_steps}
 use Rattle.rb_rpc.specs.Verdict.{verdict}
 use Rattle.rb_rpc.specs.Records.{first_record, data_of}
 use Rattle.rb_rpc.proofs.RecordCuts.{ends_later}
+use Rattle.rb_xdr.specs.Ordered.{looks}
 use Rattle.rb_feed.specs.Feeds.{arguments_of}
-use Rattle.rb_model.specs.Calls.{longest_reply, longest_kept, kept_of}
+use Rattle.rb_model.specs.Calls.{longest_reply, longest_kept, kept_of, message_of}
 use Rattle.rb_model.specs.State.{Setting, State, Phase, Connection, at_moment, are_good}
 use Rattle.rb_model.specs.Connections.{Taking, taking_of, fed_in, taking_up_to, live_connection, keep_reading}
 use Rattle.rb_model.specs.Connections.Taking.{TakesNone, GoesOn, Ends}
 use Rattle.rb_model.specs.Step.{Event, Output, with_count, when_taken, bytes_to, bytes, output_or, show_taken, step, run, after, IsReached}
 use Rattle.rb_model.specs.Step.Event.{Open, Bytes, Pending, Gave, Closed, NextLost, Datagram, Unsent, Sent, Forward, Expire}
 use Rattle.rb_model.specs.Bounds.{count_in, bytes_in, bytes_out}
-use Rattle.rb_model.specs.Costs.{sizes_in, count_taken, record_cost, bytes_cost, find_cost, event_cost, run_cost}
+use Rattle.rb_model.specs.Costs.{sizes_in, asks_for_rows, sizes_for, answer_cost, count_taken, record_cost, bytes_cost, find_cost, event_cost, run_cost}
 use Rattle.rb_model.specs.WholeRuns.{args_in, args_waiting, total_in, total_out, bytes_reported, event_allowance, EventsArePaidAhead, WholeRunsAreBounded}
 use Rattle.rb_model.specs.Losses.{stamp_in}
+use Rattle.rb_model.proofs.CostBounds.{answer_most}
 use Rattle.rb_laws.proofs.ExactTaking.{fed-none}
 use Rattle.rb_laws.proofs.Reached.{live-sound}
 use Rattle.rb_laws.proofs.Ledgers.{step-setting}
 use Rattle.rb_laws.proofs.KeptLengths.{kept_few}
 use Rattle.rb_laws.proofs.RepliesShown.{unsent-shown, datagram-shown, forward-shown, expiry-shown}
-use Rattle.rb_laws.proofs.StepBounds.{taken-counts, reached-step, conns_few, shows}
+use Rattle.rb_laws.proofs.StepBounds.{taken-counts, reached-step, conns_few, rows_looks, datagram_most, shows}
 use Rattle.rb_laws.proofs.Waiting.{waiting, found-waiting, answering-waits, open-waits, give-waits, pending-waits, close-waits, datagram-waits, send-waits, forward-waits, expiry-waits}
 
 -- ---- a piece that is taken
@@ -73,7 +75,14 @@ module _ (s : State) (reached : IsReached s) (good : are_good s.setting.limits �
   few : length s.connections.all ≤ s.setting.limits.conns
   few = conns_few s reached good
 
+  few_looks : looks s.setting.limits.rows ≤ s.setting.limits.rows
+  few_looks = rows_looks s reached good
+
   module _ (now id : ℕ) (piece : List ℕ) where
+    -- a record costs no more than one that asks for rows
+    ended_most : (content : List ℕ) → answer_cost (sizes_for (message_of content) (sizes_in s)) (length (kept_of content)) ≤ answer_cost (sizes_in s) (length (kept_of content))
+    ended_most content = answer_most (asks_for_rows (message_of content)) (sizes_in s) (length (kept_of content))
+
     -- by the connection that there is
     abbrev IsPaid : Option Connection → Type 0
     IsPaid m =
@@ -90,7 +99,7 @@ module _ (s : State) (reached : IsReached s) (good : are_good s.setting.limits �
         by_taking : (t : Taking) → taking_of c.phase piece ≡ t → IsWithin c.phase piece t → count_in (show_taken (when_taken (at_moment now s) id piece c t).0) ≡ count_taken piece t
             → find_cost (length s.connections.all) + (count_taken piece t + 1) + 4 + record_cost (sizes_in s) t + 2 * waiting (when_taken (at_moment now s) id piece c t).1
             ≤ 2 * waiting s + 16 * count_in (show_taken (when_taken (at_moment now s) id piece c t).0) + event_allowance s.setting.limits
-        by_taking bb is within k = grind (arith, common_steps, few, found-waiting, read_args, answering-waits, no_list, counted)
+        by_taking bb is within k = grind (arith, common_steps, few, few_looks, ended_most, found-waiting, read_args, answering-waits, no_list, counted)
 
   -- ---- every event
 
@@ -103,7 +112,7 @@ module _ (s : State) (reached : IsReached s) (good : are_good s.setting.limits �
   event_paid (Gave now id n) = let kept = give-waits s now id n in omega (arith, few, kept)
   event_paid (Closed id) = let kept = close-waits s id in omega (arith, few, kept)
   event_paid NextLost = omega (arith, few)
-  event_paid (Datagram now peer content) = let kept = datagram-waits s now peer content in let shown = datagram-shown s now peer content in omega (arith, few, kept, shown)
+  event_paid (Datagram now peer content) = let kept = datagram-waits s now peer content in let shown = datagram-shown s now peer content in let most = datagram_most s reached good content (length content) (length (step s (Datagram now peer content)).1.reply) in omega (arith, few, few_looks, kept, shown, most)
   event_paid Unsent = let lent = unsent-shown s in omega (arith, lent)
   event_paid (Sent number) = let kept = send-waits s number in omega (arith, kept)
   event_paid (Forward now from message) = let kept = forward-waits s now from message in let shown = forward-shown s now from message in omega (arith, few, kept, shown)
