@@ -3,13 +3,19 @@
 # makes calls over UDP and over TCP, a connection for each. A line for each attack says how many calls were answered
 # of how many, the longest wait, and what of the daemon's own memory is resident before and after. An attack fails
 # where fewer than 99 of 100 calls were answered, one waited over 50 milliseconds, or memory grew by a page.
-# tests/hostile/attacks.py has them.
+# tests/hostile/attacks.py has them. A daemon beside them stands still for 34 seconds, and must answer all 200 calls then
+# that were half sent before and whole in time.
+#
+# Where strace is installed, each call of the system that serves clients fails then for three seconds, with each error
+# that its manual names: tests/hostile/faults.py says what is wanted.
 #
 # With RECORD=1 in the environment the daemon records its events, up to as many bytes as a replay reads; an attack then
 # fails too where `rpcbind replay --check` does not agree with its record, or the good client's first reply over TCP is
-# not in it. A call may then wait 200 milliseconds, since the lists that are given are written down too.
+# not in it. A call may then wait 200 milliseconds, since the lists that are given are written down too. No faults are
+# tried then.
 #
-# The program may be another one: `PROGRAM=PATH make hostile`. Words are names of attacks, in place of all. As root it
+# The program may be another one: `PROGRAM=PATH make hostile`. Words are names of attacks or faults, in place of all: as
+# half_open_1500, accept4_EPERM, accept4 for all of its errors, and faults for all faults. As root it
 # runs in a network namespace of its own, where attackers and good client have addresses of their own; else on the
 # loopback, at high ports, where all of them are peers of this host. Wants python3. The last line is 'N passed, N
 # failed'; the status is 1 where one failed.
@@ -20,11 +26,11 @@ export PROGRAM=${PROGRAM:-$here/../crates/rpcbind/out/rpcbind}
 if [ "${1:-}" = --inside ]; then
     shift
     ip link set lo up || exit 1
-    exec python3 "$here/hostile/attacks.py" --hosts "$@"
+    exec python3 -B "$here/hostile/attacks.py" --hosts "$@"
 fi
 [ -x "$PROGRAM" ] || { echo "no program $PROGRAM: run 'make' first"; exit 1; }
 command -v python3 > /dev/null || { echo "skipped: there is no python3"; exit 0; }
 if [ "$(id -u)" -eq 0 ] && unshare --net true 2> /dev/null && command -v ip > /dev/null; then
     exec unshare --net --mount --propagation private --pid --fork --kill-child --mount-proc "$0" --inside "$@"
 fi
-exec python3 "$here/hostile/attacks.py" "$@"
+exec python3 -B "$here/hostile/attacks.py" "$@"

@@ -103,7 +103,7 @@ END
 }
 
 # A folder as /var far away: what mounts NFS binds it in place of asking a server. By _netdev it stays a mount of the
-# network for systemd.
+# network for systemd. nfs-client.target has a cycle of its own with such a /var, by which systemd drops what it likes.
 prepare_far_var() {
     cp -a "$tree/var" "$tree/far"
     cat > "$tree/usr/sbin/mount.nfs" << 'END'
@@ -116,6 +116,7 @@ What=192.0.2.9:/var
 Where=/var
 Type=nfs
 END
+    rm -f "$tree"/etc/systemd/system/*.wants/nfs-client.target
     mkdir -p "$tree/etc/systemd/system/remote-fs.target.wants"
     ln -s ../var.mount "$tree/etc/systemd/system/remote-fs.target.wants/"
 }

@@ -239,9 +239,9 @@ is_there_before_var() {
     is_active var.mount && [ "$(moment_of $ours)" -lt "$(moment_of var.mount)" ]
 }
 
-# The order of the whole boot, as systemd makes it. Some of the units of nfs-common alone have a cycle there.
+# The order of the whole boot, as systemd makes it.
 boot_has_no_cycle() {
-    ! systemd-analyze verify default.target 2>&1 | grep 'Found .*rpcbind'
+    ! systemd-analyze verify default.target 2>&1 | grep -B2 -A4 'ordering cycle'
 }
 
 # ---- the boots
