@@ -10,7 +10,9 @@ use Rattle.rb_model.specs.Step.{context_in, with_ledger, with_reply, serve, data
 use Rattle.rb_model.specs.Losses.{with_room}
 use Rattle.rb_model.specs.Costs.{event_cost}
 use Rattle.rb_model.specs.Bounds.{steps_bound, bytes_in, bytes_out}
+use Rattle.rb_laws.proofs.Changes.{changes_are_those_accepted}
 use Rattle.rb_laws.proofs.EntriesKept.{after-setting}
+use Rattle.rb_laws.proofs.History.{history_is_of_its_events}
 use Rattle.rb_laws.proofs.LaterReplies.{udp_callers_are_told}
 use Rattle.rb_laws.proofs.WholeSessions.{sessions_are_whole}
 use Rattle.rb_laws.proofs.StepBounds.{steps_are_bounded}
@@ -38,6 +40,8 @@ runs_are_served_within_bounds limits listener first_xid now good port events =
     let at_start : IsReached start = record { limits = limits; listener = listener; first_xid = first_xid; now = now; events = []; is = refl } in
     let reached : IsReached s = record { limits = limits; listener = listener; first_xid = first_xid; now = now; events = events; is = refl } in
     record {
+      changes = changes_are_those_accepted limits listener first_xid now events;
+      history = history_is_of_its_events limits listener first_xid now events;
       sessions = λ id. sessions_are_whole limits listener first_xid now events id;
       datagrams = answers_datagrams s;
       later = udp_callers_are_told s;

@@ -10,6 +10,8 @@ use Rattle.rb_model.specs.Calls.Outcome.{NoCall, Reply, Forwarded, Silent}
 use Rattle.rb_model.specs.State.{State, are_good, opening, at_moment}
 use Rattle.rb_model.specs.Step.{context_in, Event, Output, Output as outputs, step, after}
 use Rattle.rb_model.specs.Step.Event.{Datagram}
+use Rattle.rb_model.specs.ChangeLaws.{changes_by}
+use Rattle.rb_model.specs.HistoryLaws.{history_by}
 use Rattle.rb_model.specs.ForwardLaws.{UdpCallersAreTold}
 use Rattle.rb_model.specs.Sessions.{session, IsWholeSession}
 use Rattle.rb_model.specs.Costs.{event_cost}
@@ -33,6 +35,10 @@ AnswersDatagrams s =
 
 -- After these events, at these limits:
 pub record IsServedWithin (limits : Limits) (start : State) (events : List Event) : Type 0 where
+  -- the rows are changed by the SETs and UNSETs that were answered TRUE, in order, and by nothing else;
+  pub changes : (after start events).ledger.changes ≡ changes_by start events
+  -- statistics count the calls that reached their procedures and how forwarded calls ended, and nothing else;
+  pub history : (after start events).ledger.history ≡ history_by start events
   -- each completed call on a connection has exactly its reply, and on UDP too;
   pub sessions : (id : ℕ) → IsWholeSession id (after start events) (session start id events)
   pub datagrams : AnswersDatagrams (after start events)

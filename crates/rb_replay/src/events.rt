@@ -35,7 +35,7 @@ fn bytes(core: &mut Core, now: u64, id: u64, piece: &[u8], meter: &mut Meter) ->
     ensures { HasHappened (Bytes now id piece.now) core.old core.new meter.old meter.new result }
 {
     match core.bytes(now, id, piece, meter) {
-        Ok(taken) => show_taken(taken),
+        Ok((taken, _)) => show_taken(taken),
         Err(fault) => Output::Refused(fault),
     }
 }
