@@ -3,6 +3,7 @@ use Rattle.std.specs.Prelude.{IfSome}
 use Rattle.std.proofs.Common.{◌≡◌, ◌≤◌, ℕ, ◌+◌, ◌*◌, max, cond, true, false, eqb, List, [], ◌∷◌, ◌++◌, length, Option, Some, None, Result, Ok, Err, refl, sym, ap, ◌∙◌, arith}
 use Rattle.std.proofs.lemmas.List.{length-take}
 use Rattle.rb_xdr.specs.Meter.{Meter, PaysAtMost}
+use Rattle.rb_xdr.specs.Ordered.{looks}
 use Rattle.rb_rpc.specs.declared.peer.Peer.{Peer}
 use Rattle.rb_rpc.specs.Records.{first_record}
 use Rattle.rb_feed.specs.Feeds.{arguments_of}
@@ -10,7 +11,7 @@ use Rattle.rb_registry.specs.Registry.{slots_of}
 use Rattle.rb_forward.specs.Costs.{sent_cost, unsent_cost}
 use Rattle.rb_forward.specs.Deadlines.{soonest_cost}
 use Rattle.rb_rpc.specs.Forwarded.{longest_forwarded as longest_args}
-use Rattle.rb_model.specs.Calls.{Outcome, longest_reply, longest_kept}
+use Rattle.rb_model.specs.Calls.{Outcome, longest_reply, longest_kept, kept_of, message_of}
 use Rattle.rb_model.specs.State.{State, Setting, Connection, Connections, at_moment}
 use Rattle.rb_model.specs.declared.types.CoreFault.{CoreFault}
 use Rattle.rb_model.specs.Connections.{on_live, give, live_connection, Taking, fed_in, taking_of, taking_behind}
@@ -18,9 +19,10 @@ use Rattle.rb_model.specs.Connections.Taking.{TakesNone, GoesOn, Ends}
 use Rattle.rb_model.specs.Step.{datagram, bytes, bytes_to, when_taken, gave, unless_refused, show_taken, step, IsReached}
 use Rattle.rb_model.specs.declared.types.Taken.{Taken}
 use Rattle.rb_model.specs.Step.Event.{Bytes, Datagram}
-use Rattle.rb_model.specs.Costs.{Sizes, find_cost, pending_cost, take_cost, recount_cost, gave_cost, close_cost, ended_cost, datagram_cost, bytes_cost, count_taken, record_cost}
+use Rattle.rb_model.specs.Costs.{Sizes, asks_for_rows, sizes_for, find_cost, pending_cost, take_cost, recount_cost, gave_cost, close_cost, ended_cost, datagram_cost, bytes_cost, count_taken, record_cost}
 use Rattle.rb_model.specs.Laws.{NoRecordEnds}
 use Rattle.rb_model.specs.Bounds.{steps_bound}
+use Rattle.rb_model.proofs.CostBounds.{looks_few, message_most, answer_most}
 use Rattle.rb_laws.proofs.EntriesKept.{step-follows}
 use Rattle.rb_laws.proofs.Room.{reached-room}
 use Rattle.rb_laws.proofs.StepBounds.{taken-counts}
@@ -56,6 +58,11 @@ module _ (core : Held) (a b : Meter) where
     few_rows =
         let same : core.setting.limits.rows ≡ s.setting.limits.rows = ap (λ (x : Setting). x.limits.rows) h.setting in
         omega (arith, same, rows_held core s h)
+
+    few_looks : looks core.books.registry.limit ≤ core.setting.limits.rows
+    few_looks =
+        let same : core.setting.limits.rows ≡ s.setting.limits.rows = ap (λ (x : Setting). x.limits.rows) h.setting in
+        omega (arith, same, h.limit, looks_few core.books.registry.limit)
 
     entries : core.books.forwards.cap ≡ core.setting.limits.forwards
     entries = h.forwards ∙ sym (ap (λ (x : Setting). x.limits.forwards) h.setting)
@@ -103,7 +110,9 @@ module _ (core : Held) (a b : Meter) where
     within = λ s h reached.
         let shows = datagram_shown core new (λ t. datagram t now peer content) given acts s h in
         let left = rows_left new s _ h shows.1 (step-follows s (Datagram now peer content)).setting in
-        at_most a b (datagram_cost (sizes_of core new) (length content) (length new.reply)) _ (omega (arith, few_connections s h reached, few_rows s h, left, shows.1.short)) pays;
+        let most = message_most (asks_for_rows (message_of content)) (sizes_of core new) (length content) (length new.reply) in
+        at_most a b (datagram_cost (sizes_for (message_of content) (sizes_of core new)) (length content) (length new.reply)) _
+        (omega (arith, few_connections s h reached, few_rows s h, few_looks s h, left, shows.1.short, most)) pays;
   }
 
   -- the state keeps its setting where bytes are given
@@ -148,7 +157,7 @@ module _ (core : Held) (a b : Meter) where
         by_taking s h reached (GoesOn fed) k paid = at_most a b (find_cost (length core.connections.slots) + take_cost (length piece) + recount_cost + 0 + more) _ (omega (arith, few, few_connections s h reached, k)) paid
         by_taking s h reached (Ends m content) k paid =
             at_most a b (find_cost (length core.connections.slots) + take_cost m + recount_cost + record_cost (sizes_of core new) (Ends m content) + more) _
-            (omega (arith, few, few_connections s h reached, few_rows s h, left s h, k, length-take longest_kept (arguments_of content))) paid
+            (omega (arith, few, few_connections s h reached, few_rows s h, few_looks s h, left s h, k, length-take longest_kept (arguments_of content), answer_most (asks_for_rows (message_of content)) (sizes_of core new) (length (kept_of content)))) paid
 
         by_there : (s : State) → StandsFor core s → IsReached s → (m : Option Connection) → live_connection id s.connections.all ≡ m → PaysAtMost a b (bytes_cost (sizes_of core new) piece m + more) → PaysAtMost a b (steps_bound core.setting.limits (length_taken result) n)
         by_there s h reached None there paid = at_most a b (find_cost (length core.connections.slots) + more) _ (omega (arith, few, few_connections s h reached)) paid

@@ -8,6 +8,8 @@ ghost use Rattle.rb_core.specs.AtOnce.{IsGivenAtOnce, count_at_once};
 ghost use Rattle.rb_core.specs.CallCosts.{PaysForPiece, PaysInRoom};
 ghost use Rattle.rb_core.specs.Standings.{TellsIfQuiet};
 ghost use Rattle.rb_core.specs.Core.{arguments_in, received_in, HasArguments, TakesPiece};
+ghost use Rattle.rb_model.specs.Calls.{message_with};
+ghost use Rattle.rb_serving.specs.Costs.{ListsIfAsked};
 ghost use Rattle.rb_serving.specs.Serving.{CanServe, IsEmptyReply, LeavesBooks, source_in};
 ghost use Rattle.rb_core.specs.Eviction.{ServesVerdict};
 ghost use Rattle.rb_connections.specs.Listings.{CanContinueAll};
@@ -115,7 +117,8 @@ pub fn serve_verdict(
     ensures leaves { LeavesBooks context.now books.old books.new result out.old out.new }
     ensures lists { CanContinueAll (source_in context.now.listener.host books.new) connections.new }
     ensures open { StayOpen connections.old connections.new }
-    ensures cost { PaysInRoom
+    ensures listed { ListsIfAsked (message_with verdict.now arguments.now) result }
+    ensures cost { PaysInRoom verdict.now
         connections.old books.old books.new arguments.now out.new meter.old meter.new }
 {
     let called = match procedure_of(verdict) {

@@ -173,7 +173,7 @@ impl Core {
     ghost use Rattle.rb_model.specs.Standings.{as_done, without_standing};
     ghost use Rattle.rb_core.specs.Standings.{StandsThen};
     ghost use Rattle.rb_core.specs.AtOnce.{AnswersGiving, CountsGiven, Exchanges, GivesAtOnce};
-    ghost use Rattle.rb_core.specs.CallCosts.{sizes_of, PaysForBytes, PaysForDatagram, PaysForExchange, PaysToAnswer, lending_cost};
+    ghost use Rattle.rb_core.specs.CallCosts.{sizes_of, PaysForBytes, PaysForDatagram, PaysForExchange, PaysForPlainDatagram, PaysForPlainExchange, PaysForPlainRecord, PaysToAnswer, lending_cost};
     ghost use Rattle.rb_connections.specs.Costs.{look_cost, slot_count};
     ghost use Rattle.rb_model.specs.Costs.{close_cost, ended_cost, gave_cost, tell_cost, pending_cost};
 
@@ -196,7 +196,7 @@ impl Core {
         ensures bad { IsErrOf result CoreFault.BadLimits ↔ IsTrue (not (are_good limits)) }
         ensures memory { IfErr result
             (λ fault. IsTrue (are_good limits) → fault ≡ CoreFault.NoMemory) }
-        ensures cost { PaysAtMost meter.old meter.new (6 + 3 * limits.conns + 2 * limits.forwards) }
+        ensures cost { PaysAtMost meter.old meter.new (66 + 3 * limits.conns + 2 * limits.forwards) }
     {
         if !are_good(&limits) {
             return Err(CoreFault::BadLimits);
@@ -257,6 +257,7 @@ impl Core {
         ensures held { NeverPasses self.new }
         ensures short { length self.new.reply ≤ longest_reply }
         ensures cost { PaysForDatagram self.old self.new content.now meter.old meter.new }
+        ensures plain { PaysForPlainDatagram self.old self.new content.now meter.old meter.new }
         ensures bound { StaysWithinSteps self.old (length content.now) 0 meter.old meter.new }
     {
         self.steps_before = meter.count();
@@ -341,6 +342,7 @@ impl Core {
         ensures held { NeverPasses self.new }
         ensures same_meter { meter.new.tie ≡ meter.old.tie }
         ensures cost { PaysForBytes self.old self.new id piece.now meter.old meter.new }
+        ensures plain { PaysForPlainRecord self.old id piece.now 0 meter.old meter.new }
         ensures bound { StaysWithinSteps self.old
             (length_taken (without_standing result)) 0 meter.old meter.new }
         ensures quiet { StaysCheapIfQuiet self.old id piece.now
@@ -379,6 +381,8 @@ impl Core {
         ensures same_meter { meter.new.tie ≡ meter.old.tie }
         ensures cost { PaysForExchange
             self.old self.new id piece.now room.old result meter.old meter.new }
+        ensures plain { PaysForPlainExchange
+            self.old id piece.now room.old result meter.old meter.new }
         ensures bound { ExchangesWithinSteps self.old result meter.old meter.new }
     {
         self.steps_before = meter.count();
@@ -429,7 +433,7 @@ impl Core {
         ensures count { GivesAtOnce room.old id ended arguments.entry self.old result.1 }
         ensures tie { self.new.tie ≡ self.old.tie }
         ensures begun { self.new.steps_before ≡ self.old.steps_before }
-        ensures cost { PaysToAnswer
+        ensures cost { PaysToAnswer ended.verdict
             self.old self.new arguments.entry room.old result.1 meter.old meter.new }
     {
         let context = self.context(Caller::Tcp(id, ended.peer));

@@ -8,8 +8,7 @@ ghost use Rattle.rb_connections.specs.Listings.{CanContinueAll};
 ghost use Rattle.rb_serving.specs.Serving.{HasRoom, source_in};
 ghost use Rattle.rb_core.specs.Eviction.{Evicts};
 ghost use Rattle.rb_serving.specs.Costs.{row_count_of};
-ghost use Rattle.rb_core.specs.CallCosts.{sizes};
-ghost use Rattle.rb_model.specs.Costs.{room_cost};
+ghost use Rattle.rb_core.specs.CallCosts.{PaysForRoom};
 
 use rb_connections::Connections;
 use rb_model::Message;
@@ -57,8 +56,8 @@ pub fn make_room(
     ensures forwards { books.new.forwards ≡ books.old.forwards }
     ensures frame { SameFrame books.old books.new }
     ensures fewer { row_count_of books.new ≤ row_count_of books.old }
-    ensures cost { PaysAtMost meter.old meter.new
-        (room_cost (sizes connections.old books.old books.new)) }
+    ensures cost { PaysForRoom
+        message.now connections.old books.old books.new meter.old meter.new }
 {
     let Message::Asked(call) = message else {
         return;

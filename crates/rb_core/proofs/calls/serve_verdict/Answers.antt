@@ -6,6 +6,7 @@ use Rattle.rb_proto.specs.Ledger.{Ledger}
 use Rattle.rb_model.specs.Calls.{message_with}
 use Rattle.rb_model.specs.Losses.{asks_room}
 use Rattle.rb_serving.specs.Messages.{null_message}
+use Rattle.rb_core.proofs.Spending.{served_alone, served_in_room}
 use Rattle.rb_core.proofs.Answering.{serves_in_room, nothing_evicts, serves_without_room, lists_then}
 use Rattle.rb_serving.proofs.Procedures.{null_asked, nothing_asks}
 use Rattle.rb_core.proofs.calls.serve_verdict.Goals as goal
@@ -45,3 +46,20 @@ returns-clause-acts c =
 pub returns-clause-lists : goal.returns-clause-lists
 returns-clause-lists c =
     lists_then c.args.context.now.listener.host c.make_room.new.connections c.make_room.new.books c.serve-2.new.books c.serve-2.ensures.cursors c.serve-2.ensures.floor c.make_room.ensures.lists
+
+-- ---- what it costs
+
+pub returns-in-Err-clause-listed : goal.returns-in-Err-clause-listed
+returns-in-Err-clause-listed c = rw (← c.in-Err.ensures.refuses c.args.arguments.now) c.serve.ensures.listed
+
+pub returns-in-Err-clause-cost : goal.returns-in-Err-clause-cost
+returns-in-Err-clause-cost c = rw (← c.in-Err.ensures.refuses c.args.arguments.now) (served_alone c.in-Err.message c.args.connections.now c.args.books.now c.serve.new.books c.args.arguments.now c.serve.new.out _ _ c.serve.ensures.cost)
+
+pub returns-clause-listed : goal.returns-clause-listed
+returns-clause-listed c = rw (c.in-Ok.ensures.calls c.args.arguments.now ∙ sym c.message.ensures.message) c.serve-2.ensures.listed
+
+pub returns-clause-cost : goal.returns-clause-cost
+returns-clause-cost c =
+    rw (c.in-Ok.ensures.calls c.args.arguments.now ∙ sym c.message.ensures.message)
+    (served_in_room c.message.result c.args.connections.now c.args.books.now c.make_room.new.books c.serve-2.new.books c.args.arguments.now c.serve-2.new.out _ _ _
+    c.make_room.ensures.frame.limit c.make_room.ensures.fewer c.make_room.ensures.cost c.serve-2.ensures.cost)

@@ -1,4 +1,4 @@
-use Rattle.std.proofs.Common.{◌≡◌, ◌≤◌, ◌<◌, ◌+◌, true, false, ℕ, List, length, All, refl, sym, ap, ◌∙◌, arith}
+use Rattle.std.proofs.Common.{◌≡◌, ◌≤◌, ◌<◌, ◌+◌, true, false, ℕ, List, length, All, refl, sym, ap, ◌∙◌, arith, rules}
 use Rattle.rb_registry.specs.Registry.{rows_of, removals_of}
 use Rattle.rb_proto.specs.Ledger.{rows_in}
 use Rattle.rb_proto.specs.Books.{wants_room_in}
@@ -7,6 +7,8 @@ use Rattle.rb_laws.proofs.Crowding.{none_evicted, not_asked, not_crowded, crowde
 use Rattle.rb_connections.specs.Listings.{CanContinueAll, stamps_of, IsEarliest}
 use Rattle.rb_connections.proofs.ListsGoOn.{lists_on, stands_on, trimmed_low}
 use Rattle.rb_serving.specs.Serving.{source_in}
+use Rattle.rb_model.specs.Costs.{asks_for_rows}
+use Rattle.rb_serving.proofs.Costs.{adding_asks}
 use Rattle.rb_core.proofs.Crowding.{kept_are, kept_few, no_call_has_room, room_is_made, earliest_of}
 use Rattle.rb_core.proofs.eviction.make_room.Goals as goal
 
@@ -101,3 +103,17 @@ returns-clause-room c =
     (the_earliest c) c.evict.ensures.later c.oldest-2.ensures.oldest c.trim-2.ensures.dropped in
     let limit = c.trim-2.ensures.frame.limit in
     rw c.in-Asked.is (λ wants. omega (arith, fewer, ap (λ rs. length rs) c.trim-2.ensures.rows, c.len-live.ensures.counted, c.len-live.ensures.few, limit))
+
+-- ---- what it costs
+
+pub returns-then-retained-context-clause-cost : goal.returns-then-retained-context-clause-cost
+returns-then-retained-context-clause-cost c =
+    let wants : wants_room_in c.args.context.now c.in-Asked.call c.args.books.now.registry ≡ true = sym c.wants_room.ensures.wants ∙ c.if-not-wants_room.false in
+    let asks : asks_for_rows c.args.message.now ≡ true = rw c.in-Asked.is (adding_asks c.args.context.now c.in-Asked.call (rows_of c.args.books.now.registry) c.args.books.now.registry.stamp wants) in
+    rw asks (search rules)
+
+pub returns-clause-cost : goal.returns-clause-cost
+returns-clause-cost c =
+    let wants : wants_room_in c.args.context.now c.in-Asked.call c.args.books.now.registry ≡ true = sym c.wants_room.ensures.wants ∙ c.if-not-wants_room.false in
+    let asks : asks_for_rows c.args.message.now ≡ true = rw c.in-Asked.is (adding_asks c.args.context.now c.in-Asked.call (rows_of c.args.books.now.registry) c.args.books.now.registry.stamp wants) in
+    rw asks (search rules)

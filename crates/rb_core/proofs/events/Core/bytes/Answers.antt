@@ -1,6 +1,7 @@
 use Rattle.std.proofs.lemmas.Result.{err_from_is_err_and}
 use Rattle.std.proofs.Common.{rules, Ok, Err}
 use Rattle.rb_core.proofs.AtOnce.{alone}
+use Rattle.rb_core.proofs.Spending.{plain_record_paid}
 use Rattle.rb_core.proofs.CallBounds.{cheap_within}
 use Rattle.rb_core.proofs.events.Core.bytes.Goals as goal
 
@@ -22,3 +23,10 @@ returns-in_err-taken-clause-quiet c =
 pub returns-clause-quiet : goal.returns-clause-quiet
 returns-clause-quiet c =
     cheap_within c.args.self.now c.args.meter.now c.exchange.new.meter c.args.now c.args.id c.args.piece.now c.exchange.new.self (Ok c.in_ok-taken.field-0.taken) (returns-clause-acts c) (search rules)
+
+pub returns-in_err-taken-clause-plain : goal.returns-in_err-taken-clause-plain
+returns-in_err-taken-clause-plain c =
+    plain_record_paid c.args.self.now c.exchange.new.self.books c.args.id c.args.piece.now 0 c.args.meter.now c.exchange.new.meter (search rules)
+
+pub returns-clause-plain : goal.returns-clause-plain
+returns-clause-plain c = plain_record_paid c.args.self.now c.exchange.new.self.books c.args.id c.args.piece.now 0 c.args.meter.now c.exchange.new.meter (search rules)

@@ -1,4 +1,4 @@
-use Rattle.std.proofs.Common.{◌≡◌, List, ℕ, refl, subst, rules}
+use Rattle.std.proofs.Common.{◌≡◌, List, ℕ, length, refl, subst, rules}
 use Rattle.rb_rpc.specs.declared.call.Verdict.{Verdict}
 use Rattle.rb_rpc.specs.Verdict.{verdict}
 use Rattle.rb_rpc.specs.declared.peer.Caller.TheVariants.{Udp}
@@ -22,6 +22,10 @@ use Rattle.rb_core.proofs.Awaited.{awaited_by_udp}
 use Rattle.rb_core.proofs.Answering.{lists_for_room, lists_for_view, served_by}
 use Rattle.rb_core.proofs.Steps.{datagram_acts}
 use Rattle.rb_core.proofs.Begun.{with_steps_before, acts_begun}
+use Rattle.rb_xdr.specs.Meter.{PaysAtMost}
+use Rattle.rb_model.specs.Costs.{sizes_for, datagram_cost}
+use Rattle.rb_core.specs.CallCosts.{sizes}
+use Rattle.rb_core.proofs.Spending.{datagram_pays, plain_datagram_paid}
 use Rattle.rb_core.proofs.CallBounds.{datagram_within}
 use Rattle.rb_core.proofs.Cores.{core_changed}
 use Rattle.rb_core.proofs.events.Core.datagram.Goals as goal
@@ -67,10 +71,28 @@ returns-clause-acts c =
     c.serve_verdict-served.ensures.leaves.frame c.serve_verdict-served.ensures.open.stays)
     (written_is c.in-Answered.outcome reply (rw c.in-Answered.is at c.serve_verdict-served.ensures.leaves.written)))
 
+pub returns-clause-cost : goal.returns-clause-cost
+returns-clause-cost c =
+    let v = c.read_call-verdict.result in
+    let lent = c.arguments_behind-arguments in
+    let served = c.serve_verdict-served in
+    let content : List ℕ = c.args.content.now in
+    let says = says_so v lent.result.now content c.read_call-verdict.ensures.verdict lent.ensures.arguments in
+    subst (λ (held : Held). PaysAtMost c.args.meter.now c.len.new.meter (datagram_cost (sizes_for (message_of content) (sizes held.connections held.books served.new.books)) (length content) (length served.new.out.bytes))) c.self.view_is
+    (datagram_pays c.self.inside.connections c.self.inside.books served.new.books v lent.result.now content served.new.out c.args.meter.now c.clear.new.meter served.new.meter c.len.new.meter says lent.ensures.few
+    c.clear.ensures.cost served.ensures.cost c.len.ensures.cost)
+
+pub returns-clause-plain : goal.returns-clause-plain
+returns-clause-plain c =
+    let old : Held = c.args.self.now in
+    let served = c.serve_verdict-served in
+    let limit : old.books.registry.limit ≡ old.setting.limits.rows = subst (λ (held : Held). held.books.registry.limit ≡ held.setting.limits.rows) c.self.view_is c.self.invariant.limit in
+    plain_datagram_paid old.connections old.books served.new.books c.args.content.now old.setting.limits.rows (length served.new.out.bytes) c.args.meter.now c.len.new.meter limit (returns-clause-cost c)
+
 pub returns-clause-bound : goal.returns-clause-bound
 returns-clause-bound c =
     datagram_within c.args.self.now c.args.meter.now _ _ c.args.now c.args.peer c.args.content.now (outcome_with c.in-Answered.outcome c.serve_verdict-served.new.out.bytes)
-    (returns-clause-acts c) (search rules)
+    (returns-clause-acts c) (returns-clause-cost c)
 
 pub invariant_of-self-2 : goal.invariant_of-self-2
 invariant_of-self-2 c =

@@ -1,5 +1,5 @@
 use Rattle.std.specs.Borrow.{Bor}
-use Rattle.std.proofs.Common.{rules, ◌≡◌, ℕ, List, length, take, ◌+◌, Option, Some, None, Ok, refl, sym, subst, arith}
+use Rattle.std.proofs.Common.{rules, ◌≡◌, ℕ, List, length, take, ◌+◌, Option, Some, None, Ok, refl, sym, subst}
 use Rattle.std.proofs.lemmas.Result.{err_from_is_err_and}
 use Rattle.rb_xdr.specs.Meter.{Meter, PaysAtMost}
 use Rattle.rb_model.specs.Costs.{bytes_cost}
@@ -12,7 +12,7 @@ use Rattle.rb_core.specs.contracts.events.Core.{the_view}
 use Rattle.rb_core.specs.CallCosts.{sizes_of}
 use Rattle.rb_core.specs.Core.{arguments_in}
 use Rattle.rb_core.specs.StandsFor.{Held, StandsFor, source_of}
-use Rattle.rb_core.proofs.Spending.{looked_paid, received_paid, answered_paid}
+use Rattle.rb_core.proofs.Spending.{as_large, looked_paid, received_paid, answered_paid, plain_record_paid}
 use Rattle.rb_core.proofs.Steps.{bytes_refused, quiet_acts, quiet_gives_none, with_ended, fed_by, held_after}
 use Rattle.rb_core.proofs.AtOnce.{plainly, counted, none_refused, by_count, exchange_ended, counted_ended, whole_few}
 use Rattle.rb_core.proofs.Begun.{with_steps_before, still_stands, acts_begun, shows_begun}
@@ -48,6 +48,11 @@ pub returns-in_err-got-clause-cost : goal.returns-in_err-got-clause-cost
 returns-in_err-got-clause-cost c =
     let p = err_from_is_err_and c.from_residual.result c.from_residual.ensures.1 in
     rw p.1 (λ s h. by_view (the_view c.self.inside) c.args.self.now (the_view c.self.inside) c.args.id c.args.piece.now s (whole_cost (length c.args.room.now) 0) _ _ c.self.view_is (looked_paid (sizes_of (the_view c.self.inside) (the_view c.self.inside)) c.args.piece.now _ _ (whole_cost (length c.args.room.now) 0) (live_connection c.args.id s.connections.all) c.in_err-got.ensures.cost))
+
+pub returns-in_err-got-clause-plain : goal.returns-in_err-got-clause-plain
+returns-in_err-got-clause-plain c =
+    let p = err_from_is_err_and c.from_residual.result c.from_residual.ensures.1 in
+    rw p.1 (plain_record_paid c.args.self.now c.self.inside.books c.args.id c.args.piece.now (whole_cost (length c.args.room.now) 0) c.args.meter.now c.take_piece.new.meter (rw p.1 at (returns-in_err-got-clause-cost c)))
 
 pub returns-in_err-got-clause-bound : goal.returns-in_err-got-clause-bound
 returns-in_err-got-clause-bound c =
@@ -92,6 +97,10 @@ returns-in_default-clause-cost c = λ s h.
     by_view (the_view c.self.inside) c.args.self.now (the_view c.self.inside) c.args.id c.args.piece.now s (whole_cost (length c.args.room.now) 0) c.args.meter.now c.take_piece.new.meter c.self.view_is
     (rw f.there (received_paid (sizes_of (the_view c.self.inside) (the_view c.self.inside)) c.args.piece.now _ _ (whole_cost (length c.args.room.now) 0) f.connection c.in_ok-got.got.received f.gives c.in_ok-got.ensures.cost))
 
+pub returns-in_default-clause-plain : goal.returns-in_default-clause-plain
+returns-in_default-clause-plain c =
+    plain_record_paid c.args.self.now c.self.inside.books c.args.id c.args.piece.now (whole_cost (length c.args.room.now) 0) c.args.meter.now c.take_piece.new.meter (returns-in_default-clause-cost c)
+
 pub returns-in_default-clause-bound : goal.returns-in_default-clause-bound
 returns-in_default-clause-bound c =
     exchange_within c.args.self.now c.args.meter.now c.take_piece.new.meter c.args.now c.args.id c.args.piece.now _ (length c.args.room.now) 0 (whole_cost (length c.args.room.now) 0) _ _ (returns-in_default-clause-acts c) (whole_few (length c.args.room.now) 0) (returns-in_default-clause-cost c)
@@ -134,8 +143,12 @@ returns-clause-cost c = λ s h.
     let kept = held_after view c.args.now c.max-clock.result c.args.id c.args.piece.now c.max-clock.ensures c.take_piece.new.connections c.in_ok-got.ensures.goes_on.stays arguments holds s f.connection _ z f.there refl in
     by_view (the_view c.self.inside) c.args.self.now c.answer-closed.new.self c.args.id c.args.piece.now s (whole_cost (length c.args.room.now) c.answer-closed.result.1) c.args.meter.now c.answer-closed.new.meter c.self.view_is
     (rw f.there (
-    answered_paid (sizes_of (the_view c.self.inside) c.answer-closed.new.self) c.args.piece.now _ _ (whole_cost (length c.args.room.now) c.answer-closed.result.1) c.answer-closed.new.meter _ (record { connections = c.in_ok-got.ensures.as_many; rows = omega arith; left = omega arith; forwards = refl }) f.connection got c.in-Some.ended _ arguments f.gives c.in-Some.is kept
+    answered_paid (sizes_of (the_view c.self.inside) c.answer-closed.new.self) c.args.piece.now _ _ (whole_cost (length c.args.room.now) c.answer-closed.result.1) c.answer-closed.new.meter _ (as_large (length c.take_piece.new.connections.slots) (length c.self.inside.connections.slots) c.self.inside.books c.answer-closed.new.self.books c.in_ok-got.ensures.as_many) f.connection got c.in-Some.ended _ arguments f.gives c.in-Some.is kept
     c.in_ok-got.ensures.cost c.answer-closed.ensures.cost))
+
+pub returns-clause-plain : goal.returns-clause-plain
+returns-clause-plain c =
+    plain_record_paid c.args.self.now c.answer-closed.new.self.books c.args.id c.args.piece.now (whole_cost (length c.args.room.now) c.answer-closed.result.1) c.args.meter.now c.answer-closed.new.meter (returns-clause-cost c)
 
 pub returns-clause-bound : goal.returns-clause-bound
 returns-clause-bound c =
