@@ -80,7 +80,8 @@ lines_of_readme() {
 
 prepare() {
     local unit
-    make --no-print-directory install DESTDIR="$tree" > "$work/made" 2>&1 || fail "make install: $(tail -n 1 "$work/made")"
+    make --no-print-directory install DESTDIR="$tree" > "$work/made" 2>&1 ||
+        fail "make install: $(tail -n 1 "$work/made")"
     mkdir "$tree/checks"
     lines_of_readme 1 > "$tree/checks/to-ours"
     lines_of_readme 2 > "$tree/checks/back"
@@ -139,8 +140,8 @@ boot() {
     rm -f "$tree/checks/output"
     (
         echo "$BASHPID" > "$cgroup/cgroup.procs" || exit 1
-        exec timeout --signal=KILL "$longest" unshare --pid --fork --kill-child --mount --propagation private --net --uts --ipc \
-            --cgroup tests/units/boot.sh "$tree" > "$work/console" 2>&1 < /dev/null
+        exec timeout --signal=KILL "$longest" unshare --pid --fork --kill-child --mount --propagation private \
+            --net --uts --ipc --cgroup tests/units/boot.sh "$tree" > "$work/console" 2>&1 < /dev/null
     ) &
     wait $!
     if ! grep -q '^end of the checks$' "$tree/checks/output" 2> /dev/null; then

@@ -24,8 +24,8 @@ FIRST_PORT = 20140
 WORKERS = max(4, min(8, os.cpu_count() or 4))
 RECOVERY = 10.0
 
-# how long it takes until two clients come, and how many stay connected: fewer than there are places. All stay where a call
-# says EAGAIN, which is untrue: the next word of such a socket comes when its client goes.
+# How long it takes until two clients come, and how many stay connected: fewer than there are places. All stay where a
+# call says EAGAIN, which is untrue: such a socket is looked at again when its client goes.
 PAUSE = 0.1
 STAYING = 20
 MOST_STAYING = 60
@@ -142,7 +142,7 @@ def call_on(client):
 
 
 def call_for(seconds, daemon, most):
-    """Clients come and call on each way, and the earliest of more than so many goes; those that are there at the end."""
+    """Clients come and call on each way, and the earliest of more than so many go; those that are there at the end."""
     datagrams = udp_socket(HOST)
     kept = []
     end = time.monotonic() + seconds
@@ -168,8 +168,8 @@ def let_go(clients):
 def attach(daemon, name, error, counts):
     """An strace that lets each of these calls fail, and counts them; None where it could not be attached."""
     pid = daemon.process.pid
-    options = ["-qq", "-c", "-o", counts, "-e", f"trace={name}", "-e", f"inject={name}:error={error}"]
-    tracer = subprocess.Popen(["strace", *options, "-p", str(pid)], stdout=subprocess.DEVNULL, stderr=subprocess.DEVNULL)
+    options = ["-qq", "-c", "-o", counts, "-e", f"trace={name}", "-e", f"inject={name}:error={error}", "-p", str(pid)]
+    tracer = subprocess.Popen(["strace", *options], stdout=subprocess.DEVNULL, stderr=subprocess.DEVNULL)
     for _ in range(100):
         with open(f"/proc/{pid}/status") as status:
             if f"TracerPid:\t{tracer.pid}\n" in status.read():
