@@ -42,6 +42,9 @@ ERRORS = {
     "epoll_wait": "EINTR",
 }
 
+# An interrupted accept is made again by the library that makes it, as often as it is interrupted, so only every second is.
+WHEN = {("accept4", "EINTR"): ":when=1+2"}
+
 FAULTS = [(name, error) for name, errors in ERRORS.items() for error in errors.split()]
 
 
@@ -168,7 +171,8 @@ def let_go(clients):
 def attach(daemon, name, error, counts):
     """An strace that lets each of these calls fail, and counts them; None where it could not be attached."""
     pid = daemon.process.pid
-    options = ["-qq", "-c", "-o", counts, "-e", f"trace={name}", "-e", f"inject={name}:error={error}", "-p", str(pid)]
+    inject = f"inject={name}:error={error}" + WHEN.get((name, error), "")
+    options = ["-qq", "-c", "-o", counts, "-e", f"trace={name}", "-e", inject, "-p", str(pid)]
     tracer = subprocess.Popen(["strace", *options], stdout=subprocess.DEVNULL, stderr=subprocess.DEVNULL)
     for _ in range(100):
         with open(f"/proc/{pid}/status") as status:
