@@ -22,7 +22,7 @@ fn is_taken(
     meter: &mut Meter,
 ) -> Result<bool, CoreFault> {
     for _i in 0..times {
-        let Taken { count, closed } = core.bytes(0, 1, piece, meter)?;
+        let (Taken { count, closed }, _) = core.bytes(0, 1, piece, meter)?;
         if count != piece.len() || closed || core.held() > most {
             return Ok(false);
         }

@@ -104,10 +104,12 @@ fn record_closes(
     data: &[u8],
     meter: &mut Meter,
 ) -> Result<bool, CoreFault> {
-    if core.bytes(0, id, &header_of(data), meter)?.closed {
+    let (header, _) = core.bytes(0, id, &header_of(data), meter)?;
+    if header.closed {
         return Ok(true);
     }
-    Ok(core.bytes(0, id, data, meter)?.closed)
+    let (record, _) = core.bytes(0, id, data, meter)?;
+    Ok(record.closed)
 }
 
 /// The record gets this one for its reply, or closes its connection where that is empty.

@@ -263,7 +263,7 @@ const NULL_MARKED: [u8; 28] = [
     0x80, 0, 0, 24, 0, 0, 0, 1, 0, 0, 0, 1, 0, 0, 0, 0, 0, 0, 0, 0, 0, 0, 0, 0, 0, 0, 0, 0,
 ];
 
-// The whole record is taken, and so many bytes of its reply are given at once, with which the connection stands so.
+// The whole record is taken, so many bytes of its reply are given at once, and the connection stands so then.
 fn gives_at_once(
     core: &mut Core,
     record: &[u8],
@@ -276,12 +276,12 @@ fn gives_at_once(
         count: 44,
         closed: false,
     };
-    core.exchange(0, 1, record, room, meter)
-        == Ok(Exchanged {
-            taken,
-            given,
-            standing,
-        })
+    let exchanged = Exchanged {
+        taken,
+        given,
+        standing,
+    };
+    core.exchange(0, 1, record, room, meter) == Ok(exchanged)
 }
 
 // Where there is room for the longest fragment the reply is given at once, and is pending no more.
@@ -313,7 +313,7 @@ fn replies_are_given_at_once(rt: HostRuntime) -> Result<(), Fail> {
 // Each byte of the record is taken by itself, in at most 328 steps.
 fn bytes_are_cheap(core: &mut Core, front: &[u8], meter: &mut Meter) -> Result<bool, CoreFault> {
     for byte in front {
-        let Taken { count, closed } = core.bytes(0, 1, &[*byte], meter)?;
+        let (Taken { count, closed }, _) = core.bytes(0, 1, &[*byte], meter)?;
         if count != 1 || closed || core.steps(meter) > 328 {
             return Ok(false);
         }
@@ -359,5 +359,68 @@ fn single_bytes_are_cheap(rt: HostRuntime) -> Result<(), Fail> {
     let mut core = Core::new(rt.alloc(), limits, LISTENER, 1000, 0, &mut meter)?;
     assert_eq!(rt; core.open(0, LOOPBACK, &mut meter), Ok(1));
     assert_eq!(rt; bytes_are_cheap(&mut core, front, &mut meter), Ok(true));
+    Ok(())
+}
+
+// The bytes are taken, the connection stands so then, and this is the next deadline.
+fn bytes_leave(
+    core: &mut Core,
+    now: u64,
+    piece: &[u8],
+    standing: Standing,
+    deadline: Option<u64>,
+    meter: &mut Meter,
+) -> bool
+    requires { meter.old.tie ≡ core.old.tie }
+    ensures tie { core.new.tie ≡ core.old.tie }
+    ensures same_meter { meter.new.tie ≡ meter.old.tie }
+{
+    matches!(core.bytes(now, 1, piece, meter), Ok((_, stands)) if stands == standing)
+        && core.next_deadline(meter) == deadline
+}
+
+// The same where so many bytes were given.
+fn giving_leaves(
+    core: &mut Core,
+    now: u64,
+    count: usize,
+    standing: Standing,
+    deadline: Option<u64>,
+    meter: &mut Meter,
+) -> bool
+    requires { meter.old.tie ≡ core.old.tie }
+    ensures tie { core.new.tie ≡ core.old.tie }
+    ensures same_meter { meter.new.tie ≡ meter.old.tie }
+{
+    core.gave(now, 1, count, meter) == Ok(standing) && core.next_deadline(meter) == deadline
+}
+
+// From the opening at the moment 0: a record in two pieces, and its reply in two.
+fn a_call_goes_on(core: &mut Core, first: &[u8], second: &[u8], meter: &mut Meter) -> bool
+    requires { meter.old.tie ≡ core.old.tie }
+    ensures tie { core.new.tie ≡ core.old.tie }
+    ensures same_meter { meter.new.tie ≡ meter.old.tie }
+{
+    core.next_deadline(meter) == Some(300_000)
+        && bytes_leave(core, 10, first, Standing::Reading, Some(30_010), meter)
+        && bytes_leave(core, 20, second, Standing::Owing, Some(30_020), meter)
+        && giving_leaves(core, 30, 3, Standing::Owing, Some(30_030), meter)
+        && giving_leaves(core, 40, 25, Standing::Idle, Some(300_040), meter)
+}
+
+/// Where a connection stands after each call on it, and the next deadline then: a call and its reply, and a record that is
+/// no call.
+#[test]
+fn standings_and_next_deadlines(rt: HostRuntime) -> Result<(), Fail> {
+    let mut meter = Meter::new();
+    let first = words(rt.alloc(), &[0x8000_0028, 1, 0, 2, 100_000, 2])?;
+    let second = words(rt.alloc(), &[0; 5])?;
+    let no_call = words(rt.alloc(), &[0x8000_0004, 1])?;
+    let mut core = new_core(rt.alloc(), &mut meter)?;
+    assert_eq!(rt; core.next_deadline(&mut meter), None);
+    connection_opens(&rt, rt.alloc(), &mut core, &mut meter)?;
+    assert!(rt; a_call_goes_on(&mut core, &first, &second, &mut meter));
+    assert!(rt; bytes_leave(&mut core, 50, &no_call, Standing::Lost, None, &mut meter));
+    assert_eq!(rt; core.gave(60, 1, 1, &mut meter), Err(CoreFault::Gone));
     Ok(())
 }
