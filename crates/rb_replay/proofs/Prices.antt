@@ -1,29 +1,39 @@
 -- What the calls of events pay, by the state that they meet.
-use Rattle.std.proofs.Common.{◌≡◌, ◌≤◌, ℕ, ◌+◌, List, length, Option, Some, None, ap, subst, arith}
+use Rattle.std.proofs.Common.{◌≡◌, ◌≤◌, ℕ, ◌+◌, List, length, Option, Some, None, refl, ap, subst, arith}
 use Rattle.rb_xdr.specs.Meter.{Meter, PaysAtMost}
+use Rattle.rb_xdr.specs.Ordered.{looks}
 use Rattle.rb_model.specs.State.{State, Setting, Connection}
 use Rattle.rb_model.specs.Connections.{Taking, taking_of}
 use Rattle.rb_model.specs.Connections.Taking.{TakesNone, GoesOn, Ends}
-use Rattle.rb_model.specs.Costs.{Sizes, sizes_in, find_cost, take_cost, recount_cost, bytes_cost, count_taken, record_cost, gave_cost, close_cost, ended_cost, datagram_cost}
+use Rattle.rb_model.specs.declared.message.Message.{Message}
+use Rattle.rb_model.specs.Calls.{message_of}
+use Rattle.rb_model.specs.Costs.{Sizes, sizes_in, asks_for_rows, sizes_for, find_cost, take_cost, recount_cost, bytes_cost, count_taken, record_cost, gave_cost, close_cost, ended_cost, datagram_cost}
 use Rattle.rb_core.specs.StandsFor.{Held, StandsFor}
 use Rattle.rb_core.specs.CallCosts.{sizes_of}
-use Rattle.rb_core.proofs.Spending.{at_most, connections_held, rows_held, AreWithin}
+use Rattle.rb_core.proofs.Spending.{at_most, connections_held, rows_held, AreWithin, within_where}
 
 -- a bound by the connections that are held is one by those of the state
 pub by_count : (f : ℕ → ℕ) (held : Held) (s : State) (a b : Meter) → StandsFor held s → PaysAtMost a b (f (length held.connections.slots)) → PaysAtMost a b (f (length s.connections.all))
 by_count f held s a b h pays = subst (λ n. PaysAtMost a b (f n)) (connections_held held s h) pays
 
+-- a search takes as many looks
+looks_held : (held : Held) (s : State) → StandsFor held s → looks held.books.registry.limit ≤ looks s.setting.limits.rows
+looks_held held s h = rw h.limit (omega arith)
+
 pub sizes_held : (old new : Held) (s t : State) → StandsFor old s → StandsFor new t → t.setting ≡ s.setting → AreWithin (sizes_of old new) (sizes_in s)
 sizes_held old new s t h k same = record {
   connections = connections_held old s h;
+  looks = looks_held old s h;
+  forwards = h.forwards;
+  lists = omega (arith, connections_held old s h);
   rows = rows_held old s h;
   left = omega (arith, rows_held new t k, ap (λ (x : Setting). x.limits.rows) same);
-  forwards = h.forwards;
+  change = omega (arith, looks_held old s h, rows_held old s h);
 }
 
 -- where the rows stay
 pub sizes_stay : (held : Held) (s : State) → StandsFor held s → AreWithin (sizes_of held held) (sizes_in s)
-sizes_stay held s h = record { connections = connections_held held s h; rows = rows_held held s h; left = rows_held held s h; forwards = h.forwards }
+sizes_stay held s h = sizes_held held held s s h h refl
 
 module _ (less more : Sizes) (within : AreWithin less more) (a b : Meter) where
   pub close_paid : PaysAtMost a b (close_cost less) → PaysAtMost a b (close_cost more)
@@ -36,9 +46,11 @@ module _ (less more : Sizes) (within : AreWithin less more) (a b : Meter) where
   pub ended_paid : (total look : ℕ) → total ≤ ended_cost less + look → PaysAtMost a b total → PaysAtMost a b (ended_cost more + look)
   ended_paid total look few pays = at_most a b total (ended_cost more + look) (omega (arith, few, within.connections, within.forwards)) pays
 
-  pub datagram_paid : (total count written look : ℕ) → total ≤ datagram_cost less count written + look → PaysAtMost a b total → PaysAtMost a b (datagram_cost more count written + look)
-  datagram_paid total count written look few pays =
-      at_most a b total (datagram_cost more count written + look) (omega (arith, few, within.connections, within.rows, within.left)) pays
+  pub datagram_paid : (message : Message) (total count written look : ℕ) → total ≤ datagram_cost (sizes_for message less) count written + look → PaysAtMost a b total
+      → PaysAtMost a b (datagram_cost (sizes_for message more) count written + look)
+  datagram_paid message total count written look few pays =
+      let w = within_where (asks_for_rows message) less more within in
+      at_most a b total (datagram_cost (sizes_for message more) count written + look) (omega (arith, few, w.connections, w.looks, w.lists, w.rows, w.left, w.change)) pays
 
   pub bytes_paid : (piece : List ℕ) (m : Option Connection) → PaysAtMost a b (bytes_cost less piece m) → PaysAtMost a b (bytes_cost more piece m)
   bytes_paid piece None pays = at_most a b (bytes_cost less piece None) (bytes_cost more piece None) (omega (arith, within.connections)) pays
@@ -49,4 +61,6 @@ module _ (less more : Sizes) (within : AreWithin less more) (a b : Meter) where
       by_taking TakesNone paid = at_most a b (find_cost less.connections + take_cost 0 + recount_cost + 0) _ (omega (arith, within.connections)) paid
       by_taking (GoesOn fed) paid = at_most a b (find_cost less.connections + take_cost (length piece) + recount_cost + 0) _ (omega (arith, within.connections)) paid
       by_taking (Ends n content) paid =
-          at_most a b (find_cost less.connections + take_cost n + recount_cost + record_cost less (Ends n content)) _ (omega (arith, within.connections, within.rows, within.left)) paid
+          let w = within_where (asks_for_rows (message_of content)) less more within in
+          at_most a b (find_cost less.connections + take_cost n + recount_cost + record_cost less (Ends n content)) _
+          (omega (arith, w.connections, w.looks, w.lists, w.rows, w.left, w.change)) paid

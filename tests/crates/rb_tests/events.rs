@@ -370,11 +370,7 @@ fn bytes_leave(
     standing: Standing,
     deadline: Option<u64>,
     meter: &mut Meter,
-) -> bool
-    requires { meter.old.tie ≡ core.old.tie }
-    ensures tie { core.new.tie ≡ core.old.tie }
-    ensures same_meter { meter.new.tie ≡ meter.old.tie }
-{
+) -> bool {
     matches!(core.bytes(now, 1, piece, meter), Ok((_, stands)) if stands == standing)
         && core.next_deadline(meter) == deadline
 }
@@ -387,20 +383,12 @@ fn giving_leaves(
     standing: Standing,
     deadline: Option<u64>,
     meter: &mut Meter,
-) -> bool
-    requires { meter.old.tie ≡ core.old.tie }
-    ensures tie { core.new.tie ≡ core.old.tie }
-    ensures same_meter { meter.new.tie ≡ meter.old.tie }
-{
+) -> bool {
     core.gave(now, 1, count, meter) == Ok(standing) && core.next_deadline(meter) == deadline
 }
 
 // From the opening at the moment 0: a record in two pieces, and its reply in two.
-fn a_call_goes_on(core: &mut Core, first: &[u8], second: &[u8], meter: &mut Meter) -> bool
-    requires { meter.old.tie ≡ core.old.tie }
-    ensures tie { core.new.tie ≡ core.old.tie }
-    ensures same_meter { meter.new.tie ≡ meter.old.tie }
-{
+fn a_call_goes_on(core: &mut Core, first: &[u8], second: &[u8], meter: &mut Meter) -> bool {
     core.next_deadline(meter) == Some(300_000)
         && bytes_leave(core, 10, first, Standing::Reading, Some(30_010), meter)
         && bytes_leave(core, 20, second, Standing::Owing, Some(30_020), meter)

@@ -3,7 +3,8 @@ use Rattle.rb_xdr.specs.Meter.{Meter}
 use Rattle.rb_model.specs.Step.{step, datagram}
 use Rattle.rb_model.specs.Step.Event.{Datagram}
 use Rattle.rb_model.specs.Step.Output.{Silent, Replied}
-use Rattle.rb_model.specs.Costs.{datagram_cost}
+use Rattle.rb_model.specs.Calls.{message_of}
+use Rattle.rb_model.specs.Costs.{sizes_for, datagram_cost}
 use Rattle.rb_laws.proofs.EntriesKept.{step-follows}
 use Rattle.rb_model.specs.declared.served.Outcome.{Outcome as Written}
 use Rattle.rb_model.specs.declared.served.Outcome.TheVariants as outcomes
@@ -27,7 +28,7 @@ returns-in-NoCall-clause-ok c = record {
       (is_silent c.datagram.result c.datagram.new.self.reply c.in-NoCall.is ∙ d.0, d.1);
   cost = λ s h.
       let d = datagram_shown c.args.core.now c.datagram.new.self (λ t. datagram t c.args.now c.args.peer c.args.content.now) _ c.datagram.ensures.acts s h in
-      datagram_paid _ _ (sizes_held c.args.core.now c.datagram.new.self s _ h d.1 (step-follows s (Datagram c.args.now c.args.peer c.args.content.now)).setting) _ _ _ (length c.args.content.now) _ _ (omega (arith, ap length d.1.reply)) c.datagram.ensures.cost;
+      datagram_paid _ _ (sizes_held c.args.core.now c.datagram.new.self s _ h d.1 (step-follows s (Datagram c.args.now c.args.peer c.args.content.now)).setting) _ _ (message_of c.args.content.now) _ (length c.args.content.now) _ _ (omega (arith, ap length d.1.reply)) c.datagram.ensures.cost;
   tie = c.datagram.ensures.tie;
   meter = c.datagram.ensures.cost.tie;
 }
@@ -40,7 +41,7 @@ returns-in-Forwarded-clause-ok c = record {
       (rw c.in-Forwarded.is at d.0, d.1);
   cost = λ s h.
       let d = datagram_shown c.args.core.now c.datagram.new.self (λ t. datagram t c.args.now c.args.peer c.args.content.now) _ c.datagram.ensures.acts s h in
-      datagram_paid _ _ (sizes_held c.args.core.now c.datagram.new.self s _ h d.1 (step-follows s (Datagram c.args.now c.args.peer c.args.content.now)).setting) _ _ _ (length c.args.content.now) _ _ (omega (arith, ap length d.1.reply)) c.datagram.ensures.cost;
+      datagram_paid _ _ (sizes_held c.args.core.now c.datagram.new.self s _ h d.1 (step-follows s (Datagram c.args.now c.args.peer c.args.content.now)).setting) _ _ (message_of c.args.content.now) _ (length c.args.content.now) _ _ (omega (arith, ap length d.1.reply)) c.datagram.ensures.cost;
   tie = c.datagram.ensures.tie;
   meter = c.datagram.ensures.cost.tie;
 }
@@ -53,7 +54,7 @@ returns-in-Reply-clause-ok c = record {
       (ap Replied (search rules) ∙ (rw c.in-Reply.is at d.0), stands_begun c.datagram.new.self _ _ c.udp_reply.follows.holds-at-none _ d.1);
   cost = λ s h.
       let d = datagram_shown c.args.core.now c.datagram.new.self (λ t. datagram t c.args.now c.args.peer c.args.content.now) _ c.datagram.ensures.acts s h in
-      datagram_paid _ _ (sizes_held c.args.core.now c.datagram.new.self s _ h d.1 (step-follows s (Datagram c.args.now c.args.peer c.args.content.now)).setting) _ _ (datagram_cost (sizes_of c.args.core.now c.datagram.new.self) (length c.args.content.now) (length c.datagram.new.self.reply) + (1 + length c.datagram.new.self.reply)) (length c.args.content.now) _ _ (omega (arith, ap length d.1.reply))
+      datagram_paid _ _ (sizes_held c.args.core.now c.datagram.new.self s _ h d.1 (step-follows s (Datagram c.args.now c.args.peer c.args.content.now)).setting) _ _ (message_of c.args.content.now) (datagram_cost (sizes_for (message_of c.args.content.now) (sizes_of c.args.core.now c.datagram.new.self)) (length c.args.content.now) (length c.datagram.new.self.reply) + (1 + length c.datagram.new.self.reply)) (length c.args.content.now) _ _ (omega (arith, ap length d.1.reply))
       (one_then_other _ _ _ _ _ c.datagram.ensures.cost (record { steps = omega (arith, ap (λ (m : Meter). m.steps) c.udp_reply.ensures.cost); rises = omega (arith, ap (λ (m : Meter). m.steps) c.udp_reply.ensures.cost); tie = ap (λ (m : Meter). m.tie) c.udp_reply.ensures.cost }));
   tie = same_tie c.datagram.new.self _ _ c.udp_reply.follows.holds-at-none ∙ c.datagram.ensures.tie;
   meter = ap (λ (m : Meter). m.tie) c.udp_reply.ensures.cost ∙ c.datagram.ensures.cost.tie;
