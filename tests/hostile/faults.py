@@ -26,8 +26,8 @@ RECOVERY = 10.0
 
 # How long it takes until two clients come, and how many stay connected: fewer than there are places. All stay where a
 # call says EAGAIN, which is untrue: such a socket is looked at again when its client goes.
-PAUSE = 0.1
-STAYING = 20
+PAUSE = 0.2
+STAYING = 10
 MOST_STAYING = 60
 
 # The errors of each call: those of its page of the manual, but EBADF, and of accept4 and sendto those of the network.
@@ -222,7 +222,7 @@ def within(seconds, is_so):
 
 def bear(daemon, name, error, counts):
     """What is wrong about how a daemon bears a fault, and what is told of it."""
-    if not within(5, lambda: not daemon.is_there() or daemon.said().count("listening") == 2):
+    if not within(RECOVERY, lambda: not daemon.is_there() or daemon.said().count("listening") == 2):
         return ["it does not listen"], ""
     if unanswered(daemon):
         return ["it did not answer before"], ""

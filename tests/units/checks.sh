@@ -43,10 +43,13 @@ answers_at() {
     rpcinfo-proved --port 9 --local "$1" -p > /dev/null 2>&1
 }
 
+# Whether each of these units is active; one is enough for systemctl.
 is_active() {
-    systemctl is-active "$@"
+    local unit
+    for unit in "$@"; do systemctl is-active "$unit" || return 1; done
 }
 
+# Whether none of them is.
 is_down() {
     ! systemctl is-active "$@"
 }
@@ -100,14 +103,10 @@ swap() {
 
 ours_is_there() {
     serves && is_active rpcbind.service rpcbind.socket && [ -S $link ] && rpcinfo-proved -t 127.0.0.1 100000 4 &&
-        [ "$(ps_of exe)" = /usr/local/sbin/rpcbind-proved ]
+        [ "$(readlink "/proc/$(main_process)/exe")" = /usr/local/sbin/rpcbind-proved ]
 }
 
-ps_of() {
-    readlink "/proc/$(main_process)/$1"
-}
-
-# It has a user of its own, no right but to bind low ports, and ignores three signals.
+# It has a user of its own, and no right but to bind low ports.
 is_confined() {
     local status
     status=/proc/$(main_process)/status
