@@ -1,6 +1,6 @@
-# rpcbind: `make run` shows a run, `make` proves and builds the programs, `make test` is the whole test, `make install`
-# puts the programs that `make` built in their places. Needs `rt` (the Rattle toolchain) and bash on the PATH; `make
-# install` needs neither.
+# rpcbind: `make run` shows a run, `make quick` tests without proof, `make` proves and builds the programs, `make test` is
+# the whole test, `make install` puts the programs that `make` built in their places. Needs `rt` (the Rattle toolchain)
+# and bash on the PATH; `make install` needs neither.
 
 PREFIX = /usr/local
 DESTDIR =
@@ -15,7 +15,7 @@ NAMES = proved
 SUFFIX = $(if $(filter plain,$(NAMES)),,-proved)
 PLACED = sed 's|@PREFIX@|$(PREFIX)|g; s|@SUFFIX@|$(SUFFIX)|g'
 
-.PHONY: all run test rows peers memory hostile units bench measure install uninstall clean
+.PHONY: all run quick test rows peers memory hostile units bench measure install uninstall clean
 
 # Proves each crate, side by side, and builds the programs, crates/rpcbind/out/rpcbind and crates/rpcinfo/out/rpcinfo.
 all:
@@ -25,6 +25,10 @@ all:
 # PORT=N takes another port.
 run:
 	@PORT=$(PORT) examples/run.sh
+
+# Each test and each row, in minutes, without any proof.
+quick:
+	@tests/run-all.sh --quick
 
 # Each test, every proof from nothing, the edits that must be refused, and the rows.
 test:

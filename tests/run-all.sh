@@ -1,7 +1,8 @@
 #!/usr/bin/env bash
 # The whole test: the tests without proof, `rt ci` (every proof from nothing, the edits that must be refused, and each
 # program), and the rows. The last line is 'N passed, N failed' over all; the status is 1 where one failed. With --anew,
-# nothing that this machine passed before is kept.
+# nothing that this machine passed before is kept. With --quick nothing is proved: the rows run programs that were built
+# without proof.
 set -u
 cd "$(dirname "$0")/.." || exit 1
 . tests/machine.sh
@@ -43,18 +44,25 @@ show_progress() {
     done
 }
 
-crates=$(list_crates | wc -l)
-with_edits=$(find crates/*/must-fail -name '*.edit' -printf '%h\n' | sort -u | wc -l)
-cores=$(count_cores)
-say_kit
-echo "make test: $crates crates on $cores cores: from nothing about $(minutes_of_test "$cores") minutes;" \
-    "what this machine passed before is not proved again"
-# Kits that keep nothing prove all anew, and know no such word.
-if [ "${1:-}" = --anew ] && ! rt help 2>&1 | grep -q -e --anew; then
-    shift
+if [ "${1:-}" = --quick ]; then
+    say_kit
+    echo "make quick: each test and each row on $(count_cores) cores, and no proof"
+    add tests/run-tests.sh --programs "$work"
+    add tests/run-rows.sh "$work/rpcbind" "$work/rpcinfo"
+else
+    crates=$(list_crates | wc -l)
+    with_edits=$(find crates/*/must-fail -name '*.edit' -printf '%h\n' | sort -u | wc -l)
+    cores=$(count_cores)
+    say_kit
+    echo "make test: $crates crates on $cores cores: from nothing about $(minutes_of_test "$cores") minutes;" \
+        "what this machine passed before is not proved again"
+    # Kits that keep nothing prove all anew, and know no such word.
+    if [ "${1:-}" = --anew ] && ! rt help 2>&1 | grep -q -e --anew; then
+        shift
+    fi
+    add tests/run-tests.sh
+    add rt ci "$@"
+    add tests/run-rows.sh
 fi
-add tests/run-tests.sh
-add rt ci "$@"
-add tests/run-rows.sh
 echo "$passed passed, $failed failed"
 [ "$failed" -eq 0 ]

@@ -1,6 +1,7 @@
 #!/usr/bin/env bash
-# Runs the built program over each row of tests/rows and over a few inputs that are made here, and checks two rules of
-# the repository.
+# Runs the built programs over each row of tests/rows and tests/rows-rpcinfo and over a few inputs that are made here,
+# and checks two rules of the repository. With two words these are the programs rpcbind and rpcinfo that it runs, built
+# with checks: such a program does not run in little memory, so that is said and not tried.
 #
 # A row is NAME.events (standard input) and NAME.expected (standard output), with the rule that it shows in a comment.
 # Where they differ from the word `replay`, from 0 and from nothing, NAME.args has the program's words, one a line,
@@ -15,10 +16,12 @@ cd "$(dirname "$0")/.." || exit 1
 
 . tests/daemon.sh
 
-program=$PWD/crates/rpcbind/out/rpcbind
-rpcinfo=$PWD/crates/rpcinfo/out/rpcinfo
+program=${1:-$PWD/crates/rpcbind/out/rpcbind}
+rpcinfo=${2:-$PWD/crates/rpcinfo/out/rpcinfo}
+has_checks=${1:+1}
 passed=0
 failed=0
+beside=()
 work=$(mktemp -d) || exit 1
 trap 'rm -rf "$work"' EXIT
 
@@ -48,6 +51,31 @@ as_wanted() {
         bad=1
     fi
     return $bad
+}
+
+# Runs a function with its checks beside all others, in a folder of its own.
+beside() {
+    local name=$1
+    beside+=("$name")
+    (
+        work=$work/$name passed=0 failed=0
+        mkdir "$work" && "$name"
+        echo "$passed $failed" > "$work/counts"
+    ) > "$work/$name.log" 2>&1 &
+}
+
+# Waits for the checks beside, and counts them.
+join_beside() {
+    local name p f
+    wait
+    for name in "${beside[@]}"; do
+        cat "$work/$name.log"
+        if read -r p f < "$work/$name/counts"; then
+            passed=$((passed + p)) failed=$((failed + f))
+        else
+            judge 1 "$name has not ended"
+        fi
+    done
 }
 
 # Runs the program with these words over a file.
@@ -217,6 +245,7 @@ run_input_that_cannot_be_read() {
 
 # The memory of the process is limited to 24,000 KiB, and the input does not fit.
 run_with_little_memory() {
+    [ -z "$has_checks" ] || { echo 'not run: an input without memory'; return; }
     head -c 16777216 /dev/zero | tr '\0' '\n' > "$work/events"
     echo 'rpcbind: no memory' > "$work/wanted"
     (ulimit -v 24000 && exec "$program" replay < "$work/events" > "$work/stdout" 2> "$work/stderr")
@@ -255,7 +284,9 @@ run_record() {
     local file=$work/record daemon check
     "$program" serve --port 20112 --turns 30 --record "$file" > "$work/stdout" 2> "$work/stderr" &
     daemon=$!
-    sleep 0.3
+    until grep -q listening "$work/stdout" || ! kill -0 "$daemon" 2> /dev/null; do
+        sleep 0.1
+    done
     "$rpcinfo" --port 20112 -p 127.0.0.1 > /dev/null
     "$rpcinfo" --port 20112 -s 127.0.0.1 > /dev/null
     "$rpcinfo" --port 20112 -u 127.0.0.1 100000 2 > /dev/null
@@ -463,14 +494,16 @@ run_rpcinfo_longest_texts() {
     judge $? "rpcinfo: a text of 67,108,865 bytes"
 }
 
-# Nobody listens on port 20199.
 # Empty fragments without end: 16,777,216 bytes are read, and that no more are is another fault than that no more are there.
-run_rpcinfo_endless_replies() {
+run_rpcinfo_endless_reply() {
     echo 'rpcinfo: read failed' > "$work/wanted"
     yes 00000000 | head -n 4194304 > "$work/events"
     run_rpcinfo "$work/events" -p -
     as_wanted /dev/null "$work/wanted" 1
     judge $? "rpcinfo: a record that goes on behind 16,777,216 bytes"
+}
+
+run_rpcinfo_long_reply_cut_off() {
     echo 'rpcinfo: unreadable reply' > "$work/wanted"
     yes 00000000 | head -n 4194303 > "$work/events"
     run_rpcinfo "$work/events" -p -
@@ -478,6 +511,7 @@ run_rpcinfo_endless_replies() {
     judge $? "rpcinfo: a record that is cut off before"
 }
 
+# Nobody listens on port 20199.
 run_rpcinfo_of_nobody() {
     echo 'rpcinfo: no connection' > "$work/wanted"
     run_rpcinfo /dev/null --port 20199 -p
@@ -597,10 +631,16 @@ check_crates_are_named() {
     judge $? "README.md does not name:$unnamed"
 }
 
+# Those that take long go first.
+if [ -x "$rpcinfo" ]; then
+    beside run_rpcinfo_endless_reply
+    beside run_rpcinfo_long_reply_cut_off
+    beside run_rpcinfo_longest_texts
+fi
 if [ -x "$program" ]; then
+    beside run_longest_inputs
+    beside run_many_events
     run_rows
-    run_longest_inputs
-    run_many_events
     run_word_without_text
     run_full_device
     run_input_that_cannot_be_read
@@ -626,8 +666,6 @@ fi
 if [ -x "$rpcinfo" ]; then
     run_rpcinfo_rows
     run_rpcinfo_longest_lists
-    run_rpcinfo_longest_texts
-    run_rpcinfo_endless_replies
     run_rpcinfo_of_nobody
     run_rpcinfo_to_full_device
     run_rpcinfo_of_a_folder
@@ -636,6 +674,7 @@ if [ -x "$rpcinfo" ]; then
 else
     judge 1 "no program $rpcinfo: run 'make' first"
 fi
+join_beside
 check_version
 check_proofs_by_hand
 check_crates_are_named
