@@ -108,7 +108,7 @@ call_over_udp() {
 }
 
 [ -x "$program" ] || { echo "no program $program: run 'make' first"; exit 1; }
-start_daemon "$work/daemon" --port $port --bind 127.0.0.1 --bind 127.0.0.2 --loopback6 --local "$work/local" || exit 1
+start_daemon "$work/daemon" --port $port --bind 127.0.0.1 --bind 127.0.0.2 --loopback6 --local "$work/local" --forwards 16 || exit 1
 before=$(own)
 echo "resident after the start: $(resident) kB, its own $before kB"
 call_over_tcp

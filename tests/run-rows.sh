@@ -294,7 +294,8 @@ run_record() {
     got=$?
     mapfile -t check < <(sed -n '1s/^# rpcbind //p' "$file" | tr ' ' '\n')
     echo "$(grep -c '^#> ' "$file") outputs agree" > "$work/wanted"
-    [ "$got" -eq 0 ] && [ ! -s "$work/stderr" ] && grep -q '^datagram ' "$file" && grep -q '^gave ' "$file"
+    [ "$got" -eq 0 ] && [ ! -s "$work/stderr" ] && grep -q '^datagram ' "$file" && grep -q '^gave ' "$file" \
+        && [ "$(stat -c %a "$file")" = 600 ]
     judge $? "a daemon that records"
     run "$file" "${check[@]}"
     as_wanted "$work/wanted" /dev/null 0
@@ -318,14 +319,55 @@ run_record_that_ends() {
     as_wanted "$work/wanted" /dev/null 0
     judge $? "a record that reached its limit is checked"
     echo 'rpcbind: listening on 127.0.0.1 port 20112' > "$work/wanted"
-    echo 'rpcbind: write the record: No space left on device (os error 28); it ends here' > "$work/wanted-stderr"
-    run /dev/null serve --port 20112 --turns 3 --record /dev/full
+    echo 'rpcbind: write the record: File too large (os error 27); it ends here' > "$work/wanted-stderr"
+    (trap '' XFSZ; ulimit -f 1; run /dev/null serve --port 20112 --turns 30 --record "$file" && exit "$got")
+    got=$?
     as_wanted "$work/wanted" "$work/wanted-stderr" 0
     judge $? "a record that its file does not take"
     printf 'rpcbind: %s\n' "make $work/none/record: No such file or directory (os error 2)" 'write failed' > "$work/wanted-stderr"
     run /dev/null serve --port 20112 --turns 3 --record "$work/none/record"
-    as_wanted "$work/wanted" "$work/wanted-stderr" 1
+    as_wanted /dev/null "$work/wanted-stderr" 1
     judge $? "a record whose file can't be made"
+}
+
+# A file of another kind at the path of a record stays as it is, and the daemon does not start: it follows no link, and does
+# not wait for somebody who reads a FIFO.
+run_record_in_the_way() {
+    local kept=$work/kept file
+    echo kept > "$kept"
+    ln -s "$kept" "$work/link"
+    mkfifo "$work/fifo"
+    for file in "$work/link" "$work/fifo" "$work" /dev/full; do
+        printf 'rpcbind: %s\n' "make $file: what is there is no plain file, and stays" 'write failed' > "$work/wanted"
+        run /dev/null serve --port 20112 --turns 1 --record "$file"
+        as_wanted /dev/null "$work/wanted" 1 && [ -e "$file" ] && [ "$(cat "$kept")" = kept ]
+        judge $? "a record at $file"
+    done
+}
+
+# A daemon whose port is in use leaves the record of the other.
+run_record_of_another() {
+    local file=$work/another daemon
+    echo kept > "$file"
+    "$program" serve --port 20112 --turns 10 > /dev/null 2>&1 &
+    daemon=$!
+    sleep 0.3
+    run /dev/null serve --port 20112 --turns 1 --record "$file"
+    [ "$got" -eq 1 ] && [ "$(cat "$file")" = kept ]
+    judge $? "a record beside a daemon that has the port"
+    wait "$daemon"
+}
+
+# Where the limit of open files is less than the connections want, there are fewer of them, and that is said.
+run_few_descriptors() {
+    local needed places
+    echo 'rpcbind: listening on 127.0.0.1 port 20112' > "$work/wanted"
+    (ulimit -n 24; run /dev/null serve --port 20112 --turns 1 && exit "$got")
+    got=$?
+    read -r needed places < <(sed -nE 's/^rpcbind: the limit of open files is 24, --conns 64 needs ([0-9]+): ([0-9]+) connections at a time$/\1 \2/p' "$work/stderr")
+    [ "$got" -eq 0 ] && same "$work/wanted" "$work/stdout" "standard output" \
+        && [ "$(wc -l < "$work/stderr")" -eq 1 ] && [ $((64 - ${places:-0})) -eq $((${needed:-0} - 24)) ]
+    judge $? "a daemon with few descriptors"
 }
 
 # A file that is no socket stays.
@@ -649,6 +691,9 @@ if [ -x "$program" ]; then
     run_all_listeners
     run_record
     run_record_that_ends
+    run_record_in_the_way
+    run_record_of_another
+    run_few_descriptors
     run_file_in_the_way
     run_daemon_with_bad_limits
     run_daemon_elsewhere

@@ -3,12 +3,16 @@ ghost use Rattle.std.specs.Prelude.{◌≡◌, IfErr};
 ghost use Rattle.rb_commands.specs.Faults.{TellsFault};
 
 use rb_lines::{Ending, Fault, Service, explain, explain_run};
-use rb_policy::{announced_address, is_no_address};
-use rb_sockets::{DaemonFault, LocalSocket, Settings, SocketFault, Step};
-use std::fs::{File, Files};
-use std::io;
-use std::io::Write;
+use rb_policy::{RecordAction, RecordState, announced_address, is_no_address, record_action};
+use rb_sockets::{DaemonFault, LocalSocket, Settings, Shortage, SocketFault, Step, open_files};
+use std::fs::{Files, OpenOptions};
+use std::io::{ErrorKind, Write};
 use std::net::Ipv4Addr;
+use std::os::unix::fs::OpenOptionsExt;
+use std::{fs, io};
+
+/// The mode of a record's file: it has all that clients sent.
+const RECORD_MODE: u32 = 0o600;
 
 /// The settings of the daemon for a service.
 pub fn settings_of<'a>(service: &'a Service<'a>) -> Settings<'a> {
@@ -31,6 +35,7 @@ pub fn settings_of<'a>(service: &'a Service<'a>) -> Settings<'a> {
         announce: announced_address(service.announce, first),
         port: service.port,
         limits: service.limits,
+        open_files: open_files(),
         record: match &service.recorded {
             Some(record) => record.limit,
             None => 0,
@@ -39,15 +44,18 @@ pub fn settings_of<'a>(service: &'a Service<'a>) -> Settings<'a> {
 }
 
 /// Says on standard output where the daemon listens, and before that on `faults` where clients from elsewhere will be
-/// told no address. Where standard output failed it is said, and the error is the exit status.
+/// told no address, and where there is a shortage of descriptors. Where standard output failed it is said, and the error
+/// is the exit status.
 pub fn say_start<R: Print, E: Write>(
     rt: &R,
     service: &Service<'_>,
     settings: &Settings<'_>,
+    shortage: Option<Shortage>,
     faults: &mut E,
 ) -> Result<(), u8>
     ensures { IfErr result (λ status. status ≡ 1) }
 {
+    say_shortage(shortage, faults);
     if service.announce.is_none() && is_no_address(settings.announce) {
         let _ = writeln!(
             faults,
@@ -57,6 +65,24 @@ pub fn say_start<R: Print, E: Write>(
     match say_where(rt, settings) {
         Ok(()) => Ok(()),
         Err(_) => Err(explain(Fault::WriteFailed, faults).status),
+    }
+}
+
+/// How many connections there may be, where they are fewer than were asked for.
+fn say_shortage<E: Write>(shortage: Option<Shortage>, faults: &mut E) {
+    if let Some(
+        Shortage {
+            limit,
+            needed,
+            asked,
+            places,
+        },
+    ) = shortage
+    {
+        let _ = writeln!(
+            faults,
+            "rpcbind: the limit of open files is {limit}, --conns {asked} needs {needed}: {places} connections at a time"
+        );
     }
 }
 
@@ -76,6 +102,36 @@ fn say_where(rt: &impl Print, settings: &Settings<'_>) -> io::Result<()> {
     Ok(())
 }
 
+/// A new file at the path, which its owner alone may read. A plain file that is there goes; one of another kind stays, and
+/// no link is followed.
+fn new_file<R: Files>(rt: &R, path: &str) -> io::Result<R::File> {
+    match record_action(record_state(rt, path)?) {
+        RecordAction::Make => {}
+        RecordAction::RemoveAndMake => fs::remove_file(rt, path)?,
+        RecordAction::GiveUp => {
+            return Err(io::Error::new(
+                ErrorKind::AlreadyExists,
+                "what is there is no plain file, and stays",
+            ));
+        }
+    }
+    let mut options = OpenOptions::new();
+    options.write(true);
+    options.create_new(true);
+    options.mode(RECORD_MODE);
+    options.open(rt, path)
+}
+
+/// What is at the path of a record.
+fn record_state<R: Files>(rt: &R, path: &str) -> io::Result<RecordState> {
+    match fs::symlink_metadata(rt, path) {
+        Ok(found) if found.is_file() => Ok(RecordState::Plain),
+        Ok(_) => Ok(RecordState::Other),
+        Err(error) if error.kind() == ErrorKind::NotFound => Ok(RecordState::Absent),
+        Err(error) => Err(error),
+    }
+}
+
 /// Makes the file of the record, where one is asked for. Where it can't be made it is said why, and the error is the
 /// exit status.
 pub fn make_record<R: Files, E: Write>(
@@ -89,7 +145,7 @@ pub fn make_record<R: Files, E: Write>(
         return Ok(None);
     };
     let path = record.path;
-    match File::create(rt, path) {
+    match new_file(rt, path) {
         Ok(file) => Ok(Some(file)),
         Err(error) => {
             let _ = writeln!(faults, "rpcbind: make {path}: {error}");

@@ -6,15 +6,15 @@ use crate::engine::Engine;
 use crate::serving::Serving;
 use mio::{Events, Poll};
 use rb_core::{CoreFault, Limits, Listener};
-use rb_policy::{Moments, wait_of};
-use rb_sockets::{BindFault, DaemonFault, Settings, Sockets, Step};
+use rb_policy::{Moments, place_count, wait_of};
+use rb_sockets::{BindFault, DaemonFault, Settings, Shortage, SocketFault, Sockets, Step};
 use std::alloc::{AllocError, Global};
 use std::fs::Files;
-use std::io;
 use std::io::Write;
 use std::net::Net;
 use std::rt::Clock;
 use std::time::Duration;
+use std::{io, thread};
 
 /// The most events that one wait shows. The system keeps the others for the next.
 const EVENTS: usize = 64;
@@ -27,6 +27,7 @@ pub struct Daemon<'a, R: Clock> {
     poll: Poll,
     events: Events,
     serving: Serving,
+    shortage: Option<Shortage>,
 }
 
 impl<'a, R: Clock> Daemon<'a, R> {
@@ -65,10 +66,11 @@ impl<'a, R: Clock> Daemon<'a, R> {
             Err(BindFault::Socket(fault)) => return Err(DaemonFault::Socket(fault)),
         };
         sockets.write_stack();
+        let (places, shortage) = places_of(settings, &sockets);
         let events = Events::with_capacity(alloc, EVENTS).map_err(DaemonFault::Memory)?;
-        let mut serving = Serving::new(alloc, engine, sockets, limits, listener.host).map_err(
-            DaemonFault::Memory,
-        )?;
+        let most_due = limits.conns.saturating_add(limits.forwards);
+        let made = Serving::new(alloc, engine, sockets, places, most_due, listener.host);
+        let mut serving = made.map_err(DaemonFault::Memory)?;
         if let Err(error) = serving.register(poll.registry()) {
             return Err(DaemonFault::Socket(Step::Prepare.failed(error)));
         }
@@ -78,17 +80,25 @@ impl<'a, R: Clock> Daemon<'a, R> {
             poll,
             events,
             serving,
+            shortage,
         })
+    }
+
+    /// That the limit of open files leaves fewer places for connections than the settings ask for, where it does.
+    pub fn shortage(&self) -> Option<Shortage> {
+        self.shortage
     }
 
     /// Waits for events once, at most `wait_ms` milliseconds, and not at all where something is left from the last
     /// turn, and serves all that it showed, in this order: datagrams, what comes back for forwarded calls,
-    /// connections, those that are owed bytes last, and what is due. Then it closes Lost connections, and accepts
-    /// connections as far as there are free places. After a fault, `Socket` of a listener, the wait or the clock,
-    /// what was handed to the core stands, and the daemon can do no more.
+    /// connections, those that are owed bytes last, and what is due, unless the turn is behind: then the next one does
+    /// not wait. It closes Lost connections, and accepts connections as far as there are free places. After a fault,
+    /// `Socket` of the wait or the clock, what was handed to the core stands, and the daemon can do no more.
     pub fn turn(&mut self, wait_ms: u64) -> Result<(), DaemonFault> {
         self.wait(wait_ms)?;
+        let before = self.moments.last();
         let now = self.moment()?;
+        let shown = self.events.iter().count();
         self.serving.begin_turn(now);
         for event in &self.events {
             self.serving.show(event);
@@ -99,9 +109,16 @@ impl<'a, R: Clock> Daemon<'a, R> {
             self.serving.serve(event);
         }
         self.serving.serve_left();
-        self.serving.expire();
+        self.serving
+            .expire(now.saturating_sub(before), shown, EVENTS);
         self.serving.close_lost();
-        self.serving.accept_all(self.poll.registry())
+        self.serving.accept_all(self.poll.registry());
+        Ok(())
+    }
+
+    /// The first fault of a listener, once: the daemon goes on, and tries that listener again in each turn.
+    pub fn take_fault(&mut self) -> Option<SocketFault> {
+        self.serving.take_fault()
     }
 
     /// Writes what was recorded of the turns and not yet written (docs/EVENTS.md). After an error nothing more is
@@ -111,11 +128,29 @@ impl<'a, R: Clock> Daemon<'a, R> {
     }
 
     fn wait(&mut self, longest: u64) -> Result<(), DaemonFault> {
-        let wait = Duration::from_millis(wait_of(self.serving.is_something_left(), longest));
-        match self.poll.poll(&mut self.events, Some(wait)) {
-            Ok(()) => Ok(()),
+        let wait = wait_of(self.serving.is_something_left(), longest);
+        match self
+            .poll
+            .poll(&mut self.events, Some(Duration::from_millis(wait)))
+        {
+            Ok(()) => self.wait_on(wait),
             Err(error) => Err(DaemonFault::Socket(Step::Wait.failed(error))),
         }
+    }
+
+    /// Where a signal ended the wait, which is told as a wait that showed nothing, the rest of it passes all the same:
+    /// waits that always end so take no processor.
+    fn wait_on(&self, wait: u64) -> Result<(), DaemonFault> {
+        let monotonic = match self.clock.monotonic() {
+            Ok(time) => millis(time),
+            Err(error) => return Err(DaemonFault::Socket(Step::Clock.failed(error))),
+        };
+        let shown = self.events.iter().count();
+        let rest = self.moments.rest_of_wait(wait, shown, monotonic);
+        if rest > 0 {
+            thread::sleep(self.clock, Duration::from_millis(rest));
+        }
+        Ok(())
     }
 
     fn moment(&mut self) -> Result<u64, DaemonFault> {
@@ -127,6 +162,26 @@ impl<'a, R: Clock> Daemon<'a, R> {
             Err(error) => Err(DaemonFault::Socket(Step::Clock.failed(error))),
         }
     }
+}
+
+/// How many places there are for connections, and the shortage, where they are fewer than the settings ask for.
+fn places_of(settings: &Settings<'_>, sockets: &Sockets) -> (usize, Option<Shortage>) {
+    let asked = settings.limits.conns;
+    let limit = settings.open_files;
+    let others = sockets
+        .count_descriptors()
+        .saturating_add(u64::from(settings.record > 0));
+    let places = place_count(asked, limit, others);
+    if places == asked {
+        return (places, None);
+    }
+    let shortage = Shortage {
+        limit,
+        needed: others.saturating_add(asked as u64).saturating_add(1),
+        asked,
+        places,
+    };
+    (places, Some(shortage))
 }
 
 /// What two clocks give, in milliseconds.

@@ -10,4 +10,4 @@ mod steps;
 
 pub use daemon::Daemon;
 pub use rb_model::Limits;
-pub use rb_sockets::{DaemonFault, LocalSocket, Settings, SocketFault, Step};
+pub use rb_sockets::{DaemonFault, LocalSocket, Settings, Shortage, SocketFault, Step};

@@ -7,13 +7,12 @@ use mio::Registry;
 use mio::event::Event;
 use rb_forward::PATIENCE;
 use rb_links::{Places, Turn};
-use rb_model::Limits;
 use rb_policy::{
-    Admission, Again, Next, Round, SOCKET_CALLS, after_accept, after_all_receives, after_receive,
-    asks_for_deadlines, origin_of, outcome_of, serves_another,
+    Admission, Again, Deadlines, Next, Round, SOCKET_CALLS, after_accept, after_all_calls,
+    after_receive, is_behind, origin_of, outcome_of, serves_another,
 };
 use rb_rpc::Peer;
-use rb_sockets::{DaemonFault, Shown, Sockets, Step, Stream};
+use rb_sockets::{Shown, SocketFault, Sockets, Step, Stream};
 use std::alloc::{AllocError, Global};
 use std::io;
 use std::io::Write;
@@ -36,19 +35,21 @@ pub(crate) struct Serving {
     announced: [u8; 4],
     datagram: Vec<u8>,
     turn: Turn,
-    /// The moment at which the core was last asked for all that was due.
-    expired_at: Option<u64>,
+    deadlines: Deadlines,
+    /// The fault of a listener that is yet to be told.
+    fault: Option<SocketFault>,
     /// The moment by which each call that came over UDP and was forwarded has ended.
     awaited_until: u64,
 }
 
 impl Serving {
-    /// With places for as many connections as the limits say. An error where an allocation is refused.
+    /// With so many places for connections. An error where an allocation is refused.
     pub(crate) fn new(
         alloc: Global,
         engine: Engine,
         sockets: Sockets,
-        limits: Limits,
+        places: usize,
+        most_due: usize,
         announced: [u8; 4],
     ) -> Result<Serving, AllocError> {
         let mut datagram = Vec::with_capacity(alloc, LONGEST_DATAGRAM)?;
@@ -56,15 +57,16 @@ impl Serving {
         Ok(Serving {
             engine,
             sockets,
-            places: Places::new(alloc, limits.conns)?,
-            most_due: limits.conns.saturating_add(limits.forwards),
+            places: Places::new(alloc, places)?,
+            most_due,
             announced,
             datagram,
             turn: Turn {
                 number: 0,
                 moment: 0,
             },
-            expired_at: None,
+            deadlines: Deadlines::new(),
+            fault: None,
             awaited_until: 0,
         })
     }
@@ -81,7 +83,7 @@ impl Serving {
 
     /// Whether the next turn has something to serve at once.
     pub(crate) fn is_something_left(&self) -> bool {
-        self.places.are_left() || self.sockets.is_something_left()
+        self.places.are_left() || self.sockets.is_something_left() || self.deadlines.are_put_off()
     }
 
     /// Whether something has a deadline: a connection, or a call that is forwarded.
@@ -202,7 +204,7 @@ impl Serving {
                 }
             }
         }
-        after_all_receives(got_some)
+        after_all_calls(got_some)
     }
 
     /// Answers the datagram of the first `len` bytes, which came on the socket of this number. A call that is
@@ -244,7 +246,7 @@ impl Serving {
                 }
             }
         }
-        after_all_receives(got_some)
+        after_all_calls(got_some)
     }
 
     /// Takes the datagram of the first `len` bytes.
@@ -261,12 +263,14 @@ impl Serving {
         }
     }
 
-    /// Ends what is due.
-    pub(crate) fn expire(&mut self) {
-        if !asks_for_deadlines(self.expired_at, self.turn.moment) {
+    /// Ends what is due, unless the turn is behind. So many milliseconds passed since the moment of the turn before, and its
+    /// wait showed so many sockets, where it shows no more than the most.
+    pub(crate) fn expire(&mut self, passed: u64, shown: usize, most: usize) {
+        let are_left = self.places.are_left() || self.sockets.are_datagrams_left();
+        let is_behind = is_behind(passed, shown, most, are_left);
+        if !self.deadlines.ask(self.turn.moment, is_behind) {
             return;
         }
-        self.expired_at = Some(self.turn.moment);
         self.close_stuck();
         for _ in 0..=self.most_due {
             match self.engine.expire(&self.sockets.calls) {
@@ -302,7 +306,7 @@ impl Serving {
 
     /// Accepts connections on each listener, beginning with another one in each turn, until they are as many as a
     /// turn accepts.
-    pub(crate) fn accept_all(&mut self, registry: &Registry) -> Result<(), DaemonFault> {
+    pub(crate) fn accept_all(&mut self, registry: &Registry) {
         let mut left = self.places.accept_count();
         for i in 0..self.sockets.listeners.len() {
             let which = self.sockets.nth_listener(self.turn.number, i);
@@ -312,39 +316,62 @@ impl Serving {
                 .get(which)
                 .is_some_and(|listener| listener.is_ready());
             if is_ready {
-                let again = self.accept_on(registry, which, &mut left)?;
+                let again = self.accept_on(registry, which, &mut left);
                 if let Some(listener) = self.sockets.listeners.get_mut(which) {
                     listener.leave(again);
                 }
             }
         }
-        Ok(())
     }
 
     /// Accepts connections on the listener of this number, as many as are left for the turn, and says when it is
     /// served again.
-    fn accept_on(
-        &mut self,
-        registry: &Registry,
-        which: usize,
-        left: &mut usize,
-    ) -> Result<Again, DaemonFault> {
-        for _ in 0..*left {
+    fn accept_on(&mut self, registry: &Registry, which: usize, left: &mut usize) -> Again {
+        let mut got_some = false;
+        for calls in 1..=SOCKET_CALLS {
+            if *left == 0 {
+                return Again::AtOnce;
+            }
             let Some(listener) = self.sockets.listeners.get(which) else {
                 break;
             };
-            *left = left.saturating_sub(1);
             match listener.socket.accept() {
-                Ok((stream, from)) => self.open(registry, stream, from),
+                Ok((stream, from)) => {
+                    got_some = true;
+                    *left = left.saturating_sub(1);
+                    self.open(registry, stream, from);
+                }
                 Err(error) => match after_accept(outcome_of(&error)) {
-                    Next::GoOn | Next::Close => {}
-                    Next::AwaitEvent => return Ok(Again::AtEvent),
-                    Next::AwaitTurn => return Ok(Again::AfterWait),
-                    Next::EndProgram => return Err(DaemonFault::Socket(Step::Accept.failed(error))),
+                    Next::AwaitEvent => return Again::AtEvent,
+                    Next::AwaitTurn => {
+                        self.note_fault(which, error);
+                        return Again::AfterWait;
+                    }
+                    Next::GoOn | Next::Close => {
+                        if calls == SOCKET_CALLS && !got_some {
+                            self.note_fault(which, error);
+                        }
+                    }
                 },
             }
         }
-        Ok(Again::AtOnce)
+        after_all_calls(got_some)
+    }
+
+    /// An accept of the listener of this number failed. It is to be told, where none of that listener was.
+    fn note_fault(&mut self, which: usize, error: io::Error) {
+        if self.fault.is_none() {
+            if let Some(listener) = self.sockets.listeners.get_mut(which) {
+                if listener.fail() {
+                    self.fault = Some(Step::Accept.failed(error));
+                }
+            }
+        }
+    }
+
+    /// The fault of a listener that is yet to be told.
+    pub(crate) fn take_fault(&mut self) -> Option<SocketFault> {
+        self.fault.take()
     }
 
     /// Opens a connection, in a free place or in that of one that is given up for it. One that has no peer, or that

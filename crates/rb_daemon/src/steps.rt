@@ -38,7 +38,8 @@ pub(crate) fn serve(
     progress
 }
 
-/// Makes socket calls until they are enough for a turn, or none is left to make.
+/// Makes socket calls until they are enough for a turn, or none is left to make. Where they were enough and none moved a
+/// byte, each was interrupted: the connection would keep turns from waiting, and is over.
 fn serve_calls(
     link: &mut Link,
     engine: &mut Engine,
@@ -52,10 +53,14 @@ fn serve_calls(
         match step(link, engine, forwards, may_end) {
             Next::GoOn => {}
             Next::AwaitEvent | Next::AwaitTurn => return Progress::Blocked,
-            Next::Close | Next::EndProgram => return Progress::Over,
+            Next::Close => return Progress::Over,
         }
     }
-    Progress::CutOff
+    if link.moved_some() {
+        Progress::CutOff
+    } else {
+        Progress::Over
+    }
 }
 
 /// Exchanges bytes with the core, and makes at most one socket call. Replies are taken over only where the socket has

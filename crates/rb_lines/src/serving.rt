@@ -96,7 +96,7 @@ pub fn serve_default(option: Valued) -> &'static str
         Valued::Port => "111",
         Valued::Conns => "64",
         Valued::Rows => "1024",
-        Valued::Forwards => "16",
+        Valued::Forwards => "0",
         Valued::Turns => "0",
         Valued::RecordLimit => "16000000",
         Valued::Announce | Valued::Local | Valued::Xid | Valued::Now => "",

@@ -43,6 +43,8 @@ pub struct Link {
     pub outbox: Outbox,
     /// How many bytes were written in the last turn that served it.
     written: usize,
+    /// Whether bytes were read or written in it.
+    moved_some: bool,
     /// Whether the last read is not followed by another in this turn.
     read_was_short: bool,
     /// Whether its call is forwarded and has not ended.
@@ -70,6 +72,7 @@ impl Link {
             may_owe: false,
             outbox: Outbox::new(alloc, OWN_ROOM)?,
             written: 0,
+            moved_some: false,
             read_was_short: false,
             is_awaiting: false,
             served_in: 0,
@@ -175,6 +178,7 @@ impl Link {
         self.read_was_short = false;
         self.made_progress = false;
         self.written = 0;
+        self.moved_some = false;
         self.outbox.take_longer(long_outbox);
     }
 
@@ -189,6 +193,11 @@ impl Link {
     /// Whether it is left for the next turn, after so many socket calls for it in this one.
     pub fn is_cut_off(&self, calls: usize) -> bool {
         is_cut_off(calls, self.written)
+    }
+
+    /// Whether a socket call of this turn read or wrote bytes.
+    pub fn moved_some(&self) -> bool {
+        self.moved_some
     }
 
     /// Whether the core may owe a reply.
@@ -250,6 +259,7 @@ impl Link {
         if let Ok(n) = came {
             self.written = self.written.saturating_add(n);
             self.made_progress |= n > 0;
+            self.moved_some |= n > 0;
         }
         after_write(outcome_of_count(&came))
     }
@@ -261,6 +271,7 @@ impl Link {
         let came = self.inbox.read(&mut stream.incoming());
         if let Ok(n) = came {
             self.read_was_short = !reads_on(n, READ_AHEAD, may_end);
+            self.moved_some |= n > 0;
         }
         after_read(outcome_of_count(&came), self.is_awaiting)
     }

@@ -1,8 +1,10 @@
 pub mod Outcomes
 pub mod Turns
+pub mod Deadlines
 pub mod Peers
 pub mod Moments
 pub mod LocalFile
+pub mod RecordFile
 pub mod Addresses
 pub mod Asked
 pub mod Door

@@ -7,7 +7,7 @@ use Rattle.std.specs.IoError.{error_kind, raw_os_error}
 use Rattle.rb_policy.specs.declared.outcome.Outcome.{Outcome}
 use Rattle.rb_policy.specs.declared.outcome.Outcome.TheVariants.{Done, Ended, WouldBlock, Interrupted, PeerFailed, NoRoom, Failed}
 use Rattle.rb_policy.specs.declared.outcome.Next.{Next}
-use Rattle.rb_policy.specs.declared.outcome.Next.TheVariants.{GoOn, AwaitEvent, AwaitTurn, Close, EndProgram}
+use Rattle.rb_policy.specs.declared.outcome.Next.TheVariants.{GoOn, AwaitEvent, AwaitTurn, Close}
 
 -- what is done after an accept (accept(2))
 abbrev pub after_accept : Outcome → Next
@@ -17,7 +17,7 @@ after_accept WouldBlock = AwaitEvent
 after_accept Interrupted = GoOn
 after_accept PeerFailed = GoOn
 after_accept NoRoom = AwaitTurn
-after_accept Failed = EndProgram
+after_accept Failed = AwaitTurn
 
 -- what is done after a read of a connection, which waits for a forwarded call or does not
 abbrev pub after_read : Outcome → Bool → Next

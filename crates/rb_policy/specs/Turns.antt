@@ -1,5 +1,5 @@
 -- What is done in a turn, and what is left for the next.
-use Rattle.std.specs.Prelude.{ℕ, ◌^◌, ◌-◌, ◌/◌, min, max, nat_lt, nat_le, Option, Some, None, Bool, true, false, not, ◌||◌, ◌==◌, if◌then◌else◌}
+use Rattle.std.specs.Prelude.{ℕ, ◌-◌, ◌/◌, min, max, nat_lt, nat_le, Bool, true, false, ◌||◌, ◌==◌, if◌then◌else◌}
 use Rattle.rb_policy.specs.declared.turns.Again.{Again}
 use Rattle.rb_policy.specs.declared.turns.Again.TheVariants.{AtOnce, AfterWait}
 use Rattle.rb_policy.specs.declared.turns.TheConstants.{SOCKET_CALLS, STEP, LAST_ROUND}
@@ -8,24 +8,24 @@ use Rattle.rb_policy.specs.declared.turns.Round.TheVariants.{First, Last}
 use Rattle.rb_policy.specs.declared.door.Phase.{Phase}
 use Rattle.rb_policy.specs.declared.door.Phase.TheVariants.{Idle, Reading, Owing, Awaiting}
 
--- when a socket is received from again on which all receives of a turn were made, where some of them got a datagram
-abbrev pub after_all_receives : Bool → Again
-after_all_receives true = AtOnce
-after_all_receives false = AfterWait
+-- when a socket is served again on which all receives or accepts of a turn were made, where some of them got something
+abbrev pub after_all_calls : Bool → Again
+after_all_calls true = AtOnce
+after_all_calls false = AfterWait
 
 -- the wait of a turn, where something is to be served at once or not
 abbrev pub wait_of : Bool → ℕ → ℕ
 wait_of true longest = 0
 wait_of false longest = longest
 
--- whether deadlines are asked for at a moment, after all that was due at another has ended
-abbrev pub asks_for_deadlines : Option ℕ → ℕ → Bool
-asks_for_deadlines None now = true
-asks_for_deadlines (Some settled) now = not (settled == now) || now == 2 ^ 64 - 1
-
 -- how many connections a turn accepts, where so many of all places are free as its accepting begins
 abbrev pub accept_count : ℕ → ℕ → ℕ
 accept_count free all = if free == 0 then min (max (all / 2) 1) SOCKET_CALLS else min free SOCKET_CALLS
+
+-- how many places there are, of so many that are asked for, where of so many descriptors so many are others': one more
+-- is kept for who comes where all places are taken
+abbrev pub place_count : ℕ → ℕ → ℕ → ℕ
+place_count asked descriptors others = max (min asked (descriptors - others - 1)) 1
 
 -- whether a connection is left for the next turn, for which so many socket calls were made, and so many bytes written
 abbrev pub is_cut_off : ℕ → ℕ → Bool

@@ -3,16 +3,19 @@
 
 mod addresses;
 mod asked;
+mod deadlines;
 mod door;
 mod laws;
 mod local_file;
 mod moments;
 mod outcome;
 mod peers;
+mod record_file;
 mod turns;
 
 pub use addresses::{announced_address, is_no_address};
 pub use asked::{Ask, Asked};
+pub use deadlines::{Deadlines, LATE, MOST_PUT_OFF, is_behind};
 pub use door::{
     ACTIVE, Admission, Holder, OWED, Origin, Phase, admit, ends_record, is_stuck, origin_of,
     phase_of,
@@ -25,7 +28,8 @@ pub use outcome::{
     outcome_of_count,
 };
 pub use peers::{inet_peer, local_peer, loopback6_peer};
+pub use record_file::{RecordAction, RecordState, record_action};
 pub use turns::{
-    Again, LAST_ROUND, Round, SOCKET_CALLS, STEP, accept_count, after_all_receives,
-    asks_for_deadlines, is_cut_off, reads_on, round_of, serves_another, wait_of,
+    Again, LAST_ROUND, Round, SOCKET_CALLS, STEP, accept_count, after_all_calls, is_cut_off,
+    place_count, reads_on, round_of, serves_another, wait_of,
 };

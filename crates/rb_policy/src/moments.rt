@@ -13,7 +13,7 @@ pub struct Moments {
 
 impl Moments {
     ghost use Rattle.std.specs.Prelude.{◌≡◌, max};
-    ghost use Rattle.rb_policy.specs.Moments.{next_moment};
+    ghost use Rattle.rb_policy.specs.Moments.{next_moment, rest_of_wait};
 
     /// The first moment is that of the wall clock. Both clocks in milliseconds.
     pub fn new(wall: u64, monotonic: u64) -> Moments
@@ -24,6 +24,13 @@ impl Moments {
             last: wall,
             monotonic,
         }
+    }
+
+    /// The last moment, in milliseconds since the start of 1970.
+    pub fn last(&self) -> u64
+        ensures { result ≡ self.now.last }
+    {
+        self.last
     }
 
     /// The moment of a turn. Where nothing waits for a deadline, it is the wall clock's if that is later: so a clock
@@ -43,5 +50,16 @@ impl Moments {
         };
         self.monotonic = self.monotonic.max(monotonic);
         self.last
+    }
+
+    /// How long a turn goes on to wait, in milliseconds, whose wait, of so many, showed so many sockets and is over: where
+    /// it showed none and was no longer than that by the monotonic clock, a signal ended it.
+    pub fn rest_of_wait(&self, wait: u64, shown: usize, monotonic: u64) -> u64
+        ensures { result ≡ rest_of_wait self.now.monotonic wait shown monotonic }
+    {
+        if shown > 0 {
+            return 0;
+        }
+        wait.saturating_sub(monotonic.saturating_sub(self.monotonic))
     }
 }

@@ -36,18 +36,15 @@ pub enum Next {
     AwaitTurn,
     /// The connection is closed.
     Close,
-    /// The program ends.
-    EndProgram,
 }
 
-/// What is done after an accept.
+/// What is done after an accept. What fails on a connection that was just accepted counts as its accept's.
 pub fn after_accept(outcome: Outcome) -> Next
     ensures { result ≡ after_accept outcome }
 {
     match outcome {
         Outcome::WouldBlock => Next::AwaitEvent,
-        Outcome::NoRoom => Next::AwaitTurn,
-        Outcome::Failed => Next::EndProgram,
+        Outcome::NoRoom | Outcome::Failed => Next::AwaitTurn,
         Outcome::Done | Outcome::Ended | Outcome::Interrupted | Outcome::PeerFailed => Next::GoOn,
     }
 }

@@ -1,22 +1,36 @@
 //! Which peer the core is handed for a connection or a datagram that came in.
 ghost use Rattle.std.specs.Prelude.{◌≡◌};
-ghost use Rattle.rb_policy.specs.Peers.{inet_peer, IsLoopback6Peer, loopback_peer};
+ghost use Rattle.rb_policy.specs.Peers.{inet_peer, is_nobody, if_somebody, IsLoopback6Peer, loopback_peer};
 
 use rb_rpc::Peer;
 use std::net::SocketAddr;
 
-/// What comes in on a socket of an IPv4 address, over TCP or UDP, is from the peer that it came from. There are no
-/// others.
+/// What comes in on a socket of an IPv4 address, over TCP or UDP, is from the peer that it came from, where that is
+/// somebody. There are no others.
 pub fn inet_peer(from: SocketAddr) -> Option<Peer>
     ensures { result ≡ inet_peer from }
 {
     match from {
-        SocketAddr::V4(from) => Some(Peer {
+        SocketAddr::V4(from) => if_somebody(Peer {
             host: from.ip().octets(),
             port: from.port(),
         }),
         SocketAddr::V6(_) => None,
     }
+}
+
+fn if_somebody(peer: Peer) -> Option<Peer>
+    ensures { result ≡ if_somebody peer }
+{
+    if is_nobody(peer) { None } else { Some(peer) }
+}
+
+/// A host of 0.0.0.0/8 has no address yet (RFC 1122 section 3.2.1.3), and a datagram from port 0 wants no reply (RFC
+/// 768). The system hands such datagrams in, where they were sent to all hosts.
+fn is_nobody(peer: Peer) -> bool
+    ensures { result ≡ is_nobody peer }
+{
+    peer.host[0] == 0 || peer.port == 0
 }
 
 /// A connection to [::1] from ::1 counts as one from 127.0.0.1 with its port. Any other IPv6 peer is nobody, and is

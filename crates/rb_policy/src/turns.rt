@@ -1,6 +1,6 @@
 //! What is done in a turn, and what is left for the next.
 ghost use Rattle.std.specs.Prelude.{◌≡◌, ◌||◌, ◌==◌};
-ghost use Rattle.rb_policy.specs.Turns.{after_all_receives, wait_of, asks_for_deadlines, accept_count, is_cut_off, round_of, serves_another};
+ghost use Rattle.rb_policy.specs.Turns.{after_all_calls, wait_of, accept_count, place_count, is_cut_off, round_of, serves_another};
 
 use crate::door::Phase;
 
@@ -24,10 +24,10 @@ pub enum Again {
     AfterWait,
 }
 
-/// When a socket is received from again on which all receives of a turn were made: where none of them got a datagram,
-/// its fault may last, and is not to keep turns from waiting.
-pub fn after_all_receives(got_some: bool) -> Again
-    ensures { result ≡ after_all_receives got_some }
+/// When a socket is served again on which all receives or accepts of a turn were made: where none of them got a datagram
+/// or a connection, its fault may last, and is not to keep turns from waiting.
+pub fn after_all_calls(got_some: bool) -> Again
+    ensures { result ≡ after_all_calls got_some }
 {
     if got_some {
         Again::AtOnce
@@ -51,17 +51,6 @@ pub fn reads_on(count: usize, room: usize, may_end: bool) -> bool
     count == room || may_end
 }
 
-/// Whether deadlines are asked for at this moment, in milliseconds, where all that was due at another has ended. What
-/// begins at a moment is due at a later one, or at once at the greatest.
-pub fn asks_for_deadlines(settled: Option<u64>, now: u64) -> bool
-    ensures { result ≡ asks_for_deadlines settled now }
-{
-    match settled {
-        Some(settled) => settled != now || now == u64::MAX,
-        None => true,
-    }
-}
-
 /// How many connections a turn accepts, on all listeners together, where so many of all places are free as its
 /// accepting begins: as many as are free, since the next turn may first free some that are taken now. Where none is
 /// free, half of all places, and at least one: so who takes one is served before others of this kind push it out. At
@@ -71,6 +60,19 @@ pub fn accept_count(free: usize, all: usize) -> usize
 {
     let most = if free == 0 { (all / 2).max(1) } else { free };
     most.min(SOCKET_CALLS)
+}
+
+/// How many places there are for connections, where so many are asked for, and of so many descriptors that the process may
+/// have so many are others': one is kept for who comes where all places are taken, before another one is given up. At
+/// least one.
+pub fn place_count(asked: usize, descriptors: u64, others: u64) -> usize
+    ensures { result ≡ place_count asked descriptors others }
+{
+    let left = descriptors.saturating_sub(others).saturating_sub(1);
+    match usize::try_from(left) {
+        Ok(left) => asked.min(left).max(1),
+        Err(_) => asked.max(1),
+    }
 }
 
 /// Whether a connection is left for the next turn, after so many socket calls for it in this one, and so many bytes

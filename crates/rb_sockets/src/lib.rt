@@ -3,6 +3,7 @@
 #![tactic(auto)]
 
 mod addresses;
+mod descriptors;
 mod faults;
 mod local;
 mod settings;
@@ -10,6 +11,7 @@ mod sockets;
 mod stream;
 
 pub use addresses::{Addresses, LocalSocket};
+pub use descriptors::{Shortage, open_files};
 pub use faults::{BindFault, DaemonFault, SocketFault, Step};
 pub use settings::Settings;
 pub use sockets::{CallSocket, CallSockets, ForwardSocket, Listener, Shown, Sockets, Watched};

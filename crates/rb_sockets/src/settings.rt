@@ -18,6 +18,8 @@ pub struct Settings<'a> {
     pub port: u16,
     /// How many connections, rows and forwarded calls there may be.
     pub limits: Limits,
+    /// The limit of open files.
+    pub open_files: u64,
     /// The most bytes of a record of its events, its last line among them; 0 records nothing. It takes that much
     /// memory, and up to 160,000 bytes more for the entry that is being written.
     pub record: usize,

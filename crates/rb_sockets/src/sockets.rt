@@ -13,6 +13,7 @@ use std::alloc::{AllocError, Global};
 use std::fs::Files;
 use std::io;
 use std::net::{Ipv4Addr, Ipv6Addr, Net, SocketAddr};
+use std::os::fd::{AsRawFd, RawFd};
 
 /// Where calls come in as datagrams, and where replies to them go out.
 #[derive(Drop)]
@@ -110,6 +111,13 @@ impl Listener {
         }
     }
 
+    fn as_raw_fd(&self) -> RawFd {
+        match self {
+            Listener::Inet(listener) | Listener::Loopback6(listener) => listener.as_raw_fd(),
+            Listener::Local(listener) => listener.as_raw_fd(),
+        }
+    }
+
     fn register(&mut self, registry: &Registry, token: Token) -> io::Result<()> {
         match self {
             Listener::Inet(listener) | Listener::Loopback6(listener) => {
@@ -127,6 +135,7 @@ pub struct Watched<S> {
     pub socket: S,
     again: Again,
     is_shown: bool,
+    has_failed: bool,
 }
 
 impl<S> Watched<S> {
@@ -135,6 +144,7 @@ impl<S> Watched<S> {
             socket,
             again: Again::AtEvent,
             is_shown: false,
+            has_failed: false,
         }
     }
 
@@ -152,6 +162,13 @@ impl<S> Watched<S> {
     pub fn leave(&mut self, again: Again) {
         self.again = again;
         self.is_shown = false;
+    }
+
+    /// It failed. Whether that is the first time.
+    pub fn fail(&mut self) -> bool {
+        let is_first = !self.has_failed;
+        self.has_failed = true;
+        is_first
     }
 
     /// Whether the next turn is to serve it without a wait.
@@ -258,6 +275,19 @@ impl Sockets {
         })
     }
 
+    /// So many descriptors of the process are not for connections: the system gives the least number that is free, so
+    /// when the last of these sockets got its own, all below that were taken.
+    pub fn count_descriptors(&self) -> u64 {
+        let mut last = self.forwards.socket.0.as_raw_fd();
+        for calls in &self.calls.all {
+            last = last.max(calls.socket.0.as_raw_fd());
+        }
+        for listener in &self.listeners {
+            last = last.max(listener.socket.as_raw_fd());
+        }
+        u64::try_from(last).unwrap_or(0).saturating_add(1)
+    }
+
     /// Writes to as much of the stack as a turn needs, so that its memory is the process's from here on: an array
     /// there is handed to a receive. What is received before a call was forwarded is no reply to one. The array goes
     /// when this returns, so it is not to be inlined.
@@ -325,11 +355,14 @@ impl Sockets {
         }
     }
 
+    /// Whether one of them where datagrams come in is to be served at once.
+    pub fn are_datagrams_left(&self) -> bool {
+        self.forwards.is_left() || self.calls.all.iter().any(|calls| calls.is_left())
+    }
+
     /// Whether one of them is to be served at once.
     pub fn is_something_left(&self) -> bool {
-        self.forwards.is_left()
-            || self.calls.all.iter().any(|calls| calls.is_left())
-            || self.listeners.iter().any(|listener| listener.is_left())
+        self.are_datagrams_left() || self.listeners.iter().any(|listener| listener.is_left())
     }
 }
 

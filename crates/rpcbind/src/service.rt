@@ -48,7 +48,7 @@ where
     }
 }
 
-/// Says where the daemon listens, and takes its turns.
+/// Makes the file of the record, says where the daemon listens, and takes its turns.
 fn serve<R, E>(
     rt: &R,
     daemon: &mut Daemon<'_, R>,
@@ -61,20 +61,20 @@ where
     E: Write,
     ensures { result ≤ 1 }
 {
-    if let Err(status) = say_start(rt, service, settings, faults) {
-        return status;
-    }
     let mut recorder = match make_record(rt, service, faults) {
         Ok(file) => Recorder { file },
         Err(status) => return status,
     };
+    if let Err(status) = say_start(rt, service, settings, daemon.shortage(), faults) {
+        return status;
+    }
     match take_turns(rt, daemon, service.turns, &mut recorder, faults) {
         Ok(()) => 0,
         Err(fault) => explain_fault(&fault, settings, faults).status,
     }
 }
 
-/// A turn, and what was recorded of it.
+/// A turn, what was recorded of it, and a line for each listener that failed the first time.
 fn take_turn<R: Clock, F: Write + Drop, E: Write>(
     daemon: &mut Daemon<'_, R>,
     recorder: &mut Recorder<F>,
@@ -82,6 +82,9 @@ fn take_turn<R: Clock, F: Write + Drop, E: Write>(
 ) -> Result<(), DaemonFault> {
     let turned = daemon.turn(WAIT);
     recorder.write(daemon, faults);
+    if let Some(fault) = daemon.take_fault() {
+        let _ = writeln!(faults, "rpcbind: {fault}; it is tried again");
+    }
     turned
 }
 

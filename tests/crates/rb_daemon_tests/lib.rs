@@ -10,6 +10,8 @@ mod deadlines;
 #[cfg(test)]
 mod door;
 #[cfg(test)]
+mod faults;
+#[cfg(test)]
 mod forwards;
 #[cfg(test)]
 mod leaving;
@@ -19,6 +21,8 @@ mod listeners;
 mod lists;
 #[cfg(test)]
 mod messages;
+#[cfg(test)]
+mod pauses;
 #[cfg(test)]
 mod records;
 #[cfg(test)]

@@ -1,8 +1,9 @@
 //! The daemon of a test, whose turns the test itself takes, and whose clocks it sets.
-use rb_daemon::{Daemon, DaemonFault, Limits, LocalSocket, Settings};
+use rb_daemon::{Daemon, DaemonFault, Limits, LocalSocket, Settings, Shortage, SocketFault};
 use std::cell::Cell;
+use std::fs::Files;
 use std::io;
-use std::net::{Ipv4Addr, Ipv6Addr, SocketAddr};
+use std::net::{Ipv4Addr, Ipv6Addr, Net, SocketAddr};
 use std::rt::Clock;
 use std::time::Duration;
 
@@ -12,7 +13,7 @@ pub(crate) const PORT: u16 = 20_111;
 pub(crate) const LOCAL: &str = "rb_daemon_tests.sock";
 
 /// Milliseconds: what comes over the loopback is there long before.
-const WAIT: u64 = 20;
+pub(crate) const WAIT: u64 = 20;
 
 /// Clocks that stand still until they are moved, and the system.
 #[derive(Drop)]
@@ -22,6 +23,8 @@ pub(crate) struct Stopped {
     wall: Cell<u64>,
     /// Milliseconds.
     monotonic: Cell<u64>,
+    /// How long the daemon slept, in milliseconds.
+    slept: Cell<u64>,
 }
 
 impl Stopped {
@@ -30,7 +33,13 @@ impl Stopped {
             rt: *rt,
             wall: Cell::new(1_000_000),
             monotonic: Cell::new(5_000),
+            slept: Cell::new(0),
         }
+    }
+
+    /// How long the daemon slept, in milliseconds.
+    pub(crate) fn slept(&self) -> u64 {
+        self.slept.get()
     }
 
     /// So much time passes.
@@ -53,6 +62,11 @@ impl Clock for Stopped {
 
     fn since_1970(&self) -> io::Result<Duration> {
         Ok(Duration::from_millis(self.wall.get()))
+    }
+
+    fn sleep(&self, duration: Duration) {
+        let millis = u64::try_from(duration.as_millis()).unwrap_or(u64::MAX);
+        self.slept.set(self.slept.get().saturating_add(millis));
     }
 }
 
@@ -84,6 +98,7 @@ pub(crate) fn plain(hosts: &[Ipv4Addr], conns: usize) -> Settings<'_> {
             rows: 300,
             forwards: 4,
         },
+        open_files: u64::MAX,
         record: 0,
     }
 }
@@ -110,11 +125,28 @@ impl<'a> Host<'a> {
         clock: &'a Stopped,
         settings: &Settings<'_>,
     ) -> Result<Host<'a>, DaemonFault> {
-        let daemon = Daemon::new(clock.rt.alloc(), &clock.rt, clock, settings)?;
+        Host::over(clock, &clock.rt, settings)
+    }
+
+    /// A daemon over this system.
+    pub(crate) fn over<H: Files + Net>(
+        clock: &'a Stopped,
+        system: &H,
+        settings: &Settings<'_>,
+    ) -> Result<Host<'a>, DaemonFault> {
+        let daemon = Daemon::new(clock.rt.alloc(), system, clock, settings)?;
         Ok(Host {
             daemon,
             is_well: true,
         })
+    }
+
+    pub(crate) fn shortage(&self) -> Option<Shortage> {
+        self.daemon.shortage()
+    }
+
+    pub(crate) fn take_fault(&mut self) -> Option<SocketFault> {
+        self.daemon.take_fault()
     }
 
     pub(crate) fn turn(&mut self) {

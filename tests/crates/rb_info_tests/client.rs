@@ -51,6 +51,7 @@ pub fn daemon_everywhere(rt: &HostRuntime) -> Option<Daemon<'_, HostRuntime>> {
             rows: 16,
             forwards: 1,
         },
+        open_files: u64::MAX,
         record: 0,
     };
     Daemon::new(rt.alloc(), rt, rt, &settings).ok()

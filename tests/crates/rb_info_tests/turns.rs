@@ -54,6 +54,7 @@ pub fn daemon_of(rt: &HostRuntime, port: u16, conns: usize) -> Option<Daemon<'_,
         announce: host,
         port,
         limits,
+        open_files: u64::MAX,
         record: 0,
     };
     Daemon::new(rt.alloc(), rt, rt, &settings).ok()

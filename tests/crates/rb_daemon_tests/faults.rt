@@ -1,0 +1,164 @@
+//! A system in which things fail: accepts of a listener, and descriptors that are used up.
+use crate::client::Client;
+use crate::records::answers_a_call;
+use crate::turns::{Host, Stopped, everywhere, plain};
+use rb_daemon::{Settings, Step};
+use std::alloc::Allocator;
+use std::fs::{Files, Metadata, OpenOptions, Permissions};
+use std::io;
+use std::net::{Ipv4Addr, Net, SocketAddr, TcpListener, UdpSocket};
+use std::os::fd::{BorrowedFd, OwnedFd};
+use std::os::unix::net::SocketAddr as UnixAddr;
+use std::test::Fail;
+
+const HOSTS: [Ipv4Addr; 1] = [Ipv4Addr::LOCALHOST];
+
+/// Where the local socket of `Crossed` listens.
+const CROSSED: u16 = 20_113;
+
+/// A system whose local sockets are TCP sockets: each accept fails, since the peer has no address of its kind.
+#[derive(Drop)]
+struct Crossed<'a> {
+    rt: &'a HostRuntime,
+}
+
+impl Net for Crossed<'_> {
+    type Stream = <HostRuntime as Net>::Stream;
+
+    type Listener = <HostRuntime as Net>::Listener;
+
+    fn bind(&self, addr: SocketAddr) -> io::Result<Self::Listener> {
+        self.rt.bind(addr)
+    }
+
+    fn connect(&self, addr: SocketAddr) -> io::Result<Self::Stream> {
+        self.rt.connect(addr)
+    }
+
+    fn bind_udp(&self, addr: SocketAddr) -> io::Result<UdpSocket> {
+        self.rt.bind_udp(addr)
+    }
+
+    fn unix_socket(&self) -> io::Result<OwnedFd> {
+        let at = SocketAddr::from((Ipv4Addr::LOCALHOST, CROSSED));
+        Ok(OwnedFd::from(TcpListener::bind(self.rt, at)?))
+    }
+}
+
+impl Files for Crossed<'_> {
+    type File = <HostRuntime as Files>::File;
+
+    type Dir = <HostRuntime as Files>::Dir;
+
+    fn open_file(&self, how: &OpenOptions, path: &str) -> io::Result<Self::File> {
+        self.rt.open_file(how, path)
+    }
+
+    fn open_dir(&self, path: &str) -> io::Result<Self::Dir> {
+        self.rt.open_dir(path)
+    }
+
+    fn metadata(&self, path: &str) -> io::Result<Metadata> {
+        self.rt.metadata(path)
+    }
+
+    fn symlink_metadata(&self, _path: &str) -> io::Result<Metadata> {
+        Err(io::Error::from(io::ErrorKind::NotFound))
+    }
+
+    fn copy(&self, from: &str, to: &str) -> io::Result<u64> {
+        self.rt.copy(from, to)
+    }
+
+    fn rename(&self, from: &str, to: &str) -> io::Result<()> {
+        self.rt.rename(from, to)
+    }
+
+    fn remove_file(&self, path: &str) -> io::Result<()> {
+        self.rt.remove_file(path)
+    }
+
+    fn create_dir(&self, path: &str) -> io::Result<()> {
+        self.rt.create_dir(path)
+    }
+
+    fn remove_dir(&self, path: &str) -> io::Result<()> {
+        self.rt.remove_dir(path)
+    }
+
+    fn remove_dir_all<B: Allocator>(&self, alloc: B, path: &str) -> io::Result<()> {
+        self.rt.remove_dir_all(alloc, path)
+    }
+
+    fn set_permissions(&self, _path: &str, _perm: Permissions) -> io::Result<()> {
+        Ok(())
+    }
+
+    fn bind_unix(&self, _socket: BorrowedFd<'_>, _addr: &UnixAddr) -> io::Result<()> {
+        Ok(())
+    }
+}
+
+/// Who comes on the listener that fails is closed, and others are served meanwhile. The fault is told once.
+fn serves_beside_a_fault(rt: &HostRuntime, host: &mut Host<'_>) -> Option<bool> {
+    let at = SocketAddr::from((Ipv4Addr::LOCALHOST, CROSSED));
+    let mut first = Client::at(rt, at)?;
+    let mut second = Client::at(rt, at)?;
+    let is_served = answers_a_call(rt, host, 31)?;
+    first.receive(host, 1);
+    second.receive(host, 1);
+    let are_closed = first.is_closed() && second.is_closed();
+    let is_told = host.take_fault()?.step == Step::Accept;
+    let mut third = Client::at(rt, at)?;
+    third.receive(host, 1);
+    let is_told_once = third.is_closed() && host.take_fault().is_none();
+    Some(is_served && are_closed && is_told && is_told_once && host.is_well())
+}
+
+#[test]
+fn failing_listener_ends_nothing(rt: HostRuntime) -> Result<(), Fail> {
+    let clock = Stopped::new(&rt);
+    let system = Crossed { rt: &rt };
+    let settings = Settings {
+        loopback6: false,
+        ..everywhere(&HOSTS, 4)
+    };
+    let mut host = Host::over(&clock, &system, &settings).map_err(|_| "no daemon")?;
+    assert_eq!(rt; serves_beside_a_fault(&rt, &mut host), Some(true));
+    Ok(())
+}
+
+/// There is a place for one: it is given up for the next, who is served.
+fn serves_one_after_another(rt: &HostRuntime, host: &mut Host<'_>) -> Option<bool> {
+    let is_first = answers_a_call(rt, host, 32)?;
+    let mut waiting = Client::new(rt)?;
+    let is_open = waiting.receive_nothing(host);
+    let is_next = answers_a_call(rt, host, 33)?;
+    waiting.receive(host, 1);
+    Some(is_first && is_open && is_next && waiting.is_closed() && host.is_well())
+}
+
+#[test]
+fn few_descriptors_are_few_places(rt: HostRuntime) -> Result<(), Fail> {
+    let clock = Stopped::new(&rt);
+    let settings = Settings {
+        open_files: 4,
+        ..plain(&HOSTS, 3)
+    };
+    let mut host = Host::with(&clock, &settings).map_err(|_| "no daemon")?;
+    let shortage = host.shortage().ok_or("no shortage")?;
+    assert_eq!(rt;
+        (shortage.limit, shortage.asked, shortage.places),
+        (4, 3, 1)
+    );
+    assert_eq!(rt; serves_one_after_another(&rt, &mut host), Some(true));
+    Ok(())
+}
+
+#[test]
+fn enough_descriptors_are_all_places(rt: HostRuntime) -> Result<(), Fail> {
+    let clock = Stopped::new(&rt);
+    let host = Host::new(&clock, 3).ok_or("no daemon")?;
+    assert!(rt; host.shortage().is_none());
+    Ok(())
+}
