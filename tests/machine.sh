@@ -75,5 +75,5 @@ minutes_of_make() {
 }
 
 minutes_of_test() {
-    echo $((20 + 220 / $1))
+    echo $((10 + 210 / $1))
 }

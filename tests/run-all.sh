@@ -7,6 +7,8 @@ set -u
 cd "$(dirname "$0")/.." || exit 1
 . tests/machine.sh
 
+memory_of_one=3000 # in MiB, for a check
+
 work=$(mktemp -d) || exit 1
 trap 'rm -rf "$work"' EXIT
 passed=0
@@ -61,7 +63,8 @@ else
         shift
     fi
     add tests/run-tests.sh
-    add rt ci "$@"
+    # With a number given, `rt` has each check work on one core: on several, each loads all that the crate stands on.
+    add env RT_JOBS="$(count_slots "$memory_of_one")" rt ci "$@"
     add tests/run-rows.sh
 fi
 echo "$passed passed, $failed failed"
