@@ -46,16 +46,15 @@ show_progress() {
     done
 }
 
+crates=$(list_crates | wc -l)
+with_edits=$(find crates/*/must-fail -name '*.edit' -printf '%h\n' | sort -u | wc -l)
+cores=$(count_cores)
+say_kit
 if [ "${1:-}" = --quick ]; then
-    say_kit
-    echo "make quick: each test and each row on $(count_cores) cores, and no proof"
+    echo "make quick: each test and each row on $cores cores, and no proof"
     add tests/run-tests.sh --programs "$work"
     add tests/run-rows.sh "$work/rpcbind" "$work/rpcinfo"
 else
-    crates=$(list_crates | wc -l)
-    with_edits=$(find crates/*/must-fail -name '*.edit' -printf '%h\n' | sort -u | wc -l)
-    cores=$(count_cores)
-    say_kit
     echo "make test: $crates crates on $cores cores: from nothing about $(minutes_of_test "$cores") minutes;" \
         "what this machine passed before is not proved again"
     # Kits that keep nothing prove all anew, and know no such word.
