@@ -304,6 +304,11 @@ run_record() {
     run "$work/events" "${check[@]}"
     [ "$got" -eq 1 ] && grep -q 'of the run has no line' "$work/stderr"
     judge $? "a record without its last line"
+    head -c -3 "$file" > "$work/events"
+    echo "$(($(grep -c '^#> ' "$file") - 1)) outputs agree; the last line is cut off" > "$work/wanted"
+    run "$work/events" "${check[@]}"
+    as_wanted "$work/wanted" /dev/null 0
+    judge $? "a record that is cut in its last line"
 }
 
 # At its limit a record ends with a comment line, and what stands before agrees. At a fault of its file it ends, which is

@@ -1,11 +1,11 @@
 -- Output lines of a text, line by line, against those of a run.
 use Rattle.std.specs.List.{flat_map}
 use Rattle.std.specs.Borrow.{Bor}
-use Rattle.std.specs.Prelude.{nat_eq, OnOk, IfOk, IfErr}
+use Rattle.std.specs.Prelude.{nat_eq, nat_lt, slice_index, if◌then◌else◌, OnOk, IfErr, option_map}
 use Rattle.std.specs.Bool.{Decides}
 use Rattle.std.specs.Cmp.Lexicographic.{pointwise}
-use Rattle.std.proofs.Common.{◌≡◌, ◌<◌, ◌≤◌, ◌+◌, ◌-◌, ℕ, Bool, true, List, [], ◌∷◌, ◌++◌, length, get_or, codes, take, drop, Option, Some, None, Result, Ok, Err, IfSome, arith, sym, ap, subst, ◌∙◌, ◌⊎◌, append_assoc, append-nil, take-append-drop, inl, inr}
-use Rattle.std.proofs.lemmas.Bool.{cases_lt, lt-ltb}
+use Rattle.std.proofs.Common.{◌≡◌, ◌<◌, ◌≤◌, ◌+◌, ◌-◌, ℕ, zero, suc, Bool, true, false, refl, List, [], ◌∷◌, ◌++◌, length, get_or, codes, take, drop, Option, Some, None, Result, Ok, Err, IfSome, arith, sym, ap, subst, ◌∙◌, ◌⊎◌, append_assoc, append-nil, take-append-drop, inl, inr}
+use Rattle.std.proofs.lemmas.Bool.{cases_lt, lt-ltb, le-ltb, ne_eqb}
 use Rattle.std.proofs.lemmas.Bool.Decides.{Decides-eqb}
 use Rattle.std.proofs.lemmas.Slice.Eq.{strip_suffix_is}
 use Rattle.std.proofs.lemmas.List.{drop_more, take_more, take_all, length-take, length-take-le, length_push, length-map, append_cancel_left, append_cancel_right}
@@ -22,7 +22,7 @@ use Rattle.rb_lines.specs.declared.faults.Fault.{Fault}
 use Rattle.rb_lines.specs.declared.faults.Fault.TheVariants.{NotText, Lines, NoMemory, BadLimits, SocketFailed, ReadFailed, WriteFailed, NoOutputs, Differs, Lacks}
 use Rattle.rb_lines.specs.Lines.{read, lines_of, longest_input, Fails}
 use Rattle.rb_lines.specs.OutputLines.{output_line_in, output_lines_in, output_lines}
-use Rattle.rb_replay.specs.Checking.{IsFrontOf, IsFirstOther, Agrees, AgreesWith, IsUnlike, OfRun, CannotBeChecked, IsWrongWith, IsLacking, IsWrongInput, GoesOn, IsWrongAt, IsEnd}
+use Rattle.rb_replay.specs.Checking.{IsFrontOf, IsFirstOther, Agrees, AgreesWith, whole_len, whole_lines, is_cut, IsUnlike, OfRun, CannotBeChecked, IsWrongWith, IsLacking, IsWrongInput, GoesOn, IsWrongAt, IsEnd}
 use Rattle.rb_lines.specs.Faults.{status_of}
 use Rattle.rb_replay.specs.Running.{IsRead, IsRefused}
 use Rattle.rb_lines.proofs.Reading.{IsAt, read-take}
@@ -82,6 +82,82 @@ whole_where_read beginning input text P is h = elim (cases_lt longest_input (len
   | inr short ↦ is ∙ take_all (longest_input + 1) input (omega arith)
 ]
 
+-- ---- a text whose last line is cut off
+
+-- a line feed, another byte and the start of the text, seen from behind
+pub at_feed : (text : List ℕ) (n len : ℕ) → len ≡ suc n → slice_index text n ≡ 10 → len ≡ whole_len text len
+unfolding whole_len
+at_feed text n len is feed = rw is (rw feed refl)
+
+pub at_other : (text : List ℕ) (n len : ℕ) → len ≡ suc n → (slice_index text n ≡ 10 → ⊥) → whole_len text len ≡ whole_len text n
+unfolding whole_len
+at_other text n len is other = rw is (rw (ne_eqb (slice_index text n) 10 other) refl)
+
+pub at_start : (text : List ℕ) (len : ℕ) → len ≡ 0 → 0 ≡ whole_len text len
+unfolding whole_len
+at_start text len is = rw is refl
+
+if_le : (b : Bool) (m n : ℕ) → m ≤ n → (if b then suc n else m) ≤ suc n
+if_le true m n le = omega arith
+if_le false m n le = omega (arith, le)
+
+pub whole_len_le : (text : List ℕ) (n : ℕ) → whole_len text n ≤ n
+unfolding whole_len
+whole_len_le text zero = omega arith
+whole_len_le text (suc n) = if_le (nat_eq (slice_index text n) 10) (whole_len text n) n (whole_len_le text n)
+
+long_is_whole : (text : List ℕ) → longest_input < length text → whole_lines text ≡ text
+unfolding whole_lines
+long_is_whole text long = rw (lt-ltb longest_input (length text) long) refl
+
+pub lines_where_long : (text : List ℕ) → longest_input < length text → text ≡ whole_lines text
+lines_where_long text long = sym (long_is_whole text long)
+
+pub lines_where_short : (text : List ℕ) → length text ≤ longest_input → take (whole_len text (length text)) text ≡ whole_lines text
+unfolding whole_lines
+lines_where_short text short = rw (le-ltb longest_input (length text) short) refl
+
+if_short : (b : Bool) (n : ℕ) (text : List ℕ) → length (if b then text else take n text) ≤ length text
+if_short true n text = omega arith
+if_short false n text = omega (arith, length-take n text)
+
+whole_short : (text : List ℕ) → length (whole_lines text) ≤ length text
+unfolding whole_lines
+whole_short text = if_short (nat_lt longest_input (length text)) (whole_len text (length text)) text
+
+-- what is checked of what was read of an input is what is read of what is checked of it
+whole_where : (input text : List ℕ) → text ≡ take (longest_input + 1) input → whole_lines text ≡ take (longest_input + 1) (whole_lines input)
+whole_where input text is = elim (cases_lt longest_input (length input)) [
+  | inl long ↦
+      let longer : longest_input < length text = omega (arith, ap (λ (xs : List ℕ). length xs) is, length-take (longest_input + 1) input) in
+      long_is_whole text longer ∙ is ∙ ap (take (longest_input + 1)) (sym (long_is_whole input long))
+  | inr short ↦
+      let all : text ≡ input = is ∙ take_all (longest_input + 1) input (omega arith) in
+      ap whole_lines all ∙ sym (take_all (longest_input + 1) (whole_lines input) (omega (arith, short, whole_short input)))
+]
+
+pub whole_as_read : (left : Option (List ℕ)) (text : List ℕ) → IfSome left (λ input. text ≡ take (longest_input + 1) input) → IfSome (option_map whole_lines left) (λ part. whole_lines text ≡ take (longest_input + 1) part)
+whole_as_read None text is = tt
+whole_as_read (Some input) text is = whole_where input text is
+
+-- what was read of an input that has events, but for a line that is cut off, is all of it
+all_where_checked : (beginning : Beginning) (input text : List ℕ) (P : List Output → Type 0) → text ≡ take (longest_input + 1) input → OfRun beginning P (read (whole_lines text)) → text ≡ input
+all_where_checked beginning input text P is h = elim (cases_lt longest_input (length text)) [
+  | inl long ↦ whole_where_read beginning input text P is (subst (λ (t : List ℕ). OfRun beginning P (read t)) (long_is_whole text long) h)
+  | inr short ↦ is ∙ take_all (longest_input + 1) input (omega (arith, short, ap (λ (xs : List ℕ). length xs) is, length-take (longest_input + 1) input))
+]
+
+lines_count : (text : List ℕ) (outputs : List Output) → output_lines_in text ≡ output_lines outputs → length outputs ≡ length (output_lines_in text)
+unfolding output_lines
+lines_count text outputs same = sym (ap (λ (xs : List (List ℕ)). length xs) same ∙ length-map outputs output_text)
+
+pub agrees_with : (text : List ℕ) (outputs : List Output) (cut : Bool) → Agrees text outputs → AgreesWith text cut (length outputs) outputs
+agrees_with text outputs false a = (a, refl)
+agrees_with text outputs true a = (([], sym (append-nil (output_lines_in text) ∙ a.same)), lines_count text outputs a.same, omega (arith, lines_count text outputs a.same, a.some))
+
+pub lacking_with : (text : List ℕ) (outputs : List Output) (n : ℕ) → IsLacking text outputs n → AgreesWith text true (n - 1) outputs
+lacking_with text outputs n l = (l.agree, omega (arith, l.number), omega (arith, l.some))
+
 -- a text that ends in a line feed is a line and its end exactly where what stands before is the line
 pub ended_is : (text line : List ℕ) (front : Bor (List ℕ)) (same : Bool) → (pointwise nat_eq (drop (length text - length (codes "\n")) text) (codes "\n") ≡ true) × (front.now ≡ take (length text - length (codes "\n")) text) × (length front.now + length (codes "\n") ≡ length text) → Decides same (front.now ≡ line) → Decides same (text ≡ line ++ codes "\n")
 ended_is text line front same is decides =
@@ -126,6 +202,7 @@ pub unlike : (text : List ℕ) (outputs : List output.Output) (next : ℕ) (faul
 unlike text outputs next NoOutputs is few end = is ∙ ap (λ (n : ℕ). take n (output_lines (outputs_of outputs))) end
 unlike text outputs next (Lacks n) is few end = record {
   agree = (drop next (output_lines (outputs_of outputs)), sym (take-append-drop next (output_lines (outputs_of outputs))) ∙ ap (λ (xs : List (List ℕ)). xs ++ drop next (output_lines (outputs_of outputs))) (sym is));
+  some = omega (arith, end.0, end.2);
   number = end.0 ∙ ap (λ (k : ℕ). k + 1) (sym (ap (λ (xs : List (List ℕ)). length xs) is ∙ length-take-le next (output_lines (outputs_of outputs)) (omega (arith, printed_length outputs, few))));
   there = omega (arith, length-map outputs output_of, end.0, end.1);
 }
@@ -151,6 +228,14 @@ wrong_at text outputs n i next line WriteFailed at agree wrong = absurd wrong
 wrong_at text outputs n i next line NoOutputs at agree wrong = absurd wrong
 wrong_at text outputs n i next line (Lacks k) at agree wrong = absurd wrong
 
+-- what agrees as a whole agrees with a line cut off as well
+with_count : (text : List ℕ) (outputs : List Output) (cut : Bool) (n : ℕ) → Agrees text outputs → n ≡ length outputs → AgreesWith text cut n outputs
+with_count text outputs cut n a is = rw is (agrees_with text outputs cut a)
+
+pub by_cut : (beginning : Beginning) (text : List ℕ) (cut : Bool) (n : ℕ) (given : Result (List Event) ReadFault) → OfRun beginning (λ outputs. Agrees text outputs × (n ≡ length outputs)) given → OfRun beginning (AgreesWith text cut n) given
+by_cut beginning text cut n (Ok events) h = with_count text _ cut n h.0 h.1
+by_cut beginning text cut n (Err fault) h = absurd h
+
 -- what follows of a result
 pub on_ok : {A B : Type 0} (P Q : Type 0) (r : Result A B) → (P → Q) → OnOk r P → OnOk r Q
 on_ok P Q (Ok x) f h = f h
@@ -162,11 +247,10 @@ if_err P Q (Err e) f h = f e h
 
 -- ---- an input, by what was read of it
 
-pub agreed_as_read : (beginning : Beginning) (left : Option (List ℕ)) (text : List ℕ) (r : Result ℕ Fault) → IfSome left (λ input. text ≡ take (longest_input + 1) input) → IfOk r (λ n. OfRun beginning (AgreesWith text n) (read text)) → IfOk r (λ n. IfSome left (λ input. OfRun beginning (AgreesWith input n) (read input)))
-agreed_as_read beginning left text (Err fault) is h = tt
-agreed_as_read beginning None text (Ok n) is h = tt
-agreed_as_read beginning (Some input) text (Ok n) is h =
-    subst (λ (t : List ℕ). OfRun beginning (AgreesWith t n) (read t)) (whole_where_read beginning input text (AgreesWith text n) is h) h
+pub agreed_as_read : (beginning : Beginning) (left : Option (List ℕ)) (text : List ℕ) (cut : Bool) (n : ℕ) → IfSome left (λ input. text ≡ take (longest_input + 1) input) → cut ≡ is_cut text → OfRun beginning (AgreesWith (whole_lines text) cut n) (read (whole_lines text)) → IfSome left (λ input. (cut ≡ is_cut input) × OfRun beginning (AgreesWith (whole_lines input) cut n) (read (whole_lines input)))
+agreed_as_read beginning None text cut n is same h = tt
+agreed_as_read beginning (Some input) text cut n is same h =
+    subst (λ (t : List ℕ). (cut ≡ is_cut t) × OfRun beginning (AgreesWith (whole_lines t) cut n) (read (whole_lines t))) (all_where_checked beginning input text (AgreesWith (whole_lines text) cut n) is h) (same, h)
 
 refused : (given : Result (List Event) ReadFault) (fault : ReadFault) → given ≡ Err fault → IsRefused given
 refused (Ok events) fault is = absurd cc
@@ -191,7 +275,7 @@ cannot beginning input text NoOutputs is wrong two =
 cannot beginning input text (Differs n) is wrong two = absurd cc
 cannot beginning input text (Lacks n) is wrong two = absurd cc
 
-pub refused_as_read : (beginning : Beginning) (left : Option (List ℕ)) (text : List ℕ) (r : Result ℕ Fault) → IfSome left (λ input. text ≡ take (longest_input + 1) input) → IfErr r (IsWrongWith beginning text) → IfErr r (λ fault. status_of fault ≡ 2 → IfSome left CannotBeChecked)
+pub refused_as_read : {A : Type 0} (beginning : Beginning) (left : Option (List ℕ)) (text : List ℕ) (r : Result A Fault) → IfSome left (λ input. text ≡ take (longest_input + 1) input) → IfErr r (IsWrongWith beginning text) → IfErr r (λ fault. status_of fault ≡ 2 → IfSome left CannotBeChecked)
 refused_as_read beginning left text (Ok n) is h = tt
 refused_as_read beginning None text (Err fault) is h = λ two. tt
 refused_as_read beginning (Some input) text (Err fault) is h = λ two. cannot beginning input text fault is h two
@@ -213,7 +297,7 @@ wrong_input beginning input text (Differs n) is wrong =
 wrong_input beginning input text (Lacks n) is wrong =
     subst (λ (t : List ℕ). OfRun beginning (λ outputs. IsLacking t outputs n) (read t)) (whole_where_read beginning input text (λ outputs. IsLacking text outputs n) is wrong) wrong
 
-pub why_as_read : (beginning : Beginning) (left : Option (List ℕ)) (text : List ℕ) (r : Result ℕ Fault) → IfSome left (λ input. text ≡ take (longest_input + 1) input) → IfErr r (IsWrongWith beginning text) → IfErr r (λ fault. IfSome left (λ input. IsWrongInput beginning input fault))
+pub why_as_read : {A : Type 0} (beginning : Beginning) (left : Option (List ℕ)) (text : List ℕ) (r : Result A Fault) → IfSome left (λ input. text ≡ take (longest_input + 1) input) → IfErr r (IsWrongWith beginning text) → IfErr r (λ fault. IfSome left (λ input. IsWrongInput beginning input fault))
 why_as_read beginning left text (Ok n) is h = tt
 why_as_read beginning None text (Err fault) is h = tt
 why_as_read beginning (Some input) text (Err fault) is h = wrong_input beginning input text fault is h

@@ -1,8 +1,7 @@
 -- What `rpcbind replay --check` says: whether an input's own output lines are those of the run of its events.
-use Rattle.std.specs.Prelude.{◌≡◌, ◌≢◌, ◌≤◌, ◌<◌, ◌⊎◌, ℕ, ◌+◌, Bool, if◌then◌else◌, List, [], ◌∷◌, ◌++◌, length, take, drop, map, codes, Option, Some, None, IfSome, Result, Ok, Err}
+use Rattle.std.specs.Prelude.{◌≡◌, ◌≢◌, ◌≤◌, ◌<◌, ◌⊎◌, ℕ, zero, suc, ◌+◌, nat_lt, ◌==◌, Bool, true, false, if◌then◌else◌, List, [], ◌∷◌, ◌++◌, length, slice_index, take, codes, Option, Some, None, IfSome, option_map, Result, Ok, Err}
 use Rattle.std.specs.Bool.{Decides}
 use Rattle.std.specs.List.{flat_map}
-use Rattle.std.specs.Str.{bytes_eq}
 use Rattle.std.specs.Fmt.{decimal}
 use Rattle.std.specs.Borrow.{Bor}
 use Rattle.std.specs.declared.io.buffered.BufWriter.{BufWriter}
@@ -11,12 +10,13 @@ use Rattle.rb_model.specs.Plain.{output_of}
 use Rattle.rb_model.specs.Step.{Event, Output, run}
 use Rattle.rb_record.specs.Printing.{output_text}
 use Rattle.rb_lines.specs.declared.lines.ReadFault.{ReadFault}
+use Rattle.rb_replay.specs.declared.checking.Agreement.{Agreement}
 use Rattle.rb_lines.specs.declared.options.Beginning.{Beginning}
 use Rattle.rb_lines.specs.declared.faults.Ending.{Ending}
 use Rattle.rb_lines.specs.declared.faults.Fault.{Fault}
 use Rattle.rb_lines.specs.declared.faults.Fault.TheVariants.{NotText, Lines, NoMemory, BadLimits, SocketFailed, ReadFailed, WriteFailed, NoOutputs, Differs, Lacks}
 use Rattle.rb_lines.specs.Faults.{status_of}
-use Rattle.rb_lines.specs.Lines.{lines_of, read, Fails}
+use Rattle.rb_lines.specs.Lines.{lines_of, longest_input, read, Fails}
 use Rattle.rb_lines.specs.OutputLines.{output_line_in, output_lines_in, output_lines}
 use Rattle.rb_replay.specs.Running.{first_state, IsCoreFault, IsRead, IsRefused, BufWrites, EndsBy}
 
@@ -43,6 +43,7 @@ pub record IsFirstOther (text : List ℕ) (outputs : List Output) (n : ℕ) : Ty
 -- The text has the lines of the first outputs, and none for the one of this number, counted from 1.
 pub record IsLacking (text : List ℕ) (outputs : List Output) (n : ℕ) : Type 0 where
   pub agree : IsFrontOf (output_lines_in text) (output_lines outputs)
+  pub some : 1 < n
   pub number : n ≡ length (output_lines_in text) + 1
   pub there : n ≤ length outputs
 
@@ -50,6 +51,13 @@ pub record IsLacking (text : List ℕ) (outputs : List Output) (n : ℕ) : Type 
 pub record Agrees (text : List ℕ) (outputs : List Output) : Type 0 where
   pub same : output_lines_in text ≡ output_lines outputs
   pub some : 0 < length outputs
+
+-- The text has output lines, so many. They are those of the outputs, or where its last line was cut off, those of the
+-- first outputs.
+abbrev pub AgreesWith : List ℕ → Bool → ℕ → List Output → Type 0
+AgreesWith text false n outputs = Agrees text outputs × (n ≡ length outputs)
+AgreesWith text true n outputs =
+    IsFrontOf (output_lines_in text) (output_lines outputs) × (n ≡ length (output_lines_in text)) × (0 < n)
 
 -- why the text's output lines are not those of the outputs, or why that is not known
 abbrev pub IsUnlike : List ℕ → List Output → Fault → Type 0
@@ -59,31 +67,51 @@ IsUnlike text outputs (Differs n) = IsFirstOther text outputs n
 IsUnlike text outputs (Lacks n) = IsLacking text outputs n
 IsUnlike text outputs other = ⊥
 
+-- ---- an input that is cut off
+
+-- how many of the first n bytes of a text stand up to their last line feed, and with it
+unfoldable pub whole_len : List ℕ → ℕ → ℕ
+whole_len text zero = 0
+whole_len text (suc n) = if slice_index text n == 10 then suc n else whole_len text n
+
+-- what is checked of a text: all of it, but for a last line that no line feed ends, which is cut off
+unfoldable pub whole_lines : List ℕ → List ℕ
+whole_lines text = if nat_lt longest_input (length text) then text else take (whole_len text (length text)) text
+
+abbrev pub is_cut : List ℕ → Bool
+is_cut text = nat_lt (length (whole_lines text)) (length text)
+
+-- what is checked of the bytes that a reader has left, where they are known
+abbrev pub whole_input : {R : Type 0} → (R → Option (List ℕ)) → R → Option (List ℕ)
+whole_input remaining reader = option_map whole_lines (remaining reader)
+
 -- ---- the command
 
--- the line that says that so many agree
-abbrev pub agreement : ℕ → List ℕ
-agreement n = decimal n ++ codes " outputs agree\n"
+-- the line that says that so many agree, and where it is so, that the input is cut off
+abbrev pub agreement : Agreement → List ℕ
+agreement a =
+    if a.is_cut then decimal a.count ++ codes " outputs agree; the last line is cut off\n"
+    else decimal a.count ++ codes " outputs agree\n"
 
 -- The text was read, and this holds of the outputs of the run of its events.
 abbrev pub OfRun : Beginning → (List Output → Type 0) → Result (List Event) ReadFault → Type 0
 OfRun beginning Holds (Ok events) = Holds (run (first_state beginning) events)
 OfRun beginning Holds (Err fault) = ⊥
 
--- the text's output lines are those of the outputs, and n is how many
-abbrev pub AgreesWith : List ℕ → ℕ → List Output → Type 0
-AgreesWith text n outputs = Agrees text outputs × (n ≡ length outputs)
+-- The output lines of what is checked of an input are those of the run of its events, so many.
+abbrev pub HasAgreed : Beginning → Agreement → List ℕ → Type 0
+HasAgreed beginning a input = OfRun beginning (AgreesWith (whole_lines input) a.is_cut a.count) (read (whole_lines input))
 
--- Where the bytes that a reader has left are known, their output lines are those of the run of their events, so many.
-abbrev pub IsAgreed : {R : Type 0} → Beginning → (R → Option (List ℕ)) → R → ℕ → Type 0
-IsAgreed beginning remaining reader n =
-    IfSome (remaining reader) (λ input. OfRun beginning (AgreesWith input n) (read input))
+-- Where the bytes that a reader has left are known, so they agree, and it is said whether they are cut off.
+abbrev pub IsAgreed : {R : Type 0} → Beginning → (R → Option (List ℕ)) → R → Agreement → Type 0
+IsAgreed beginning remaining reader a =
+    IfSome (remaining reader) (λ input. (a.is_cut ≡ is_cut input) × HasAgreed beginning a input)
 
 -- The output lines agree with the run, and the line that says how many was written, and nothing else.
 abbrev pub FindsAgreed : {R W A : Type 0} → Beginning → (R → Option (List ℕ)) → R
     → (W → Option (List ℕ)) → BufWriter W A → BufWriter W A → Type 0
 FindsAgreed beginning remaining reader contents old new =
-    (n : ℕ) × IsAgreed beginning remaining reader n × BufWrites contents old new (agreement n)
+    (a : Agreement) × IsAgreed beginning remaining reader a × BufWrites contents old new (agreement a)
 
 -- The input is no event lines, or has no output lines.
 abbrev pub CannotBeChecked : List ℕ → Type 0
@@ -133,7 +161,7 @@ output_line_of (Some text) = (text.now ++ codes "\n") ∷ []
 -- what is said once all output lines of a text agreed: they are `found`, where the run has `count` outputs
 abbrev pub IsEnd : ℕ → ℕ → Fault → Type 0
 IsEnd found count NoOutputs = found ≡ 0
-IsEnd found count (Lacks n) = (n ≡ found + 1) × (found < count)
+IsEnd found count (Lacks n) = (n ≡ found + 1) × (found < count) × (0 < found)
 IsEnd found count other = ⊥
 
 -- From so many outputs of these lines that agree, the line goes on to so many.
