@@ -127,25 +127,37 @@ impl<'a, R: Clock> Daemon<'a, R> {
         self.serving.write_record(writer)
     }
 
+    /// Waits until something is ready, or for so many milliseconds at most. What came while a wait that showed nothing
+    /// went on is looked for once more, since a signal ends a wait and is told as one that showed nothing.
     fn wait(&mut self, longest: u64) -> Result<(), DaemonFault> {
         let wait = wait_of(self.serving.is_something_left(), longest);
+        self.look(wait)?;
+        let shown = self.events.iter().count();
+        if wait == 0 || shown > 0 {
+            return Ok(());
+        }
+        self.wait_on(wait, shown)?;
+        self.look(0)
+    }
+
+    /// Takes what is ready, after so many milliseconds at most.
+    fn look(&mut self, wait: u64) -> Result<(), DaemonFault> {
         match self
             .poll
             .poll(&mut self.events, Some(Duration::from_millis(wait)))
         {
-            Ok(()) => self.wait_on(wait),
+            Ok(()) => Ok(()),
             Err(error) => Err(DaemonFault::Socket(Step::Wait.failed(error))),
         }
     }
 
-    /// Where a signal ended the wait, which is told as a wait that showed nothing, the rest of it passes all the same:
-    /// waits that always end so take no processor.
-    fn wait_on(&self, wait: u64) -> Result<(), DaemonFault> {
+    /// Where a signal ended the wait, which showed so many sockets, the rest of it passes all the same: waits that always
+    /// end so take no processor.
+    fn wait_on(&self, wait: u64, shown: usize) -> Result<(), DaemonFault> {
         let monotonic = match self.clock.monotonic() {
             Ok(time) => millis(time),
             Err(error) => return Err(DaemonFault::Socket(Step::Clock.failed(error))),
         };
-        let shown = self.events.iter().count();
         let rest = self.moments.rest_of_wait(wait, shown, monotonic);
         if rest > 0 {
             thread::sleep(self.clock, Duration::from_millis(rest));
