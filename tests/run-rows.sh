@@ -354,13 +354,12 @@ run_record_in_the_way() {
 run_record_of_another() {
     local file=$work/another daemon
     echo kept > "$file"
-    "$program" serve --port 20112 --turns 10 > /dev/null 2>&1 &
-    daemon=$!
-    sleep 0.3
+    start_daemon "$work/listening" --port 20112
     run /dev/null serve --port 20112 --turns 1 --record "$file"
     [ "$got" -eq 1 ] && [ "$(cat "$file")" = kept ]
     judge $? "a record beside a daemon that has the port"
-    wait "$daemon"
+    kill "$daemon"
+    wait "$daemon" 2> /dev/null
 }
 
 # Where the limit of open files is less than the connections want, there are fewer of them, and that is said.
