@@ -11,7 +11,6 @@ use Rattle.std.proofs.Math.Seq.{take-nil, drop-nil}
 use Rattle.rb_xdr.specs.Xdr.{number, number_at}
 use Rattle.rb_xdr.proofs.Words.{length-number, number_at-number}
 use Rattle.rb_rpc.specs.Records.{is_last, is_cut, fragment_end, record_of, first_record, data_in, data_of}
-use Rattle.rb_ask.specs.declared.fault.InfoFault.{InfoFault}
 use Rattle.rb_ask.specs.declared.fault.InfoFault.TheVariants.{CutOff, TooLong}
 use Rattle.rb_ask.specs.declared.record.Record.{Record}
 use Rattle.rb_ask.specs.Sources.{Supply}

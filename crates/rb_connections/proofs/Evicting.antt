@@ -16,7 +16,7 @@ use Rattle.rb_connections.specs.declared.slot.Slot.{Slot}
 use Rattle.rb_connections.specs.declared.slot.Buffers.{Buffers}
 use Rattle.rb_connections.specs.declared.slot.Stage.{Stage}
 use Rattle.rb_connections.specs.declared.slot.Stage.TheVariants as stages
-use Rattle.rb_model.specs.Served.{Source}
+use Rattle.rb_registry.specs.Registry.{Registry}
 use Rattle.rb_connections.specs.StandsFor.{Table, StandsForPhase, StandsForConnection, StandsForConnections, charge, held_in, IsWithin}
 use Rattle.rb_connections.specs.Slots.{IsTable, StaysTable, HasBuffers, AreNumbered, is_numbered}
 use Rattle.rb_connections.specs.Awaits.{is_free_slot, is_free, is_idle_slot, has_idle, NoneIsFreed}
@@ -25,8 +25,8 @@ use Rattle.rb_connections.proofs.Phases.{by_phase}
 
 -- ---- one slot
 
-pub began_alike : (source : Source) (stage : Stage) (buffer window : Kept) (phase : Phase) → StandsForPhase source stage buffer window phase → stamp_of_stage stage ≡ stamp_in phase
-began_alike source stage buffer window phase h = grind (arith, common_steps, by_phase source buffer window)
+pub began_alike : (registry : Registry) (stage : Stage) (buffer window : Kept) (phase : Phase) → StandsForPhase registry stage buffer window phase → stamp_of_stage stage ≡ stamp_in phase
+began_alike registry stage buffer window phase h = grind (arith, common_steps, by_phase registry buffer window)
 
 -- before the earliest change is before all of them
 before_all : (changes : List ℕ) (earliest n : ℕ) → IsEarliest changes earliest → list_all (λ later. nat_lt n later) changes ≡ nat_lt n earliest
@@ -49,10 +49,10 @@ before_earliest [] earliest began e = absurd (none_within earliest e.one)
 before_earliest (change ∷ changes) earliest None e = refl
 before_earliest (change ∷ changes) earliest (Some n) e = before_all (change ∷ changes) earliest n e
 
-pub evicted_stands : (source : Source) (changes : List ℕ) (earliest : ℕ) (slot : Slot) (c : Connection) → IsEarliest changes earliest → StandsForConnection source slot c
-    → StandsForConnection source (evicted_slot earliest slot) (evict_early changes c)
+pub evicted_stands : (registry : Registry) (changes : List ℕ) (earliest : ℕ) (slot : Slot) (c : Connection) → IsEarliest changes earliest → StandsForConnection registry slot c
+    → StandsForConnection registry (evicted_slot earliest slot) (evict_early changes c)
 unfolding evict_early
-evicted_stands source changes earliest slot c e h = grind (arith, common_steps, before_earliest, began_alike)
+evicted_stands registry changes earliest slot c e h = grind (arith, common_steps, before_earliest, began_alike)
 
 pub marked_is : (earliest : ℕ) (slot gone : Slot) → gone ≡ slot → began_before_earliest earliest (stamp_of_slot slot) ≡ true → record gone { stage = stages.Lost } ≡ evicted_slot earliest slot
 marked_is earliest slot gone same early = rw (same, early) refl
@@ -65,24 +65,24 @@ not_marked earliest slot early = rw early refl
 abbrev pub all_evicted : ℕ → List (ℕ × Slot) → List (ℕ × Slot)
 all_evicted earliest es = map (λ e. (e.0, evicted_slot earliest e.1)) es
 
-all_stand : (source : Source) (changes : List ℕ) (earliest : ℕ) → IsEarliest changes earliest → (es : List (ℕ × Slot)) (all : List Connection) → AllZip (StandsForConnection source) (values_of es) all
-    → AllZip (StandsForConnection source) (values_of (all_evicted earliest es)) (map (evict_early changes) all)
-all_stand source changes earliest e [] [] z = tt
-all_stand source changes earliest e [] (c ∷ all) z = absurd z
-all_stand source changes earliest e (s ∷ es) [] z = absurd z
-all_stand source changes earliest e (s ∷ es) (c ∷ all) z = (evicted_stands source changes earliest s.1 c e z.0, all_stand source changes earliest e es all z.1)
+all_stand : (registry : Registry) (changes : List ℕ) (earliest : ℕ) → IsEarliest changes earliest → (es : List (ℕ × Slot)) (all : List Connection) → AllZip (StandsForConnection registry) (values_of es) all
+    → AllZip (StandsForConnection registry) (values_of (all_evicted earliest es)) (map (evict_early changes) all)
+all_stand registry changes earliest e [] [] z = tt
+all_stand registry changes earliest e [] (c ∷ all) z = absurd z
+all_stand registry changes earliest e (s ∷ es) [] z = absurd z
+all_stand registry changes earliest e (s ∷ es) (c ∷ all) z = (evicted_stands registry changes earliest s.1 c e z.0, all_stand registry changes earliest e es all z.1)
 
-pub table_evicts : (source : Source) (changes : List ℕ) (earliest : ℕ) (table : Table) (c : Connections) → IsEarliest changes earliest → StandsForConnections source table c
-    → StandsForConnections source (record table { slots = all_evicted earliest table.slots }) (evict changes c)
-table_evicts source changes earliest table c e z = record { all = all_stand source changes earliest e table.slots c.all z.all; next = z.next }
+pub table_evicts : (registry : Registry) (changes : List ℕ) (earliest : ℕ) (table : Table) (c : Connections) → IsEarliest changes earliest → StandsForConnections registry table c
+    → StandsForConnections registry (record table { slots = all_evicted earliest table.slots }) (evict changes c)
+table_evicts registry changes earliest table c e z = record { all = all_stand registry changes earliest e table.slots c.all z.all; next = z.next }
 
 module _ (P : Slot → Type 0) (earliest : ℕ) (keeps : (slot : Slot) → P slot → P (evicted_slot earliest slot)) where
   pub all_keep : (es : List (ℕ × Slot)) → All P (values_of es) → All P (values_of (all_evicted earliest es))
   all_keep [] h = All-nil P
   all_keep (e ∷ es) h = All-cons P _ _ (keeps e.1 (All-head P e.1 (values_of es) h)) (all_keep es (All-tail P e.1 (values_of es) h))
 
-pub lists_evicted : (source : Source) (earliest : ℕ) (slot : Slot) → CanContinueSlot source slot → CanContinueSlot source (evicted_slot earliest slot)
-lists_evicted source earliest slot told = grind arith
+pub lists_evicted : (registry : Registry) (earliest : ℕ) (slot : Slot) → CanContinueSlot registry slot → CanContinueSlot registry (evicted_slot earliest slot)
+lists_evicted registry earliest slot told = grind arith
 
 buffers_evicted : (tie earliest : ℕ) (slot : Slot) → HasBuffers tie slot → HasBuffers tie (evicted_slot earliest slot)
 buffers_evicted tie earliest slot h = grind arith

@@ -14,38 +14,38 @@ use Rattle.rb_connections.specs.declared.slot.Stage.{Stage}
 use Rattle.rb_connections.specs.declared.slot.Stage.TheVariants as stages
 use Rattle.rb_connections.specs.declared.slot.Wanted.TheVariants as wanted
 use Rattle.rb_connections.specs.Slots.{phase_like, is_due_slot, Acts, AreNumbered, is_wanted_slot, is_wanted, wanted_slot}
-use Rattle.rb_model.specs.Served.{Source}
+use Rattle.rb_registry.specs.Registry.{Registry}
 use Rattle.rb_connections.specs.StandsFor.{StandsForConnection, StandsForConnections, Table}
 use Rattle.rb_connections.specs.Awaits.{is_awaiting_stage}
 use Rattle.rb_connections.proofs.Slots.{locate, no_slot, wanted_alike, any_alike}
 
 -- ---- the table
 
-apart : (source : Source) (given : ℕ) (slots : List Slot) (all : List Connection) → AllZip (StandsForConnection source) slots all → AreNumbered given slots → AreApart all
-apart source given [] [] z n = grind (arith, common_steps, any_alike)
-apart source given [] (c ∷ all) z n = grind (arith, common_steps, any_alike)
-apart source given (s ∷ slots) [] z n = grind (arith, common_steps, any_alike)
-apart source given (s ∷ slots) (c ∷ all) z n = grind (arith, common_steps, any_alike, apart source given slots all z.1 n.2)
+apart : (registry : Registry) (given : ℕ) (slots : List Slot) (all : List Connection) → AllZip (StandsForConnection registry) slots all → AreNumbered given slots → AreApart all
+apart registry given [] [] z n = grind (arith, common_steps, any_alike)
+apart registry given [] (c ∷ all) z n = grind (arith, common_steps, any_alike)
+apart registry given (s ∷ slots) [] z n = grind (arith, common_steps, any_alike)
+apart registry given (s ∷ slots) (c ∷ all) z n = grind (arith, common_steps, any_alike, apart registry given slots all z.1 n.2)
 
 abbrev first-number : Option Connection → Option ℕ
 first-number o = option_map (λ (x : Connection). x.number) o
 
-module _ (source : Source) (clock : ℕ) (table : Table) where
-  pub none_expires : option_map (λ e. e.0) (wanted_slot (wanted.Due clock) table.slots) ≡ None → Acts (StandsForConnections source) (expire_first clock) table table None
+module _ (registry : Registry) (clock : ℕ) (table : Table) where
+  pub none_expires : option_map (λ e. e.0) (wanted_slot (wanted.Due clock) table.slots) ≡ None → Acts (StandsForConnections registry) (expire_first clock) table table None
   unfolding expire_first first_due is_wanted
   none_expires h = grind (arith, common_steps, no_slot)
 
   pub one_expires : (k : ℕ) (slot new : Slot) (x : ℕ) → HasDistinctKeys table.slots → AreNumbered table.last_number (values_of table.slots)
       → option_map (λ e. e.0) (wanted_slot (wanted.Due clock) table.slots) ≡ Some k → value_at table.slots k ≡ Some slot
-      → new ≡ record slot { stage = stages.Lost } → x ≡ slot.number → Acts (StandsForConnections source) (expire_first clock) table (record table { slots = with_value table.slots k new }) (Some x)
+      → new ≡ record slot { stage = stages.Lost } → x ≡ slot.number → Acts (StandsForConnections registry) (expire_first clock) table (record table { slots = with_value table.slots k new }) (Some x)
   unfolding expire_first first_due is_wanted wanted_slot
   one_expires k slot new x d n h v becomes number = record {
     gives = λ c z.
-        let l = locate (StandsForConnection source) (is_wanted_slot (wanted.Due clock)) (is_wanted (wanted.Due clock)) (wanted_alike source (wanted.Due clock)) table.slots c.all k slot d z.all h v in
+        let l = locate (StandsForConnection registry) (is_wanted_slot (wanted.Due clock)) (is_wanted (wanted.Due clock)) (wanted_alike registry (wanted.Due clock)) table.slots c.all k slot d z.all h v in
         ap Some (number ∙ l.related.number) ∙ sym (ap first-number l.found);
     stands = λ c z.
-        let l = locate (StandsForConnection source) (is_wanted_slot (wanted.Due clock)) (is_wanted (wanted.Due clock)) (wanted_alike source (wanted.Due clock)) table.slots c.all k slot d z.all h v in
-        let same = due-changed clock lose c.all l.value (apart source table.last_number (values_of table.slots) c.all z.all n) l.found in
+        let l = locate (StandsForConnection registry) (is_wanted_slot (wanted.Due clock)) (is_wanted (wanted.Due clock)) (wanted_alike registry (wanted.Due clock)) table.slots c.all k slot d z.all h v in
+        let same = due-changed clock lose c.all l.value (apart registry table.last_number (values_of table.slots) c.all z.all n) l.found in
         rw l.found (record {
           all = rw same (l.changed new lose (rw becomes (record { number = l.related.number; peer = l.related.peer; since = l.related.since; phase = tt })));
           next = z.next;

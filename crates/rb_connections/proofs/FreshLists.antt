@@ -10,9 +10,9 @@ use Rattle.rb_proto.specs.ListParts.{ListsRows}
 use Rattle.rb_proto.specs.ListReplies.{rest_of}
 use Rattle.rb_model.proofs.ReplyHeads.{some_head}
 
-module _ (host : List ℕ) (registry : Registry) (xid : ℕ) (listing : Listing) (list : ListReply) (rest : ListsRows xid listing registry list) where
-  pub fresh_is_some : 0 < length (rest_of host registry list)
+module _ (registry : Registry) (xid : ℕ) (listing : Listing) (list : ListReply) (rest : ListsRows xid listing registry list) where
+  pub fresh_is_some : 0 < length (rest_of registry list)
   fresh_is_some =
       let some = some_head xid Success in
-      let whole = length-append (reply_head xid Success) (list_bytes host (rows_of registry) listing) in
-      omega (arith, some, whole, ap (λ (xs : List ℕ). length xs) (rest host))
+      let whole = length-append (reply_head xid Success) (list_bytes (rows_of registry) listing) in
+      omega (arith, some, whole, ap (λ (xs : List ℕ). length xs) rest)

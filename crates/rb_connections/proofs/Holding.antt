@@ -16,6 +16,7 @@ use Rattle.rb_connections.specs.declared.slot.Slot.{Slot}
 use Rattle.rb_connections.specs.declared.slot.Buffers.{Buffers}
 use Rattle.rb_connections.specs.StandsFor.{buffer_size, Table, charge, held_in, most_charge, IsWithin}
 use Rattle.rb_connections.specs.Slots.{StaysTable, IsTable, HasBuffers}
+use Rattle.rb_model.specs.Bounds.{connection_charge}
 
 module _ (slots : Pool Slot) (spare : Pool Buffers) (given conns held : ℕ) (t : IsTable slots spare given conns held) where
   turned : (a b : ℕ) → b * a ≡ a * b
@@ -32,7 +33,7 @@ module _ (slots : Pool Slot) (spare : Pool Buffers) (given conns held : ℕ) (t 
   pub held_few : held ≤ 256 * most_charge
   held_few = grind (arith, common_steps, held_within, mul-le-mul_right, turned)
 
-  pub room_for_one : held + 128 < 2 ^ 64
+  pub room_for_one : held + connection_charge < 2 ^ 64
   unfolding longest_reply longest_kept buffer_size longest_fragment
   room_for_one = let few = held_few in omega (arith, few)
 
@@ -49,13 +50,13 @@ module _ (slots : Pool Slot) (spare : Pool Buffers) (given conns held : ℕ) (t 
 
 -- a slot whose buffers are empty, behind the others
 module _ (slots : List Slot) (slot : Slot) (buffer : slot.buffer.bytes ≡ []) (window : slot.window.bytes ≡ []) where
-  empty_charge : charge slot ≡ 128
+  empty_charge : charge slot ≡ connection_charge
   empty_charge = rw (buffer, window) refl
 
   pub within_pushed : All IsWithin slots → All IsWithin (slots ++ slot ∷ [])
   within_pushed within = All-push IsWithin slots slot within (let few = empty_charge in omega (arith, few))
 
-  pub held_pushed : (held : ℕ) → held ≡ held_in slots → held + 128 ≡ held_in (slots ++ slot ∷ [])
+  pub held_pushed : (held : ℕ) → held ≡ held_in slots → held + connection_charge ≡ held_in (slots ++ slot ∷ [])
   held_pushed held is = let few = empty_charge in omega (arith, few, sum_by_push charge slots slot, is)
 
 -- the table with a slot changed

@@ -7,7 +7,7 @@ use Rattle.std.proofs.lemmas.Grind.{common_steps}
 use Rattle.rb_model.specs.State.{Connection, Connections}
 use Rattle.rb_model.specs.Connections.{is_live}
 use Rattle.rb_connections.specs.declared.slot.Slot.{Slot}
-use Rattle.rb_model.specs.Served.{Source}
+use Rattle.rb_registry.specs.Registry.{Registry}
 use Rattle.rb_connections.specs.StandsFor.{StandsForConnection, StandsForConnections, Table}
 use Rattle.rb_connections.specs.Awaits.{is_idle_slot, has_idle}
 
@@ -16,14 +16,14 @@ pub record Lives (id : ℕ) (all : List Connection) : Type 0 where
   pub connection : Connection
   pub there : find (is_live id) all ≡ Some connection
 
-idle_lives : (source : Source) (id : ℕ) (slot : Slot) (c : Connection) → StandsForConnection source slot c → is_idle_slot id slot ≡ true → is_live id c ≡ true
+idle_lives : (registry : Registry) (id : ℕ) (slot : Slot) (c : Connection) → StandsForConnection registry slot c → is_idle_slot id slot ≡ true → is_live id c ≡ true
 unfolding is_live
-idle_lives source id slot c stands idle = grind arith
+idle_lives registry id slot c stands idle = grind arith
 
-idle_among : (source : Source) (id : ℕ) (slots : List Slot) (all : List Connection) → AllZip (StandsForConnection source) slots all → list_any (is_idle_slot id) slots ≡ true → Lives id all
-idle_among source id [] all zip any = absurd cc
-idle_among source id (slot ∷ slots) [] zip any = absurd zip
-idle_among source id (slot ∷ slots) (c ∷ all) zip any = by_live (is_live id c) refl (idle_among source id slots all zip.1)
+idle_among : (registry : Registry) (id : ℕ) (slots : List Slot) (all : List Connection) → AllZip (StandsForConnection registry) slots all → list_any (is_idle_slot id) slots ≡ true → Lives id all
+idle_among registry id [] all zip any = absurd cc
+idle_among registry id (slot ∷ slots) [] zip any = absurd zip
+idle_among registry id (slot ∷ slots) (c ∷ all) zip any = by_live (is_live id c) refl (idle_among registry id slots all zip.1)
   where
     by_live : (b : Bool) → is_live id c ≡ b → (list_any (is_idle_slot id) slots ≡ true → Lives id all) → Lives id (c ∷ all)
     by_live true t further = record { connection = c; there = rw t refl }
@@ -32,6 +32,6 @@ idle_among source id (slot ∷ slots) (c ∷ all) zip any = by_live (is_live id 
         by_idle : (b : Bool) → is_idle_slot id slot ≡ b → Lives id (c ∷ all)
         by_idle bb e = grind (arith, common_steps, idle_lives)
 
-pub idle_is_live : (source : Source) (id : ℕ) (table : Table) (c : Connections) → StandsForConnections source table c → has_idle id table ≡ true → Lives id c.all
+pub idle_is_live : (registry : Registry) (id : ℕ) (table : Table) (c : Connections) → StandsForConnections registry table c → has_idle id table ≡ true → Lives id c.all
 unfolding has_idle
-idle_is_live source id table c stands idle = idle_among source id (values_of table.slots) c.all stands.all idle
+idle_is_live registry id table c stands idle = idle_among registry id (values_of table.slots) c.all stands.all idle

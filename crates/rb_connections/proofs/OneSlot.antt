@@ -4,7 +4,7 @@ use Rattle.std.proofs.Common.{◌≡◌, ℕ, ◌+◌, ◌-◌, ◌<◌, ◌≤�
 use Rattle.std.proofs.lemmas.Bool.{lt-ltb, le-ltb}
 use Rattle.std.proofs.lemmas.Grind.{common_steps}
 use Rattle.rb_xdr.specs.Kept.{Kept}
-use Rattle.rb_rpc.specs.declared.peer.Peer.{Peer}
+use Rattle.rb_address.specs.declared.peer.Peer.{Peer}
 use Rattle.rb_rpc.specs.Records.{first_record, data_of, BeginsWithRecord}
 use Rattle.rb_rpc.specs.Verdict.{verdict}
 use Rattle.rb_rpc.specs.declared.call.Verdict.{Verdict}
@@ -17,7 +17,7 @@ use Rattle.rb_connections.specs.declared.slot.Stage.{Stage}
 use Rattle.rb_connections.specs.declared.slot.Stage.TheVariants as stages
 use Rattle.rb_connections.specs.declared.slot.Received.{Received}
 use Rattle.rb_connections.specs.StandsFor.{IsGiving, IsReading, StandsForPhase, StandsForConnection}
-use Rattle.rb_model.specs.Served.{Source}
+use Rattle.rb_registry.specs.Registry.{Registry}
 use Rattle.rb_connections.specs.Reading.{Fed, Reader, fed_until}
 use Rattle.rb_connections.specs.declared.giving.Giving.{Giving}
 use Rattle.rb_connections.specs.Slots.{Acts, received_of, connection_after, take_piece, arguments_after, arguments_taken}
@@ -25,37 +25,37 @@ use Rattle.rb_connections.proofs.Phases.{by_phase}
 
 -- ---- the phase by the stage
 
-pub idle_phase : (source : Source) (stage : Stage) (buffer window : Kept) (phase : Phase) → stage ≡ stages.Idle → StandsForPhase source stage buffer window phase
+pub idle_phase : (registry : Registry) (stage : Stage) (buffer window : Kept) (phase : Phase) → stage ≡ stages.Idle → StandsForPhase registry stage buffer window phase
     → (phase ≡ Idle) × (buffer.bytes ≡ []) × (window.bytes ≡ [])
-idle_phase source stage buffer window phase is h = grind arith
+idle_phase registry stage buffer window phase is h = grind arith
 
-pub reading_phase : (source : Source) (reader : Reader) (stage : Stage) (buffer window : Kept) (phase : Phase) → stage ≡ stages.Reading reader → StandsForPhase source stage buffer window phase
+pub reading_phase : (registry : Registry) (reader : Reader) (stage : Stage) (buffer window : Kept) (phase : Phase) → stage ≡ stages.Reading reader → StandsForPhase registry stage buffer window phase
     → (fed : List ℕ) × (phase ≡ Reading fed) × IsReading reader buffer fed × (window.bytes ≡ [])
-reading_phase source reader stage buffer window phase is h = grind arith
+reading_phase registry reader stage buffer window phase is h = grind arith
 
-pub giving_phase : (source : Source) (giving : Giving) (stage : Stage) (buffer window : Kept) (phase : Phase) → stage ≡ stages.Owing giving → StandsForPhase source stage buffer window phase
-    → (o : Owed) × (phase ≡ Owing o) × IsGiving source giving buffer.bytes window o
-giving_phase source giving stage buffer window phase is h = grind arith
+pub giving_phase : (registry : Registry) (giving : Giving) (stage : Stage) (buffer window : Kept) (phase : Phase) → stage ≡ stages.Owing giving → StandsForPhase registry stage buffer window phase
+    → (o : Owed) × (phase ≡ Owing o) × IsGiving registry giving buffer.bytes window o
+giving_phase registry giving stage buffer window phase is h = grind arith
 
-pub lost_phase : (source : Source) (stage : Stage) (buffer window : Kept) (phase : Phase) → stage ≡ stages.Lost → StandsForPhase source stage buffer window phase → phase ≡ Lost
-lost_phase source stage buffer window phase is h = grind (arith, common_steps, by_phase source buffer window)
+pub lost_phase : (registry : Registry) (stage : Stage) (buffer window : Kept) (phase : Phase) → stage ≡ stages.Lost → StandsForPhase registry stage buffer window phase → phase ≡ Lost
+lost_phase registry stage buffer window phase is h = grind (arith, common_steps, by_phase registry buffer window)
 
-pub awaiting_phase : (source : Source) (stage : Stage) (buffer window : Kept) (phase : Phase) → stage ≡ stages.Awaiting → StandsForPhase source stage buffer window phase → phase ≡ Awaiting
-awaiting_phase source stage buffer window phase is h = grind (arith, common_steps, by_phase source buffer window)
+pub awaiting_phase : (registry : Registry) (stage : Stage) (buffer window : Kept) (phase : Phase) → stage ≡ stages.Awaiting → StandsForPhase registry stage buffer window phase → phase ≡ Awaiting
+awaiting_phase registry stage buffer window phase is h = grind (arith, common_steps, by_phase registry buffer window)
 
 -- ---- a piece that is taken
 
 -- What a piece comes to on the connections that a slot stands for.
-pub record Took (source : Source) (old new : Slot) (clock : ℕ) (piece : List ℕ) (result : Received) (c : Connection) : Type 0 where
+pub record Took (registry : Registry) (old new : Slot) (clock : ℕ) (piece : List ℕ) (result : Received) (c : Connection) : Type 0 where
   pub taken : Taking
   pub is : taking_of c.phase piece ≡ taken
   pub gives : result ≡ received_of piece c taken
-  pub stands : StandsForConnection source new (connection_after clock c taken)
+  pub stands : StandsForConnection registry new (connection_after clock c taken)
 
-pub feeding_acts : (source : Source) (old new : Slot) (clock : ℕ) (piece : List ℕ) (result : Received)
-    → ((c : Connection) → StandsForConnection source old c → Took source old new clock piece result c) → Acts (StandsForConnection source) (take_piece clock piece) old new result
+pub feeding_acts : (registry : Registry) (old new : Slot) (clock : ℕ) (piece : List ℕ) (result : Received)
+    → ((c : Connection) → StandsForConnection registry old c → Took registry old new clock piece result c) → Acts (StandsForConnection registry) (take_piece clock piece) old new result
 unfolding take_piece
-feeding_acts source old new clock piece result took = grind arith
+feeding_acts registry old new clock piece result took = grind arith
 
 -- with what is held of arguments after it
 pub taken_arguments : (before after piece : List ℕ) (c : Connection) (t : Taking) → taking_of c.phase piece ≡ t → after ≡ arguments_after before t → after ≡ arguments_taken before piece c
@@ -116,28 +116,28 @@ since_of_reading clock since phase fed is = rw is refl
 -- ---- bytes that are given
 
 -- No byte is given.
-pub none_given : (source : Source) (old : Slot) (clock n : ℕ) → ((c : Connection) → StandsForConnection source old c → min n (length (pending_in c.phase)) ≡ 0) → Acts (StandsForConnection source) (give clock n) old old tt
+pub none_given : (registry : Registry) (old : Slot) (clock n : ℕ) → ((c : Connection) → StandsForConnection registry old c → min n (length (pending_in c.phase)) ≡ 0) → Acts (StandsForConnection registry) (give clock n) old old tt
 unfolding give with_given
-none_given source old clock n none = grind arith
+none_given registry old clock n none = grind arith
 
 -- nothing is pending but where a reply is owed
-pub nothing_pending : (source : Source) (stage : Stage) (buffer window : Kept) (phase : Phase) → ((x : Giving) → stage ≡ stages.Owing x → ⊥) → StandsForPhase source stage buffer window phase → pending_in phase ≡ []
-nothing_pending source stage buffer window phase other h = grind arith
+pub nothing_pending : (registry : Registry) (stage : Stage) (buffer window : Kept) (phase : Phase) → ((x : Giving) → stage ≡ stages.Owing x → ⊥) → StandsForPhase registry stage buffer window phase → pending_in phase ≡ []
+nothing_pending registry stage buffer window phase other h = grind arith
 
-pub goes_on_giving : (source : Source) (giving : Giving) (buffer window : Kept) (more : ℕ) (o : Owed) → IsGiving source giving buffer.bytes window (record o { given = o.given + more })
-    → StandsForPhase source (stages.Owing giving) buffer window (phase_when_given more (Owing o))
-goes_on_giving source giving buffer window more o g = rw (lt-ltb (o.given + more) (length o.marked) g.shows.owes) g
+pub goes_on_giving : (registry : Registry) (giving : Giving) (buffer window : Kept) (more : ℕ) (o : Owed) → IsGiving registry giving buffer.bytes window (record o { given = o.given + more })
+    → StandsForPhase registry (stages.Owing giving) buffer window (phase_when_given more (Owing o))
+goes_on_giving registry giving buffer window more o g = rw (lt-ltb (o.given + more) (length o.marked) g.shows.owes) g
 
-pub is_given : (source : Source) (buffer window : Kept) (more : ℕ) (o : Owed) → length o.marked ≤ o.given + more → buffer.bytes ≡ [] → window.bytes ≡ []
-    → StandsForPhase source stages.Idle buffer window (phase_when_given more (Owing o))
-is_given source buffer window more o all b w = rw (le-ltb (o.given + more) (length o.marked) all) (b, w)
+pub is_given : (registry : Registry) (buffer window : Kept) (more : ℕ) (o : Owed) → length o.marked ≤ o.given + more → buffer.bytes ≡ [] → window.bytes ≡ []
+    → StandsForPhase registry stages.Idle buffer window (phase_when_given more (Owing o))
+is_given registry buffer window more o all b w = rw (le-ltb (o.given + more) (length o.marked) all) (b, w)
 
-module _ (source : Source) (old new : Slot) (clock n more : ℕ) (giving_is : Giving)
+module _ (registry : Registry) (old new : Slot) (clock n more : ℕ) (giving_is : Giving)
     (stage : old.stage ≡ stages.Owing giving_is)
-    (counted : (o : Owed) → IsGiving source giving_is old.buffer.bytes old.window o → more ≡ min n (length (pending_of o)))
+    (counted : (o : Owed) → IsGiving registry giving_is old.buffer.bytes old.window o → more ≡ min n (length (pending_of o)))
     (some : 0 < more)
     (number : new.number ≡ old.number) (peer : new.peer ≡ old.peer) (since : new.since ≡ clock)
-    (goes_on : (o : Owed) → IsGiving source giving_is old.buffer.bytes old.window o → StandsForPhase source new.stage new.buffer new.window (phase_when_given more (Owing o))) where
-  pub some_given : Acts (StandsForConnection source) (give clock n) old new tt
+    (goes_on : (o : Owed) → IsGiving registry giving_is old.buffer.bytes old.window o → StandsForPhase registry new.stage new.buffer new.window (phase_when_given more (Owing o))) where
+  pub some_given : Acts (StandsForConnection registry) (give clock n) old new tt
   unfolding give with_given
   some_given = grind arith

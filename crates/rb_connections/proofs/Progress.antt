@@ -14,14 +14,14 @@ use Rattle.rb_connections.specs.declared.giving.Rest.{Rest}
 use Rattle.rb_connections.specs.declared.slot.Slot.{Slot}
 use Rattle.rb_connections.specs.Listings.{CanContinueSlot}
 use Rattle.rb_connections.specs.Giving.{SlotShowsNext, CanContinueReply, ShowsNext}
-use Rattle.rb_model.specs.Served.{Source}
+use Rattle.rb_registry.specs.Registry.{Registry}
 use Rattle.rb_connections.specs.StandsFor.{IsGiving, StandsForConnection, rest_in, stamp_of_rest}
 use Rattle.rb_connections.proofs.Fragments.{pending_shown, pending_count, giving_begins, giving_stays, giving_moves, giving_ends, fragment_few, fragment_full}
 
 shifted : (l left a b : ℕ) → left ≡ l - a → b ≡ a + 1024 → a < l → nat_le left 1024 ≡ nat_le l b
 shifted l left a b is more within = grind (arith, nat_tests)
 
-module _ (source : Source) (giving : Giving) (buffer : List ℕ) (window : Kept) (o : Owed) (g : IsGiving source giving buffer window o) where
+module _ (registry : Registry) (giving : Giving) (buffer : List ℕ) (window : Kept) (o : Owed) (g : IsGiving registry giving buffer window o) where
   -- what is left of the window is pending
   pub pending_is : pending_of o ≡ drop giving.place window.bytes
   pending_is = pending_shown g.reply window o g.shows ∙ ap (λ (n : ℕ). drop n window.bytes) (sym g.place)
@@ -32,7 +32,7 @@ module _ (source : Source) (giving : Giving) (buffer : List ℕ) (window : Kept)
   module _ (more : ℕ) where
     -- the giving stays in its fragment
     pub stays : (place : ℕ) → place ≡ giving.place + more → place < length window.bytes
-        → IsGiving source (record giving { place = place }) buffer window (record o { given = o.given + more })
+        → IsGiving registry (record giving { place = place }) buffer window (record o { given = o.given + more })
     unfolding longest_fragment
     stays place is inside =
         let small : o.given % longest_fragment + more < length window.bytes = omega (arith, is, inside, g.place) in
@@ -49,8 +49,8 @@ module _ (source : Source) (giving : Giving) (buffer : List ℕ) (window : Kept)
 
     -- it moves to the next one
     pub moves : (next : Kept) (new : Giving) → giving.place + more ≡ length window.bytes → giving.last ≡ false
-        → window.cap ≡ longest_fragment → ShowsNext source buffer giving.rest window next new
-        → IsGiving source new buffer next (record o { given = o.given + more })
+        → window.cap ≡ longest_fragment → ShowsNext registry buffer giving.rest window next new
+        → IsGiving registry new buffer next (record o { given = o.given + more })
     unfolding longest_fragment
     moves next new full more_to_come cap shows =
         let k : ℕ = o.given / 1028 in
@@ -79,22 +79,22 @@ module _ (source : Source) (giving : Giving) (buffer : List ℕ) (window : Kept)
         let all = giving_ends g.reply window more o g.shows (omega (arith, full, g.place)) (omega (arith, none)) in
         omega (arith, same, all)
 
-module _ (source : Source) (buffer : List ℕ) (rest : Rest) (before next : Kept) (new : Giving) (shows : ShowsNext source buffer rest before next new) where
+module _ (registry : Registry) (buffer : List ℕ) (rest : Rest) (before next : Kept) (new : Giving) (shows : ShowsNext registry buffer rest before next new) where
   -- behind a fragment that was shown and is not the last one, something is to come
-  pub goes_on_shown : CanContinueReply source buffer new
-  goes_on_shown = grind (arith, common_steps, leb-false (length (rest_in source buffer rest)) fragment_size, length-drop fragment_size (rest_in source buffer rest))
+  pub goes_on_shown : CanContinueReply registry buffer new
+  goes_on_shown = grind (arith, common_steps, leb-false (length (rest_in registry buffer rest)) fragment_size, length-drop fragment_size (rest_in registry buffer rest))
 
   -- a reply whose first fragment is shown
-  pub begins : (reply : List ℕ) (began : Option ℕ) → rest_in source buffer rest ≡ reply → stamp_of_rest rest ≡ began → before.cap ≡ longest_fragment
-      → IsGiving source new buffer next (owed_of reply began 0)
+  pub begins : (reply : List ℕ) (began : Option ℕ) → rest_in registry buffer rest ≡ reply → stamp_of_rest rest ≡ began → before.cap ≡ longest_fragment
+      → IsGiving registry new buffer next (owed_of reply began 0)
   unfolding longest_fragment
   begins reply began whole stamp cap = grind (arith, common_steps, giving_begins reply next began)
 
 -- so it is on a slot
-module _ (source : Source) (rest : Rest) (old new : Slot) (s : SlotShowsNext source rest old new) where
-  pub slot_lists_on : CanContinueSlot source new
-  slot_lists_on = subst (λ (t : Slot). CanContinueSlot source t) (sym s.is) (goes_on_shown source old.buffer.bytes rest old.window new.window s.giving s.shows)
+module _ (registry : Registry) (rest : Rest) (old new : Slot) (s : SlotShowsNext registry rest old new) where
+  pub slot_lists_on : CanContinueSlot registry new
+  slot_lists_on = subst (λ (t : Slot). CanContinueSlot registry t) (sym s.is) (goes_on_shown registry old.buffer.bytes rest old.window new.window s.giving s.shows)
 
   pub slot_begins : (clock : ℕ) (c : Connection) (reply : List ℕ) (began : Option ℕ) → old.number ≡ c.number → old.peer ≡ c.peer → old.since ≡ clock → old.window.cap ≡ longest_fragment
-      → rest_in source old.buffer.bytes rest ≡ reply → stamp_of_rest rest ≡ began → StandsForConnection source new (record c { phase = Owing (owed_of reply began 0); since = clock })
-  slot_begins clock c reply began number peer since cap whole stamp = grind (arith, begins source)
+      → rest_in registry old.buffer.bytes rest ≡ reply → stamp_of_rest rest ≡ began → StandsForConnection registry new (record c { phase = Owing (owed_of reply began 0); since = clock })
+  slot_begins clock c reply began number peer since cap whole stamp = grind (arith, begins registry)

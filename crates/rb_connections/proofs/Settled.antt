@@ -18,7 +18,7 @@ use Rattle.rb_connections.specs.declared.slot.Buffers.{Buffers}
 use Rattle.rb_connections.specs.declared.slot.Stage.TheVariants as stages
 use Rattle.rb_connections.specs.declared.slot.Wanted.TheVariants as wanted
 use Rattle.rb_connections.specs.StandsFor.{IsWithin, Table, StandsForConnection, StandsForConnections}
-use Rattle.rb_model.specs.Served.{Source}
+use Rattle.rb_registry.specs.Registry.{Registry}
 use Rattle.rb_connections.specs.Slots.{Acts, Shows, AreNumbered, HasBuffers, IsTable, take_piece, arguments_taken, arguments_on, received_whole, is_wanted_slot, wanted_slot}
 use Rattle.rb_connections.specs.Awaits.{GoOn, is_not_idle_since, IsIdleIfThere, EndedOn}
 use Rattle.rb_connections.specs.Listings.{evicted_slot}
@@ -48,42 +48,42 @@ settled_evicted earliest id clock table h = none_unsettled earliest id clock tab
 
 -- ---- nothing is left to do for one that is so
 
-settled_is_same : (source : Source) (id clock : ℕ) (slot : Slot) (c : Connection) → StandsForConnection source slot c → is_not_idle_since id clock slot ≡ false → is_live id c ≡ true → settle clock Silent c ≡ c
+settled_is_same : (registry : Registry) (id clock : ℕ) (slot : Slot) (c : Connection) → StandsForConnection registry slot c → is_not_idle_since id clock slot ≡ false → is_live id c ≡ true → settle clock Silent c ≡ c
 unfolding is_live settle
-settled_is_same source id clock slot c h none live = grind arith
+settled_is_same registry id clock slot c h none live = grind arith
 
-settled_among : (source : Source) (id clock : ℕ) (slots : List Slot) (all : List Connection) → AllZip (StandsForConnection source) slots all → list_any (is_not_idle_since id clock) slots ≡ false
+settled_among : (registry : Registry) (id clock : ℕ) (slots : List Slot) (all : List Connection) → AllZip (StandsForConnection registry) slots all → list_any (is_not_idle_since id clock) slots ≡ false
     → change_first (is_live id) (settle clock Silent) all ≡ all
-settled_among source id clock [] [] zip none = refl
-settled_among source id clock [] (c ∷ all) zip none = absurd zip
-settled_among source id clock (slot ∷ slots) [] zip none = refl
-settled_among source id clock (slot ∷ slots) (c ∷ all) zip none =
+settled_among registry id clock [] [] zip none = refl
+settled_among registry id clock [] (c ∷ all) zip none = absurd zip
+settled_among registry id clock (slot ∷ slots) [] zip none = refl
+settled_among registry id clock (slot ∷ slots) (c ∷ all) zip none =
     let p = either-false (is_not_idle_since id clock slot) (list_any (is_not_idle_since id clock) slots) none in
-    by_live (is_live id c) refl p.0 (settled_among source id clock slots all zip.1 p.1)
+    by_live (is_live id c) refl p.0 (settled_among registry id clock slots all zip.1 p.1)
   where
     by_live : (b : Bool) → is_live id c ≡ b → is_not_idle_since id clock slot ≡ false → change_first (is_live id) (settle clock Silent) all ≡ all → change_first (is_live id) (settle clock Silent) (c ∷ all) ≡ c ∷ all
-    by_live true t one further = rw t (ap (λ (x : Connection). x ∷ all) (settled_is_same source id clock slot c zip.0 one t))
+    by_live true t one further = rw t (ap (λ (x : Connection). x ∷ all) (settled_is_same registry id clock slot c zip.0 one t))
     by_live false t one further = rw t (ap (λ (xs : List Connection). c ∷ xs) further)
 
-pub settled_stays : (source : Source) (id clock : ℕ) (table : Table) (c : Connections) → IsIdleIfThere id clock table → StandsForConnections source table c → changed_at id (settle clock Silent) c ≡ c
-settled_stays source id clock table c none h = ap (λ (xs : List Connection). record c { all = xs }) (settled_among source id clock (values_of table.slots) c.all h.all none)
+pub settled_stays : (registry : Registry) (id clock : ℕ) (table : Table) (c : Connections) → IsIdleIfThere id clock table → StandsForConnections registry table c → changed_at id (settle clock Silent) c ≡ c
+settled_stays registry id clock table c none h = ap (λ (xs : List Connection). record c { all = xs }) (settled_among registry id clock (values_of table.slots) c.all h.all none)
 
 -- ---- a record comes whole
 
-module _ (source : Source) (slot : Slot) (piece content : List ℕ) (idle : slot.stage ≡ stages.Idle) (begins : BeginsWithRecord content piece) where
+module _ (registry : Registry) (slot : Slot) (piece content : List ℕ) (idle : slot.stage ≡ stages.Idle) (begins : BeginsWithRecord content piece) where
   some_piece : piece ≡ [] → ⊥
   unfolding first_record
   some_piece none = let clash : None ≡ Some (4 + length content) = rw none at begins.ends in absurd cc
 
-  takes_whole : (c : Connection) → StandsForConnection source slot c → taking_of c.phase piece ≡ Ends (4 + length content) content
+  takes_whole : (c : Connection) → StandsForConnection registry slot c → taking_of c.phase piece ≡ Ends (4 + length content) content
   takes_whole c h =
-      let p = idle_phase source slot.stage slot.buffer slot.window c.phase idle h.phase in
+      let p = idle_phase registry slot.stage slot.buffer slot.window c.phase idle h.phase in
       some_where_fed c.phase [] piece (ap fed_in p.0) some_piece ∙ taken_whole content piece begins
 
-  pub acts_whole : (clock : ℕ) → Acts (StandsForConnection source) (take_piece clock piece) slot (record slot { since = clock }) (received_whole slot.peer content)
+  pub acts_whole : (clock : ℕ) → Acts (StandsForConnection registry) (take_piece clock piece) slot (record slot { since = clock }) (received_whole slot.peer content)
   acts_whole clock = grind (arith, common_steps, feeding_acts, idle_phase, takes_whole)
 
-  pub keeps_whole : (before : List ℕ) → Shows (StandsForConnection source) (arguments_taken before piece) slot (kept_of content)
+  pub keeps_whole : (before : List ℕ) → Shows (StandsForConnection registry) (arguments_taken before piece) slot (kept_of content)
   keeps_whole before c h = taken_arguments before (kept_of content) piece c (Ends (4 + length content) content) (takes_whole c h) refl
 
 -- Of a slot `since` is another after it, and nothing else.
@@ -117,14 +117,14 @@ module _ (id clock k : ℕ) (table : Table) (old new : Slot) (distinct : HasDist
   is_marked : new ≡ record old { since = clock }
   is_marked = kept ∙ ap (λ (m : ℕ). record old { since = m }) since
 
-  pub takes_whole_on : (source : Source) (piece content : List ℕ) → BeginsWithRecord content piece
-      → Acts (StandsForConnections source) (on_live id (take_piece clock piece)) table with_new (Ok (received_whole old.peer content))
-  takes_whole_on source piece content begins =
-      rw is_marked (live_acts source id (take_piece clock piece) table k old (record old { since = clock }) (received_whole old.peer content) distinct found there (acts_whole source old piece content idle begins clock))
+  pub takes_whole_on : (registry : Registry) (piece content : List ℕ) → BeginsWithRecord content piece
+      → Acts (StandsForConnections registry) (on_live id (take_piece clock piece)) table with_new (Ok (received_whole old.peer content))
+  takes_whole_on registry piece content begins =
+      rw is_marked (live_acts registry id (take_piece clock piece) table k old (record old { since = clock }) (received_whole old.peer content) distinct found there (acts_whole registry old piece content idle begins clock))
 
-  pub keeps_whole_on : (source : Source) (before piece content : List ℕ) → BeginsWithRecord content piece → Shows (StandsForConnections source) (arguments_on id before piece) table (kept_of content)
-  keeps_whole_on source before piece content begins =
-      live_arguments source id before piece table k old (kept_of content) distinct found there (keeps_whole source old piece content idle begins before)
+  pub keeps_whole_on : (registry : Registry) (before piece content : List ℕ) → BeginsWithRecord content piece → Shows (StandsForConnections registry) (arguments_on id before piece) table (kept_of content)
+  keeps_whole_on registry before piece content begins =
+      live_arguments registry id before piece table k old (kept_of content) distinct found there (keeps_whole registry old piece content idle begins before)
 
   pub taken_whole_on : EndedOn id clock table with_new
   taken_whole_on = grind (arith, common_steps, ended_on_slot table id clock k old new numbers there)

@@ -14,7 +14,7 @@ use Rattle.rb_xdr.proofs.PoolLemmas.{All-with_value, distinct-with, length-with}
 use Rattle.rb_rpc.specs.Marks.{StandsForFed}
 use Rattle.rb_rpc.specs.Records.{data_of}
 use Rattle.rb_rpc.specs.Verdict.{verdict}
-use Rattle.rb_rpc.specs.declared.peer.Peer.{Peer}
+use Rattle.rb_address.specs.declared.peer.Peer.{Peer}
 use Rattle.rb_feed.specs.Feeds.{StandsForCall, arguments_of}
 use Rattle.rb_model.specs.declared.types.CoreFault.TheVariants.{Full, Spent, Gone}
 use Rattle.rb_model.specs.Calls.{longest_kept, kept_of}
@@ -24,7 +24,7 @@ use Rattle.rb_model.specs.Connections.{change_first, changed_at, is_lost, is_liv
 use Rattle.rb_model.proofs.Found.{all_kept, none_any, none_some, some_any}
 use Rattle.rb_connections.specs.Reading.{Reader}
 use Rattle.rb_connections.specs.StandsFor.{buffer_size, IsReading, StandsForConnection, StandsForPhase, StandsForConnections, Table, charge, IsWithin}
-use Rattle.rb_model.specs.Served.{Source}
+use Rattle.rb_registry.specs.Registry.{Registry}
 use Rattle.rb_connections.specs.declared.slot.Buffers.{Buffers}
 use Rattle.rb_connections.specs.declared.slot.Slot.{Slot}
 use Rattle.rb_connections.specs.declared.slot.Wanted.{Wanted}
@@ -76,24 +76,24 @@ module _ {A B : Type 0} (R : A → B → Type 0) where
 
 -- ---- slots and connections
 
-lost_as_stage : (source : Source) (stage : Stage) (buffer window : Kept) (phase : Phase) → StandsForPhase source stage buffer window phase → is_lost_stage stage ≡ is_lost phase
-lost_as_stage source stage buffer window phase h = grind (arith, common_steps, by_phase source buffer window)
+lost_as_stage : (registry : Registry) (stage : Stage) (buffer window : Kept) (phase : Phase) → StandsForPhase registry stage buffer window phase → is_lost_stage stage ≡ is_lost phase
+lost_as_stage registry stage buffer window phase h = grind (arith, common_steps, by_phase registry buffer window)
 
-pub wanted_alike : (source : Source) (sought : Wanted) (slot : Slot) (c : Connection) → StandsForConnection source slot c → is_wanted_slot sought slot ≡ is_wanted sought c
+pub wanted_alike : (registry : Registry) (sought : Wanted) (slot : Slot) (c : Connection) → StandsForConnection registry slot c → is_wanted_slot sought slot ≡ is_wanted sought c
 unfolding is_wanted_slot is_wanted is_live
-wanted_alike source sought slot c h = grind (arith, common_steps, lost_as_stage, due_alike)
+wanted_alike registry sought slot c h = grind (arith, common_steps, lost_as_stage, due_alike)
 
-module _ (source : Source) (sought : Wanted) (entries : List (ℕ × Slot)) (all : List Connection) where
-  pub found_slot : (k : ℕ) (slot : Slot) → HasDistinctKeys entries → AllZip (StandsForConnection source) (values_of entries) all
-      → option_map (λ e. e.0) (wanted_slot sought entries) ≡ Some k → value_at entries k ≡ Some slot → IsFound source sought all slot
+module _ (registry : Registry) (sought : Wanted) (entries : List (ℕ × Slot)) (all : List Connection) where
+  pub found_slot : (k : ℕ) (slot : Slot) → HasDistinctKeys entries → AllZip (StandsForConnection registry) (values_of entries) all
+      → option_map (λ e. e.0) (wanted_slot sought entries) ≡ Some k → value_at entries k ≡ Some slot → IsFound registry sought all slot
   unfolding wanted_slot
   found_slot k slot d z h v =
-      let l = locate (StandsForConnection source) (is_wanted_slot sought) (is_wanted sought) (wanted_alike source sought) entries all k slot d z h v in
+      let l = locate (StandsForConnection registry) (is_wanted_slot sought) (is_wanted sought) (wanted_alike registry sought) entries all k slot d z h v in
       record { connection = l.value; found = l.found; stands = l.related }
 
-  pub no_slot : AllZip (StandsForConnection source) (values_of entries) all → option_map (λ e. e.0) (wanted_slot sought entries) ≡ None → find (is_wanted sought) all ≡ None
+  pub no_slot : AllZip (StandsForConnection registry) (values_of entries) all → option_map (λ e. e.0) (wanted_slot sought entries) ≡ None → find (is_wanted sought) all ≡ None
   unfolding wanted_slot
-  no_slot z h = not_located (StandsForConnection source) (is_wanted_slot sought) (is_wanted sought) (wanted_alike source sought) entries all z h
+  no_slot z h = not_located (StandsForConnection registry) (is_wanted_slot sought) (is_wanted sought) (wanted_alike registry sought) entries all z h
 
 module _ (sought : Wanted) (entries : List (ℕ × Slot)) (all : List Connection) where
   pub slot_is_there : (k : ℕ) → option_map (λ e. e.0) (wanted_slot sought entries) ≡ Some k → value_at entries k ≡ None → ⊥
@@ -122,65 +122,65 @@ numbered-with given [] k old new h same n = grind (arith, common_steps, some_is,
 numbered-with given (e ∷ es) k old new h same n = grind (arith, common_steps, some_is, any-with, numbered-with given es k old new)
 
 -- the live connection of a number, and its slot
-pub record IsLiveSlot (source : Source) (id : ℕ) (entries : List (ℕ × Slot)) (all : List Connection) (k : ℕ) (slot : Slot) : Type 0 where
+pub record IsLiveSlot (registry : Registry) (id : ℕ) (entries : List (ℕ × Slot)) (all : List Connection) (k : ℕ) (slot : Slot) : Type 0 where
   pub connection : Connection
   pub there : live_connection id all ≡ Some connection
-  pub stands : StandsForConnection source slot connection
-  pub changed : (new : Slot) (change : Connection → Connection) → StandsForConnection source new (change connection) → AllZip (StandsForConnection source) (values_of (with_value entries k new)) (change_first (is_live id) change all)
+  pub stands : StandsForConnection registry slot connection
+  pub changed : (new : Slot) (change : Connection → Connection) → StandsForConnection registry new (change connection) → AllZip (StandsForConnection registry) (values_of (with_value entries k new)) (change_first (is_live id) change all)
 
-module _ (source : Source) (id : ℕ) (entries : List (ℕ × Slot)) (all : List Connection) where
-  pub live_slot : (k : ℕ) (slot : Slot) → HasDistinctKeys entries → AllZip (StandsForConnection source) (values_of entries) all
-      → option_map (λ e. e.0) (wanted_slot (wanted.Live id) entries) ≡ Some k → value_at entries k ≡ Some slot → IsLiveSlot source id entries all k slot
+module _ (registry : Registry) (id : ℕ) (entries : List (ℕ × Slot)) (all : List Connection) where
+  pub live_slot : (k : ℕ) (slot : Slot) → HasDistinctKeys entries → AllZip (StandsForConnection registry) (values_of entries) all
+      → option_map (λ e. e.0) (wanted_slot (wanted.Live id) entries) ≡ Some k → value_at entries k ≡ Some slot → IsLiveSlot registry id entries all k slot
   unfolding wanted_slot is_wanted live_connection
   live_slot k slot d z h v =
-      let l = locate (StandsForConnection source) (is_wanted_slot (wanted.Live id)) (is_wanted (wanted.Live id)) (wanted_alike source (wanted.Live id)) entries all k slot d z h v in
+      let l = locate (StandsForConnection registry) (is_wanted_slot (wanted.Live id)) (is_wanted (wanted.Live id)) (wanted_alike registry (wanted.Live id)) entries all k slot d z h v in
       record { connection = l.value; there = l.found; stands = l.related; changed = l.changed }
 
-  pub not_live : AllZip (StandsForConnection source) (values_of entries) all → option_map (λ e. e.0) (wanted_slot (wanted.Live id) entries) ≡ None → live_connection id all ≡ None
+  pub not_live : AllZip (StandsForConnection registry) (values_of entries) all → option_map (λ e. e.0) (wanted_slot (wanted.Live id) entries) ≡ None → live_connection id all ≡ None
   unfolding is_wanted live_connection
-  not_live z h = no_slot source (wanted.Live id) entries all z h
+  not_live z h = no_slot registry (wanted.Live id) entries all z h
 
 -- the same of a table by its other name
-pub acts_from : {A : Type 0} (source : Source) (act : Connections → A × Connections) (view now new : Table) (x : A) → view ≡ now
-    → Acts (StandsForConnections source) act view new x → Acts (StandsForConnections source) act now new x
-acts_from source act view now new x is acts = subst (λ (t : Table). Acts (StandsForConnections source) act t new x) is acts
+pub acts_from : {A : Type 0} (registry : Registry) (act : Connections → A × Connections) (view now new : Table) (x : A) → view ≡ now
+    → Acts (StandsForConnections registry) act view new x → Acts (StandsForConnections registry) act now new x
+acts_from registry act view now new x is acts = subst (λ (t : Table). Acts (StandsForConnections registry) act t new x) is acts
 
 -- An act on the slot of the live connection is that on the connection.
-module _ {A : Type 0} (source : Source) (id : ℕ) (act : Connection → A × Connection) (table : Table) where
+module _ {A : Type 0} (registry : Registry) (id : ℕ) (act : Connection → A × Connection) (table : Table) where
   pub live_acts : (k : ℕ) (slot new : Slot) (x : A) → HasDistinctKeys table.slots
       → option_map (λ e. e.0) (wanted_slot (wanted.Live id) table.slots) ≡ Some k → value_at table.slots k ≡ Some slot
-      → Acts (StandsForConnection source) act slot new x → Acts (StandsForConnections source) (on_live id act) table (record table { slots = with_value table.slots k new }) (Ok x)
+      → Acts (StandsForConnection registry) act slot new x → Acts (StandsForConnections registry) (on_live id act) table (record table { slots = with_value table.slots k new }) (Ok x)
   live_acts k slot new x d h v acts = record {
     gives = λ c z.
-        let l = live_slot source id table.slots c.all k slot d z.all h v in
+        let l = live_slot registry id table.slots c.all k slot d z.all h v in
         rw l.there (ap Ok (acts.gives l.connection l.stands));
     stands = λ c z.
-        let l = live_slot source id table.slots c.all k slot d z.all h v in
+        let l = live_slot registry id table.slots c.all k slot d z.all h v in
         rw l.there (record { all = l.changed new (λ y. (act y).1) (acts.stands l.connection l.stands); next = z.next });
   }
 
-  pub gone_acts : option_map (λ e. e.0) (wanted_slot (wanted.Live id) table.slots) ≡ None → Acts (StandsForConnections source) (on_live id act) table table (Err Gone)
+  pub gone_acts : option_map (λ e. e.0) (wanted_slot (wanted.Live id) table.slots) ≡ None → Acts (StandsForConnections registry) (on_live id act) table table (Err Gone)
   gone_acts h = grind (arith, common_steps, not_live)
 
 -- What is held of arguments after a piece is what the live connection took.
-module _ (source : Source) (id : ℕ) (before piece : List ℕ) (table : Table) where
+module _ (registry : Registry) (id : ℕ) (before piece : List ℕ) (table : Table) where
   pub live_arguments : (k : ℕ) (slot : Slot) (after : List ℕ) → HasDistinctKeys table.slots
       → option_map (λ e. e.0) (wanted_slot (wanted.Live id) table.slots) ≡ Some k → value_at table.slots k ≡ Some slot
-      → Shows (StandsForConnection source) (arguments_taken before piece) slot after → Shows (StandsForConnections source) (arguments_on id before piece) table after
+      → Shows (StandsForConnection registry) (arguments_taken before piece) slot after → Shows (StandsForConnections registry) (arguments_on id before piece) table after
   live_arguments k slot after d h v shows c z =
-      let l = live_slot source id table.slots c.all k slot d z.all h v in
+      let l = live_slot registry id table.slots c.all k slot d z.all h v in
       rw l.there (shows l.connection l.stands)
 
-  pub gone_arguments : option_map (λ e. e.0) (wanted_slot (wanted.Live id) table.slots) ≡ None → Shows (StandsForConnections source) (arguments_on id before piece) table before
-  gone_arguments h c z = rw (not_live source id table.slots c.all z.all h) refl
+  pub gone_arguments : option_map (λ e. e.0) (wanted_slot (wanted.Live id) table.slots) ≡ None → Shows (StandsForConnections registry) (arguments_on id before piece) table before
+  gone_arguments h c z = rw (not_live registry id table.slots c.all z.all h) refl
 
-module _ (source : Source) (id : ℕ) (change : Connection → Connection) (table : Table) where
+module _ (registry : Registry) (id : ℕ) (change : Connection → Connection) (table : Table) where
   pub live_changed : (k : ℕ) (slot new : Slot) → HasDistinctKeys table.slots
       → option_map (λ e. e.0) (wanted_slot (wanted.Live id) table.slots) ≡ Some k → value_at table.slots k ≡ Some slot
-      → ((c : Connection) → StandsForConnection source slot c → StandsForConnection source new (change c))
-      → (c : Connections) → StandsForConnections source table c → StandsForConnections source (record table { slots = with_value table.slots k new }) (changed_at id change c)
+      → ((c : Connection) → StandsForConnection registry slot c → StandsForConnection registry new (change c))
+      → (c : Connections) → StandsForConnections registry table c → StandsForConnections registry (record table { slots = with_value table.slots k new }) (changed_at id change c)
   live_changed k slot new d h v stands c z =
-      let l = live_slot source id table.slots c.all k slot d z.all h v in
+      let l = live_slot registry id table.slots c.all k slot d z.all h v in
       record { all = l.changed new change (stands l.connection l.stands); next = z.next }
 
   none_changes : (all : List Connection) → live_connection id all ≡ None → change_first (is_live id) change all ≡ all
@@ -189,8 +189,8 @@ module _ (source : Source) (id : ℕ) (change : Connection → Connection) (tabl
   none_changes (c ∷ all) h = grind (arith, none_changes all)
 
   pub gone_stays : option_map (λ e. e.0) (wanted_slot (wanted.Live id) table.slots) ≡ None
-      → (c : Connections) → StandsForConnections source table c → StandsForConnections source table (changed_at id change c)
-  gone_stays h c z = rw (none_changes c.all (not_live source id table.slots c.all z.all h)) z
+      → (c : Connections) → StandsForConnections registry table c → StandsForConnections registry table (changed_at id change c)
+  gone_stays h c z = rw (none_changes c.all (not_live registry id table.slots c.all z.all h)) z
 
 -- ---- a slot more
 
@@ -201,26 +201,26 @@ pub numbered-more : (given : ℕ) (slots : List Slot) (slot : Slot) → AreNumbe
 numbered-more given [] slot n is = grind (arith, common_steps)
 numbered-more given (first ∷ slots) slot n is = grind (arith, common_steps, numbered-more given slots slot n.2 is)
 
-pub any_alike : (source : Source) (id : ℕ) (slots : List Slot) (all : List Connection) → AllZip (StandsForConnection source) slots all → list_any (is_numbered id) slots ≡ list_any (has_number id) all
-any_alike source id [] [] z = refl
-any_alike source id [] (c ∷ all) z = absurd z
-any_alike source id (s ∷ slots) [] z = absurd z
-any_alike source id (s ∷ slots) (c ∷ all) z = rw (z.0.number, any_alike source id slots all z.1) refl
+pub any_alike : (registry : Registry) (id : ℕ) (slots : List Slot) (all : List Connection) → AllZip (StandsForConnection registry) slots all → list_any (is_numbered id) slots ≡ list_any (has_number id) all
+any_alike registry id [] [] z = refl
+any_alike registry id [] (c ∷ all) z = absurd z
+any_alike registry id (s ∷ slots) [] z = absurd z
+any_alike registry id (s ∷ slots) (c ∷ all) z = rw (z.0.number, any_alike registry id slots all z.1) refl
 
-removed : (source : Source) (id given : ℕ) (es : List (ℕ × Slot)) (all : List Connection) (k : ℕ) (slot : Slot) → HasDistinctKeys es → AreNumbered given (values_of es) → AllZip (StandsForConnection source) (values_of es) all
-    → key_of (is_numbered id) es ≡ Some k → AllZip (StandsForConnection source) (values_of (without es k)) (filter (λ (c : Connection). not (has_number id c)) all)
-removed source id given [] all k slot d n z h = absurd (none_some k h)
-removed source id given (e ∷ es) [] k slot d n z h = absurd z
-removed source id given (e ∷ es) (c ∷ all) k slot d n z h = by_cases (eqb e.1.number id) refl (removed source id given es all k slot d.1 n.2 z.1)
+removed : (registry : Registry) (id given : ℕ) (es : List (ℕ × Slot)) (all : List Connection) (k : ℕ) (slot : Slot) → HasDistinctKeys es → AreNumbered given (values_of es) → AllZip (StandsForConnection registry) (values_of es) all
+    → key_of (is_numbered id) es ≡ Some k → AllZip (StandsForConnection registry) (values_of (without es k)) (filter (λ (c : Connection). not (has_number id c)) all)
+removed registry id given [] all k slot d n z h = absurd (none_some k h)
+removed registry id given (e ∷ es) [] k slot d n z h = absurd z
+removed registry id given (e ∷ es) (c ∷ all) k slot d n z h = by_cases (eqb e.1.number id) refl (removed registry id given es all k slot d.1 n.2 z.1)
   where
-    by_cases : (t : Bool) → eqb e.1.number id ≡ t → (key_of (is_numbered id) es ≡ Some k → AllZip (StandsForConnection source) (values_of (without es k)) (filter (λ (c : Connection). not (has_number id c)) all))
-        → AllZip (StandsForConnection source) (values_of (without (e ∷ es) k)) (filter (λ (c : Connection). not (has_number id c)) (c ∷ all))
+    by_cases : (t : Bool) → eqb e.1.number id ≡ t → (key_of (is_numbered id) es ≡ Some k → AllZip (StandsForConnection registry) (values_of (without es k)) (filter (λ (c : Connection). not (has_number id c)) all))
+        → AllZip (StandsForConnection registry) (values_of (without (e ∷ es) k)) (filter (λ (c : Connection). not (has_number id c)) (c ∷ all))
     by_cases true t further =
         let here : e.0 ≡ k = some_is e.0 k (rw t at h) in
         let test : eqb e.0 k ≡ true = eq-eqb e.0 k here in
         let number : e.1.number ≡ id = eqb-true e.1.number id t in
         let other : eqb c.number id ≡ true = rw (← z.0.number) t in
-        let alone : list_any (has_number id) all ≡ false = sym (any_alike source id (values_of es) all z.1) ∙ (rw number at n.1) in
+        let alone : list_any (has_number id) all ≡ false = sym (any_alike registry id (values_of es) all z.1) ∙ (rw number at n.1) in
         rw (test, other, all_kept (has_number id) all alone) z.1
     by_cases false t further =
         let in_rest : key_of (is_numbered id) es ≡ Some k = rw t at h in
@@ -228,29 +228,29 @@ removed source id given (e ∷ es) (c ∷ all) k slot d n z h = by_cases (eqb e.
         by_key (eqb e.0 k) refl in_rest other
       where
         by_key : (b : Bool) → eqb e.0 k ≡ b → key_of (is_numbered id) es ≡ Some k → eqb c.number id ≡ false
-            → AllZip (StandsForConnection source) (values_of (without (e ∷ es) k)) (filter (λ (c : Connection). not (has_number id c)) (c ∷ all))
+            → AllZip (StandsForConnection registry) (values_of (without (e ∷ es) k)) (filter (λ (c : Connection). not (has_number id c)) (c ∷ all))
         by_key true y in_rest other =
             let key : e.0 ≡ k = eqb-true e.0 k y in
             absurd (has_key (is_numbered id) es k in_rest (rw key at d.0))
         by_key false y in_rest other = rw (y, other) (z.0, further in_rest)
 
-module _ (source : Source) (id : ℕ) (table : Table) where
-  pub none_closed : option_map (λ e. e.0) (wanted_slot (wanted.Numbered id) table.slots) ≡ None → Acts (StandsForConnections source) (close_in_table id) table table (Err Gone)
+module _ (registry : Registry) (id : ℕ) (table : Table) where
+  pub none_closed : option_map (λ e. e.0) (wanted_slot (wanted.Numbered id) table.slots) ≡ None → Acts (StandsForConnections registry) (close_in_table id) table table (Err Gone)
   unfolding close_in_table is_there is_wanted
   none_closed h = grind (arith, common_steps, none_any, no_slot)
 
   pub one_closed : (k : ℕ) (slot : Slot) → HasDistinctKeys table.slots → AreNumbered table.last_number (values_of table.slots)
       → option_map (λ e. e.0) (wanted_slot (wanted.Numbered id) table.slots) ≡ Some k → value_at table.slots k ≡ Some slot
-      → Acts (StandsForConnections source) (close_in_table id) table (record table { slots = without table.slots k }) (Ok tt)
+      → Acts (StandsForConnections registry) (close_in_table id) table (record table { slots = without table.slots k }) (Ok tt)
   unfolding close_in_table is_there is_wanted wanted_slot is_wanted_slot without_number
   one_closed k slot d n h v = record {
     gives = λ c z. rw (there c z) refl;
-    stands = λ c z. rw (there c z) (record { all = removed source id table.last_number table.slots c.all k slot d n z.all h; next = z.next });
+    stands = λ c z. rw (there c z) (record { all = removed registry id table.last_number table.slots c.all k slot d n z.all h; next = z.next });
   }
     where
-      there : (c : Connections) → StandsForConnections source table c → list_any (has_number id) c.all ≡ true
+      there : (c : Connections) → StandsForConnections registry table c → list_any (has_number id) c.all ≡ true
       there c z =
-          let f = found_slot source (wanted.Numbered id) table.slots c.all k slot d z.all h v in
+          let f = found_slot registry (wanted.Numbered id) table.slots c.all k slot d z.all h v in
           some_any (has_number id) c.all f.connection f.found
 
 -- ---- a new connection
@@ -270,22 +270,22 @@ no_data = refl
 pub reads_nothing : (reader : Reader) (kept : Kept) → StandsForFed reader.marks [] → StandsForCall reader.head [] → kept.bytes ≡ [] → kept.cap ≡ buffer_size → IsReading reader kept []
 reads_nothing reader kept m h e c = record { marks_are = m; data_is = record { head_is = rw no_data h; kept_is = e ∙ sym nothing_kept; cap = c } }
 
-pub as_many : (source : Source) (es : List (ℕ × Slot)) (all : List Connection) → AllZip (StandsForConnection source) (values_of es) all → length all ≡ length es
-as_many source es all z = sym (same_length_of (StandsForConnection source) (values_of es) all z) ∙ length-values_of es
+pub as_many : (registry : Registry) (es : List (ℕ × Slot)) (all : List Connection) → AllZip (StandsForConnection registry) (values_of es) all → length all ≡ length es
+as_many registry es all z = sym (same_length_of (StandsForConnection registry) (values_of es) all z) ∙ length-values_of es
 
-module _ (source : Source) (conns : ℕ) (peer : Peer) (clock : ℕ) (table : Table) where
-  pub full_acts : conns ≤ length table.slots → Acts (StandsForConnections source) (open_in_table conns peer clock) table table (Err Full)
+module _ (registry : Registry) (conns : ℕ) (peer : Peer) (clock : ℕ) (table : Table) where
+  pub full_acts : conns ≤ length table.slots → Acts (StandsForConnections registry) (open_in_table conns peer clock) table table (Err Full)
   unfolding open_in_table number_for
   full_acts full = grind (arith, common_steps, as_many, nat_tests)
 
-  pub spent_acts : length table.slots < conns → table.last_number ≡ greatest_number → Acts (StandsForConnections source) (open_in_table conns peer clock) table table (Err Spent)
+  pub spent_acts : length table.slots < conns → table.last_number ≡ greatest_number → Acts (StandsForConnections registry) (open_in_table conns peer clock) table table (Err Spent)
   unfolding open_in_table number_for
   spent_acts room spent = grind (arith, common_steps, as_many, nat_tests)
 
   pub opened_acts : (slot : Slot) (new : Table) → length table.slots < conns → table.last_number < greatest_number
       → values_of new.slots ≡ values_of table.slots ++ slot ∷ [] → new.last_number ≡ table.last_number + 1
-      → StandsForConnection source slot (record { number = table.last_number + 1; peer = peer; phase = Idle; since = clock })
-      → Acts (StandsForConnections source) (open_in_table conns peer clock) table new (Ok (table.last_number + 1))
+      → StandsForConnection registry slot (record { number = table.last_number + 1; peer = peer; phase = Idle; since = clock })
+      → Acts (StandsForConnections registry) (open_in_table conns peer clock) table new (Ok (table.last_number + 1))
   unfolding open_in_table number_for
   opened_acts slot new room left more given stands = grind (arith, common_steps, one_more_each, as_many, nat_tests, le-ltb)
 

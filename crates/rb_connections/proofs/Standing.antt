@@ -13,7 +13,7 @@ use Rattle.rb_model.specs.Connections.{is_live, live_connection}
 use Rattle.rb_model.specs.Standings.{standing_in, standing_on}
 use Rattle.rb_model.specs.declared.types.Standing.{Standing}
 use Rattle.rb_model.specs.declared.types.Standing.TheVariants as stands
-use Rattle.rb_model.specs.Served.{Source}
+use Rattle.rb_registry.specs.Registry.{Registry}
 use Rattle.rb_connections.specs.declared.slot.Slot.{Slot}
 use Rattle.rb_connections.specs.declared.slot.Stage.{Stage}
 use Rattle.rb_connections.specs.declared.slot.Wanted.TheVariants as wanted
@@ -24,27 +24,27 @@ use Rattle.rb_connections.proofs.Phases.{by_phase}
 use Rattle.rb_connections.specs.Awaits.{has_idle, is_idle_slot, is_not_idle_since, IsIdleIfThere}
 use Rattle.rb_connections.proofs.Slots.{wanted_alike, not_live}
 
-stage_alike : (source : Source) (stage : Stage) (buffer window : Kept) (phase : Phase) → StandsForPhase source stage buffer window phase
+stage_alike : (registry : Registry) (stage : Stage) (buffer window : Kept) (phase : Phase) → StandsForPhase registry stage buffer window phase
     → standing_in (phase_like stage) ≡ standing_in phase
-stage_alike source stage buffer window phase h = grind (arith, common_steps, by_phase source buffer window)
+stage_alike registry stage buffer window phase h = grind (arith, common_steps, by_phase registry buffer window)
 
-slot_alike : (source : Source) (slot : Slot) (c : Connection) → StandsForConnection source slot c → standing_of_slot slot ≡ standing_in c.phase
-slot_alike source slot c h = stage_alike source slot.stage slot.buffer slot.window c.phase h.phase
+slot_alike : (registry : Registry) (slot : Slot) (c : Connection) → StandsForConnection registry slot c → standing_of_slot slot ≡ standing_in c.phase
+slot_alike registry slot c h = stage_alike registry slot.stage slot.buffer slot.window c.phase h.phase
 
-live_alike : (source : Source) (id : ℕ) (slot : Slot) (c : Connection) → StandsForConnection source slot c → is_wanted_slot (wanted.Live id) slot ≡ is_live id c
+live_alike : (registry : Registry) (id : ℕ) (slot : Slot) (c : Connection) → StandsForConnection registry slot c → is_wanted_slot (wanted.Live id) slot ≡ is_live id c
 unfolding is_wanted
-live_alike source id slot c h = wanted_alike source (wanted.Live id) slot c h
+live_alike registry id slot c h = wanted_alike registry (wanted.Live id) slot c h
 
 -- that of the first live slot of the number
 abbrev standing_among : ℕ → List Slot → Standing
 standing_among id slots = option_map_or standing_of_slot (find (is_wanted_slot (wanted.Live id)) slots) stands.Lost
 
-among_alike : (source : Source) (id : ℕ) (slots : List Slot) (all : List Connection) → AllZip (StandsForConnection source) slots all
+among_alike : (registry : Registry) (id : ℕ) (slots : List Slot) (all : List Connection) → AllZip (StandsForConnection registry) slots all
     → standing_among id slots ≡ standing_on (find (is_live id) all)
-among_alike source id [] [] z = refl
-among_alike source id [] (c ∷ all) z = absurd z
-among_alike source id (slot ∷ slots) [] z = absurd z
-among_alike source id (slot ∷ slots) (c ∷ all) z = grind (arith, common_steps, live_alike, slot_alike, among_alike source id slots all)
+among_alike registry id [] [] z = refl
+among_alike registry id [] (c ∷ all) z = absurd z
+among_alike registry id (slot ∷ slots) [] z = absurd z
+among_alike registry id (slot ∷ slots) (c ∷ all) z = grind (arith, common_steps, live_alike, slot_alike, among_alike registry id slots all)
 
 -- ---- one that has the number
 
@@ -72,7 +72,7 @@ stands_there id k slot (e ∷ es) d v n = grind (arith, common_steps, eq-eqb, eq
 pub is_standing : (id k : ℕ) (slot : Slot) (table : Table) → HasDistinctNumbers (values_of table.slots) → value_at table.slots k ≡ Some slot → slot.number ≡ id
     → IsStanding id table (standing_of_slot slot)
 unfolding live_connection
-is_standing id k slot table d v n source c h = sym (stands_there id k slot table.slots d v n) ∙ among_alike source id (values_of table.slots) c.all h.all
+is_standing id k slot table d v n registry c h = sym (stands_there id k slot table.slots d v n) ∙ among_alike registry id (values_of table.slots) c.all h.all
 
 there_with : (es : List (ℕ × Slot)) (k : ℕ) (old new : Slot) → value_at es k ≡ Some old → value_at (with_value es k new) k ≡ Some new
 there_with [] k old new v = grind (arith, common_steps)
@@ -85,7 +85,7 @@ now_standing id k old new table v n same d = is_standing id k new (record table 
 
 -- where none is live
 pub gone_standing : (id : ℕ) (table : Table) → option_map (λ (e : ℕ × Slot). e.0) (wanted_slot (wanted.Live id) table.slots) ≡ None → IsStanding id table stands.Lost
-gone_standing id table none source c h = rw (not_live source id table.slots c.all h.all none) refl
+gone_standing id table none registry c h = rw (not_live registry id table.slots c.all h.all none) refl
 
 -- one that is Idle since a moment
 idle_among : (id clock : ℕ) (slots : List Slot) → list_any (is_idle_slot id) slots ≡ true → list_any (is_not_idle_since id clock) slots ≡ false → standing_among id slots ≡ stands.Idle
@@ -95,4 +95,4 @@ idle_among id clock (slot ∷ slots) idle only = grind (arith, common_steps, idl
 
 pub idle_standing : (id clock : ℕ) (table : Table) → has_idle id table ≡ true → IsIdleIfThere id clock table → IsStanding id table stands.Idle
 unfolding has_idle live_connection
-idle_standing id clock table idle only source c h = sym (idle_among id clock (values_of table.slots) idle only) ∙ among_alike source id (values_of table.slots) c.all h.all
+idle_standing id clock table idle only registry c h = sym (idle_among id clock (values_of table.slots) idle only) ∙ among_alike registry id (values_of table.slots) c.all h.all

@@ -9,41 +9,41 @@ use Rattle.rb_model.specs.Connections.{longest_fragment}
 use Rattle.rb_connections.specs.declared.giving.Giving.{Giving}
 use Rattle.rb_connections.specs.declared.giving.Rest.{Rest}
 use Rattle.rb_connections.specs.declared.giving.Rest.TheVariants as rests
-use Rattle.rb_model.specs.Served.{Source}
+use Rattle.rb_registry.specs.Registry.{Registry}
 use Rattle.rb_connections.specs.StandsFor.{rest_in, stamp_of_rest}
 use Rattle.rb_connections.specs.declared.slot.Stage.TheVariants as stages
 use Rattle.rb_connections.specs.declared.slot.Slot.{Slot}
 
--- The source can make what is not shown yet, where that is of a list.
-abbrev pub CanMake : Source → Rest → Type 0
-CanMake source (rests.Held start) = ⊤
-CanMake source (rests.Listed list) = CanBeContinued source.registry list
+-- What is not shown yet can be made from this registry, where that is of a list.
+abbrev pub CanMake : Registry → Rest → Type 0
+CanMake registry (rests.Held start) = ⊤
+CanMake registry (rests.Listed list) = CanBeContinued registry list
 
--- It can make what is behind the fragment that is shown, which is something unless that is the last one.
-pub record CanContinueReply (source : Source) (buffer : List ℕ) (giving : Giving) : Type 0 where
-  pub made : CanMake source giving.rest
-  pub some : giving.last ≡ false → 0 < length (rest_in source buffer giving.rest)
+-- What is behind the fragment that is shown can be made, and is something unless that is the last one.
+pub record CanContinueReply (registry : Registry) (buffer : List ℕ) (giving : Giving) : Type 0 where
+  pub made : CanMake registry giving.rest
+  pub some : giving.last ≡ false → 0 < length (rest_in registry buffer giving.rest)
 
 -- a window that shows the fragment with this data
 abbrev pub with_fragment : List ℕ → Bool → Kept → Kept
 with_fragment part last window = record window { bytes = fragment_header (length part) last ++ part }
 
 -- The next fragment of a reply is shown, where `rest` was not shown yet, and `giving` is how it goes on.
-pub record ShowsNext (source : Source) (buffer : List ℕ) (rest : Rest) (before shown : Kept) (giving : Giving) : Type 0 where
-  pub fragment : shown ≡ record before { bytes = take longest_fragment (marked_reply (rest_in source buffer rest)) }
-  pub rest_is : rest_in source buffer giving.rest ≡ drop fragment_size (rest_in source buffer rest)
-  pub last : giving.last ≡ nat_le (length (rest_in source buffer rest)) fragment_size
+pub record ShowsNext (registry : Registry) (buffer : List ℕ) (rest : Rest) (before shown : Kept) (giving : Giving) : Type 0 where
+  pub fragment : shown ≡ record before { bytes = take longest_fragment (marked_reply (rest_in registry buffer rest)) }
+  pub rest_is : rest_in registry buffer giving.rest ≡ drop fragment_size (rest_in registry buffer rest)
+  pub last : giving.last ≡ nat_le (length (rest_in registry buffer rest)) fragment_size
   pub place : giving.place ≡ 0
   pub stamp : stamp_of_rest giving.rest ≡ stamp_of_rest rest
-  pub made : CanMake source giving.rest
+  pub made : CanMake registry giving.rest
 
 -- the same of a reply in a buffer, from this place on, wherever rows of lists come from
 abbrev pub ShowsHeld : ℕ → List ℕ → Kept → Kept → Giving → Type 0
-ShowsHeld start buffer before shown giving = (source : Source) → ShowsNext source buffer (rests.Held start) before shown giving
+ShowsHeld start buffer before shown giving = (registry : Registry) → ShowsNext registry buffer (rests.Held start) before shown giving
 
 -- and of a list, whatever the buffer holds
-abbrev pub ShowsList : Source → ListReply → Kept → Kept → Giving → Type 0
-ShowsList source list before shown giving = (buffer : List ℕ) → ShowsNext source buffer (rests.Listed list) before shown giving
+abbrev pub ShowsList : Registry → ListReply → Kept → Kept → Giving → Type 0
+ShowsList registry list before shown giving = (buffer : List ℕ) → ShowsNext registry buffer (rests.Listed list) before shown giving
 
 -- how many bytes are pending
 abbrev pub pending_count : Result (List ℕ) CoreFault → Result ℕ CoreFault
@@ -51,10 +51,10 @@ pending_count (Ok bytes) = Ok (length bytes)
 pending_count (Err fault) = Err fault
 
 -- A slot shows the next fragment of a reply, where `rest` was not shown yet.
-pub record SlotShowsNext (source : Source) (rest : Rest) (old new : Slot) : Type 0 where
+pub record SlotShowsNext (registry : Registry) (rest : Rest) (old new : Slot) : Type 0 where
   pub giving : Giving
   pub is : new ≡ record old { stage = stages.Owing giving; window = new.window }
-  pub shows : ShowsNext source old.buffer.bytes rest old.window new.window giving
+  pub shows : ShowsNext registry old.buffer.bytes rest old.window new.window giving
 
 -- ---- a reply that is given whole
 

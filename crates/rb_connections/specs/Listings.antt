@@ -6,7 +6,7 @@ use Rattle.rb_model.specs.Losses.{evict}
 use Rattle.rb_connections.specs.declared.slot.Stage.{Stage}
 use Rattle.rb_connections.specs.declared.slot.Stage.TheVariants as stages
 use Rattle.rb_connections.specs.declared.slot.Slot.{Slot}
-use Rattle.rb_model.specs.Served.{Source}
+use Rattle.rb_registry.specs.Registry.{Registry}
 use Rattle.rb_connections.specs.StandsFor.{stamp_of_rest, Table}
 use Rattle.rb_connections.specs.Giving.{CanContinueReply}
 use Rattle.rb_connections.specs.Slots.{TableBecomes}
@@ -24,32 +24,32 @@ stamp_of_stage stages.Lost = None
 abbrev pub stamp_of_slot : Slot → Option ℕ
 stamp_of_slot slot = stamp_of_stage slot.stage
 
--- the source can make the rest of the reply that is given in this stage
-abbrev pub CanContinueStage : Source → List ℕ → Stage → Type 0
-CanContinueStage source buffer (stages.Owing giving) = CanContinueReply source buffer giving
-CanContinueStage source buffer stages.Idle = ⊤
-CanContinueStage source buffer (stages.Reading reader) = ⊤
-CanContinueStage source buffer stages.Awaiting = ⊤
-CanContinueStage source buffer stages.Lost = ⊤
+-- the rest of the reply that is given in this stage can be made from this registry
+abbrev pub CanContinueStage : Registry → List ℕ → Stage → Type 0
+CanContinueStage registry buffer (stages.Owing giving) = CanContinueReply registry buffer giving
+CanContinueStage registry buffer stages.Idle = ⊤
+CanContinueStage registry buffer (stages.Reading reader) = ⊤
+CanContinueStage registry buffer stages.Awaiting = ⊤
+CanContinueStage registry buffer stages.Lost = ⊤
 
-abbrev pub CanContinueSlot : Source → Slot → Type 0
-CanContinueSlot source slot = CanContinueStage source slot.buffer.bytes slot.stage
+abbrev pub CanContinueSlot : Registry → Slot → Type 0
+CanContinueSlot registry slot = CanContinueStage registry slot.buffer.bytes slot.stage
 
--- for every source of lists
+-- from every registry
 abbrev pub CanContinueSlotByAll : Slot → Type 0
-CanContinueSlotByAll slot = (source : Source) → CanContinueSlot source slot
+CanContinueSlotByAll slot = (registry : Registry) → CanContinueSlot registry slot
 
--- each source that could make the rest of the old list can make that of the new one
+-- from each registry from which the rest of the old list could be made, that of the new one can be made
 abbrev pub SlotKeepsListing : Slot → Slot → Type 0
-SlotKeepsListing old new = (source : Source) → CanContinueSlot source old → CanContinueSlot source new
+SlotKeepsListing old new = (registry : Registry) → CanContinueSlot registry old → CanContinueSlot registry new
 
 -- ---- all of them
 
-abbrev pub CanContinueAll : Source → Table → Type 0
-CanContinueAll source table = All (CanContinueSlot source) (values_of table.slots)
+abbrev pub CanContinueAll : Registry → Table → Type 0
+CanContinueAll registry table = All (CanContinueSlot registry) (values_of table.slots)
 
 abbrev pub KeepsListing : Table → Table → Type 0
-KeepsListing old new = (source : Source) → CanContinueAll source old → CanContinueAll source new
+KeepsListing old new = (registry : Registry) → CanContinueAll registry old → CanContinueAll registry new
 
 -- the stamps of the lists that are given
 abbrev pub stamps_in : List (ℕ × Slot) → List ℕ

@@ -7,7 +7,7 @@ use Rattle.std.specs.Map.{values_of}
 use Rattle.rb_xdr.specs.Kept.{Kept}
 use Rattle.rb_xdr.specs.Pool.{Pool, HasDistinctKeys}
 use Rattle.rb_rpc.specs.Verdict.{verdict}
-use Rattle.rb_rpc.specs.declared.peer.Peer.{Peer}
+use Rattle.rb_address.specs.declared.peer.Peer.{Peer}
 use Rattle.rb_model.specs.declared.types.CoreFault.{CoreFault}
 use Rattle.rb_model.specs.State.{Phase, Connection, Connections}
 use Rattle.rb_model.specs.Calls.{kept_of}
@@ -26,7 +26,7 @@ use Rattle.rb_connections.specs.declared.slot.WholeRecord.{WholeRecord}
 use Rattle.rb_connections.specs.declared.slot.Wanted.TheVariants as wanted
 use Rattle.rb_connections.specs.declared.slot.Buffers.{Buffers}
 use Rattle.rb_connections.specs.StandsFor.{buffer_size, IsReading, StandsForConnection, Table, StandsForConnections, held_in, AreWithin}
-use Rattle.rb_model.specs.Served.{Source}
+use Rattle.rb_registry.specs.Registry.{Registry}
 
 -- A call does an act of the model: whatever plain value `x` the old value stood for, the result is that of `act x`,
 -- and the new value stands for what `act x` leaves.
@@ -45,27 +45,27 @@ Lends {Held} {Plain} StandsFor show held result =
 
 -- ---- one slot
 
--- an act on the connection that a slot stands for, for every source of lists
+-- an act on the connection that a slot stands for, whichever registry lists are made from
 abbrev pub SlotActs : {Result : Type 0} → (Connection → Result × Connection) → Slot → Slot → Result → Type 0
-SlotActs act old new result = (source : Source) → Acts (StandsForConnection source) act old new result
+SlotActs act old new result = (registry : Registry) → Acts (StandsForConnection registry) act old new result
 
 -- From whatever connection the old slot stood for, the new one stands for what it becomes.
-abbrev pub SlotBecomesFrom : Source → (Connection → Connection) → Slot → Slot → Type 0
-SlotBecomesFrom source change old new =
-    (c : Connection) → StandsForConnection source old c → StandsForConnection source new (change c)
+abbrev pub SlotBecomesFrom : Registry → (Connection → Connection) → Slot → Slot → Type 0
+SlotBecomesFrom registry change old new =
+    (c : Connection) → StandsForConnection registry old c → StandsForConnection registry new (change c)
 
 -- n bytes that are pending are given on the connection that a slot stands for, or as many as there are
-abbrev pub SlotGives : Source → ℕ → ℕ → Slot → Slot → Type 0
-SlotGives source clock n old new = Acts (StandsForConnection source) (give clock n) old new tt
+abbrev pub SlotGives : Registry → ℕ → ℕ → Slot → Slot → Type 0
+SlotGives registry clock n old new = Acts (StandsForConnection registry) (give clock n) old new tt
 
 -- with its buffers emptied
 abbrev pub emptied_slot : Slot → Slot
 emptied_slot slot =
     record slot { buffer = record slot.buffer { bytes = [] }; window = record slot.window { bytes = [] } }
 
--- what a slot shows of its connection, for every source of lists
+-- what a slot shows of its connection, whichever registry lists are made from
 abbrev pub SlotShows : {Result : Type 0} → (Connection → Result) → Slot → Result → Type 0
-SlotShows show slot result = (source : Source) → Shows (StandsForConnection source) show slot result
+SlotShows show slot result = (registry : Registry) → Shows (StandsForConnection registry) show slot result
 
 -- A slot that stands for the connection, but for `since`, is about to be fed a piece behind the
 -- bytes `fed` of a record.
@@ -110,8 +110,8 @@ ReceivesPiece slot reader clock piece result =
 -- the new slot stands for the connection after the piece
 abbrev pub StandsBehindPiece : Slot → Slot → Reader → ℕ → List ℕ → Type 0
 StandsBehindPiece old new reader clock piece =
-    (source : Source) (c : Connection) (fed : List ℕ) → IsBeforePiece old reader clock c fed
-    → StandsForConnection source new (connection_after clock c (taking_on fed piece))
+    (registry : Registry) (c : Connection) (fed : List ℕ) → IsBeforePiece old reader clock c fed
+    → StandsForConnection registry new (connection_after clock c (taking_on fed piece))
 
 -- the buffer that the core handed in has these arguments after it
 abbrev pub KeepsArguments : Slot → Reader → ℕ → List ℕ → Kept → Kept → Type 0
@@ -133,26 +133,26 @@ SlotHasArguments piece slot before after = SlotShows (arguments_taken before.byt
 
 -- ---- the table
 
--- an act on the connections, for every source of lists
+-- an act on the connections, whichever registry lists are made from
 abbrev pub TableActs : {Result : Type 0} → (Connections → Result × Connections) → Table → Table → Result → Type 0
-TableActs act old new result = (source : Source) → Acts (StandsForConnections source) act old new result
+TableActs act old new result = (registry : Registry) → Acts (StandsForConnections registry) act old new result
 
--- what a table shows of them, for every source of lists
+-- what a table shows of them, whichever registry lists are made from
 abbrev pub TableShows : {Result : Type 0} → (Connections → Result) → Table → Result → Type 0
-TableShows show table result = (source : Source) → Shows (StandsForConnections source) show table result
+TableShows show table result = (registry : Registry) → Shows (StandsForConnections registry) show table result
 
--- the bytes that a table lends of them, or refuses, for every source of lists
+-- the bytes that a table lends of them, or refuses, whichever registry lists are made from
 abbrev pub TableLends : (Connections → Result (List ℕ) CoreFault) → Table → Result (Bor (List ℕ)) CoreFault → Type 0
-TableLends show table result = (source : Source) → Lends (StandsForConnections source) show table result
+TableLends show table result = (registry : Registry) → Lends (StandsForConnections registry) show table result
 
 -- From whatever connections the old table stood for, the new one stands for what they become.
-abbrev pub BecomesFrom : Source → (Connections → Connections) → Table → Table → Type 0
-BecomesFrom source change old new =
-    (c : Connections) → StandsForConnections source old c → StandsForConnections source new (change c)
+abbrev pub BecomesFrom : Registry → (Connections → Connections) → Table → Table → Type 0
+BecomesFrom registry change old new =
+    (c : Connections) → StandsForConnections registry old c → StandsForConnections registry new (change c)
 
--- the same for every source of lists
+-- the same, whichever registry lists are made from
 abbrev pub TableBecomes : (Connections → Connections) → Table → Table → Type 0
-TableBecomes change old new = (source : Source) → BecomesFrom source change old new
+TableBecomes change old new = (registry : Registry) → BecomesFrom registry change old new
 
 -- the arguments that the core has once a piece for the connection of a number was taken
 abbrev pub arguments_on : ℕ → List ℕ → List ℕ → Connections → List ℕ
@@ -179,9 +179,9 @@ abbrev pub KeepsWhole : ℕ → List ℕ → WholeRecord → Table → Type 0
 KeepsWhole id piece whole old = (before : List ℕ) → TableShows (arguments_on id before piece) old (kept_in whole)
 
 -- n bytes that are pending are given on the live connection of the number, or as many as there are
-abbrev pub TableGives : Source → ℕ → ℕ → ℕ → Table → Table → Result (Unit {0}) CoreFault → Type 0
-TableGives source id clock n old new result =
-    Acts (StandsForConnections source) (on_live id (give clock n)) old new result
+abbrev pub TableGives : Registry → ℕ → ℕ → ℕ → Table → Table → Result (Unit {0}) CoreFault → Type 0
+TableGives registry id clock n old new result =
+    Acts (StandsForConnections registry) (on_live id (give clock n)) old new result
 
 -- a table without connections, for at most so many, counted by this meter
 abbrev pub empty_table : ℕ → ℕ → Table
@@ -245,16 +245,16 @@ unfoldable pub wanted_slot : Wanted → List (ℕ × Slot) → Option (ℕ × Sl
 wanted_slot sought slots = find (λ (e : ℕ × Slot). is_wanted_slot sought e.1) slots
 
 -- the first connection that is wanted, and its slot
-pub record IsFound (source : Source) (sought : Wanted) (all : List Connection) (slot : Slot) : Type 0 where
+pub record IsFound (registry : Registry) (sought : Wanted) (all : List Connection) (slot : Slot) : Type 0 where
   pub connection : Connection
   pub found : find (is_wanted sought) all ≡ Some connection
-  pub stands : StandsForConnection source slot connection
+  pub stands : StandsForConnection registry slot connection
 
 -- The first connection that is wanted was found, or there is none.
 abbrev pub Finds : Wanted → Table → Option (Bor Slot) → Type 0
 Finds sought table result =
-    (source : Source) (c : Connections) → StandsForConnections source table c
-    → MatchOption result (find (is_wanted sought) c.all ≡ None) (λ slot. IsFound source sought c.all slot.now)
+    (registry : Registry) (c : Connections) → StandsForConnections registry table c
+    → MatchOption result (find (is_wanted sought) c.all ≡ None) (λ slot. IsFound registry sought c.all slot.now)
 
 -- ---- what is true of all slots and buffers
 

@@ -5,7 +5,7 @@ use Rattle.rb_model.specs.declared.types.Standing.{Standing}
 use Rattle.rb_model.specs.State.{Connections}
 use Rattle.rb_model.specs.Connections.{live_connection}
 use Rattle.rb_model.specs.Standings.{standing_in, standing_on}
-use Rattle.rb_model.specs.Served.{Source}
+use Rattle.rb_registry.specs.Registry.{Registry}
 use Rattle.rb_connections.specs.declared.slot.Slot.{Slot}
 use Rattle.rb_connections.specs.declared.slot.Received.{Received}
 use Rattle.rb_connections.specs.StandsFor.{Table, StandsForConnections}
@@ -17,7 +17,7 @@ standing_of_slot slot = standing_in (phase_like slot.stage)
 -- So stands the connection of the number in whatever the table stands for.
 abbrev pub IsStanding : ℕ → Table → Standing → Type 0
 IsStanding id table standing =
-    (source : Source) (c : Connections) → StandsForConnections source table c → standing ≡ standing_on (live_connection id c.all)
+    (registry : Registry) (c : Connections) → StandsForConnections registry table c → standing ≡ standing_on (live_connection id c.all)
 
 -- the same of a result, if it is none that is refused
 abbrev pub TellsStanding : ℕ → Table → Result Standing CoreFault → Type 0

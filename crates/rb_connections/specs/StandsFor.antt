@@ -9,7 +9,7 @@ use Rattle.rb_feed.specs.declared.feed.CallFeed.{CallFeed}
 use Rattle.rb_feed.specs.Feeds.{StandsForCall}
 use Rattle.rb_proto.specs.ListReplies.{rest_of}
 use Rattle.rb_model.specs.Calls.{longest_reply, kept_of, longest_kept}
-use Rattle.rb_model.specs.Served.{Source}
+use Rattle.rb_registry.specs.Registry.{Registry}
 use Rattle.rb_model.specs.State.{Owed, Phase, Connection, Connections}
 use Rattle.rb_model.specs.Connections.{longest_fragment}
 use Rattle.rb_model.specs.State.Phase.{Idle, Reading, Owing, Awaiting, Lost}
@@ -20,6 +20,7 @@ use Rattle.rb_connections.specs.declared.giving.Rest.TheVariants as rests
 use Rattle.rb_connections.specs.declared.slot.Stage.{Stage}
 use Rattle.rb_connections.specs.declared.slot.Stage.TheVariants as stages
 use Rattle.rb_connections.specs.declared.slot.Slot.{Slot}
+use Rattle.rb_model.specs.Bounds.{connection_charge}
 
 -- a connection's buffer has the arguments of the call that is read, and later the reply to it
 unfoldable pub buffer_size : ℕ
@@ -49,10 +50,10 @@ pub record IsShown (reply : List ℕ) (shown : Kept) (o : Owed) : Type 0 where
   pub shown_is : shown.bytes ≡ window o
   pub cap : shown.cap ≡ longest_fragment
 
--- the bytes that are not shown yet: those of the buffer from a place on, or those of a list, as its source makes them
-abbrev pub rest_in : Source → List ℕ → Rest → List ℕ
-rest_in source buffer (rests.Held start) = drop start buffer
-rest_in source buffer (rests.Listed list) = rest_of source.host source.registry list
+-- the bytes that are not shown yet: those of the buffer from a place on, or those of a list, which are made from this registry
+abbrev pub rest_in : Registry → List ℕ → Rest → List ℕ
+rest_in registry buffer (rests.Held start) = drop start buffer
+rest_in registry buffer (rests.Listed list) = rest_of registry list
 
 -- the stamp of the reply, where it is a list: how many changes were accepted before it began
 abbrev pub stamp_of_rest : Rest → Option ℕ
@@ -60,38 +61,38 @@ stamp_of_rest (rests.Held start) = None
 stamp_of_rest (rests.Listed list) = Some list.stamp
 
 -- The window and the rest behind it stand for what is owed: so many bytes of the fragment that is shown were given.
-pub record IsGiving (source : Source) (giving : Giving) (buffer : List ℕ) (shown : Kept) (o : Owed) : Type 0 where
+pub record IsGiving (registry : Registry) (giving : Giving) (buffer : List ℕ) (shown : Kept) (o : Owed) : Type 0 where
   pub reply : List ℕ
   pub shows : IsShown reply shown o
   pub stamp : o.stamp ≡ stamp_of_rest giving.rest
   pub place : giving.place ≡ o.given % longest_fragment
-  pub rest : rest_in source buffer giving.rest ≡ drop (fragment_size * (o.given / longest_fragment + 1)) reply
+  pub rest : rest_in registry buffer giving.rest ≡ drop (fragment_size * (o.given / longest_fragment + 1)) reply
   pub last : giving.last ≡ nat_le (length reply) (fragment_size * (o.given / longest_fragment + 1))
 
 -- ---- one connection
 
--- The stage and the buffers hold what there is to know of the phase, but for the rest of a list, which is made from its source.
-abbrev pub StandsForPhase : Source → Stage → Kept → Kept → Phase → Type 0
-StandsForPhase source stages.Idle buffer window Idle = (buffer.bytes ≡ []) × (window.bytes ≡ [])
-StandsForPhase source (stages.Reading reader) buffer window (Reading fed) = IsReading reader buffer fed × (window.bytes ≡ [])
-StandsForPhase source (stages.Owing giving) buffer window (Owing o) = IsGiving source giving buffer.bytes window o
-StandsForPhase source stages.Awaiting buffer window Awaiting = (buffer.bytes ≡ []) × (window.bytes ≡ [])
-StandsForPhase source stages.Lost buffer window Lost = ⊤
-StandsForPhase source stage buffer window phase = ⊥
+-- The stage and the buffers hold what there is to know of the phase, but for the rest of a list, which is made from this registry.
+abbrev pub StandsForPhase : Registry → Stage → Kept → Kept → Phase → Type 0
+StandsForPhase registry stages.Idle buffer window Idle = (buffer.bytes ≡ []) × (window.bytes ≡ [])
+StandsForPhase registry (stages.Reading reader) buffer window (Reading fed) = IsReading reader buffer fed × (window.bytes ≡ [])
+StandsForPhase registry (stages.Owing giving) buffer window (Owing o) = IsGiving registry giving buffer.bytes window o
+StandsForPhase registry stages.Awaiting buffer window Awaiting = (buffer.bytes ≡ []) × (window.bytes ≡ [])
+StandsForPhase registry stages.Lost buffer window Lost = ⊤
+StandsForPhase registry stage buffer window phase = ⊥
 
-pub record StandsForConnection (source : Source) (slot : Slot) (c : Connection) : Type 0 where
+pub record StandsForConnection (registry : Registry) (slot : Slot) (c : Connection) : Type 0 where
   pub number : slot.number ≡ c.number
   pub peer : slot.peer ≡ c.peer
   pub since : slot.since ≡ c.since
-  pub phase : StandsForPhase source slot.stage slot.buffer slot.window c.phase
+  pub phase : StandsForPhase registry slot.stage slot.buffer slot.window c.phase
 
--- the bytes of its buffer and its window count, and 128 for its fixed part
+-- the bytes of its buffer and its window count, and its fixed part
 abbrev pub charge : Slot → ℕ
-charge slot = 128 + length slot.buffer.bytes + length slot.window.bytes
+charge slot = connection_charge + length slot.buffer.bytes + length slot.window.bytes
 
 -- with a full buffer and a full window
 abbrev pub most_charge : ℕ
-most_charge = 128 + buffer_size + longest_fragment
+most_charge = connection_charge + buffer_size + longest_fragment
 
 abbrev pub IsWithin : Slot → Type 0
 IsWithin slot = charge slot ≤ most_charge
@@ -106,8 +107,8 @@ pub record Table : Type 0 where
   pub conns : ℕ
   pub tie : ℕ
 
-pub record StandsForConnections (source : Source) (table : Table) (connections : Connections) : Type 0 where
-  pub all : AllZip (StandsForConnection source) (values_of table.slots) connections.all
+pub record StandsForConnections (registry : Registry) (table : Table) (connections : Connections) : Type 0 where
+  pub all : AllZip (StandsForConnection registry) (values_of table.slots) connections.all
   pub next : connections.next ≡ table.last_number + 1
 
 abbrev pub held_in : List Slot → ℕ

@@ -12,11 +12,12 @@ ghost use Rattle.rb_connections.specs.Listings.{began_before_earliest, with_evic
 ghost use Rattle.rb_model.specs.Costs.{evict_cost};
 
 use crate::hints::Hints;
-use crate::slot::{Buffers, CHARGE, Received, Slot, Stage, Wanted, WholeRecord};
+use crate::slot::{Buffers, CONNECTION_CHARGE, Received, Slot, Stage, Wanted, WholeRecord};
+use rb_address::Peer;
 use rb_forward::soonest_in;
 use rb_model::{CoreFault, LONGEST_KEPT, LONGEST_REPLY, Served, Standing};
 use rb_registry::Registry;
-use rb_rpc::{LONGEST_FRAGMENT, Peer, one_fragment};
+use rb_rpc::{LONGEST_FRAGMENT, one_fragment};
 use rb_xdr::{Kept, Meter, NoMemory, Pool};
 use std::alloc::Global;
 use std::marker::Model;
@@ -229,7 +230,7 @@ impl Connections {
     ghost use Rattle.rb_model.specs.Connections.{on_live, open_in_table, close_in_table, next_lost_in_table, longest_fragment};
     ghost use Rattle.rb_connections.specs.Giving.{pending_count};
     ghost use Rattle.rb_connections.specs.Settling.{Settles};
-    ghost use Rattle.rb_model.specs.Served.{kind_in, IsWritten, source_for};
+    ghost use Rattle.rb_model.specs.Served.{kind_in, IsWritten};
     ghost use Rattle.rb_connections.specs.Listings.{CanContinueAll, KeepsListing, EvictsBefore, stamps_of, IsOldest};
     ghost use Rattle.rb_model.specs.Losses.{expire_first};
     ghost use Rattle.rb_model.specs.Standings.{as_done, without_standing};
@@ -276,7 +277,7 @@ impl Connections {
         }
         let Buffers { buffer, window } = take_buffers(&mut self.spare, meter);
         self.last_number += 1;
-        self.held += CHARGE;
+        self.held += CONNECTION_CHARGE;
         let slot = Slot {
             number: self.last_number,
             peer,
@@ -380,7 +381,6 @@ impl Connections {
         id: u64,
         served: Served,
         clock: u64,
-        host: [u8; 4],
         registry: &Registry,
         draft: &mut Kept,
         meter: &mut Meter,
@@ -389,11 +389,10 @@ impl Connections {
         requires tie { meter.old.tie ≡ self.old.tie }
         requires draft { IsDraft meter.old.tie draft.old }
         requires written { IsWritten served draft.old.bytes }
-        requires lists { CanContinueAll (source_for host registry.now) self.old }
-        ensures stands { Settles
-            (source_for host registry.now) id clock served draft.old.bytes self.old self.new }
+        requires lists { CanContinueAll registry.now self.old }
+        ensures stands { Settles registry.now id clock served draft.old.bytes self.old self.new }
         ensures standing { IsStanding id self.new result }
-        ensures lists { CanContinueAll (source_for host registry.now) self.new }
+        ensures lists { CanContinueAll registry.now self.new }
         ensures others { OnlyIsFreed id self.old self.new }
         ensures awaits { AwaitsIfForwarded (kind_in served) id self.old self.new }
         ensures stays { StaysTable self.old self.new }
@@ -405,7 +404,7 @@ impl Connections {
             draft.clear(meter);
             return Standing::Lost;
         };
-        slot.settle(served, clock, host, registry, draft, meter);
+        slot.settle(served, clock, registry, draft, meter);
         let standing = slot.standing();
         self.held += slot.charge(meter);
         standing
@@ -419,7 +418,6 @@ impl Connections {
         id: u64,
         n: usize,
         clock: u64,
-        host: [u8; 4],
         registry: &Registry,
         draft: &mut Kept,
         meter: &mut Meter,
@@ -427,11 +425,10 @@ impl Connections {
         requires registry { meter.old.tie ≡ registry.now.tie }
         requires tie { meter.old.tie ≡ self.old.tie }
         requires draft { IsEmptyDraft meter.old.tie draft.old }
-        requires lists { CanContinueAll (source_for host registry.now) self.old }
-        ensures acts { TableGives
-            (source_for host registry.now) id clock n self.old self.new (as_done result) }
+        requires lists { CanContinueAll registry.now self.old }
+        ensures acts { TableGives registry.now id clock n self.old self.new (as_done result) }
         ensures stands { TellsStanding id self.new result }
-        ensures lists { CanContinueAll (source_for host registry.now) self.new }
+        ensures lists { CanContinueAll registry.now self.new }
         ensures free { NoneIsFreed self.old self.new }
         ensures refused { OnErr result (self.new ≡ self.old) }
         ensures stays { StaysTable self.old self.new }
@@ -442,7 +439,7 @@ impl Connections {
         else {
             return Err(CoreFault::Gone);
         };
-        slot.give(n, clock, host, registry, draft, meter);
+        slot.give(n, clock, registry, draft, meter);
         let standing = slot.standing();
         self.held += slot.charge(meter);
         Ok(standing)

@@ -6,7 +6,6 @@ ghost use Rattle.std.specs.Prelude.{◌≡◌, ◌+◌, ◌<◌, ◌≤◌, [], 
 ghost use Rattle.rb_xdr.specs.Meter.{PaysAtMost};
 ghost use Rattle.rb_xdr.specs.Puts.{Appends, HasRoom};
 ghost use Rattle.rb_model.specs.Connections.{longest_fragment};
-ghost use Rattle.rb_model.specs.Served.{source_for};
 ghost use Rattle.rb_connections.specs.StandsFor.{rest_in};
 ghost use Rattle.rb_connections.specs.Giving.{CanMake, ShowsNext, ShowsHeld, ShowsList, with_fragment};
 ghost use Rattle.rb_rpc.specs.Records.{fragment_size};
@@ -123,7 +122,6 @@ fn show_held(start: usize, buffer: &Kept, window: &mut Kept, meter: &mut Meter) 
 fn show_list(
     mut list: ListReply,
     registry: &Registry,
-    host: [u8; 4],
     window: &mut Kept,
     draft: &mut Kept,
     meter: &mut Meter,
@@ -132,13 +130,13 @@ fn show_list(
     requires window_tie { meter.old.tie ≡ window.old.tie }
     requires draft { IsDraft meter.old.tie draft.old }
     requires cap { window.old.cap ≡ longest_fragment }
-    requires made { CanMake (source_for host registry.now) (Listed list) }
-    requires some { 0 < length (rest_in (source_for host registry.now) [] (Listed list)) }
-    ensures shows { ShowsList (source_for host registry.now) list window.old window.new result }
+    requires made { CanMake registry.now (Listed list) }
+    requires some { 0 < length (rest_in registry.now [] (Listed list)) }
+    ensures shows { ShowsList registry.now list window.old window.new result }
     ensures draft { IsEmptyDraft meter.old.tie draft.new }
     ensures cost { PaysAtMost meter.old meter.new (listed_cost (row_count registry.now)) }
 {
-    let part = list.next_part(registry, host, draft, meter);
+    let part = list.next_part(registry, draft, meter);
     let data = draft.lend(part.start..part.end, meter);
     show(data, part.last, window, meter);
     draft.clear(meter);
@@ -155,7 +153,6 @@ pub fn show_next(
     rest: Rest,
     buffer: &Kept,
     registry: &Registry,
-    host: [u8; 4],
     window: &mut Kept,
     draft: &mut Kept,
     meter: &mut Meter,
@@ -165,16 +162,16 @@ pub fn show_next(
     requires window_tie { meter.old.tie ≡ window.old.tie }
     requires draft { IsEmptyDraft meter.old.tie draft.old }
     requires cap { window.old.cap ≡ longest_fragment }
-    requires made { CanMake (source_for host registry.now) rest }
-    requires some { 0 < length (rest_in (source_for host registry.now) buffer.now.bytes rest) }
-    ensures shows { ShowsNext (source_for host registry.now) buffer.now.bytes rest
+    requires made { CanMake registry.now rest }
+    requires some { 0 < length (rest_in registry.now buffer.now.bytes rest) }
+    ensures shows { ShowsNext registry.now buffer.now.bytes rest
         window.old window.new result }
     ensures draft { IsEmptyDraft meter.old.tie draft.new }
     ensures cost { PaysAtMost meter.old meter.new (next_cost registry.now rest) }
 {
     match rest {
         Rest::Held(start) => show_held(start, buffer, window, meter),
-        Rest::Listed(list) => show_list(list, registry, host, window, draft, meter),
+        Rest::Listed(list) => show_list(list, registry, window, draft, meter),
     }
 }
 

@@ -11,4 +11,4 @@ mod slot;
 
 pub use connections::{BUFFER_SIZE, Connections};
 pub use giving::give_whole;
-pub use slot::{EndedRecord, Received, WholeRecord};
+pub use slot::{CONNECTION_CHARGE, EndedRecord, Received, WholeRecord};

@@ -5,16 +5,17 @@ ghost use Rattle.rb_xdr.specs.Meter.{Pays, PaysAtMost};
 use crate::deadlines::time_in;
 use crate::giving::{Giving, Rest, show_next};
 use crate::reading::{Fed, Reader};
+use rb_address::{Host, Peer};
 use rb_model::{Outcome, Served, Standing};
 use rb_proto::ListReply;
 use rb_registry::Registry;
-use rb_rpc::{Peer, Verdict};
+use rb_rpc::Verdict;
 use rb_xdr::{Kept, Meter, NoMemory};
 use std::alloc::Global;
 use std::mem;
 
 /// What the fixed part of a connection counts as, in bytes.
-pub const CHARGE: u64 = 128;
+pub const CONNECTION_CHARGE: u64 = 128;
 
 /// The state of a connection, as the phase of the model.
 #[derive(Clone, Copy, Debug, PartialEq, Eq)]
@@ -143,10 +144,7 @@ impl Slot {
         let meter = &mut Meter::new();
         Ok(Slot {
             number: 0,
-            peer: Peer {
-                host: [0; 4],
-                port: 0,
-            },
+            peer: Peer::new(Host::V4([0; 4]), 0),
             stage: Stage::Idle,
             since: 0,
             buffer: Kept::new(alloc, 0, meter)?,
@@ -159,7 +157,7 @@ impl Slot {
     ghost use Rattle.rb_model.specs.Connections.{pending_in, longest_fragment};
     ghost use Rattle.rb_connections.specs.Slots.{is_due_slot, SlotActs, SlotGives, SlotHasArguments, SlotShows, emptied_slot, ReceivesPiece, StandsBehindPiece, KeepsArguments, HasBuffers, IsDraft, IsEmptyDraft, StaysSlot, take_piece, received_whole, is_lost_stage, is_idle_stage, is_wanted_slot};
     ghost use Rattle.rb_connections.specs.StandsFor.{StandsForConnection, charge, most_charge, rest_in};
-    ghost use Rattle.rb_model.specs.Served.{source_for, IsWritten, kind_in};
+    ghost use Rattle.rb_model.specs.Served.{IsWritten, kind_in};
     ghost use Rattle.rb_model.specs.Calls.{kept_of};
     ghost use Rattle.rb_connections.specs.Listings.{stamp_of_slot, CanContinueSlot, SlotKeepsListing, CanContinueSlotByAll};
     ghost use Rattle.rb_connections.specs.Deadlines.{slot_deadline};
@@ -346,7 +344,6 @@ impl Slot {
         &mut self,
         served: Served,
         clock: u64,
-        host: [u8; 4],
         registry: &Registry,
         draft: &mut Kept,
         meter: &mut Meter,
@@ -355,11 +352,10 @@ impl Slot {
         requires buffers { HasBuffers meter.old.tie self.old }
         requires draft { IsDraft meter.old.tie draft.old }
         requires written { IsWritten served draft.old.bytes }
-        ensures stands { SlotSettles
-            (source_for host registry.now) clock served draft.old.bytes self.old self.new }
+        ensures stands { SlotSettles registry.now clock served draft.old.bytes self.old self.new }
         ensures awaits { kind_in served ≡ Outcome.Forwarded
             → is_awaiting_stage self.new.stage ≡ true }
-        ensures lists { CanContinueSlot (source_for host registry.now) self.new }
+        ensures lists { CanContinueSlot registry.now self.new }
         ensures stays { StaysSlot meter.old.tie self.old self.new }
         ensures draft { IsEmptyDraft meter.old.tie draft.new }
         ensures cost { PaysAtMost meter.old meter.new (answered_cost registry.now served) }
@@ -381,44 +377,28 @@ impl Slot {
             Served::Answered(Outcome::Reply) => {
                 self.buffer.clear(meter);
                 mem::swap(&mut self.buffer, draft);
-                self.show(Rest::Held(0), host, registry, draft, meter);
+                self.show(Rest::Held(0), registry, draft, meter);
             }
             Served::Listed(xid, listing) => {
                 self.buffer.clear(meter);
                 let list = ListReply::new(xid, listing, registry);
-                self.show(Rest::Listed(list), host, registry, draft, meter);
+                self.show(Rest::Listed(list), registry, draft, meter);
             }
         }
     }
 
     /// Puts the next fragment of a reply in its window, where `rest` was not shown yet.
-    fn show(
-        &mut self,
-        rest: Rest,
-        host: [u8; 4],
-        registry: &Registry,
-        draft: &mut Kept,
-        meter: &mut Meter,
-    )
+    fn show(&mut self, rest: Rest, registry: &Registry, draft: &mut Kept, meter: &mut Meter)
         requires registry { meter.old.tie ≡ registry.now.tie }
         requires buffers { HasBuffers meter.old.tie self.old }
         requires draft { IsEmptyDraft meter.old.tie draft.old }
-        requires made { CanMake (source_for host registry.now) rest }
-        requires some { 0 < length (rest_in (source_for host registry.now)
-            self.old.buffer.bytes rest) }
-        ensures shows { SlotShowsNext (source_for host registry.now) rest self.old self.new }
+        requires made { CanMake registry.now rest }
+        requires some { 0 < length (rest_in registry.now self.old.buffer.bytes rest) }
+        ensures shows { SlotShowsNext registry.now rest self.old self.new }
         ensures draft { IsEmptyDraft meter.old.tie draft.new }
         ensures cost { PaysAtMost meter.old meter.new (next_cost registry.now rest) }
     {
-        let giving = show_next(
-            rest,
-            &self.buffer,
-            registry,
-            host,
-            &mut self.window,
-            draft,
-            meter,
-        );
+        let giving = show_next(rest, &self.buffer, registry, &mut self.window, draft, meter);
         self.stage = Stage::Owing(giving);
     }
 
@@ -428,7 +408,6 @@ impl Slot {
         &mut self,
         n: usize,
         clock: u64,
-        host: [u8; 4],
         registry: &Registry,
         draft: &mut Kept,
         meter: &mut Meter,
@@ -436,10 +415,10 @@ impl Slot {
         requires registry { meter.old.tie ≡ registry.now.tie }
         requires buffers { HasBuffers meter.old.tie self.old }
         requires draft { IsEmptyDraft meter.old.tie draft.old }
-        requires lists { CanContinueSlot (source_for host registry.now) self.old }
-        ensures acts { SlotGives (source_for host registry.now) clock n self.old self.new }
+        requires lists { CanContinueSlot registry.now self.old }
+        ensures acts { SlotGives registry.now clock n self.old self.new }
         ensures awaits { is_awaiting_stage self.new.stage ≡ is_awaiting_stage self.old.stage }
-        ensures lists { CanContinueSlot (source_for host registry.now) self.new }
+        ensures lists { CanContinueSlot registry.now self.new }
         ensures stays { StaysSlot meter.old.tie self.old self.new }
         ensures draft { IsEmptyDraft meter.old.tie draft.new }
         ensures cost { PaysAtMost meter.old meter.new (given_cost (row_count registry.now)) }
@@ -461,7 +440,7 @@ impl Slot {
             self.buffer.clear(meter);
             self.window.clear(meter);
         } else {
-            self.show(giving.rest, host, registry, draft, meter);
+            self.show(giving.rest, registry, draft, meter);
         }
     }
 
@@ -473,7 +452,7 @@ impl Slot {
         ensures within { result ≤ most_charge }
         ensures cost { Pays meter.old meter.new 2 }
     {
-        CHARGE + self.buffer.len(meter) as u64 + self.window.len(meter) as u64
+        CONNECTION_CHARGE + self.buffer.len(meter) as u64 + self.window.len(meter) as u64
     }
 
     /// How many bytes are pending.

@@ -1,7 +1,7 @@
 -- What serving a message leaves, from what its parts do.
 use Rattle.std.specs.Prelude.{All}
 use Rattle.std.proofs.Common.{◌≡◌, ◌≤◌, false, ℕ, List, sym, ap, subst, ◌∙◌}
-use Rattle.rb_rpc.specs.declared.peer.Caller.{Caller}
+use Rattle.rb_rpc.specs.declared.caller.Caller.{Caller}
 use Rattle.rb_registry.specs.Cursors.{GoesOn}
 use Rattle.rb_proto.specs.declared.books.Books.{Books}
 use Rattle.rb_proto.specs.declared.context.Context.{Context}
@@ -15,29 +15,21 @@ use Rattle.rb_connections.specs.StandsFor.{Table}
 use Rattle.rb_connections.specs.Slots.{StaysTable}
 use Rattle.rb_connections.specs.Listings.{CanContinueAll, stamps_of}
 use Rattle.rb_connections.proofs.ListsGoOn.{lists_on, stands_on, stamps_low}
-use Rattle.rb_core.specs.StandsFor.{Held, source_of}
+use Rattle.rb_core.specs.StandsFor.{Held}
 use Rattle.rb_core.specs.Core.{context_of}
 use Rattle.rb_core.specs.Eviction.{Evicts, ServesInRoom}
-use Rattle.rb_serving.specs.Serving.{source_in}
-use Rattle.rb_core.proofs.Steps.{Served, same_source}
+use Rattle.rb_core.proofs.Steps.{Served, same_registry}
 
 -- what a call sees, of what is held by its other name
 pub sees : (view now : Held) (context : Context) (caller : Caller) → view ≡ now → context ≡ context_of now caller → context ≡ context_of view caller
 sees view now context caller same is = is ∙ ap (λ (h : Held). context_of h caller) (sym same)
 
--- The source tells the lists that are given once a message was served too.
-pub lists_then : (host : List ℕ) (table : Table) (mid books : Books) → GoesOn mid.registry books.registry → books.registry.floor ≡ mid.registry.floor → CanContinueAll (source_in host mid) table → CanContinueAll (source_in host books) table
-lists_then host table mid books cursors floor told =
-    lists_on host mid.registry books.registry cursors table (subst (λ (f : ℕ). All (λ n. f ≤ n) (stamps_of table)) (sym floor) (stamps_low (source_in host mid) table told)) told
+-- The registry tells the lists that are given once a message was served too.
+pub lists_then : (table : Table) (mid books : Books) → GoesOn mid.registry books.registry → books.registry.floor ≡ mid.registry.floor → CanContinueAll mid.registry table → CanContinueAll books.registry table
+lists_then table mid books cursors floor told =
+    lists_on mid.registry books.registry cursors table (subst (λ (f : ℕ). All (λ n. f ≤ n) (stamps_of table)) (sym floor) (stamps_low mid.registry table told)) told
 
 module _ (view : Held) (caller : Caller) (context : Context) (is : context ≡ context_of view caller) where
-  pub lists_for_room : CanContinueAll (source_of view) view.connections → CanContinueAll (source_in context.listener.host view.books) view.connections
-  lists_for_room told = subst (λ (x : Context). CanContinueAll (source_in x.listener.host view.books) view.connections) (sym is) told
-
-  -- the same of what a call saw once it was answered
-  pub lists_for_view : (table : Table) (books : Books) → CanContinueAll (source_in context.listener.host books) table → CanContinueAll (source_in view.setting.listener.host books) table
-  lists_for_view table books told = subst (λ (x : Context). CanContinueAll (source_in x.listener.host books) table) is told
-
   pub served_by : (message : Message) (arguments : List ℕ) (table : Table) (books : Books) (given : Outcome) → ServesInRoom context message arguments view.connections view.books table books given
       → SameFrame view.books books → StaysTable view.connections table → Served (context_of view caller) view message arguments table books given
   served_by message arguments table books given acts frame stays =
@@ -49,16 +41,16 @@ nothing_evicts context message before old none = λ c l z h. (rw (not_asked cont
 
 module _ (context : Context) (message : Message) (arguments : List ℕ) (before : Table) (old : Books) (given : Outcome) where
   -- once room was made
-  pub serves_in_room : (table : Table) (mid books : Books) → GoesOn mid.registry books.registry → books.registry.floor ≡ mid.registry.floor → CanContinueAll (source_in context.listener.host mid) table
+  pub serves_in_room : (table : Table) (mid books : Books) → GoesOn mid.registry books.registry → books.registry.floor ≡ mid.registry.floor → CanContinueAll mid.registry table
       → Evicts context message before old table mid → ActsAs (outcome context message arguments) mid books given → ServesInRoom context message arguments before old table books given
   serves_in_room table mid books cursors floor told makes acts = record {
     gives = λ c l z h. acts.gives l (makes c l z h).1;
     ledger = λ c l z h. acts.stands l (makes c l z h).1;
-    connections = λ c l z h. stands_on context.listener.host mid.registry books.registry cursors table _ low told (makes c l z h).0;
+    connections = λ c l z h. stands_on mid.registry books.registry cursors table _ low told (makes c l z h).0;
   }
     where
       low : All (λ n. books.registry.floor ≤ n) (stamps_of table)
-      low = subst (λ (f : ℕ). All (λ n. f ≤ n) (stamps_of table)) (sym floor) (stamps_low (source_in context.listener.host mid) table told)
+      low = subst (λ (f : ℕ). All (λ n. f ≤ n) (stamps_of table)) (sym floor) (stamps_low mid.registry table told)
 
   -- where the message adds no row, and no row changes
   pub serves_without_room : (books : Books) → ((l : Ledger) → asks_room context message l ≡ false) → books.registry ≡ old.registry
@@ -66,5 +58,5 @@ module _ (context : Context) (message : Message) (arguments : List ℕ) (before 
   serves_without_room books none same acts = record {
     gives = λ c l z h. acts.gives l h;
     ledger = λ c l z h. acts.stands l h;
-    connections = λ c l z h. same_source context.listener.host old.registry books.registry before _ same (rw (not_asked context message c.all l (none l), none_evicted c) z);
+    connections = λ c l z h. same_registry old.registry books.registry before _ same (rw (not_asked context message c.all l (none l), none_evicted c) z);
   }

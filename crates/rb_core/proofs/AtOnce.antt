@@ -5,8 +5,8 @@ use Rattle.std.proofs.lemmas.Bool.{and_parts, le-ltb, lt-ltb, cases_lt, cond-fal
 use Rattle.std.proofs.lemmas.List.{take_all, length-take}
 use Rattle.rb_xdr.specs.Kept.{Kept}
 use Rattle.rb_rpc.specs.Records.{fragment_size, marked_reply}
-use Rattle.rb_rpc.specs.declared.peer.Peer.{Peer}
-use Rattle.rb_rpc.specs.declared.peer.Caller.TheVariants.{Tcp}
+use Rattle.rb_address.specs.declared.peer.Peer.{Peer}
+use Rattle.rb_rpc.specs.declared.caller.Caller.TheVariants.{Tcp}
 use Rattle.rb_proto.specs.declared.books.Books.{Books}
 use Rattle.rb_model.specs.declared.message.Message.{Message}
 use Rattle.rb_model.specs.declared.types.CoreFault.{CoreFault}
@@ -26,14 +26,14 @@ use Rattle.rb_model.specs.declared.served.Served.{Served as CodeServed}
 use Rattle.rb_model.specs.declared.served.Served.TheVariants.{Answered, Listed}
 use Rattle.rb_model.specs.declared.served.Outcome.TheVariants as outcomes
 use Rattle.rb_connections.specs.declared.slot.EndedRecord.{EndedRecord}
-use Rattle.rb_model.specs.Served.{Source, served_in}
+use Rattle.rb_registry.specs.Registry.{Registry}
+use Rattle.rb_model.specs.Served.{served_in}
 use Rattle.rb_connections.specs.StandsFor.{StandsForConnections, Table}
 use Rattle.rb_connections.specs.Slots.{Acts, Shows, StaysTable, take_piece, arguments_on}
 use Rattle.rb_connections.specs.Awaits.{has_idle}
 use Rattle.rb_connections.specs.Giving.{whole_length, whole_cost}
 use Rattle.rb_connections.proofs.IdleSlots.{Lives, idle_is_live}
-use Rattle.rb_core.specs.StandsFor.{Held, StandsFor, source_of}
-use Rattle.rb_serving.specs.Serving.{source_in}
+use Rattle.rb_core.specs.StandsFor.{Held, StandsFor}
 use Rattle.rb_core.specs.Core.{context_of, serve_ended}
 use Rattle.rb_model.specs.Exchanges.{at_once_in, at_once_on, at_once, pending_front, without_front, then_gave, exchange}
 use Rattle.rb_core.specs.AtOnce.{count_at_once, count_when_answered, answer_and_give, IsGivenAtOnce}
@@ -73,9 +73,9 @@ whole_leaves clock c reply given some is =
     ∙ ap (λ (p : Phase). record c { phase = p; since = clock }) (idle_then (length given) reply (omega (arith, ap (λ (xs : List ℕ). length xs) is)))
 
 -- Nothing is left of a reply that is given whole,
-pub leaves_none : (source : Source) (served : CodeServed) (before after : Kept) (given : List ℕ) → 0 < length given → IsGivenAtOnce served before after given
-    → Leaves (served_in source served before.bytes) Silent given
-leaves_none source served before after given some is = record {
+pub leaves_none : (registry : Registry) (served : CodeServed) (before after : Kept) (given : List ℕ) → 0 < length given → IsGivenAtOnce served before after given
+    → Leaves (served_in registry served before.bytes) Silent given
+leaves_none registry served before after given some is = record {
   all = λ none. absurd (omega (arith, some, ap (λ (xs : List ℕ). length xs) none));
   closes = rw is.is_reply refl;
   lives = λ more. rw is.is_reply refl;
@@ -136,12 +136,12 @@ marked_fits room reply = elim (cases_lt fragment_size (length reply)) [
 abbrev pub count_of : ℕ → Outcome → ℕ
 count_of room given = cond (is_no_call given) 0 (at_once_in room (phase_after given))
 
-pub counts_served : (room : ℕ) (source : Source) (served : CodeServed) (reply : List ℕ) → count_at_once room served reply ≡ count_of room (served_in source served reply)
-counts_served room source (Answered outcomes.NoCall) reply = refl
-counts_served room source (Answered outcomes.Reply) reply = sym (marked_fits room reply)
-counts_served room source (Answered outcomes.Forwarded) reply = refl
-counts_served room source (Answered outcomes.Silent) reply = refl
-counts_served room source (Listed xid listing) reply = refl
+pub counts_served : (room : ℕ) (registry : Registry) (served : CodeServed) (reply : List ℕ) → count_at_once room served reply ≡ count_of room (served_in registry served reply)
+counts_served room registry (Answered outcomes.NoCall) reply = refl
+counts_served room registry (Answered outcomes.Reply) reply = sym (marked_fits room reply)
+counts_served room registry (Answered outcomes.Forwarded) reply = refl
+counts_served room registry (Answered outcomes.Silent) reply = refl
+counts_served room registry (Listed xid listing) reply = refl
 
 keeps_live : (id clock : ℕ) (given : Outcome) → is_lost (phase_after given) ≡ false → IsFeeding id (settle clock given)
 unfolding is_live settle
@@ -161,14 +161,14 @@ pub answer_counts : (room : ℕ) (old : Held) (id : ℕ) (peer : Peer) (message 
 answer_counts room old id peer message arguments roomy books given served idle s h =
     let says = serve_gives old (Tcp id peer) message arguments roomy books given served s h in
     let conns : Connections = evict (crowd_in s (Tcp id peer) message) s.connections in
-    let lives = idle_is_live (source_in old.setting.listener.host books) id roomy conns (serve_connections old (Tcp id peer) message arguments roomy books given served s h) idle in
+    let lives = idle_is_live books.registry id roomy conns (serve_connections old (Tcp id peer) message arguments roomy books given served s h) idle in
     subst (λ (o : Outcome). cond (is_no_call o) 0 (at_once_on room (live_connection id (changed_at id (settle s.clock o) conns).all)) ≡ count_of room given) says
     (counts_settled room id s.clock given conns lives)
 
 -- A message from a connection is answered, and these bytes of the reply are given.
 pub answer_giving : (old : Held) (id : ℕ) (peer : Peer) (message : Message) (arguments : List ℕ) (roomy : Table) (books : Books) (given left : Outcome) (bytes : List ℕ) (table : Table)
     → Served (context_of old (Tcp id peer)) old message arguments roomy books given → StaysTable roomy table → Leaves given left bytes → has_idle id roomy ≡ true
-    → ((c : Connections) → StandsForConnections (source_in old.setting.listener.host books) roomy c → StandsForConnections (source_in old.setting.listener.host books) table (changed_at id (settle old.clock left) c))
+    → ((c : Connections) → StandsForConnections books.registry roomy c → StandsForConnections books.registry table (changed_at id (settle old.clock left) c))
     → Acts StandsFor (λ s. answer_and_give id (length bytes) (settle_on id (serve_message s (Tcp id peer) message arguments))) old (record old { connections = table; books = books }) (is_no_call given, bytes)
 unfolding pending
 answer_giving old id peer message arguments roomy books given left bytes table served stays leave idle settles = record {
@@ -176,7 +176,7 @@ answer_giving old id peer message arguments roomy books given left bytes table s
       let says = serve_gives old (Tcp id peer) message arguments roomy books given served s h in
       let among = serve_connections old (Tcp id peer) message arguments roomy books given served s h in
       let conns : Connections = evict (crowd_in s (Tcp id peer) message) s.connections in
-      let lives = idle_is_live (source_in old.setting.listener.host books) id roomy conns among idle in
+      let lives = idle_is_live books.registry id roomy conns among idle in
       both _ _ _ _ (ap is_no_call says)
       (subst (λ (o : Outcome). bytes ≡ take (length bytes) (pending_bytes (pending_at id (changed_at id (settle s.clock o) conns)))) says (in_front id given left bytes leave s.clock conns lives));
   stands = λ s h. record {
@@ -186,9 +186,9 @@ answer_giving old id peer message arguments roomy books given left bytes table s
     within = stays.within (served.stays.within h.within);
     connections =
         let conns : Connections = evict (crowd_in s (Tcp id peer) message) s.connections in
-        subst (λ (o : Outcome). StandsForConnections (source_in old.setting.listener.host books) table (changed_at id (with_given s.clock (length bytes)) (changed_at id (settle s.clock o) conns))) (serve_gives old (Tcp id peer) message arguments roomy books given served s h)
-        (subst (λ (n : ℕ). StandsForConnections (source_in old.setting.listener.host books) table (changed_at id (with_given n (length bytes)) (changed_at id (settle n given) conns))) h.clock
-        (subst (λ (c : Connections). StandsForConnections (source_in old.setting.listener.host books) table c) (given_then id given left bytes leave old.clock conns)
+        subst (λ (o : Outcome). StandsForConnections books.registry table (changed_at id (with_given s.clock (length bytes)) (changed_at id (settle s.clock o) conns))) (serve_gives old (Tcp id peer) message arguments roomy books given served s h)
+        (subst (λ (n : ℕ). StandsForConnections books.registry table (changed_at id (with_given n (length bytes)) (changed_at id (settle n given) conns))) h.clock
+        (subst (λ (c : Connections). StandsForConnections books.registry table c) (given_then id given left bytes leave old.clock conns)
         (settles conns (serve_connections old (Tcp id peer) message arguments roomy books given served s h))));
     limit = served.frame.limit ∙ h.limit;
     forwards = served.frame.cap ∙ h.forwards;
@@ -285,8 +285,8 @@ given_by_event now id n s late few = elim (none_or_more n) [ inl none ↦ of_non
 
 -- The record that ended is answered, and these bytes of the reply are given.
 pub exchange_ended : (old : Held) (now clock id : ℕ) (piece : List ℕ) (is : clock ≡ max old.clock now) (table : Table) (stays : StaysTable old.connections table)
-    (arguments : List ℕ) (holds : Shows (StandsForConnections (source_of old)) (arguments_on id old.arguments piece) old.connections arguments)
-    (count : ℕ) (said : EndedRecord) (new : Held) (closed : Bool) (given : List ℕ) → Acts (StandsForConnections (source_of old)) (on_live id (take_piece clock piece)) old.connections table (Ok (record { count = count; ended = Some said }))
+    (arguments : List ℕ) (holds : Shows (StandsForConnections old.books.registry) (arguments_on id old.arguments piece) old.connections arguments)
+    (count : ℕ) (said : EndedRecord) (new : Held) (closed : Bool) (given : List ℕ) → Acts (StandsForConnections old.books.registry) (on_live id (take_piece clock piece)) old.connections table (Ok (record { count = count; ended = Some said }))
     → Acts StandsFor (λ s. answer_and_give id (length given) (serve_ended id said arguments s)) (record old { clock = clock; connections = table; arguments = [] }) new (closed, given)
     → Acts StandsFor (giving_by now id piece (length given)) old new (Ok (record { count = count; closed = closed }), given)
 exchange_ended old now clock id piece is table stays arguments holds count said new closed given acts answers = record {
@@ -320,8 +320,8 @@ whole_few room n = elim (eqb room 0) as (λ b. cond b 0 (n + 2) ≤ n + 2) [ tru
 
 -- as many as the answer gives
 pub counted_ended : (old : Held) (now clock id : ℕ) (piece : List ℕ) (is : clock ≡ max old.clock now) (table : Table) (stays : StaysTable old.connections table)
-    (arguments : List ℕ) (holds : Shows (StandsForConnections (source_of old)) (arguments_on id old.arguments piece) old.connections arguments)
-    (count room n : ℕ) (said : EndedRecord) → Acts (StandsForConnections (source_of old)) (on_live id (take_piece clock piece)) old.connections table (Ok (record { count = count; ended = Some said }))
+    (arguments : List ℕ) (holds : Shows (StandsForConnections old.books.registry) (arguments_on id old.arguments piece) old.connections arguments)
+    (count room n : ℕ) (said : EndedRecord) → Acts (StandsForConnections old.books.registry) (on_live id (take_piece clock piece)) old.connections table (Ok (record { count = count; ended = Some said }))
     → ((s : State) → StandsFor (record old { clock = clock; connections = table; arguments = [] }) s → n ≡ count_when_answered room id (serve_ended id said arguments s))
     → (s : State) → StandsFor old s → n ≡ at_once room id (live_connection id s.connections.all) (bytes s now id piece)
 counted_ended old now clock id piece is table stays arguments holds count room n said acts counts s h =

@@ -4,7 +4,7 @@ use Rattle.std.proofs.Common.{◌≡◌, ◌≤◌, ℕ, ◌+◌, ◌*◌, max, 
 use Rattle.std.proofs.lemmas.List.{length-take}
 use Rattle.rb_xdr.specs.Meter.{Meter, PaysAtMost}
 use Rattle.rb_xdr.specs.Ordered.{looks}
-use Rattle.rb_rpc.specs.declared.peer.Peer.{Peer}
+use Rattle.rb_address.specs.declared.peer.Peer.{Peer}
 use Rattle.rb_rpc.specs.Records.{first_record}
 use Rattle.rb_feed.specs.Feeds.{arguments_of}
 use Rattle.rb_registry.specs.Registry.{slots_of}

@@ -9,14 +9,13 @@ use Rattle.rb_connections.specs.StandsFor.{Table}
 use Rattle.rb_connections.specs.Slots.{StaysTable, IsDraft}
 use Rattle.rb_connections.specs.Listings.{CanContinueAll}
 use Rattle.rb_core.specs.Awaits.{AreAwaited}
-use Rattle.rb_serving.specs.Serving.{source_in}
 use Rattle.rb_core.specs.Core.{IsCore}
 
 -- with other connections, books and buffers
 pub core_changed : (setting : Setting) (old new : Table) (books left : Books) (reply written draft after arguments ended : Kept) (len count : ℕ)
     → IsCore setting old books reply draft arguments len → StaysTable old new → SameFrame books left
     → written.tie ≡ reply.tie → written.cap ≡ reply.cap → count ≡ length written.bytes → length written.bytes ≤ longest_reply
-    → AreAwaited left.forwards new → CanContinueAll (source_in setting.listener.host left) new
+    → AreAwaited left.forwards new → CanContinueAll left.registry new
     → IsDraft written.tie after → after.bytes ≡ [] → IsDraft written.tie ended
     → IsCore setting new left written after ended count
 core_changed setting old new books left reply written draft after arguments ended len count h stays frame tie cap counted short awaited told is_draft empty has_arguments = record {
@@ -46,7 +45,7 @@ core_changed setting old new books left reply written draft after arguments ende
 -- with other connections, draft and arguments
 pub core_moved : (setting : Setting) (old new : Table) (books : Books) (reply draft after arguments ended : Kept) (len : ℕ)
     → IsCore setting old books reply draft arguments len → StaysTable old new → AreAwaited books.forwards new
-    → (CanContinueAll (source_in setting.listener.host books) old → CanContinueAll (source_in setting.listener.host books) new)
+    → (CanContinueAll books.registry old → CanContinueAll books.registry new)
     → IsDraft reply.tie after → after.bytes ≡ [] → IsDraft reply.tie ended
     → IsCore setting new books reply after ended len
 core_moved setting old new books reply draft after arguments ended len h stays awaited told =

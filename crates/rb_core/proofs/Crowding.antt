@@ -7,7 +7,7 @@ use Rattle.std.proofs.lemmas.Bool.{lt-ltb, le-ltb, ltb-true, ltb-false}
 use Rattle.std.proofs.lemmas.Bool.Decides.{nat_tests}
 use Rattle.std.proofs.lemmas.List.Elements.{All-head, All-tail, All-contains}
 use Rattle.rb_registry.specs.declared.slot.Slot.{Slot as RowSlot}
-use Rattle.rb_registry.specs.Registry.{removals_of}
+use Rattle.rb_registry.specs.Registry.{Registry, removals_of}
 use Rattle.rb_registry.specs.Table.{stamp_named, later_than, IsLeast}
 use Rattle.rb_registry.specs.Slots.{is_dropped, removed_by, all_slots}
 use Rattle.rb_proto.specs.declared.context.Context.{Context}
@@ -20,7 +20,6 @@ use Rattle.rb_model.specs.declared.message.Message.{Message}
 use Rattle.rb_model.specs.declared.message.Message.TheVariants as says
 use Rattle.rb_model.specs.State.{Connections}
 use Rattle.rb_model.specs.Losses.{list_stamps, is_needed_for, removals_by, needed_removals}
-use Rattle.rb_model.specs.Served.{Source}
 use Rattle.rb_connections.specs.StandsFor.{Table, StandsForConnections}
 use Rattle.rb_connections.specs.Listings.{CanContinueAll, stamps_of, IsOldest, IsEarliest}
 use Rattle.rb_connections.proofs.ListsGoOn.{stamps_reach, stamps_low, begins_alike}
@@ -79,21 +78,21 @@ none_later [] = refl
 none_later (x ∷ xs) = none_later xs
 
 -- after a trim to the oldest list, the retained rows are those that a list needs
-pub kept_are : (source : Source) (table : Table) (c : Connections) (books : Books) (l : Ledger) (oldest : Option ℕ) (before : List ℕ)
-    → CanContinueAll source table → StandsForConnections source table c → IsOldest (stamps_of table) oldest → StandsForLedger books l
-    → books.registry.floor ≡ max source.registry.floor (stamp_named source.registry oldest) → removals_of books.registry ≡ later_than oldest before
+pub kept_are : (registry : Registry) (table : Table) (c : Connections) (books : Books) (l : Ledger) (oldest : Option ℕ) (before : List ℕ)
+    → CanContinueAll registry table → StandsForConnections registry table c → IsOldest (stamps_of table) oldest → StandsForLedger books l
+    → books.registry.floor ≡ max registry.floor (stamp_named registry oldest) → removals_of books.registry ≡ later_than oldest before
     → removals_of books.registry ≡ needed_removals c.all l
 unfolding needed_removals
-kept_are source table c books l None before t z none h floor dropped =
-    dropped ∙ none_later before ∙ sym (ap (λ (ns : List ℕ). filter (is_needed_for ns) (removals_by l)) (begins_alike source (values_of table.slots) c.all z.all ∙ none) ∙ none_pass (removals_by l))
-kept_are source table c books l (Some k) before t z least h floor dropped =
-    let reach : (source.registry.floor ≤ k) × (k ≤ source.registry.stamp) =
-    All-contains (λ n. (source.registry.floor ≤ n) × (n ≤ source.registry.stamp)) (stamps_of table) k (stamps_reach source (values_of table.slots) t) least.0 in
+kept_are registry table c books l None before t z none h floor dropped =
+    dropped ∙ none_later before ∙ sym (ap (λ (ns : List ℕ). filter (is_needed_for ns) (removals_by l)) (begins_alike registry (values_of table.slots) c.all z.all ∙ none) ∙ none_pass (removals_by l))
+kept_are registry table c books l (Some k) before t z least h floor dropped =
+    let reach : (registry.floor ≤ k) × (k ≤ registry.stamp) =
+    All-contains (λ n. (registry.floor ≤ n) × (n ≤ registry.stamp)) (stamps_of table) k (stamps_reach registry (values_of table.slots) t) least.0 in
     let floor_is : books.registry.floor ≡ k = omega (arith, floor, reach.0, reach.1) in
     removals_kept books l h
     ∙ ap (λ (n : ℕ). removals_after n l) floor_is
     ∙ not_dropped k (all_slots l.own l.changes)
-    ∙ sym (ap (λ (ns : List ℕ). filter (is_needed_for ns) (removals_by l)) (begins_alike source (values_of table.slots) c.all z.all)
+    ∙ sym (ap (λ (ns : List ℕ). filter (is_needed_for ns) (removals_by l)) (begins_alike registry (values_of table.slots) c.all z.all)
     ∙ filter_alike (is_needed_for (stamps_of table)) (λ change. nat_lt k change) (removals_by l) (λ change. retained_by_oldest (stamps_of table) k change least))
 
 filter_fewer : (p q : ℕ → Bool) (xs : List ℕ) → ((x : ℕ) → p x ≡ true → q x ≡ true) → length (filter p xs) ≤ length (filter q xs)
@@ -119,16 +118,16 @@ retained_above floor change (n ∷ stamps) low is = by_test (nat_lt n change) re
     by_test false t further = further (rw t at is)
 
 -- the rows that lists need are among the retained ones
-pub kept_few : (source : Source) (table : Table) (c : Connections) (books : Books) (l : Ledger)
-    → CanContinueAll source table → StandsForConnections source table c → StandsForLedger books l → books.registry.floor ≡ source.registry.floor
+pub kept_few : (registry : Registry) (table : Table) (c : Connections) (books : Books) (l : Ledger)
+    → CanContinueAll registry table → StandsForConnections registry table c → StandsForLedger books l → books.registry.floor ≡ registry.floor
     → length (needed_removals c.all l) ≤ length (removals_of books.registry)
 unfolding needed_removals
-kept_few source table c books l t z h floor =
+kept_few registry table c books l t z h floor =
     let dead : removals_of books.registry ≡ filter (λ change. nat_lt books.registry.floor change) (removals_by l) =
     removals_kept books l h ∙ not_dropped books.registry.floor (all_slots l.own l.changes) in
     let kept : filter (is_needed_for (list_stamps c.all)) (removals_by l) ≡ filter (is_needed_for (stamps_of table)) (removals_by l) =
-    ap (λ (ns : List ℕ). filter (is_needed_for ns) (removals_by l)) (begins_alike source (values_of table.slots) c.all z.all) in
-    let low : All (λ n. books.registry.floor ≤ n) (stamps_of table) = subst (λ (k : ℕ). All (λ n. k ≤ n) (stamps_of table)) (sym floor) (stamps_low source table t) in
+    ap (λ (ns : List ℕ). filter (is_needed_for ns) (removals_by l)) (begins_alike registry (values_of table.slots) c.all z.all) in
+    let low : All (λ n. books.registry.floor ≤ n) (stamps_of table) = subst (λ (k : ℕ). All (λ n. k ≤ n) (stamps_of table)) (sym floor) (stamps_low registry table t) in
     let fewer = filter_fewer (is_needed_for (stamps_of table)) (λ change. nat_lt books.registry.floor change) (removals_by l) (λ change. retained_above books.registry.floor change (stamps_of table) low) in
     omega (arith, fewer, ap (λ (xs : List ℕ). length xs) dead, ap (λ (xs : List ℕ). length xs) kept)
 

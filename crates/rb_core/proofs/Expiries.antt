@@ -7,10 +7,10 @@ use Rattle.rb_model.specs.Losses.{expire_first}
 use Rattle.rb_model.specs.Ending.{lost_as, expire_connection, expired_as}
 use Rattle.rb_connections.specs.Slots.{Acts, StaysTable}
 use Rattle.rb_connections.specs.StandsFor.{Table, StandsForConnections}
-use Rattle.rb_core.specs.StandsFor.{Held, StandsFor, source_of}
+use Rattle.rb_core.specs.StandsFor.{Held, StandsFor}
 
 pub due_closed : (old : Held) (table : Table) (found : Option ℕ) (result : Expired) → result ≡ lost_as found → StaysTable old.connections table
-    → Acts (StandsForConnections (source_of old)) (expire_first old.clock) old.connections table found → Acts StandsFor expire_connection old (record old { connections = table }) result
+    → Acts (StandsForConnections old.books.registry) (expire_first old.clock) old.connections table found → Acts StandsFor expire_connection old (record old { connections = table }) result
 unfolding expire_connection
 due_closed old table found result is stays acts = record {
   gives = λ s h. is ∙ ap lost_as (acts.gives s.connections h.connections) ∙ rw h.clock refl;

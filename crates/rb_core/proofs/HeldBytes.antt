@@ -21,7 +21,7 @@ use Rattle.rb_registry.specs.Rows.Change.{Added, Removed}
 use Rattle.rb_registry.specs.Registry.{Registry, StandsForChanges, slots_of as rows_of}
 use Rattle.rb_registry.specs.Slots.{slot_of, is_dropped, slots_by, all_slots, slots_from, held_in as held_of_rows}
 use Rattle.rb_stats.proofs.Sizes.{few_keys}
-use Rattle.rb_forward.specs.Forwards.{Entry, Forwards, held_call, question, head_of}
+use Rattle.rb_forward.specs.Forwards.{Entry, Forwards, held_call, question, head_of, entry_charge}
 use Rattle.rb_forward.specs.StandsFor.{Table as Entries, StandsForForwards, slots_of as calls_of, held_in as held_of_calls, longest_forwarded_call}
 use Rattle.rb_forward.proofs.Heads.{length-head}
 use Rattle.rb_forward.proofs.Stands.{held_alike}
@@ -31,7 +31,7 @@ use Rattle.rb_model.specs.Calls.{longest_reply, longest_kept, kept_of}
 use Rattle.rb_model.specs.Connections.{longest_fragment}
 use Rattle.rb_model.specs.State.{Phase, Connection}
 use Rattle.rb_model.specs.State.Phase.{Idle, Reading, Owing, Awaiting, Lost}
-use Rattle.rb_model.specs.Bounds.{longest_served_call}
+use Rattle.rb_model.specs.Bounds.{longest_served_call, connection_charge}
 use Rattle.rb_laws.proofs.EntriesKept.{HasShortArgs, reached-kept}
 use Rattle.rb_laws.proofs.Ledgers.{IsShortChange, reached-short}
 use Rattle.rb_laws.proofs.Room.{reached-room}
@@ -39,56 +39,55 @@ use Rattle.rb_connections.specs.declared.slot.Slot.{Slot}
 use Rattle.rb_connections.specs.declared.slot.Stage.{Stage}
 use Rattle.rb_connections.specs.declared.slot.Stage.TheVariants as stages
 use Rattle.rb_connections.specs.StandsFor.{buffer_size, StandsForPhase, StandsForConnection, charge, held_in, IsWithin}
-use Rattle.rb_model.specs.Served.{Source}
-use Rattle.rb_core.specs.StandsFor.{Held, source_of}
+use Rattle.rb_core.specs.StandsFor.{Held}
 use Rattle.rb_core.specs.HeldBytes.{takes_bytes, HoldsArguments, unheld_share, HeldBytesAreBounded, NeverPasses}
 
 -- ---- connections
 
-empty_charge : (buffer window : Kept) → buffer.bytes ≡ [] → window.bytes ≡ [] → 128 + length buffer.bytes + length window.bytes ≡ 128
+empty_charge : (buffer window : Kept) → buffer.bytes ≡ [] → window.bytes ≡ [] → connection_charge + length buffer.bytes + length window.bytes ≡ connection_charge
 empty_charge buffer window b w = rw (b, w) refl
 
-phase_holds : (source : Source) (stage : Stage) (buffer window : Kept) (phase : Phase) (c : Connection) → c.phase ≡ phase → StandsForPhase source stage buffer window phase → takes_bytes c ≡ true
-    → 128 + length buffer.bytes + length window.bytes ≤ 128 + longest_kept
-phase_holds source stages.Idle buffer window Idle c is h takes = let e = empty_charge buffer window h.0 h.1 in omega (arith, e)
-phase_holds source (stages.Reading reader) buffer window (Reading fed) c is h takes =
+phase_holds : (registry : Registry) (stage : Stage) (buffer window : Kept) (phase : Phase) (c : Connection) → c.phase ≡ phase → StandsForPhase registry stage buffer window phase → takes_bytes c ≡ true
+    → connection_charge + length buffer.bytes + length window.bytes ≤ connection_charge + longest_kept
+phase_holds registry stages.Idle buffer window Idle c is h takes = let e = empty_charge buffer window h.0 h.1 in omega (arith, e)
+phase_holds registry (stages.Reading reader) buffer window (Reading fed) c is h takes =
     let kept : length buffer.bytes ≡ length (kept_of (data_of fed)) = ap (λ (xs : List ℕ). length xs) h.0.data_is.kept_is in
     let few = length-take longest_kept (arguments_of (data_of fed)) in
     let none : length window.bytes ≡ 0 = ap (λ (xs : List ℕ). length xs) h.1 in
     omega (arith, kept, few, none)
-phase_holds source stage buffer window (Owing o) c is h takes = let clash : false ≡ true = rw is at takes in absurd cc
-phase_holds source stage buffer window Awaiting c is h takes = let clash : false ≡ true = rw is at takes in absurd cc
-phase_holds source stage buffer window Lost c is h takes = let clash : false ≡ true = rw is at takes in absurd cc
-phase_holds source stage buffer window phase c is h takes = absurd h
+phase_holds registry stage buffer window (Owing o) c is h takes = let clash : false ≡ true = rw is at takes in absurd cc
+phase_holds registry stage buffer window Awaiting c is h takes = let clash : false ≡ true = rw is at takes in absurd cc
+phase_holds registry stage buffer window Lost c is h takes = let clash : false ≡ true = rw is at takes in absurd cc
+phase_holds registry stage buffer window phase c is h takes = absurd h
 
-holds_arguments : (source : Source) (slot : Slot) (c : Connection) → StandsForConnection source slot c → HoldsArguments slot c
-holds_arguments source slot c z takes = phase_holds source slot.stage slot.buffer slot.window c.phase c refl z.phase takes
+holds_arguments : (registry : Registry) (slot : Slot) (c : Connection) → StandsForConnection registry slot c → HoldsArguments slot c
+holds_arguments registry slot c z takes = phase_holds registry slot.stage slot.buffer slot.window c.phase c refl z.phase takes
 
 abbrev share : ℕ
-share = 128 + longest_served_call + longest_fragment
+share = connection_charge + longest_served_call + longest_fragment
 
-one_share : (source : Source) (slot : Slot) (c : Connection) → StandsForConnection source slot c → IsWithin slot → charge slot + unheld_share * cond (takes_bytes c) 1 0 ≤ share
+one_share : (registry : Registry) (slot : Slot) (c : Connection) → StandsForConnection registry slot c → IsWithin slot → charge slot + unheld_share * cond (takes_bytes c) 1 0 ≤ share
 unfolding longest_reply longest_kept buffer_size longest_fragment
-one_share source slot c z within = by_test (takes_bytes c) refl
+one_share registry slot c z within = by_test (takes_bytes c) refl
   where
     by_test : (b : Bool) → takes_bytes c ≡ b → charge slot + unheld_share * cond b 1 0 ≤ share
-    by_test true e = let few = holds_arguments source slot c z e in omega (arith, few)
+    by_test true e = let few = holds_arguments registry slot c z e in omega (arith, few)
     by_test false e = omega (arith, within)
 
-each_holds : (source : Source) (slots : List Slot) (all : List Connection) → AllZip (StandsForConnection source) slots all → AllZip HoldsArguments slots all
-each_holds source [] [] z = tt
-each_holds source [] (c ∷ all) z = absurd z
-each_holds source (slot ∷ slots) [] z = absurd z
-each_holds source (slot ∷ slots) (c ∷ all) z = (holds_arguments source slot c z.0, each_holds source slots all z.1)
+each_holds : (registry : Registry) (slots : List Slot) (all : List Connection) → AllZip (StandsForConnection registry) slots all → AllZip HoldsArguments slots all
+each_holds registry [] [] z = tt
+each_holds registry [] (c ∷ all) z = absurd z
+each_holds registry (slot ∷ slots) [] z = absurd z
+each_holds registry (slot ∷ slots) (c ∷ all) z = (holds_arguments registry slot c z.0, each_holds registry slots all z.1)
 
-connections_within : (source : Source) (slots : List Slot) (all : List Connection) → AllZip (StandsForConnection source) slots all → All IsWithin slots
+connections_within : (registry : Registry) (slots : List Slot) (all : List Connection) → AllZip (StandsForConnection registry) slots all → All IsWithin slots
     → held_in slots + unheld_share * count_by takes_bytes all ≤ length all * share
-connections_within source [] [] z w = omega arith
-connections_within source [] (c ∷ all) z w = absurd z
-connections_within source (slot ∷ slots) [] z w = absurd z
-connections_within source (slot ∷ slots) (c ∷ all) z w =
-    let one = one_share source slot c z.0 (All-head IsWithin slot slots w) in
-    let rest = connections_within source slots all z.1 (All-tail IsWithin slot slots w) in
+connections_within registry [] [] z w = omega arith
+connections_within registry [] (c ∷ all) z w = absurd z
+connections_within registry (slot ∷ slots) [] z w = absurd z
+connections_within registry (slot ∷ slots) (c ∷ all) z w =
+    let one = one_share registry slot c z.0 (All-head IsWithin slot slots w) in
+    let rest = connections_within registry slots all z.1 (All-tail IsWithin slot slots w) in
     let held = sum_by-cons charge slot slots in
     let counted = sum_by-cons (λ x. cond (takes_bytes x) 1 0) c all in
     omega (arith, one, rest, held, counted)
@@ -143,12 +142,12 @@ call_short first_xid e short = by_sent e.sent
         omega (arith, whole, head, short)
 
 calls_within : (table : Entries) (f : Forwards) (most : ℕ) → StandsForForwards table f → All HasShortArgs f.all → length f.all ≤ most
-    → held_of_calls (calls_of table) ≤ most * (128 + longest_forwarded_call)
+    → held_of_calls (calls_of table) ≤ most * (entry_charge + longest_forwarded_call)
 calls_within table f most stands short few =
     let alike = held_alike table.first_xid (calls_of table) f stands.all in
-    let sum = sum_by-le (λ (e : Entry). 128 + length (held_call table.first_xid e)) (128 + longest_forwarded_call) f.all
+    let sum = sum_by-le (λ (e : Entry). entry_charge + length (held_call table.first_xid e)) (entry_charge + longest_forwarded_call) f.all
     (λ k e lt. let one = call_short table.first_xid (get_or f.all k e) (short k e lt) in omega (arith, one)) in
-    let more = mul-le-mul_right (128 + longest_forwarded_call) few in
+    let more = mul-le-mul_right (entry_charge + longest_forwarded_call) few in
     omega (arith, alike, sum, more)
 
 -- ---- all of it
@@ -158,14 +157,14 @@ held_bytes_are_bounded core s h reached port =
     let kept = reached-kept s reached in
     let rows = reached-short s reached in
     let own : All IsShortRow s.ledger.own = subst (All IsShortRow) (sym rows.0) (own_are_short s.setting.listener port) in
-    let connections = connections_within (source_of core) (values_of core.connections.slots) s.connections.all h.connections.all h.within in
+    let connections = connections_within core.books.registry (values_of core.connections.slots) s.connections.all h.connections.all h.within in
     let room = mul-le-mul_right share (reached-room s reached) in
     let in_rows : held_of_rows (rows_of core.books.registry) ≤ s.setting.limits.rows * (32 + 128) =
     subst (λ n. held_of_rows (rows_of core.books.registry) ≤ n * (32 + 128)) h.limit (rows_within core.books.registry s.ledger.own s.ledger.changes h.ledger.registry own rows.1) in
     let keys = few_keys core.books.stats s.ledger.history h.ledger.stats in
     let calls = calls_within core.books.forwards s.ledger.forwards s.setting.limits.forwards h.ledger.forwards kept.short kept.few in
     record {
-      each = each_holds (source_of core) (values_of core.connections.slots) s.connections.all h.connections.all;
+      each = each_holds core.books.registry (values_of core.connections.slots) s.connections.all h.connections.all;
       whole = omega (arith, connections, room, in_rows, keys, calls, h.short);
     }
 

@@ -26,7 +26,7 @@ use Rattle.rb_connections.proofs.Slots.{as_many}
 use Rattle.rb_serving.specs.Costs.{row_count_of, sizes_over, PaysToServe, ListsIfAsked}
 use Rattle.rb_serving.proofs.MessageFronts.{kept_says}
 use Rattle.rb_core.specs.CallCosts.{sizes, PaysForRoom, PaysInRoom, PaysForPlainRecord}
-use Rattle.rb_core.specs.StandsFor.{Held, StandsFor, source_of}
+use Rattle.rb_core.specs.StandsFor.{Held, StandsFor}
 
 -- so many steps more are allowed
 pub at_most : (a b : Meter) (less more : ℕ) → less ≤ more → PaysAtMost a b less → PaysAtMost a b more
@@ -36,7 +36,7 @@ at_most a b less more le pays = record { steps = omega (arith, pays.steps, le); 
 
 module _ (held : Held) (s : State) (h : StandsFor held s) where
   pub connections_held : length held.connections.slots ≡ length s.connections.all
-  connections_held = sym (as_many (source_of held) held.connections.slots s.connections.all h.connections.all)
+  connections_held = sym (as_many held.books.registry held.connections.slots s.connections.all h.connections.all)
 
   pub rows_held : length (slots_of held.books.registry) ≤ s.setting.limits.rows
   rows_held = omega (arith, h.ledger.registry.within, h.limit)

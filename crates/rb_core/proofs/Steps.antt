@@ -3,9 +3,9 @@ use Rattle.std.specs.Prelude.{find, not, ◌||◌}
 use Rattle.std.specs.Option.{option_map_or}
 use Rattle.std.proofs.Common.{◌≡◌, ◌≤◌, ℕ, Bool, true, false, cond, List, [], ◌∷◌, map, Option, Some, None, Result, Ok, Err, length, eqb, refl, sym, ap, subst, ◌∙◌, max, arith}
 use Rattle.std.proofs.lemmas.Bool.{and_parts}
-use Rattle.rb_rpc.specs.declared.peer.Peer.{Peer}
-use Rattle.rb_rpc.specs.declared.peer.Caller.{Caller}
-use Rattle.rb_rpc.specs.declared.peer.Caller.TheVariants.{Tcp, Udp}
+use Rattle.rb_address.specs.declared.peer.Peer.{Peer}
+use Rattle.rb_rpc.specs.declared.caller.Caller.{Caller}
+use Rattle.rb_rpc.specs.declared.caller.Caller.TheVariants.{Tcp, Udp}
 use Rattle.rb_rpc.specs.declared.call.Verdict.{Verdict}
 use Rattle.rb_rpc.specs.Verdict.{verdict}
 use Rattle.rb_feed.specs.Feeds.{arguments_of}
@@ -36,24 +36,22 @@ use Rattle.rb_laws.proofs.Crowds.{begins_changed, evicted_changed, crowding_alik
 use Rattle.rb_connections.specs.declared.slot.EndedRecord.{EndedRecord}
 use Rattle.rb_connections.specs.declared.slot.Received.{Received}
 use Rattle.rb_connections.specs.StandsFor.{Table, StandsForConnections}
-use Rattle.rb_model.specs.Served.{Source, source_for}
 use Rattle.rb_connections.specs.Slots.{Acts, Shows, StaysTable, received_of, connection_after, take_piece, arguments_after, arguments_taken, arguments_on}
-use Rattle.rb_core.specs.StandsFor.{Held, StandsFor, source_of}
+use Rattle.rb_core.specs.StandsFor.{Held, StandsFor}
 use Rattle.rb_core.specs.Core.{context_of, serve_ended}
 use Rattle.rb_model.specs.Exchanges.{at_once, at_once_in}
-use Rattle.rb_serving.specs.Serving.{source_in}
 use Rattle.rb_core.specs.Eviction.{ServesInRoom}
 use Rattle.rb_serving.proofs.MessageFronts.{kept_says}
 
 -- the same of a registry by its other name
-pub same_source : (host : List ℕ) (old new : Registry) (table : Table) (c : Connections) → new ≡ old → StandsForConnections (source_for host old) table c → StandsForConnections (source_for host new) table c
-same_source host old new table c same z = subst (λ (r : Registry). StandsForConnections (source_for host r) table c) (sym same) z
+pub same_registry : (old new : Registry) (table : Table) (c : Connections) → new ≡ old → StandsForConnections old table c → StandsForConnections new table c
+same_registry old new table c same z = subst (λ (r : Registry). StandsForConnections r table c) (sym same) z
 
 -- ---- the table alone
 
 module _ (old : Held) (s : State) (h : StandsFor old s) where
   -- with another clock and table
-  pub with_table : (now clock : ℕ) (table : Table) (connections : Connections) → clock ≡ max old.clock now → StaysTable old.connections table → StandsForConnections (source_of old) table connections
+  pub with_table : (now clock : ℕ) (table : Table) (connections : Connections) → clock ≡ max old.clock now → StaysTable old.connections table → StandsForConnections old.books.registry table connections
       → StandsFor (record old { clock = clock; connections = table }) (record (at_moment now s) { connections = connections })
   with_table now clock table connections is stays stands = record {
     setting = h.setting;
@@ -73,7 +71,7 @@ module _ (old : Held) (s : State) (h : StandsFor old s) where
 -- A call on the connections that moves the clock: done, or refused.
 module _ {A : Type 0} (old : Held) (now clock : ℕ) (act : State → Connections → Result A CoreFault × Connections) (table : Table) where
   pub moved_acts : (x : A) → clock ≡ max old.clock now → StaysTable old.connections table
-      → ((s : State) → StandsFor old s → Acts (StandsForConnections (source_of old)) (act s) old.connections table (Ok x))
+      → ((s : State) → StandsFor old s → Acts (StandsForConnections old.books.registry) (act s) old.connections table (Ok x))
       → Acts StandsFor (λ s. unless_refused now s (act s s.connections)) old (record old { clock = clock; connections = table }) (Ok x)
   moved_acts x is stays acts = record {
     gives = λ s h. by_result s h (act s s.connections) ((acts s h).gives s.connections h.connections);
@@ -84,12 +82,12 @@ module _ {A : Type 0} (old : Held) (now clock : ℕ) (act : State → Connection
       by_result s h (Ok y, c) e = e
       by_result s h (Err f, c) e = absurd cc
 
-      by_state : (s : State) → StandsFor old s → (r : Result A CoreFault × Connections) → Ok x ≡ r.0 → StandsForConnections (source_of old) table r.1
+      by_state : (s : State) → StandsFor old s → (r : Result A CoreFault × Connections) → Ok x ≡ r.0 → StandsForConnections old.books.registry table r.1
           → StandsFor (record old { clock = clock; connections = table }) (unless_refused now s r).1
       by_state s h (Ok y, c) e z = with_table old s h now clock table c is stays z
       by_state s h (Err f, c) e z = absurd cc
 
-  pub refused_acts : (f : CoreFault) → ((s : State) → StandsFor old s → Acts (StandsForConnections (source_of old)) (act s) old.connections table (Err f))
+  pub refused_acts : (f : CoreFault) → ((s : State) → StandsFor old s → Acts (StandsForConnections old.books.registry) (act s) old.connections table (Err f))
       → Acts StandsFor (λ s. unless_refused now s (act s s.connections)) old old (Err f)
   refused_acts f acts = record {
     gives = λ s h. by_result s (act s s.connections) ((acts s h).gives s.connections h.connections);
@@ -109,36 +107,36 @@ pub acts_from : {A : Type 0} (act : State → A × State) (view now new : Held) 
 acts_from act view now new x is acts = subst (λ (held : Held). Acts StandsFor act held new x) is acts
 
 module _ (old : Held) (now clock : ℕ) (is : clock ≡ max old.clock now) (table : Table) where
-  open_at : (peer : Peer) (r : Result ℕ CoreFault) → Acts (StandsForConnections (source_of old)) (open_in_table old.connections.conns peer clock) old.connections table r
-      → (s : State) → StandsFor old s → Acts (StandsForConnections (source_of old)) (open_in_table s.setting.limits.conns peer (max s.clock now)) old.connections table r
+  open_at : (peer : Peer) (r : Result ℕ CoreFault) → Acts (StandsForConnections old.books.registry) (open_in_table old.connections.conns peer clock) old.connections table r
+      → (s : State) → StandsFor old s → Acts (StandsForConnections old.books.registry) (open_in_table s.setting.limits.conns peer (max s.clock now)) old.connections table r
   open_at peer r acts s h = rw (← h.conns, ← h.clock, ← is) acts
 
-  give_at : (id n : ℕ) (r : Result (Unit {0}) CoreFault) → Acts (StandsForConnections (source_of old)) (on_live id (give clock n)) old.connections table r
-      → (s : State) → StandsFor old s → Acts (StandsForConnections (source_of old)) (on_live id (give (max s.clock now) n)) old.connections table r
+  give_at : (id n : ℕ) (r : Result (Unit {0}) CoreFault) → Acts (StandsForConnections old.books.registry) (on_live id (give clock n)) old.connections table r
+      → (s : State) → StandsFor old s → Acts (StandsForConnections old.books.registry) (on_live id (give (max s.clock now) n)) old.connections table r
   give_at id n r acts s h = rw (← h.clock, ← is) acts
 
-  pub open_done : (peer : Peer) (x : ℕ) → StaysTable old.connections table → Acts (StandsForConnections (source_of old)) (open_in_table old.connections.conns peer clock) old.connections table (Ok x)
+  pub open_done : (peer : Peer) (x : ℕ) → StaysTable old.connections table → Acts (StandsForConnections old.books.registry) (open_in_table old.connections.conns peer clock) old.connections table (Ok x)
       → Acts StandsFor (λ s. open_connection s now peer) old (record old { clock = clock; connections = table }) (Ok x)
   unfolding open_connection
   open_done peer x stays acts = moved_acts old now clock (λ s. open_in_table s.setting.limits.conns peer (max s.clock now)) table x is stays (open_at peer (Ok x) acts)
 
-  pub open_refused : (peer : Peer) (f : CoreFault) → Acts (StandsForConnections (source_of old)) (open_in_table old.connections.conns peer clock) old.connections table (Err f)
+  pub open_refused : (peer : Peer) (f : CoreFault) → Acts (StandsForConnections old.books.registry) (open_in_table old.connections.conns peer clock) old.connections table (Err f)
       → Acts StandsFor (λ s. open_connection s now peer) old old (Err f)
   unfolding open_connection
   open_refused peer f acts = refused_acts old now clock (λ s. open_in_table s.setting.limits.conns peer (max s.clock now)) table f (open_at peer (Err f) acts)
 
-  pub gave_done : (id n : ℕ) (u : Unit {0}) → StaysTable old.connections table → Acts (StandsForConnections (source_of old)) (on_live id (give clock n)) old.connections table (Ok u)
+  pub gave_done : (id n : ℕ) (u : Unit {0}) → StaysTable old.connections table → Acts (StandsForConnections old.books.registry) (on_live id (give clock n)) old.connections table (Ok u)
       → Acts StandsFor (λ s. gave s now id n) old (record old { clock = clock; connections = table }) (Ok u)
   unfolding gave
   gave_done id n u stays acts = moved_acts old now clock (λ s. on_live id (give (max s.clock now) n)) table u is stays (give_at id n (Ok u) acts)
 
-  pub gave_refused : (id n : ℕ) (f : CoreFault) → Acts (StandsForConnections (source_of old)) (on_live id (give clock n)) old.connections table (Err f)
+  pub gave_refused : (id n : ℕ) (f : CoreFault) → Acts (StandsForConnections old.books.registry) (on_live id (give clock n)) old.connections table (Err f)
       → Acts StandsFor (λ s. gave s now id n) old old (Err f)
   unfolding gave
   gave_refused id n f acts = refused_acts old now clock (λ s. on_live id (give (max s.clock now) n)) table f (give_at id n (Err f) acts)
 
 pub closed_acts : (old : Held) (id : ℕ) (table : Table) (books : Books) (u : Unit {0}) → books.registry ≡ old.books.registry → StaysTable old.connections table → SameFrame old.books books
-    → Acts (StandsForConnections (source_of old)) (close_in_table id) old.connections table (Ok u) → Becomes (λ l. (caller_dropped id l).1) old.books books
+    → Acts (StandsForConnections old.books.registry) (close_in_table id) old.connections table (Ok u) → Becomes (λ l. (caller_dropped id l).1) old.books books
     → Acts StandsFor (λ s. close_connection s id) old (record old { connections = table; books = books }) (Ok u)
 unfolding close_connection
 closed_acts old id table books u same stays frame acts dropped = record {
@@ -150,7 +148,7 @@ closed_acts old id table books u same stays frame acts dropped = record {
     by_result s (Ok v, c) e = e
     by_result s (Err f, c) e = absurd cc
 
-    by_state : (s : State) → StandsFor old s → (r : Result (Unit {0}) CoreFault × Connections) → Ok u ≡ r.0 → StandsForConnections (source_of old) table r.1
+    by_state : (s : State) → StandsFor old s → (r : Result (Unit {0}) CoreFault × Connections) → Ok u ≡ r.0 → StandsForConnections old.books.registry table r.1
         → StandsFor (record old { connections = table; books = books }) (dropped_with s id r).1
     by_state s h (Err f, c) e z = absurd cc
     by_state s h (Ok v, c) e z = record {
@@ -158,7 +156,7 @@ closed_acts old id table books u same stays frame acts dropped = record {
       clock = h.clock;
       conns = stays.conns ∙ h.conns;
       within = stays.within h.within;
-      connections = same_source old.setting.listener.host old.books.registry books.registry table c same z;
+      connections = same_registry old.books.registry books.registry table c same z;
       limit = frame.limit ∙ h.limit;
       forwards = frame.cap ∙ h.forwards;
       first_xid = frame.first_xid ∙ h.first_xid;
@@ -168,7 +166,7 @@ closed_acts old id table books u same stays frame acts dropped = record {
       arguments = h.arguments;
     }
 
-pub closed_refused : (old : Held) (id : ℕ) (table : Table) (f : CoreFault) → Acts (StandsForConnections (source_of old)) (close_in_table id) old.connections table (Err f)
+pub closed_refused : (old : Held) (id : ℕ) (table : Table) (f : CoreFault) → Acts (StandsForConnections old.books.registry) (close_in_table id) old.connections table (Err f)
     → Acts StandsFor (λ s. close_connection s id) old old (Err f)
 unfolding close_connection
 closed_refused old id table f acts = record {
@@ -206,9 +204,9 @@ module _ (old : Held) (caller : Caller) (message : Message) (arguments : List �
   pub serve_stands : StandsForLedger books (outcome (context_in s caller) message arguments s.ledger).1
   serve_stands = subst (λ (x : Context). StandsForLedger books (outcome x message arguments s.ledger).1) same_context (served.acts.ledger s.connections s.ledger h.connections h.ledger)
 
-  pub serve_connections : StandsForConnections (source_in old.setting.listener.host books) table (evict (crowd_in s caller message) s.connections)
+  pub serve_connections : StandsForConnections books.registry table (evict (crowd_in s caller message) s.connections)
   serve_connections =
-      subst (λ (x : Context). StandsForConnections (source_in old.setting.listener.host books) table (evict (removals_in_the_way x message s.connections.all s.ledger) s.connections)) same_context
+      subst (λ (x : Context). StandsForConnections books.registry table (evict (removals_in_the_way x message s.connections.all s.ledger) s.connections)) same_context
       (served.acts.connections s.connections s.ledger h.connections h.ledger)
 
 -- a datagram is answered
@@ -239,7 +237,7 @@ module _ (old : Held) (now clock : ℕ) (peer : Peer) (content : List ℕ) (tabl
   answered s = outcome (context_in (at_moment now s) (Udp peer)) (message_of content) (arguments_of content) s.ledger
 
   told_state : (given : Outcome) → SameFrame old.books books → StaysTable old.connections table → reply ≡ reply_in given → (s : State) → StandsFor old s
-      → StandsForConnections (source_in old.setting.listener.host books) table (roomy s).connections → (o : Outcome × Ledger) → given ≡ o.0 → StandsForLedger books o.1
+      → StandsForConnections books.registry table (roomy s).connections → (o : Outcome × Ledger) → given ≡ o.0 → StandsForLedger books o.1
       → (given ≡ (with_reply (with_ledger (roomy s) o)).0) × StandsFor new_held (with_reply (with_ledger (roomy s) o)).1
   told_state given frame stays holds s h left (told, l) e z = (
     e,
@@ -391,10 +389,10 @@ pub record Fed (old : Held) (clock id : ℕ) (piece : List ℕ) (table : Table) 
   pub connection : Connection
   pub there : live_connection id s.connections.all ≡ Some connection
   pub gives : got ≡ received_of piece connection (taking_of connection.phase piece)
-  pub stands : StandsForConnections (source_of old) table (changed_at id (λ x. connection_after clock x (taking_of x.phase piece)) s.connections)
+  pub stands : StandsForConnections old.books.registry table (changed_at id (λ x. connection_after clock x (taking_of x.phase piece)) s.connections)
 
 module _ (old : Held) (now clock id : ℕ) (piece : List ℕ) (is : clock ≡ max old.clock now) (table : Table) (stays : StaysTable old.connections table)
-    (arguments : List ℕ) (holds : Shows (StandsForConnections (source_of old)) (arguments_on id old.arguments piece) old.connections arguments) where
+    (arguments : List ℕ) (holds : Shows (StandsForConnections old.books.registry) (arguments_on id old.arguments piece) old.connections arguments) where
   abbrev ok : Received → Result Received CoreFault
   ok got = Ok got
 
@@ -410,12 +408,12 @@ module _ (old : Held) (now clock id : ℕ) (piece : List ℕ) (is : clock ≡ ma
   nobody : (x : EndedRecord) → Some x ≡ None → ⊥
   nobody x h = absurd cc
 
-  pub fed_by : (got : Received) → Acts (StandsForConnections (source_of old)) (on_live id (take_piece clock piece)) old.connections table (Ok got) → (s : State) → StandsFor old s → Fed old clock id piece table got s
+  pub fed_by : (got : Received) → Acts (StandsForConnections old.books.registry) (on_live id (take_piece clock piece)) old.connections table (Ok got) → (s : State) → StandsFor old s → Fed old clock id piece table got s
   unfolding take_piece
   fed_by got acts s h = by_there (live_connection id s.connections.all) refl (acts.gives s.connections h.connections) (acts.stands s.connections h.connections)
     where
       by_there : (m : Option Connection) → live_connection id s.connections.all ≡ m
-          → Ok got ≡ (on_live id (take_piece clock piece) s.connections).0 → StandsForConnections (source_of old) table (on_live id (take_piece clock piece) s.connections).1 → Fed old clock id piece table got s
+          → Ok got ≡ (on_live id (take_piece clock piece) s.connections).0 → StandsForConnections old.books.registry table (on_live id (take_piece clock piece) s.connections).1 → Fed old clock id piece table got s
       by_there None e g z = let clash = rw e at g in absurd cc
       by_there (Some c) e g z = record { connection = c; there = e; gives = ok_is got (received_of piece c (taking_of c.phase piece)) (rw e at g); stands = rw e at z }
 
@@ -440,7 +438,7 @@ module _ (old : Held) (now clock id : ℕ) (piece : List ℕ) (is : clock ≡ ma
   abbrev held_with : List ℕ → Held
   held_with kept = record old { clock = clock; connections = table; arguments = kept }
 
-  table_with : (s : State) → StandsFor old s → (kept : List ℕ) → kept ≡ [] → (connections : Connections) → StandsForConnections (source_of old) table connections
+  table_with : (s : State) → StandsFor old s → (kept : List ℕ) → kept ≡ [] → (connections : Connections) → StandsForConnections old.books.registry table connections
       → StandsFor (held_with kept) (record (at_moment now s) { connections = connections })
   table_with s h kept none connections z = record {
     setting = h.setting;
@@ -462,7 +460,7 @@ module _ (old : Held) (now clock id : ℕ) (piece : List ℕ) (is : clock ≡ ma
     pub gives : Ok (record { count = count; closed = false }) ≡ (bytes s now id piece).0
     pub stands : StandsFor (held_with arguments) (bytes s now id piece).1
 
-  pub quiet_acts : (count : ℕ) → Acts (StandsForConnections (source_of old)) (on_live id (take_piece clock piece)) old.connections table (Ok (quiet count))
+  pub quiet_acts : (count : ℕ) → Acts (StandsForConnections old.books.registry) (on_live id (take_piece clock piece)) old.connections table (Ok (quiet count))
       → Acts StandsFor (λ s. bytes s now id piece) old (held_with arguments) (Ok (record { count = count; closed = false }))
   quiet_acts count acts = record { gives = λ s h. (goes s h).gives; stands = λ s h. (goes s h).stands }
     where
@@ -472,13 +470,13 @@ module _ (old : Held) (now clock id : ℕ) (piece : List ℕ) (is : clock ≡ ma
           let n : count ≡ 0 = ap (λ (r : Received). r.count) gives in
           let none : arguments ≡ [] = held_after s f.connection TakesNone h f.there t ∙ h.arguments in
           let same = fed_to s f.connection TakesNone (λ x. x) f.there t refl ∙ ap (λ (xs : List Connection). record s.connections { all = xs }) (change_nothing (is_live id) s.connections.all) in
-          record { gives = rw (bytes_by s f.connection TakesNone f.there t) (rw n refl); stands = rw (bytes_by s f.connection TakesNone f.there t) (table_with s h arguments none s.connections (subst (StandsForConnections (source_of old) table) same f.stands)) }
+          record { gives = rw (bytes_by s f.connection TakesNone f.there t) (rw n refl); stands = rw (bytes_by s f.connection TakesNone f.there t) (table_with s h arguments none s.connections (subst (StandsForConnections old.books.registry table) same f.stands)) }
       by_taking s h f (GoesOn fed) t =
           let gives : quiet count ≡ quiet (length piece) = rw t at f.gives in
           let n : count ≡ length piece = ap (λ (r : Received). r.count) gives in
           let none : arguments ≡ [] = held_after s f.connection (GoesOn fed) h f.there t ∙ h.arguments in
           let same = fed_to s f.connection (GoesOn fed) (keep_reading (max s.clock now) fed) f.there t (ap (λ (k : ℕ). keep_reading k fed f.connection) (is ∙ ap (λ (k : ℕ). max k now) h.clock)) in
-          record { gives = rw (bytes_by s f.connection (GoesOn fed) f.there t) (rw n refl); stands = rw (bytes_by s f.connection (GoesOn fed) f.there t) (table_with s h arguments none (changed_at id (keep_reading (max s.clock now) fed) s.connections) (subst (StandsForConnections (source_of old) table) same f.stands)) }
+          record { gives = rw (bytes_by s f.connection (GoesOn fed) f.there t) (rw n refl); stands = rw (bytes_by s f.connection (GoesOn fed) f.there t) (table_with s h arguments none (changed_at id (keep_reading (max s.clock now) fed) s.connections) (subst (StandsForConnections old.books.registry table) same f.stands)) }
       by_taking s h f (Ends n content) t =
           let gives : quiet count ≡ ended n (record { peer = f.connection.peer; verdict = verdict content }) = rw t at f.gives in
           absurd (nobody (record { peer = f.connection.peer; verdict = verdict content }) (sym (ap (λ (r : Received). r.ended) gives)))
@@ -487,7 +485,7 @@ module _ (old : Held) (now clock id : ℕ) (piece : List ℕ) (is : clock ≡ ma
       goes s h = let f = fed_by (quiet count) acts s h in by_taking s h f (taking_of f.connection.phase piece) refl
 
   -- nothing is given at once there
-  pub quiet_gives_none : (room count : ℕ) → Acts (StandsForConnections (source_of old)) (on_live id (take_piece clock piece)) old.connections table (Ok (quiet count))
+  pub quiet_gives_none : (room count : ℕ) → Acts (StandsForConnections old.books.registry) (on_live id (take_piece clock piece)) old.connections table (Ok (quiet count))
       → (s : State) → StandsFor old s → 0 ≡ at_once room id (live_connection id s.connections.all) (bytes s now id piece)
   unfolding live_connection keep_reading
   quiet_gives_none room count acts s h = let f = fed_by (quiet count) acts s h in by_taking f (taking_of f.connection.phase piece) refl
@@ -522,7 +520,7 @@ module _ (old : Held) (now clock id : ℕ) (piece : List ℕ) (is : clock ≡ ma
     pub owes_none : is_owing before.phase ≡ false
     pub goes : bytes s now id piece ≡ taken_of (with_count count (serve_ended id said arguments meanwhile))
 
-  pub ended_by : (count : ℕ) (said : EndedRecord) → Acts (StandsForConnections (source_of old)) (on_live id (take_piece clock piece)) old.connections table (Ok (ended count said))
+  pub ended_by : (count : ℕ) (said : EndedRecord) → Acts (StandsForConnections old.books.registry) (on_live id (take_piece clock piece)) old.connections table (Ok (ended count said))
       → (s : State) → StandsFor old s → RecordEnded count said s
   ended_by count said acts s h = let f = fed_by (ended count said) acts s h in by_taking f (taking_of f.connection.phase piece) refl
     where
@@ -538,7 +536,7 @@ module _ (old : Held) (now clock id : ℕ) (piece : List ℕ) (is : clock ≡ ma
           let from = ap (λ (x : EndedRecord). x.peer) who in
           record {
             meanwhile = record (at_moment now s) { connections = changed_at id (idle clock) s.connections };
-            stands = table_with s h [] refl (changed_at id (idle clock) s.connections) (subst (StandsForConnections (source_of old) table) same f.stands);
+            stands = table_with s h [] refl (changed_at id (idle clock) s.connections) (subst (StandsForConnections old.books.registry table) same f.stands);
             moment = refl;
             before = f.connection;
             there = f.there;
@@ -556,7 +554,7 @@ fault_is : (a b : CoreFault) → not_ended a ≡ not_ended b → a ≡ b
 fault_is a b e = cc
 
 -- a connection that is not there takes nothing
-pub bytes_refused : (old : Held) (now clock id : ℕ) (piece : List ℕ) (table : Table) (f : CoreFault) → Acts (StandsForConnections (source_of old)) (on_live id (take_piece clock piece)) old.connections table (Err f)
+pub bytes_refused : (old : Held) (now clock id : ℕ) (piece : List ℕ) (table : Table) (f : CoreFault) → Acts (StandsForConnections old.books.registry) (on_live id (take_piece clock piece)) old.connections table (Err f)
     → Acts StandsFor (λ s. bytes s now id piece) old old (Err f)
 unfolding bytes
 bytes_refused old now clock id piece table f acts = record {
@@ -573,9 +571,9 @@ bytes_refused old now clock id piece table f acts = record {
     by_state s h (Some c) e g = let clash = rw e at g in absurd cc
 
 -- the same by the record that ended
-pub with_ended : (source : Source) (id clock : ℕ) (piece : List ℕ) (old table : Table) (got : Received) (said : Option EndedRecord) → got.ended ≡ said
-    → Acts (StandsForConnections source) (on_live id (take_piece clock piece)) old table (Ok got) → Acts (StandsForConnections source) (on_live id (take_piece clock piece)) old table (Ok (record { count = got.count; ended = said }))
-with_ended source id clock piece old table got said is acts = subst (λ (m : Option EndedRecord). Acts (StandsForConnections source) (on_live id (take_piece clock piece)) old table (Ok (record { count = got.count; ended = m }))) is acts
+pub with_ended : (registry : Registry) (id clock : ℕ) (piece : List ℕ) (old table : Table) (got : Received) (said : Option EndedRecord) → got.ended ≡ said
+    → Acts (StandsForConnections registry) (on_live id (take_piece clock piece)) old table (Ok got) → Acts (StandsForConnections registry) (on_live id (take_piece clock piece)) old table (Ok (record { count = got.count; ended = said }))
+with_ended registry id clock piece old table got said is acts = subst (λ (m : Option EndedRecord). Acts (StandsForConnections registry) (on_live id (take_piece clock piece)) old table (Ok (record { count = got.count; ended = m }))) is acts
 
 -- ---- forwarded calls
 
@@ -594,7 +592,7 @@ module _ (old : Held) (number : ℕ) (books : Books) where
       clock = h.clock;
       conns = h.conns;
       within = h.within;
-      connections = same_source old.setting.listener.host old.books.registry books.registry old.connections s.connections same h.connections;
+      connections = same_registry old.books.registry books.registry old.connections s.connections same h.connections;
       limit = frame.limit ∙ h.limit;
       forwards = frame.cap ∙ h.forwards;
       first_xid = frame.first_xid ∙ h.first_xid;
@@ -627,7 +625,7 @@ module _ (old : Held) (now clock : ℕ) (is : clock ≡ max old.clock now) (mess
     clock = is ∙ ap (λ (n : ℕ). max n now) h.clock;
     conns = h.conns;
     within = h.within;
-    connections = same_source old.setting.listener.host old.books.registry books.registry old.connections s.connections same h.connections;
+    connections = same_registry old.books.registry books.registry old.connections s.connections same h.connections;
     limit = frame.limit ∙ h.limit;
     forwards = frame.cap ∙ h.forwards;
     first_xid = frame.first_xid ∙ h.first_xid;

@@ -2,8 +2,8 @@
 use Rattle.std.specs.Prelude.{◌≡◌, ◌≤◌, ℕ, Bool, List, [], length, Option, Some, None, Result, Ok, Err, IfOk}
 use Rattle.std.specs.Borrow.{Bor}
 use Rattle.rb_xdr.specs.Kept.{Kept}
-use Rattle.rb_rpc.specs.declared.peer.Caller.{Caller}
-use Rattle.rb_rpc.specs.declared.peer.Caller.TheVariants.{Tcp}
+use Rattle.rb_rpc.specs.declared.caller.Caller.{Caller}
+use Rattle.rb_rpc.specs.declared.caller.Caller.TheVariants.{Tcp}
 use Rattle.rb_forward.specs.declared.types.Ended.{Ended}
 use Rattle.rb_proto.specs.declared.books.Books.{Books}
 use Rattle.rb_proto.specs.declared.context.Context.{Context}
@@ -25,7 +25,6 @@ use Rattle.rb_model.specs.Served.{outcome_with}
 use Rattle.rb_core.specs.declared.calls.Piece.{Piece}
 use Rattle.rb_core.specs.StandsFor.{Held, StandsFor}
 use Rattle.rb_core.specs.Awaits.{AreAwaited}
-use Rattle.rb_serving.specs.Serving.{source_in}
 
 -- What is true of all that a core holds: it has one meter, its draft is empty between two events, each connection for
 -- which a call is forwarded awaits it, the registry can make the rest of each list that is being given, and the reply
@@ -41,7 +40,7 @@ pub record IsCore (setting : Setting) (connections : Table) (books : Books) (rep
   pub few : setting.limits.forwards ≤ 64
   pub first_xid : books.forwards.first_xid ≡ setting.first_xid
   pub awaited : AreAwaited books.forwards connections
-  pub lists : CanContinueAll (source_in setting.listener.host books) connections
+  pub lists : CanContinueAll books.registry connections
   pub tied : AreTied reply.tie books
   pub connections_tie : connections.tie ≡ reply.tie
   pub reply_cap : reply.cap ≡ longest_reply

@@ -4,7 +4,6 @@ use Rattle.rb_proto.specs.declared.books.Books.{Books}
 use Rattle.rb_proto.specs.Ledger.{StandsForLedger}
 use Rattle.rb_model.specs.Calls.{longest_reply}
 use Rattle.rb_model.specs.State.{Setting, State}
-use Rattle.rb_model.specs.Served.{Source, source_for}
 use Rattle.rb_connections.specs.StandsFor.{Table, StandsForConnections, AreWithin}
 
 -- `steps_before` is what the meter showed as the last event began, and `tie` is the number of that meter
@@ -18,10 +17,6 @@ pub record Held : Type 0 where
   pub steps_before : ℕ
   pub tie : ℕ
 
--- what lists are made from
-abbrev pub source_of : Held → Source
-source_of held = source_for held.setting.listener.host held.books.registry
-
 -- What a core holds stands for a state. The changes of rows, the history of calls and whole lists are not held, and
 -- between two events no arguments are. What is held of a connection and of the reply has its limit. A state has nothing
 -- like `steps_before`.
@@ -29,7 +24,7 @@ pub record StandsFor (held : Held) (s : State) : Type 0 where
   pub setting : held.setting ≡ s.setting
   pub clock : held.clock ≡ s.clock
   pub conns : held.connections.conns ≡ s.setting.limits.conns
-  pub connections : StandsForConnections (source_of held) held.connections s.connections
+  pub connections : StandsForConnections held.books.registry held.connections s.connections
   pub within : AreWithin held.connections.slots
   pub limit : held.books.registry.limit ≡ s.setting.limits.rows
   pub ledger : StandsForLedger held.books s.ledger

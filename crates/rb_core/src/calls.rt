@@ -10,7 +10,7 @@ ghost use Rattle.rb_core.specs.Standings.{TellsIfQuiet};
 ghost use Rattle.rb_core.specs.Core.{arguments_in, received_in, HasArguments, TakesPiece};
 ghost use Rattle.rb_model.specs.Calls.{message_with};
 ghost use Rattle.rb_serving.specs.Costs.{ListsIfAsked};
-ghost use Rattle.rb_serving.specs.Serving.{CanServe, IsEmptyReply, LeavesBooks, source_in};
+ghost use Rattle.rb_serving.specs.Serving.{CanServe, IsEmptyReply, LeavesBooks};
 ghost use Rattle.rb_core.specs.Eviction.{ServesVerdict};
 ghost use Rattle.rb_connections.specs.Listings.{CanContinueAll};
 ghost use Rattle.rb_connections.specs.Slots.{IsDraft};
@@ -111,11 +111,11 @@ pub fn serve_verdict(
     requires tie { meter.old.tie ≡ connections.old.tie }
     requires can { CanServe meter.old.tie context.now books.old }
     requires out { IsEmptyReply meter.old.tie out.old }
-    requires lists { CanContinueAll (source_in context.now.listener.host books.old) connections.old }
+    requires lists { CanContinueAll books.old.registry connections.old }
     ensures acts { ServesVerdict context.now verdict.now arguments.now connections.old books.old
         connections.new books.new result out.new }
     ensures leaves { LeavesBooks context.now books.old books.new result out.old out.new }
-    ensures lists { CanContinueAll (source_in context.now.listener.host books.new) connections.new }
+    ensures lists { CanContinueAll books.new.registry connections.new }
     ensures open { StayOpen connections.old connections.new }
     ensures listed { ListsIfAsked (message_with verdict.now arguments.now) result }
     ensures cost { PaysInRoom verdict.now

@@ -4,13 +4,14 @@ ghost use Rattle.rb_model.specs.State.{are_good};
 ghost use Rattle.rb_model.specs.Bounds.{bytes_bound};
 
 use crate::calls::{Piece, give_at_once, lend_arguments, serve_verdict, take_piece};
-use rb_connections::{BUFFER_SIZE, Connections, EndedRecord, Received};
-use rb_forward::{Ended, FwdId, LONGEST_FORWARDED_CALL, Unsent, sooner};
+use rb_address::Peer;
+use rb_connections::{BUFFER_SIZE, CONNECTION_CHARGE, Connections, EndedRecord, Received};
+use rb_forward::{ENTRY_CHARGE, Ended, FwdId, LONGEST_FORWARDED_CALL, Unsent, sooner};
 use rb_model::{
     CoreFault, Exchanged, Expired, LONGEST_REPLY, Limits, Outcome, Served, Standing, Taken, Told,
 };
 use rb_proto::{Books, Context, Listener};
-use rb_rpc::{Caller, LONGEST_FRAGMENT, Peer, read_call};
+use rb_rpc::{Caller, LONGEST_FRAGMENT, read_call};
 use rb_serving::{arguments_behind, put_end};
 use rb_xdr::{Kept, Meter};
 use std::alloc::Global;
@@ -127,9 +128,10 @@ fn bytes_bound(limits: &Limits) -> u64
     requires forwards { limits.now.forwards ≤ 64 }
     ensures { result ≡ bytes_bound limits.now }
 {
-    let conns = limits.conns as u64 * (128 + LONGEST_SERVED_CALL + LONGEST_FRAGMENT as u64);
+    let conns = limits.conns as u64
+        * (CONNECTION_CHARGE + LONGEST_SERVED_CALL + LONGEST_FRAGMENT as u64);
     let rows = limits.rows as u64 * (32 + LONGEST_ADDRESS);
-    let forwards = limits.forwards as u64 * (128 + LONGEST_FORWARDED_CALL as u64);
+    let forwards = limits.forwards as u64 * (ENTRY_CHARGE + LONGEST_FORWARDED_CALL as u64);
     conns + rows + forwards + MOST_KEYS * 48 + LONGEST_REPLY as u64
 }
 
@@ -457,7 +459,6 @@ impl Core {
             id,
             served,
             self.clock,
-            self.listener.host,
             &self.books.registry,
             &mut self.draft,
             meter,
@@ -513,15 +514,9 @@ impl Core {
     {
         self.steps_before = meter.count();
         let clock = self.clock.max(now);
-        let standing = self.connections.give(
-            id,
-            n,
-            clock,
-            self.listener.host,
-            &self.books.registry,
-            &mut self.draft,
-            meter,
-        )?;
+        let standing = self
+            .connections
+            .give(id, n, clock, &self.books.registry, &mut self.draft, meter)?;
         self.clock = clock;
         Ok(standing)
     }
@@ -711,7 +706,6 @@ impl Core {
                     id,
                     Served::Answered(outcome),
                     self.clock,
-                    self.listener.host,
                     &self.books.registry,
                     &mut self.draft,
                     meter,

@@ -5,7 +5,7 @@ ghost use Rattle.rb_xdr.specs.Meter.{PaysAtMost};
 ghost use Rattle.rb_proto.specs.Books.{AreTied, HasPlaceLeft, SameFrame};
 ghost use Rattle.rb_connections.specs.Awaits.{StayOpen};
 ghost use Rattle.rb_connections.specs.Listings.{CanContinueAll};
-ghost use Rattle.rb_serving.specs.Serving.{HasRoom, source_in};
+ghost use Rattle.rb_serving.specs.Serving.{HasRoom};
 ghost use Rattle.rb_core.specs.Eviction.{Evicts};
 ghost use Rattle.rb_serving.specs.Costs.{row_count_of};
 ghost use Rattle.rb_core.specs.CallCosts.{PaysForRoom};
@@ -47,11 +47,11 @@ pub fn make_room(
     requires tied { AreTied meter.old.tie books.old }
     requires tie { meter.old.tie ≡ connections.old.tie }
     requires limit { books.old.registry.limit ≡ context.now.limit }
-    requires lists { CanContinueAll (source_in context.now.listener.host books.old) connections.old }
+    requires lists { CanContinueAll books.old.registry connections.old }
     ensures makes { Evicts context.now message.now
         connections.old books.old connections.new books.new }
     ensures room { HasRoom context.now message.now books.new }
-    ensures lists { CanContinueAll (source_in context.now.listener.host books.new) connections.new }
+    ensures lists { CanContinueAll books.new.registry connections.new }
     ensures open { StayOpen connections.old connections.new }
     ensures forwards { books.new.forwards ≡ books.old.forwards }
     ensures frame { SameFrame books.old books.new }

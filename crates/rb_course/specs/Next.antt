@@ -1,11 +1,11 @@
 -- What is asked of a portmapper and of a program, and what follows of each answer.
-use Rattle.std.specs.Prelude.{ℕ, ◌+◌, ◌-◌, ◌==◌, ◌||◌, nat_lt, nat_le, Bool, true, false, if◌then◌else◌, Option, Some, None, option_map}
-use Rattle.rb_names.specs.declared.netid.Netid.{Netid}
-use Rattle.rb_names.specs.declared.netid.Netid.TheVariants as netids
+use Rattle.std.specs.Prelude.{ℕ, ◌+◌, ◌-◌, ◌==◌, ◌||◌, nat_lt, nat_le, Bool, true, false, if◌then◌else◌, Option, Some, None, option_map, unwrap_or}
+use Rattle.rb_address.specs.declared.netid.Netid.{Netid}
+use Rattle.rb_address.specs.declared.netid.Transport.{Transport}
+use Rattle.rb_address.specs.declared.netid.Transport.TheVariants as transports
+use Rattle.rb_address.specs.Netids.{protocol_of, transport_of as transport_of_netid}
 use Rattle.rb_rpc.specs.declared.reply.ReplyStatus.{ReplyStatus}
 use Rattle.rb_rpc.specs.declared.reply.ReplyStatus.TheVariants as statuses
-use Rattle.rb_words.specs.declared.plan.Transport.{Transport}
-use Rattle.rb_words.specs.declared.plan.Transport.TheVariants as transports
 use Rattle.rb_show.specs.declared.ask.Ask.{Ask}
 use Rattle.rb_show.specs.declared.ask.Question.{Question}
 use Rattle.rb_show.specs.declared.ask.Question.TheVariants as questions
@@ -25,17 +25,9 @@ use Rattle.rb_course.specs.declared.course.Step.{Step}
 
 -- ---- what is asked
 
--- the protocol number of version 2
-abbrev pub prot_of : Transport → ℕ
-prot_of transports.Tcp = 6
-prot_of transports.Udp = 17
-
+-- a local socket is one of a stream, as TCP is
 abbrev pub transport_of : Netid → Transport
-transport_of netids.Tcp = transports.Tcp
-transport_of netids.Tcp6 = transports.Tcp
-transport_of netids.Local = transports.Tcp
-transport_of netids.Udp = transports.Udp
-transport_of netids.Udp6 = transports.Udp
+transport_of netid = unwrap_or (transport_of_netid netid) transports.Tcp
 
 abbrev pub version_of : Aim → ℕ
 version_of (aims.Only vers) = vers
@@ -52,7 +44,7 @@ call_question prog aims.Greatest = questions.Probe prog 4294967295
 
 -- GETPORT with the protocol of the transport, or GETADDR of the netid, over its own transport
 abbrev pub find_by : Way → ℕ → Aim → Place × Question
-find_by (ways.Port transport) prog aim = (places.Portmapper transports.Tcp, questions.Port (prot_of transport) prog (version_of aim))
+find_by (ways.Port transport) prog aim = (places.Portmapper transports.Tcp, questions.Port (protocol_of transport) prog (version_of aim))
 find_by (ways.Address netid) prog aim = (places.Portmapper (transport_of netid), questions.Address netid prog (version_of aim))
 find_by (ways.Known place) prog aim = (place, call_question prog aim)
 
@@ -61,7 +53,7 @@ find_of course aim = find_by course.way course.prog aim
 
 abbrev pub question_at : Course → Stage → Option (Place × Question)
 question_at course (Find aim) = Some (find_of course aim)
-question_at course (FindOld aim transport) = Some (places.Portmapper transport, questions.Port (prot_of transport) course.prog (version_of aim))
+question_at course (FindOld aim transport) = Some (places.Portmapper transport, questions.Port (protocol_of transport) course.prog (version_of aim))
 question_at course (Call aim place) = Some (place, call_question course.prog aim)
 question_at course (End end) = None
 

@@ -1,8 +1,7 @@
 //! Where a course of questions stands.
-use rb_names::Netid;
+use rb_address::{Netid, Transport};
 use rb_rpc::ReplyStatus;
 use rb_uaddr::Uaddr;
-use rb_words::Transport;
 
 /// Where a question goes.
 #[derive(Clone, Copy, Debug, PartialEq, Eq)]

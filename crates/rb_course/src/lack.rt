@@ -1,5 +1,6 @@
 //! The line of a version that is not available.
-ghost use Rattle.rb_words.specs.Refusals.{Prints};
+ghost use Rattle.std.specs.Prelude.{OnOk};
+ghost use Rattle.rb_show.specs.Asks.{Writes};
 ghost use Rattle.rb_course.specs.Lacks.{lack_line};
 
 use std::io;
@@ -7,7 +8,7 @@ use std::io::Write;
 
 /// Writes the line of a version that is not available. An error where the writer fails.
 pub fn show_lack<W: Write>(prog: u32, vers: u32, writer: &mut W) -> io::Result<()>
-    ensures { Prints W.contents writer.old writer.new (lack_line prog vers) result }
+    ensures { OnOk result (Writes W.contents writer.old writer.new (lack_line prog vers)) }
 {
     writeln!(writer, "program {prog} version {vers} not available")
 }

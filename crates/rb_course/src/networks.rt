@@ -2,7 +2,7 @@
 //! between them.
 ghost use Rattle.std.specs.Prelude.{◌≡◌, IfOk, OnOk};
 ghost use Rattle.rb_course.specs.Networks.{AddsNetworks, pieces_of, route_address, broadcast_of, network_of, networks_in_line, networks_in};
-ghost use Rattle.rb_names.specs.Services.{borrowed_texts};
+ghost use Rattle.rb_show.specs.Summary.{borrowed_texts};
 
 use std::alloc::{AllocError, Global};
 

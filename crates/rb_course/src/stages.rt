@@ -1,38 +1,20 @@
 //! What is asked, and what follows of each answer.
 ghost use Rattle.std.specs.Prelude.{◌≡◌};
-ghost use Rattle.rb_course.specs.Next.{prot_of, transport_of, version_of, call_question, find_of, question_at, ask_at, begin, step_to, next_stage, step_to_versions, after_lack, transport_at, after_port, after_find_refusal, after_find, after_find_old, after_ready, after_refusal, after_call, next};
+ghost use Rattle.rb_course.specs.Next.{transport_of, version_of, call_question, find_of, question_at, ask_at, begin, step_to, next_stage, step_to_versions, after_lack, transport_at, after_port, after_find_refusal, after_find, after_find_old, after_ready, after_refusal, after_call, next};
 
 use crate::course::{Aim, Answer, Course, End, Place, Stage, Step, Way};
-use rb_names::Netid;
+use rb_address::{Netid, Transport};
 use rb_rpc::ReplyStatus;
 use rb_show::{Ask, Question};
-use rb_words::Transport;
-
-/// The protocol numbers of version 2.
-const TCP: u32 = 6;
-
-const UDP: u32 = 17;
 
 /// At most so many versions of a program are called.
 const MOST_VERSIONS: u32 = 256;
-
-fn prot_of(transport: Transport) -> u32
-    ensures { result ≡ prot_of transport }
-{
-    match transport {
-        Transport::Tcp => TCP,
-        Transport::Udp => UDP,
-    }
-}
 
 /// Returns the transport of a netid. A local socket is one of a stream, as TCP is.
 pub fn transport_of(netid: Netid) -> Transport
     ensures { result ≡ transport_of netid }
 {
-    match netid {
-        Netid::Tcp | Netid::Tcp6 | Netid::Local => Transport::Tcp,
-        Netid::Udp | Netid::Udp6 => Transport::Udp,
-    }
+    netid.transport().unwrap_or(Transport::Tcp)
 }
 
 fn version_of(aim: Aim) -> u32
@@ -64,7 +46,7 @@ fn find_of(course: &Course, aim: Aim) -> (Place, Question)
     match course.way {
         Way::Port(transport) => (
             Place::Portmapper(Transport::Tcp),
-            Question::Port(prot_of(transport), prog, vers),
+            Question::Port(transport.protocol(), prog, vers),
         ),
         Way::Address(netid) => (
             Place::Portmapper(transport_of(netid)),
@@ -81,7 +63,7 @@ fn question_at(course: &Course, stage: Stage) -> Option<(Place, Question)>
     match stage {
         Stage::Find(aim) => Some(find_of(course, aim)),
         Stage::FindOld(aim, transport) => {
-            let question = Question::Port(prot_of(transport), course.prog, version_of(aim));
+            let question = Question::Port(transport.protocol(), course.prog, version_of(aim));
             Some((Place::Portmapper(transport), question))
         }
         Stage::Call(aim, place) => Some((place, call_question(course.prog, aim))),

@@ -5,6 +5,7 @@ ghost use Rattle.rb_model.specs.State.{are_good};
 use crate::engine::Engine;
 use crate::serving::Serving;
 use mio::{Events, Poll};
+use rb_address::Host;
 use rb_core::{CoreFault, Limits, Listener};
 use rb_policy::{Moments, place_count, wait_of};
 use rb_sockets::{BindFault, DaemonFault, Settings, Shortage, SocketFault, Sockets, Step};
@@ -69,7 +70,8 @@ impl<'a, R: Clock> Daemon<'a, R> {
         let (places, shortage) = places_of(settings, &sockets);
         let events = Events::with_capacity(alloc, EVENTS).map_err(DaemonFault::Memory)?;
         let most_due = limits.conns.saturating_add(limits.forwards);
-        let made = Serving::new(alloc, engine, sockets, places, most_due, listener.host);
+        let announced = Host::V4(listener.host);
+        let made = Serving::new(alloc, engine, sockets, places, most_due, announced);
         let mut serving = made.map_err(DaemonFault::Memory)?;
         if let Err(error) = serving.register(poll.registry()) {
             return Err(DaemonFault::Socket(Step::Prepare.failed(error)));

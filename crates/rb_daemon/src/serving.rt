@@ -5,13 +5,13 @@ use crate::engine::{Due, Engine};
 use crate::steps::{Progress, serve};
 use mio::Registry;
 use mio::event::Event;
+use rb_address::{Host, Peer};
 use rb_forward::PATIENCE;
 use rb_links::{Places, Turn};
 use rb_policy::{
     Admission, Again, Deadlines, Next, Round, SOCKET_CALLS, after_accept, after_all_calls,
     after_receive, is_behind, origin_of, outcome_of, serves_another,
 };
-use rb_rpc::Peer;
 use rb_sockets::{Shown, SocketFault, Sockets, Step, Stream};
 use std::alloc::{AllocError, Global};
 use std::io;
@@ -32,7 +32,7 @@ pub(crate) struct Serving {
     /// As many things can be due at one moment: connections and forwarded calls.
     most_due: usize,
     /// The host that is announced: who comes from it is of this host.
-    announced: [u8; 4],
+    announced: Host,
     datagram: Vec<u8>,
     turn: Turn,
     deadlines: Deadlines,
@@ -50,7 +50,7 @@ impl Serving {
         sockets: Sockets,
         places: usize,
         most_due: usize,
-        announced: [u8; 4],
+        announced: Host,
     ) -> Result<Serving, AllocError> {
         let mut datagram = Vec::with_capacity(alloc, LONGEST_DATAGRAM)?;
         datagram.resize(LONGEST_DATAGRAM, 0)?;

@@ -5,9 +5,11 @@ use Rattle.std.specs.Option.{option_map}
 use Rattle.std.proofs.lemmas.Bool.{eqb-true, lt-ltb, ltb-true, le-leb, leb-true}
 use Rattle.std.proofs.lemmas.Slice.Eq.{bytes_eq-Decides}
 use Rattle.rb_xdr.specs.Xdr.{word}
-use Rattle.rb_rpc.specs.declared.peer.Peer.{Peer}
-use Rattle.rb_rpc.specs.declared.peer.Caller.{Caller}
-use Rattle.rb_rpc.specs.declared.peer.Caller.TheVariants.{Tcp, Udp}
+use Rattle.rb_address.specs.declared.peer.Peer.{Peer}
+use Rattle.rb_address.specs.Hosts.{is_same_host}
+use Rattle.rb_address.proofs.HostLaws.{same_host_is, same_host_of}
+use Rattle.rb_rpc.specs.declared.caller.Caller.{Caller}
+use Rattle.rb_rpc.specs.declared.caller.Caller.TheVariants.{Tcp, Udp}
 use Rattle.rb_forward.specs.declared.types.Outcome.{Outcome}
 use Rattle.rb_forward.specs.Forwards.{Entry, Forwards, xid_of, is_same_peer, is_answered, counts_for, is_connection, without_first, ended_by, with_end}
 use Rattle.rb_forward.specs.Ends.{NoneIs, IsFirst, EndsFirst, IsReplyTo, IsOf}
@@ -67,16 +69,16 @@ both false b h = absurd cc
 pub reply_means : (first_xid clock : ℕ) (from : Peer) (message : List ℕ) (e : Entry) → counts_for first_xid clock from message e ≡ true → IsReplyTo first_xid clock from message e
 unfolding is_answered is_same_peer
 reply_means first_xid clock from message e h =
-    let peer : Bool = bytes_eq e.forward.target.host from.host && eqb e.forward.target.port from.port in
+    let peer : Bool = is_same_host e.forward.target.host from.host && eqb e.forward.target.port from.port in
     let xid : Bool = eqb (xid_of first_xid e.number) (word 0 message) in
     let whole = both (nat_le 4 (length message)) (((e.sent && peer) && xid) && nat_lt clock e.deadline) h in
     let timed = both ((e.sent && peer) && xid) (nat_lt clock e.deadline) whole.1 in
     let numbered = both (e.sent && peer) xid timed.0 in
     let come = both e.sent peer numbered.0 in
-    let there = both (bytes_eq e.forward.target.host from.host) (eqb e.forward.target.port from.port) come.1 in
+    let there = both (is_same_host e.forward.target.host from.host) (eqb e.forward.target.port from.port) come.1 in
     record {
       was_sent = come.0;
-      host = sym ((bytes_eq-Decides e.forward.target.host from.host).0 there.0);
+      host = sym (same_host_is e.forward.target.host from.host there.0);
       port = sym (eqb-true e.forward.target.port from.port there.1);
       has_xid = leb-true 4 (length message) whole.0;
       xid = sym (eqb-true (xid_of first_xid e.number) (word 0 message) numbered.1);
@@ -87,7 +89,7 @@ pub reply_tested : (first_xid clock : ℕ) (from : Peer) (message : List ℕ) (e
 unfolding is_answered is_same_peer
 reply_tested first_xid clock from message e r =
     let long : nat_le 4 (length message) ≡ true = le-leb 4 (length message) r.has_xid in
-    let host : bytes_eq e.forward.target.host from.host ≡ true = (bytes_eq-Decides e.forward.target.host from.host).1 (sym r.host) in
+    let host : is_same_host e.forward.target.host from.host ≡ true = same_host_of e.forward.target.host from.host (sym r.host) in
     let port : eqb e.forward.target.port from.port ≡ true = eq-eqb e.forward.target.port from.port (sym r.port) in
     let xid : eqb (xid_of first_xid e.number) (word 0 message) ≡ true = eq-eqb (xid_of first_xid e.number) (word 0 message) (sym r.xid) in
     let in_time : nat_lt clock e.deadline ≡ true = lt-ltb clock e.deadline r.in_time in

@@ -9,14 +9,14 @@ use Rattle.rb_xdr.specs.Kept.{Kept}
 use Rattle.rb_xdr.specs.Pool.{HasDistinctKeys, value_at, without, with_value}
 use Rattle.rb_xdr.specs.Xdr.{word}
 use Rattle.rb_rpc.specs.CallBytes.{call_bytes}
-use Rattle.rb_rpc.specs.declared.peer.Peer.{Peer}
+use Rattle.rb_address.specs.declared.peer.Peer.{Peer}
 use Rattle.rb_rpc.specs.declared.call.CallHead.{CallHead}
 use Rattle.rb_forward.specs.declared.types.Forward.{Forward}
 use Rattle.rb_forward.specs.declared.types.Outcome.{Outcome}
 use Rattle.rb_forward.specs.declared.entries.Slot.{Slot}
 use Rattle.rb_forward.specs.declared.entries.Wanted.{Wanted}
 use Rattle.rb_forward.specs.declared.entries.Wanted.TheVariants as wanted
-use Rattle.rb_forward.specs.Forwards.{Entry, Forwards, is_answered, is_unsent, as_sent, without_first, ended_by, with_end, reply, counts_for, outcome_of, xid_of, head_of, question, held_call, held, unsent, unsent_call, can_be_sent, sent, can_start, with_next_entry, next_entry, later, patience, greatest_number}
+use Rattle.rb_forward.specs.Forwards.{Entry, Forwards, is_answered, is_unsent, as_sent, without_first, ended_by, with_end, reply, counts_for, outcome_of, xid_of, head_of, question, held_call, held, unsent, unsent_call, can_be_sent, sent, can_start, with_next_entry, next_entry, later, patience, greatest_number, entry_charge}
 use Rattle.rb_forward.specs.Table.{without_call, is_wanted_slot, is_wanted, wanted_slot}
 use Rattle.rb_forward.specs.StandsFor.{StandsForEntry, held_in}
 use Rattle.rb_forward.proofs.Tables.{none_some, IsFirst, is_first, nothing_found, found_any, found_none, all_stay, Beside, found_beside, none_beside, without_beside, changed_beside, one_more_each, same_length, same_sum}
@@ -63,7 +63,7 @@ module _ (first_xid : ℕ) (sought : Wanted) (slots : List (ℕ × Slot)) (all :
 
 pub held_alike : (first_xid : ℕ) (slots : List Slot) (f : Forwards) → AllZip (StandsForEntry first_xid) slots f.all → held_in slots ≡ held first_xid f
 held_alike first_xid slots f z =
-    same_sum (StandsForEntry first_xid) (λ s. 128 + length s.call.bytes) (λ e. 128 + length (held_call first_xid e)) (λ s e h. ap (λ xs. 128 + length xs) h.call) slots f.all z
+    same_sum (StandsForEntry first_xid) (λ s. entry_charge + length s.call.bytes) (λ e. entry_charge + length (held_call first_xid e)) (λ s e h. ap (λ xs. entry_charge + length xs) h.call) slots f.all z
 
 -- ---- what is lent
 

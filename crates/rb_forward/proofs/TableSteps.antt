@@ -20,27 +20,28 @@ use Rattle.rb_xdr.proofs.PoolLemmas.{distinct-without, length-without, distinct-
 use Rattle.rb_forward.proofs.Tables.{some_is, sum-without, sum-changed}
 use Rattle.rb_forward.proofs.Callers.{callers-without, callers-changed, callers-more}
 use Rattle.rb_forward.proofs.Stands.{first_wanted, found_first}
+use Rattle.rb_forward.specs.Forwards.{entry_charge}
 
-all_within : (meter : ℕ) (slots : List Slot) → All (HasBuffer meter) slots → All (λ (s : Slot). 128 + length s.call.bytes ≤ 128 + longest_forwarded_call) slots
+all_within : (meter : ℕ) (slots : List Slot) → All (HasBuffer meter) slots → All (λ (s : Slot). entry_charge + length s.call.bytes ≤ entry_charge + longest_forwarded_call) slots
 all_within meter slots h = λ k slot lt. let here = (h k slot lt).within in omega (arith, here)
 
 module _ (slots : Pool Slot) (spare : Pool Kept) (cap held : ℕ) (t : IsTable slots spare cap held) where
-  pub held_few : held ≤ length slots.entries * (128 + longest_forwarded_call)
+  pub held_few : held ≤ length slots.entries * (entry_charge + longest_forwarded_call)
   held_few =
-      let sum = sum_by-le (λ (s : Slot). 128 + length s.call.bytes) (128 + longest_forwarded_call) (values_of slots.entries) (all_within slots.tie (values_of slots.entries) t.buffers) in
+      let sum = sum_by-le (λ (s : Slot). entry_charge + length s.call.bytes) (entry_charge + longest_forwarded_call) (values_of slots.entries) (all_within slots.tie (values_of slots.entries) t.buffers) in
       rw (t.is_held, ← length-values_of slots.entries) sum
 
-  pub held_within : held ≤ (128 + longest_forwarded_call) * cap
+  pub held_within : held ≤ (entry_charge + longest_forwarded_call) * cap
   held_within =
       let few = held_few in
       let le : length slots.entries ≤ cap = omega (arith, t.room) in
-      let more = mul-le-mul_right (128 + longest_forwarded_call) le in
-      omega (arith, few, more, turned (128 + longest_forwarded_call) cap)
+      let more = mul-le-mul_right (entry_charge + longest_forwarded_call) le in
+      omega (arith, few, more, turned (entry_charge + longest_forwarded_call) cap)
     where
       turned : (a b : ℕ) → b * a ≡ a * b
       turned a b = omega arith
 
-  pub room_for_call : (count : ℕ) → length slots.entries < cap → count ≤ longest_forwarded → held + (128 + 40 + count) < 2 ^ 64
+  pub room_for_call : (count : ℕ) → length slots.entries < cap → count ≤ longest_forwarded → held + (entry_charge + 40 + count) < 2 ^ 64
   unfolding longest_forwarded
   room_for_call count room few =
       let h = held_few in
@@ -53,9 +54,9 @@ module _ (slots : Pool Slot) (spare : Pool Kept) (cap held : ℕ) (t : IsTable s
     found : find (is_wanted_slot sought) (values_of slots.entries) ≡ Some slot
     found = found_first sought slots.entries k slot t.distinct h v
 
-    pub fits_in_held : 128 + length slot.call.bytes ≤ held
+    pub fits_in_held : entry_charge + length slot.call.bytes ≤ held
     fits_in_held =
-        let sum = sum-without (is_wanted_slot sought) (λ (s : Slot). 128 + length s.call.bytes) (values_of slots.entries) slot found in
+        let sum = sum-without (is_wanted_slot sought) (λ (s : Slot). entry_charge + length s.call.bytes) (values_of slots.entries) slot found in
         omega (arith, sum, t.is_held)
 
     -- the slot's call was sent
@@ -63,7 +64,7 @@ module _ (slots : Pool Slot) (spare : Pool Kept) (cap held : ℕ) (t : IsTable s
     table_sent =
         let first = first_wanted sought slots.entries k t.distinct h in
         let changed = first.changed (without_call slot) in
-        let sum = sum-changed (is_wanted_slot sought) (λ (s : Slot). 128 + length s.call.bytes) (values_of slots.entries) slot (without_call slot) found in
+        let sum = sum-changed (is_wanted_slot sought) (λ (s : Slot). entry_charge + length s.call.bytes) (values_of slots.entries) slot (without_call slot) found in
         let buffer : IsBuffer slots.tie (without_call slot).call = record { tie = its_buffer.tie; cap = its_buffer.cap; within = omega arith } in
         record {
           distinct = distinct-with slots.entries k (without_call slot) t.distinct;
@@ -83,11 +84,11 @@ module _ (slots : Pool Slot) (spare : Pool Kept) (cap held : ℕ) (t : IsTable s
 
     -- the slot is there no longer, and its buffer is spare
     pub table_ended : (now : Pool Kept) → length now.entries ≡ length spare.entries + 1 → HasDistinctKeys now.entries → now.cap ≡ spare.cap → now.tie ≡ spare.tie
-        → All (IsSpare slots.tie) (values_of now.entries) → IsTable (record slots { entries = without slots.entries k }) now cap (held - (128 + length slot.call.bytes))
+        → All (IsSpare slots.tie) (values_of now.entries) → IsTable (record slots { entries = without slots.entries k }) now cap (held - (entry_charge + length slot.call.bytes))
     table_ended now more distinct now_cap now_tie buffers =
         let first = first_wanted sought slots.entries k t.distinct h in
         let less = length-without slots.entries k slot v in
-        let sum = sum-without (is_wanted_slot sought) (λ (s : Slot). 128 + length s.call.bytes) (values_of slots.entries) slot found in
+        let sum = sum-without (is_wanted_slot sought) (λ (s : Slot). entry_charge + length s.call.bytes) (values_of slots.entries) slot found in
         record {
           distinct = distinct-without slots.entries k t.distinct;
           spare_distinct = distinct;
@@ -106,9 +107,9 @@ module _ (slots : Pool Slot) (spare : Pool Kept) (cap held : ℕ) (t : IsTable s
   pub table_started : (count : ℕ) (new : Pool Slot) (now : Pool Kept) (slot : Slot) → values_of new.entries ≡ values_of slots.entries ++ slot ∷ [] → length new.entries ≡ length slots.entries + 1
       → HasDistinctKeys new.entries → new.cap ≡ slots.cap → new.tie ≡ slots.tie → length spare.entries ≡ length now.entries + 1 → HasDistinctKeys now.entries → now.cap ≡ spare.cap → now.tie ≡ spare.tie
       → All (IsSpare slots.tie) (values_of now.entries) → IsBuffer slots.tie slot.call → length slot.call.bytes ≡ 40 + count → IsNew slot.forward.caller (values_of slots.entries)
-      → IsTable new now cap (held + (128 + 40 + count))
+      → IsTable new now cap (held + (entry_charge + 40 + count))
   table_started count new now slot last longer distinct new_cap new_tie fewer now_distinct now_cap now_tie buffers buffer long is_new =
-      let sum = sum_by_push (λ (s : Slot). 128 + length s.call.bytes) (values_of slots.entries) slot in
+      let sum = sum_by_push (λ (s : Slot). entry_charge + length s.call.bytes) (values_of slots.entries) slot in
       record {
         distinct = distinct;
         spare_distinct = now_distinct;

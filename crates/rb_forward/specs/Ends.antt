@@ -1,9 +1,9 @@
 -- Which entry a call ends, in relations.
 use Rattle.std.specs.Prelude.{◌≡◌, ℕ, ◌<◌, ◌≤◌, ⊤, true, List, [], ◌∷◌, ◌++◌, length, Option, Some, None}
 use Rattle.rb_xdr.specs.Xdr.{word}
-use Rattle.rb_rpc.specs.declared.peer.Peer.{Peer}
-use Rattle.rb_rpc.specs.declared.peer.Caller.{Caller}
-use Rattle.rb_rpc.specs.declared.peer.Caller.TheVariants.{Tcp, Udp}
+use Rattle.rb_address.specs.declared.peer.Peer.{Peer}
+use Rattle.rb_rpc.specs.declared.caller.Caller.{Caller}
+use Rattle.rb_rpc.specs.declared.caller.Caller.TheVariants.{Tcp, Udp}
 use Rattle.rb_forward.specs.declared.types.Outcome.{Outcome}
 use Rattle.rb_forward.specs.declared.types.Outcome.TheVariants.{Failed, Dropped}
 use Rattle.rb_forward.specs.declared.types.Ended.{Ended}

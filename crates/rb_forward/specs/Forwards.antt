@@ -9,9 +9,10 @@ use Rattle.rb_rpc.specs.declared.call.CallHead.{CallHead}
 use Rattle.rb_rpc.specs.declared.reply.ReplyStatus.{ReplyStatus}
 use Rattle.rb_rpc.specs.declared.reply.ReplyHead.{ReplyHead}
 use Rattle.rb_rpc.specs.declared.call.Credential.TheVariants as credentials
-use Rattle.rb_rpc.specs.declared.peer.Peer.{Peer}
-use Rattle.rb_rpc.specs.declared.peer.Caller.{Caller}
-use Rattle.rb_rpc.specs.declared.peer.Caller.TheVariants.{Tcp, Udp}
+use Rattle.rb_address.specs.declared.peer.Peer.{Peer}
+use Rattle.rb_address.specs.Hosts.{is_same_host}
+use Rattle.rb_rpc.specs.declared.caller.Caller.{Caller}
+use Rattle.rb_rpc.specs.declared.caller.Caller.TheVariants.{Tcp, Udp}
 use Rattle.rb_rpc.specs.declared.reply.ReplyStatus.TheVariants as replies
 use Rattle.rb_forward.specs.declared.types.Forward.{Forward}
 use Rattle.rb_forward.specs.declared.types.Outcome.{Outcome}
@@ -76,7 +77,7 @@ outcome_of message = outcome_read (length message) (read_reply message)
 -- ---- which entry ends
 
 unfoldable pub is_same_peer : Peer → Peer → Bool
-is_same_peer a b = bytes_eq a.host b.host && a.port == b.port
+is_same_peer a b = is_same_host a.host b.host && a.port == b.port
 
 -- it was sent, and the xid, host and port, and moment are right
 unfoldable pub is_answered : ℕ → ℕ → Peer → ℕ → Entry → Bool
@@ -188,6 +189,10 @@ sent number f = record f { all = change_first (is_unsent number) as_sent f.all }
 unfoldable pub held_call : ℕ → Entry → List ℕ
 held_call first_xid e = if e.sent then [] else question first_xid e
 
--- an entry's fixed part counts as 128 bytes
+-- what the fixed part of an entry counts as, in bytes
+abbrev pub entry_charge : ℕ
+entry_charge = 128
+
+-- its fixed part, and the bytes of its call until it is sent
 abbrev pub held : ℕ → Forwards → ℕ
-held first_xid f = sum_by (λ e. 128 + length (held_call first_xid e)) f.all
+held first_xid f = sum_by (λ e. entry_charge + length (held_call first_xid e)) f.all

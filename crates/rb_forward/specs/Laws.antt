@@ -2,7 +2,7 @@
 use Rattle.std.specs.Prelude.{◌≡◌, ℕ, ◌+◌, ◌≤◌, ◌==◌, if◌then◌else◌, List, [], ◌∷◌, map, find, Option, Some, None}
 use Rattle.std.specs.List.{count_by, cons_option}
 use Rattle.std.specs.Option.{option_map}
-use Rattle.rb_rpc.specs.declared.peer.Peer.{Peer}
+use Rattle.rb_address.specs.declared.peer.Peer.{Peer}
 use Rattle.rb_forward.specs.declared.types.Forward.{Forward}
 use Rattle.rb_forward.specs.declared.types.Outcome.TheVariants.{Failed, Dropped}
 use Rattle.rb_forward.specs.Forwards.{Entry, Forwards, no_forwards, can_start, with_next_entry, sent, counts_for, is_due, is_of_connection, outcome_of, ended_by, reply, due, drop_caller}

@@ -4,7 +4,7 @@ use Rattle.std.specs.List.{AllZip, sum_by}
 use Rattle.std.specs.Map.{values_of}
 use Rattle.rb_forward.specs.declared.entries.Slot.{Slot}
 use Rattle.rb_rpc.specs.Forwarded.{longest_forwarded}
-use Rattle.rb_forward.specs.Forwards.{Entry, Forwards, xid_of, held_call}
+use Rattle.rb_forward.specs.Forwards.{Entry, Forwards, xid_of, held_call, entry_charge}
 
 -- the longest unsent call: a head of 40 bytes and the arguments
 abbrev pub longest_forwarded_call : ℕ
@@ -36,6 +36,6 @@ pub record StandsForForwards (table : Table) (f : Forwards) : Type 0 where
 abbrev pub slots_of : Table → List Slot
 slots_of table = values_of table.slots
 
--- the bytes of a slot count, and 128 for its fixed part
+-- the bytes of a slot count, and its fixed part
 abbrev pub held_in : List Slot → ℕ
-held_in slots = sum_by (λ (slot : Slot). 128 + length slot.call.bytes) slots
+held_in slots = sum_by (λ (slot : Slot). entry_charge + length slot.call.bytes) slots

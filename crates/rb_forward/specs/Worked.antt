@@ -1,19 +1,20 @@
 -- Worked examples: forwarded calls, and how they end.
 use Rattle.std.specs.Prelude.{◌≡◌, ℕ, ◌-◌, ◌^◌, true, false, List, [], ◌∷◌, ◌++◌, take, replicate, Option, Some, None}
 use Rattle.rb_xdr.specs.Xdr.{words}
-use Rattle.rb_rpc.specs.declared.peer.Peer.{Peer}
-use Rattle.rb_rpc.specs.declared.peer.Caller.{Caller}
-use Rattle.rb_rpc.specs.declared.peer.Caller.TheVariants.{Tcp, Udp}
+use Rattle.rb_address.specs.declared.host.Host.TheVariants.{V4}
+use Rattle.rb_address.specs.declared.peer.Peer.{Peer}
+use Rattle.rb_rpc.specs.declared.caller.Caller.{Caller}
+use Rattle.rb_rpc.specs.declared.caller.Caller.TheVariants.{Tcp, Udp}
 use Rattle.rb_rpc.specs.declared.reply.ReplyStatus.TheVariants as replies
 use Rattle.rb_forward.specs.declared.types.Forward.{Forward}
-use Rattle.rb_rpc.specs.declared.peer.Kind.TheVariants.{Indirect}
+use Rattle.rb_rpc.specs.declared.caller.Kind.TheVariants.{Indirect}
 use Rattle.rb_forward.specs.declared.types.Ended.{Ended}
 use Rattle.rb_forward.specs.declared.types.Outcome.{Outcome}
 use Rattle.rb_forward.specs.declared.types.Outcome.TheVariants.{Passed, Refused, Failed, Dropped}
 use Rattle.rb_forward.specs.Forwards.{Forwards, no_forwards, can_start, with_next_entry, can_be_sent, sent, unsent, reply, due, drop_caller, xid_of, held}
 
 abbrev pub at_host : List ℕ → ℕ → Peer
-at_host host port = record { host = host; port = port }
+at_host host port = record { host = V4 host; port = port }
 
 abbrev pub loopback : List ℕ
 loopback = 127 ∷ 0 ∷ 0 ∷ 1 ∷ []

@@ -9,7 +9,8 @@ ghost use Rattle.rb_forward.specs.Costs.{find_cost};
 ghost use Rattle.rb_forward.specs.Table.{is_wanted_slot, wanted_slot};
 
 use crate::types::Forward;
-use rb_rpc::{Caller, Kind, Peer};
+use rb_address::{Host, Peer};
+use rb_rpc::{Caller, Kind};
 use rb_xdr::{Kept, Meter, NoMemory, Pool};
 use std::alloc::Global;
 
@@ -60,10 +61,7 @@ pub enum Wanted {
 impl Slot {
     /// What is written to a place before any entry has it: its buffer has no memory.
     pub fn blank(alloc: Global) -> Result<Slot, NoMemory> {
-        let nobody = Peer {
-            host: [0; 4],
-            port: 0,
-        };
+        let nobody = Peer::new(Host::V4([0; 4]), 0);
         let forward = Forward {
             caller: Caller::Udp(nobody),
             xid: 0,

@@ -1,20 +1,21 @@
 //! The calls that are forwarded, in the order in which they came.
 ghost use Rattle.std.specs.Prelude.{◌≡◌, ◌+◌, ◌*◌, ◌%◌, ◌^◌, ◌<◌, ◌≤◌, ◌↔◌, ℕ, length, Some, None, IfOk, IsTrue};
 ghost use Rattle.std.specs.Map.{values_of};
-ghost use Rattle.rb_forward.specs.Forwards.{head_of};
+ghost use Rattle.rb_forward.specs.Forwards.{head_of, entry_charge};
 
 use crate::buffers::{HEAD, make_spare, put_buffer, take_buffer, write_call};
 use crate::deadlines::soonest_in;
 use crate::entries::{Slot, Wanted, put_slot, wanted_key};
 use crate::outcome::{outcome_of, xid_of};
 use crate::types::{Ended, Forward, FwdId, Gone, Outcome, Unsent};
-use rb_rpc::{CallHead, Credential, Peer};
+use rb_address::Peer;
+use rb_rpc::{CallHead, Credential};
 use rb_xdr::{Full, Kept, Meter, NoMemory, Pool};
 use std::alloc::Global;
 use std::marker::Model;
 
 /// What the fixed part of an entry counts as, in bytes.
-const CHARGE: u64 = 128;
+pub const ENTRY_CHARGE: u64 = 128;
 
 /// A target's time to answer, in milliseconds.
 pub const PATIENCE: u64 = 5000;
@@ -151,7 +152,7 @@ impl Forwards {
         let head = head_of(self.first_xid, self.last_number, forward);
         write_call(&mut call, &head, args, meter);
         self.last_number += 1;
-        self.held += CHARGE + HEAD as u64 + args.len() as u64;
+        self.held += ENTRY_CHARGE + HEAD as u64 + args.len() as u64;
         let slot = Slot {
             number: self.last_number,
             forward: *forward,
@@ -279,7 +280,7 @@ impl Forwards {
     pub fn held(&self) -> u64
         ensures held { result ≡ held_in (slots_of self.now) }
         ensures entries { Whatever self.now (λ f. result ≡ held self.now.first_xid f) }
-        ensures bound { result ≤ (128 + longest_forwarded_call) * self.now.cap }
+        ensures bound { result ≤ (entry_charge + longest_forwarded_call) * self.now.cap }
     {
         self.held
     }
@@ -308,7 +309,7 @@ impl Forwards {
             unreachable!()
         };
         let Slot { forward, call, .. } = slot;
-        self.held -= CHARGE + call.len(meter) as u64;
+        self.held -= ENTRY_CHARGE + call.len(meter) as u64;
         put_buffer(&mut self.spare, call, meter);
         Some(Ended { forward, outcome })
     }

@@ -13,7 +13,7 @@ mod worked;
 
 pub use buffers::LONGEST_FORWARDED_CALL;
 pub use deadlines::{sooner, soonest_in};
-pub use forwards::{Forwards, PATIENCE};
+pub use forwards::{ENTRY_CHARGE, Forwards, PATIENCE};
 pub use laws::{calls_end_the_first, each_entry_ends_once};
 pub use outcome::LONGEST_RESULTS;
 pub use types::{Ended, Forward, FwdId, Gone, Outcome, Unsent};

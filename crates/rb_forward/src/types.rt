@@ -1,5 +1,6 @@
 //! What is forwarded, and how it ends.
-use rb_rpc::{Caller, Kind, Peer, ReplyStatus};
+use rb_address::Peer;
+use rb_rpc::{Caller, Kind, ReplyStatus};
 use thiserror::Error;
 
 /// What is asked of which target, and what its caller is told.

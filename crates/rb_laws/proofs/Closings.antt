@@ -6,9 +6,9 @@ use Rattle.std.proofs.lemmas.Bool.{and_parts, eqb-true, eq-eqb, ne_eqb, lt-ltb}
 use Rattle.std.proofs.lemmas.List.Elements.{All-head, All-tail}
 use Rattle.std.proofs.lemmas.Grind.{common_steps}
 use Rattle.rb_rpc.specs.Records.{first_record, data_of}
-use Rattle.rb_rpc.specs.declared.peer.Caller.{Caller}
-use Rattle.rb_rpc.specs.declared.peer.Caller.TheVariants.{Tcp, Udp}
-use Rattle.rb_rpc.specs.declared.peer.Peer.{Peer}
+use Rattle.rb_rpc.specs.declared.caller.Caller.{Caller}
+use Rattle.rb_rpc.specs.declared.caller.Caller.TheVariants.{Tcp, Udp}
+use Rattle.rb_address.specs.declared.peer.Peer.{Peer}
 use Rattle.rb_feed.specs.Feeds.{arguments_of}
 use Rattle.rb_forward.specs.declared.types.Outcome.TheVariants.{Failed}
 use Rattle.rb_forward.specs.Forwards.{Entry, Forwards, is_due as entry_is_due, ended_by, without_first}

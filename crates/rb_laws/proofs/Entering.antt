@@ -1,15 +1,15 @@
 -- What a call does to the entries of forwarded calls: it begins one where it is forwarded, and else leaves them.
 use Rattle.std.proofs.Common.{◌≡◌, ℕ, Bool, true, false, cond, Option, Some, None, List, length, refl, arith}
 use Rattle.rb_rpc.specs.declared.call.CallHead.{CallHead}
-use Rattle.rb_rpc.specs.declared.peer.Caller.{Caller}
+use Rattle.rb_rpc.specs.declared.caller.Caller.{Caller}
 use Rattle.rb_rpc.specs.declared.reply.ReplyStatus.{ReplyStatus}
 use Rattle.rb_rpc.specs.declared.reply.ReplyStatus.TheVariants as replies
-use Rattle.rb_rpc.specs.declared.peer.Peer.{Peer}
+use Rattle.rb_address.specs.declared.peer.Peer.{Peer}
 use Rattle.rb_feed.specs.Feeds.{arguments_of}
 use Rattle.rb_registry.specs.declared.row.Row.{Row}
 use Rattle.rb_registry.specs.declared.row.Which.{Which}
 use Rattle.rb_forward.specs.declared.types.Forward.{Forward}
-use Rattle.rb_rpc.specs.declared.peer.Kind.{Kind}
+use Rattle.rb_rpc.specs.declared.caller.Kind.{Kind}
 use Rattle.rb_forward.specs.Forwards.{Forwards, can_start, with_next_entry}
 use Rattle.rb_proto.specs.declared.answers.Answer.{Answer}
 use Rattle.rb_proto.specs.declared.answers.Answer.TheVariants as answers
@@ -111,7 +111,7 @@ outcome-enters context (says.Garbage head) arguments l = Same refl refl
 outcome-enters context (says.Asked call) arguments l = by_answer (answer_to context call.head call.request arguments (with_call_noted call.head l)) (answer-enters context call.head call.request arguments (with_call_noted call.head l))
   where
     by_answer : (r : Answer × Ledger) → Entering context l.forwards r.1.forwards (answers_later r.0) → Served context l (reply_with context call.head.xid r)
-    by_answer (answers.Results results, new) (Same e same) = Same (results-now context.caller (length new.changes) call.head.xid (result_bytes context.listener.host (shown_of new) results) results) same
+    by_answer (answers.Results results, new) (Same e same) = Same (results-now context.caller (length new.changes) call.head.xid (result_bytes (shown_of new) results) results) same
     by_answer (answers.Results results, new) (Begins e forward args by can more) = absurd cc
     by_answer (answers.Refused status, new) (Same e same) = Same refl same
     by_answer (answers.Refused status, new) (Begins e forward args by can more) = absurd cc

@@ -1,13 +1,13 @@
 -- What each event appends to the history.
 use Rattle.std.proofs.Common.{◌≡◌, ℕ, Bool, true, false, cond, Option, Some, None, List, [], ◌∷◌, ◌++◌, refl, sym, ap, subst, ◌∙◌, append-nil, append_assoc}
 use Rattle.rb_rpc.specs.declared.call.CallHead.{CallHead}
-use Rattle.rb_rpc.specs.declared.peer.Caller.TheVariants.{Udp}
-use Rattle.rb_rpc.specs.declared.peer.Peer.{Peer}
-use Rattle.rb_rpc.specs.declared.peer.Kind.{Kind}
-use Rattle.rb_rpc.specs.declared.peer.Kind.TheVariants.{Callit2, Callit3, Bcast, Indirect}
+use Rattle.rb_rpc.specs.declared.caller.Caller.TheVariants.{Udp}
+use Rattle.rb_address.specs.declared.peer.Peer.{Peer}
+use Rattle.rb_rpc.specs.declared.caller.Kind.{Kind}
+use Rattle.rb_rpc.specs.declared.caller.Kind.TheVariants.{Callit2, Callit3, Bcast, Indirect}
 use Rattle.rb_feed.specs.Feeds.{arguments_of}
 use Rattle.rb_registry.specs.declared.row.Row.{Row}
-use Rattle.rb_registry.specs.declared.row.Transport.{Transport}
+use Rattle.rb_address.specs.declared.netid.Transport.{Transport}
 use Rattle.rb_registry.specs.declared.row.Which.{Which}
 use Rattle.rb_registry.specs.Rows.{Change}
 use Rattle.rb_registry.specs.Rows.Change.{Added}
@@ -25,7 +25,7 @@ use Rattle.rb_proto.specs.declared.answers.Answer.{Answer}
 use Rattle.rb_proto.specs.declared.answers.Value.TheVariants as values
 use Rattle.rb_proto.specs.declared.context.Context.{Context}
 use Rattle.rb_proto.specs.Ledger.{Ledger, rows_in, version_of, with_call_noted}
-use Rattle.rb_proto.specs.Netids.{transport_of_prot}
+use Rattle.rb_address.specs.Netids.{transport_of_protocol}
 use Rattle.rb_proto.specs.Results.{result_bytes}
 use Rattle.rb_proto.specs.Answers.{accepts_row, set_row, accepts_removal, removal_of, unset_rows, change_if, port_on, getport, getaddr, getversaddr, answer_to, answer, tell_done}
 use Rattle.rb_proto.specs.Forwarding.{outcome_note, peer_to_forward, forward_to, forward_call, end_notes, target_replied, fell_due, caller_dropped, call_sent}
@@ -97,7 +97,7 @@ answer-noted : (context : Context) (head : CallHead) (request : Request) (argume
 unfolding getport getaddr getversaddr forward_call
 answer-noted context head (requests.Mapping mappings.Set m) arguments l = record { notes = done-noted context head.xid _ l (set_row context head _ l) (set-noted context head _ l) }
 answer-noted context head (requests.Mapping mappings.Unset m) arguments l = record { notes = done-noted context head.xid _ l (unset_rows context head m.prog m.vers _ l) (unset-noted context head m.prog m.vers _ l) }
-answer-noted context head (requests.Mapping mappings.Getport m) arguments l = record { notes = getport-noted head m l (transport_of_prot m.prot) }
+answer-noted context head (requests.Mapping mappings.Getport m) arguments l = record { notes = getport-noted head m l (transport_of_protocol m.prot) }
 answer-noted context head (requests.Rpcb rpcbs.Set r) arguments l = record { notes = done-noted context head.xid _ l (set_row context head _ l) (set-noted context head _ l) }
 answer-noted context head (requests.Rpcb rpcbs.Unset r) arguments l = record { notes = done-noted context head.xid _ l (unset_rows context head r.prog r.vers _ l) (unset-noted context head r.prog r.vers _ l) }
 answer-noted context head (requests.Rpcb rpcbs.Getaddr r) arguments l = record { notes = refl }

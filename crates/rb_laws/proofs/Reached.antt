@@ -3,7 +3,7 @@ use Rattle.std.specs.Prelude.{find, filter}
 use Rattle.std.proofs.Common.{◌≡◌, ◌<◌, ◌≤◌, ℕ, ◌+◌, max, Bool, not, eqb, Some, None, List, [], ◌∷◌, ◌++◌, length, map, refl, sym, subst, arith}
 use Rattle.std.proofs.lemmas.Grind.{common_steps}
 use Rattle.rb_rpc.specs.Records.{first_record}
-use Rattle.rb_rpc.specs.declared.peer.Caller.TheVariants.{Udp}
+use Rattle.rb_rpc.specs.declared.caller.Caller.TheVariants.{Udp}
 use Rattle.rb_model.specs.Calls.{Outcome}
 use Rattle.rb_model.specs.State.{State, Phase, Connection, Connections}
 use Rattle.rb_model.specs.State.Phase.{Idle, Reading, Owing, Awaiting, Lost}

@@ -1,7 +1,7 @@
 -- The reply over UDP that is held after an event is what the event shows.
 use Rattle.std.proofs.Common.{◌≤◌, ℕ, List, length, arith}
 use Rattle.std.proofs.lemmas.Grind.{common_steps}
-use Rattle.rb_rpc.specs.declared.peer.Peer.{Peer}
+use Rattle.rb_address.specs.declared.peer.Peer.{Peer}
 use Rattle.rb_proto.specs.Ledger.{Ledger}
 use Rattle.rb_model.specs.State.{State}
 use Rattle.rb_model.specs.Ending.{at_fresh_moment, forward_reply, expire_connection, expire}

@@ -7,17 +7,19 @@ use Rattle.std.proofs.Math.Seq.{drop-append_seam}
 use Rattle.std.proofs.lemmas.List.Elements.{All-nil, All-head, All-tail, All-same, All-push, All-cons}
 use Rattle.rb_xdr.specs.Xdr.{IsContent, boolean}
 use Rattle.rb_rpc.specs.declared.call.Verdict.TheVariants as verdicts
-use Rattle.rb_rpc.specs.declared.peer.Caller.TheVariants.{Udp}
+use Rattle.rb_rpc.specs.declared.caller.Caller.TheVariants.{Udp}
 use Rattle.rb_rpc.specs.CallBytes.{call_bytes}
 use Rattle.rb_rpc.specs.Grammar.{IsHead}
 use Rattle.rb_rpc.proofs.Calls.{written_again}
 use Rattle.rb_feed.specs.Feeds.{arguments_of}
-use Rattle.rb_registry.specs.declared.row.Netid.{Netid}
-use Rattle.rb_registry.specs.declared.row.Netid.TheVariants.{Tcp, Udp as UdpNetid, Tcp6, Udp6, Local}
+use Rattle.rb_address.specs.declared.netid.Netid.{Netid}
+use Rattle.rb_address.specs.declared.netid.Netid.TheVariants.{Tcp, Udp as UdpNetid, Tcp6, Udp6, Local}
 use Rattle.rb_registry.specs.declared.row.Owner.{Owner}
 use Rattle.rb_registry.specs.declared.row.Owner.TheVariants.{Unknown, Uid}
 use Rattle.rb_registry.specs.declared.row.Row.{Row}
-use Rattle.rb_registry.specs.Rows.{Change, netid_text, covers, left_by, live, has_place, are_distinct, is_row, is_on, is_netid}
+use Rattle.rb_registry.specs.Rows.{Change, covers, left_by, live, has_place, are_distinct, is_row, is_on}
+use Rattle.rb_address.specs.Hosts.{is_loopback}
+use Rattle.rb_address.specs.Netids.{netid_text, is_netid, netid_named}
 use Rattle.rb_registry.specs.Rows.Change.{Added, Removed}
 use Rattle.rb_registry.specs.Laws.{is_accepted, are_accepted}
 use Rattle.rb_registry.proofs.SetAgain.{all_left, rows_are_set_again}
@@ -33,7 +35,6 @@ use Rattle.rb_proto.specs.Callers.{is_local, owner_of, own_rows}
 use Rattle.rb_proto.specs.Results.{result_bytes}
 use Rattle.rb_proto.specs.declared.listener.Listener.{Listener}
 use Rattle.rb_proto.specs.Ledger.{Ledger, rows_in, with_call_noted}
-use Rattle.rb_proto.specs.Netids.{netid_named}
 use Rattle.rb_proto.specs.Answers.{comes_from_here, can_be_set, accepts_row, set_row, row_of_rpcb, answer}
 use Rattle.rb_model.specs.declared.message.Message.{Message}
 use Rattle.rb_model.specs.declared.message.Message.TheVariants as says
@@ -110,7 +111,7 @@ unfolding row_of_rpcb
 row-again row = rw (named row.netid, owned row.owner) refl
 
 from-here : (context : Context) → context.caller ≡ Udp this_machine → comes_from_here context ≡ true
-unfolding comes_from_here is_local
+unfolding comes_from_here is_local is_loopback
 from-here context e = rw e refl
 
 sets : (context : Context) (row : Row) (arguments : List ℕ) (l : Ledger) → context.caller ≡ Udp this_machine → can_be_set row ≡ true → has_place context.limit (rows_in l) (length l.changes) row ≡ true

@@ -13,7 +13,7 @@ use Rattle.rb_xdr.proofs.Words.{AreBytes-take, AreBytes-drop}
 use Rattle.rb_rpc.specs.declared.call.CallHead.{CallHead}
 use Rattle.rb_rpc.specs.declared.call.Credential.{Credential}
 use Rattle.rb_rpc.specs.declared.call.Credential.TheVariants as credentials
-use Rattle.rb_rpc.specs.declared.peer.Caller.TheVariants.{Udp}
+use Rattle.rb_rpc.specs.declared.caller.Caller.TheVariants.{Udp}
 use Rattle.rb_rpc.specs.Records.{is_last, fragment_end, first_record, data_in, data_of}
 use Rattle.rb_rpc.specs.Grammar.{SaysCaller, IsCaller}
 use Rattle.rb_rpc.specs.Messages.{auth, auth_none}
@@ -21,13 +21,14 @@ use Rattle.rb_rpc.specs.CallBytes.{sys_body, credential, call_words, call_bytes}
 use Rattle.rb_rpc.proofs.Calls.{AreBytes-append, AreBytes-number, AreBytes-sys}
 use Rattle.rb_uaddr.specs.declared.address.Uaddr.TheVariants.{V4}
 use Rattle.rb_uaddr.specs.Uaddr.{dot, port_bytes, any_host, text_of}
-use Rattle.rb_registry.specs.declared.row.Netid.{Netid}
-use Rattle.rb_registry.specs.declared.row.Transport.{Transport}
+use Rattle.rb_address.specs.declared.netid.Netid.{Netid}
+use Rattle.rb_address.specs.declared.netid.Transport.{Transport}
 use Rattle.rb_registry.specs.declared.row.Owner.{Owner}
 use Rattle.rb_registry.specs.declared.row.Owner.TheVariants.{Unknown, Uid}
 use Rattle.rb_registry.specs.declared.row.Which.{Which}
 use Rattle.rb_registry.specs.declared.row.Row.{Row}
-use Rattle.rb_registry.specs.Rows.{Change, netid_of}
+use Rattle.rb_registry.specs.Rows.{Change}
+use Rattle.rb_address.specs.Netids.{netid_of, netid_named, transport_of_protocol}
 use Rattle.rb_registry.specs.Rows.Change.{Added, Removed}
 use Rattle.rb_arguments.specs.declared.mapping.Mapping.{Mapping}
 use Rattle.rb_arguments.specs.declared.rpcb.Rpcb.{Rpcb}
@@ -40,7 +41,7 @@ use Rattle.rb_arguments.proofs.Readings.{rpcb_bounded}
 use Rattle.rb_arguments.specs.Grammar.{SpellsRequest}
 use Rattle.rb_proto.specs.declared.call.Call.{Call}
 use Rattle.rb_proto.specs.Callers.{owner_of}
-use Rattle.rb_proto.specs.Netids.{netid_named, which_of, transport_of_prot}
+use Rattle.rb_proto.specs.Netids.{which_of}
 use Rattle.rb_proto.specs.Answers.{can_be_set, row_of_mapping, row_of_rpcb, removal_of}
 use Rattle.rb_model.specs.declared.message.Message.TheVariants as says
 use Rattle.rb_model.specs.Calls.{Outcome, message_of}
@@ -120,8 +121,8 @@ mapping-row owner m fits caller row e = by_test (nat_le m.port 65535) refl e
         subst IsSpelled (same_Some (on transport) row e)
         (record { prog = fits.prog; vers = fits.vers; owner = caller; addr = ascii-bytes (text_of (V4 any_host m.port)) (port-ascii m.port small) })
 
-    by_test : (b : Bool) → nat_le m.port 65535 ≡ b → cond b (option_map on (transport_of_prot m.prot)) None ≡ Some row → IsSpelled row
-    by_test true small e = by_transport (leb-true m.port 65535 small) (transport_of_prot m.prot) e
+    by_test : (b : Bool) → nat_le m.port 65535 ≡ b → cond b (option_map on (transport_of_protocol m.prot)) None ≡ Some row → IsSpelled row
+    by_test true small e = by_transport (leb-true m.port 65535 small) (transport_of_protocol m.prot) e
     by_test false small e = absurd cc
 
 from-row : (o : Option Row) → ((row : Row) → o ≡ Some row → IsSpelled row) → (change : Change) → option_map Added o ≡ Some change → IsSpelledChange change

@@ -1,4 +1,3 @@
-pub mod Digits
 pub mod Reading
 pub mod Prints
 pub mod LineLaws

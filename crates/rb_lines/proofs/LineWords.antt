@@ -8,14 +8,17 @@ use Rattle.std.proofs.lemmas.List.{nil_from_length}
 use Rattle.std.proofs.lemmas.List.Elements.{All-nil, All-cons}
 use Rattle.std.proofs.lemmas.Option.{none-some, same_Some}
 use Rattle.std.proofs.lemmas.Slice.Eq.{bytes_eq-Decides}
-use Rattle.rb_rpc.specs.declared.peer.Peer.{Peer}
+use Rattle.rb_address.specs.declared.peer.Peer.{Peer}
+use Rattle.rb_address.specs.Reading.{cut, number_below, peer, SpellsPeer}
+use Rattle.rb_address.proofs.HostTexts.{IsWithout}
+use Rattle.rb_address.proofs.Words.{bound, cut_at, cut_is, numeral_without, peer_is, peer_of}
 use Rattle.rb_model.specs.Step.{Event}
 use Rattle.rb_model.specs.Step.Event.{Datagram, Open, Bytes, Pending, Gave, Closed, NextLost, Unsent, Sent, Forward, Expire}
-use Rattle.rb_lines.specs.Fields.{cut, number_below, peer, hex_bytes}
+use Rattle.rb_lines.specs.Fields.{hex_bytes}
 use Rattle.rb_lines.specs.Lines.{datagram_line, open_line, bytes_line, gave_line, event, lone_event, event_of_parts, Line, happens_or_bad, line}
 use Rattle.rb_lines.specs.Lines.Line.{Skipped, Happens, Bad}
-use Rattle.rb_lines.specs.LineGrammar.{Spells, SpellsNumber, SpellsPeer, SpellsHex, IsSpaced, ◌␣◌, SpellsEvent, SaysNothing, EventsAreSpelled, SkippedSayNothing, BadSpellNothing, PeersAreSpelled}
-use Rattle.rb_lines.proofs.Words.{bound, IsWithout, cut_at, cut_is, number_is, number_of, numeral_without, peer_is, peer_of, peer_without}
+use Rattle.rb_lines.specs.LineGrammar.{Spells, SpellsNumber, SpellsHex, IsSpaced, ◌␣◌, SpellsEvent, SaysNothing, EventsAreSpelled, SkippedSayNothing, BadSpellNothing}
+use Rattle.rb_lines.proofs.Words.{number_is, number_of, peer_without}
 use Rattle.rb_lines.proofs.HexWords.{hex_is, hex_of}
 
 -- ---- spaces
@@ -33,7 +36,7 @@ number_apart : (n : ℕ) (text : List ℕ) → SpellsNumber n text → IsWithout
 number_apart n text s = numeral_without 32 text s.digits.1 (λ l h. omega arith)
 
 peer_apart : (p : Peer) (text : List ℕ) → SpellsPeer p text → IsWithout 32 text
-peer_apart p text s = peer_without 32 p text s (λ l h. omega arith) (λ e. omega arith) (λ e. omega arith)
+peer_apart p text s = subst (IsWithout 32) (sym s.text_is) (peer_without 32 (omega arith) p s.is_peer)
 
 -- ---- what follows the first word
 
@@ -301,6 +304,3 @@ bad_spell_nothing text = (
   λ h. (λ s. not_skipped (line text) h (skipped_of text s), λ e s. not_event (line text) e h (line_of text e s)),
   λ h. bad_else (line text) (λ k. h.0 (skipped_is text k)) (λ e k. h.1 e (line_is text e k)),
 )
-
-pub peers_are_spelled : PeersAreSpelled
-peers_are_spelled text p = (peer_is text p, peer_of text p)

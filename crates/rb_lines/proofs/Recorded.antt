@@ -2,12 +2,17 @@
 use Rattle.std.specs.List.{flat_map, concat, onto_first, AllByRecursion}
 use Rattle.std.specs.Fmt.{decimal}
 use Rattle.std.specs.Char.{digit_value}
-use Rattle.std.proofs.Common.{◌≡◌, ◌<◌, ◌/◌, ◌%◌, ℕ, zero, suc, Bool, true, false, cond, eqb, codes, List, [], ◌∷◌, ◌++◌, length, map, slice_index, Option, Some, None, refl, sym, ap, subst, ◌∙◌, arith, inl, inr, ◌⊎◌, All, append_assoc, take}
+use Rattle.std.proofs.Common.{◌≡◌, ◌<◌, ◌/◌, ◌%◌, ℕ, zero, suc, Bool, true, false, cond, eqb, codes, List, [], ◌∷◌, ◌++◌, map, slice_index, Option, Some, None, refl, sym, ap, subst, ◌∙◌, arith, inl, inr, ◌⊎◌, append_assoc, take}
 use Rattle.std.proofs.lemmas.Fmt.{decimal_is_IsNumeral}
 use Rattle.std.proofs.lemmas.List.Elements.{All-append, All-cons, All-nil, All-head, All-tail}
 use Rattle.std.proofs.lemmas.List.Splits.{slice_split-cons_yes, slice_split-cons_no}
-use Rattle.rb_rpc.specs.declared.peer.Peer.{Peer}
-use Rattle.rb_rpc.specs.Peers.{peer_text}
+use Rattle.rb_address.specs.declared.host.Host.TheVariants.{V4}
+use Rattle.rb_address.specs.declared.peer.Peer.{Peer}
+use Rattle.rb_address.specs.Hosts.{IsHost}
+use Rattle.rb_address.specs.Peers.{IsPeer, peer_text}
+use Rattle.rb_address.specs.Reading.{SpellsPeer}
+use Rattle.rb_address.proofs.HostTexts.{IsWithout}
+use Rattle.rb_address.proofs.Words.{numeral_without}
 use Rattle.rb_forward.specs.Forwards.{Unsent as UnsentCall}
 use Rattle.rb_proto.specs.declared.listener.Listener.{Listener}
 use Rattle.rb_model.specs.declared.types.Limits.{Limits}
@@ -23,11 +28,11 @@ use Rattle.rb_record.specs.Tapes.{last_line}
 use Rattle.rb_lines.specs.Lines.{line, lines_of}
 use Rattle.rb_lines.specs.Lines.Line.{Skipped, Happens}
 use Rattle.rb_lines.specs.LineLaws.{event_in, has_bad}
-use Rattle.rb_lines.specs.LineGrammar.{Spells, SpellsNumber, SpellsPeer, SpellsByte, SpellsBytes, SpellsHex, ◌␣◌, SpellsEvent}
+use Rattle.rb_lines.specs.LineGrammar.{Spells, SpellsNumber, SpellsByte, SpellsBytes, SpellsHex, ◌␣◌, SpellsEvent}
 use Rattle.rb_lines.specs.OutputLines.{output_line_in, output_lines_in, output_lines}
-use Rattle.rb_lines.specs.RecordLaws.{Fits, AreBytes, IsPeer, HasLine, HasUnsentLine, HasLostLine, HasOutputLine, RecordsAreRead, EndedRecordsAreRead}
+use Rattle.rb_lines.specs.RecordLaws.{Fits, AreBytes, HasLine, HasUnsentLine, HasLostLine, HasOutputLine, RecordsAreRead, EndedRecordsAreRead}
 use Rattle.rb_lines.proofs.LineLaws.{reads_the_events}
-use Rattle.rb_lines.proofs.Words.{IsWithout, numeral_without, peer_without}
+use Rattle.rb_lines.proofs.Words.{peer_without}
 use Rattle.rb_lines.proofs.LineWords.{line_of, skipped_say_nothing}
 use Rattle.hex.specs.Hex.{encode_with, encode_lower, lower_digits}
 use mathlib.Core.Bool.{true≢false}
@@ -83,10 +88,10 @@ number_apart : (n : ℕ) → Fits n → IsWithout 10 (decimal n)
 number_apart n fits = numeral_without 10 (decimal n) (decimal_is_IsNumeral n fits).0.1 (λ l h. omega arith)
 
 peer_spelled : (p : Peer) → IsPeer p → SpellsPeer p (peer_text p)
-peer_spelled p is = record { count = is.count; host_fits = is.host; port_fits = is.port; text_is = refl }
+peer_spelled p is = record { is_peer = is; text_is = refl }
 
 peer_apart : (p : Peer) → IsPeer p → IsWithout 10 (peer_text p)
-peer_apart p is = peer_without 10 p (peer_text p) (peer_spelled p is) (λ l h. omega arith) (λ e. omega arith) (λ e. omega arith)
+peer_apart p is = peer_without 10 (omega arith) p is
 
 -- ---- hexadecimal digits
 
@@ -486,8 +491,8 @@ says_run s (e ∷ events) all given =
 
 -- ---- its options
 
-host_apart : (h : List ℕ) → length h ≡ 4 → All (λ n. n < 256) h → (i : ℕ) → i < 4 → IsWithout 10 (decimal (slice_index h i))
-host_apart h four small i lt = number_apart (slice_index h i) (omega (arith, small i 0 (omega (arith, four, lt))))
+host_apart : (h : List ℕ) → IsHost (V4 h) → (i : ℕ) → i < 4 → IsWithout 10 (decimal (slice_index h i))
+host_apart h is i lt = number_apart (slice_index h i) (omega (arith, is.small i 0 (omega (arith, is.count, lt))))
 
 o_conns : IsWithout 10 (codes " --conns ")
 o_conns = apart (codes " --conns ") refl
@@ -516,14 +521,13 @@ o_now = apart (codes " --now ") refl
 o_head : IsWithout 10 (codes "# rpcbind replay --check")
 o_head = apart (codes "# rpcbind replay --check") refl
 
-options_line : (limits : Limits) (listener : Listener) (first_xid now : ℕ) → Fits limits.conns → Fits limits.rows → Fits limits.forwards → IsPeer (record { host = listener.host; port = listener.port }) → Fits first_xid → Fits now → IsLine (options_text limits listener first_xid now)
+options_line : (limits : Limits) (listener : Listener) (first_xid now : ℕ) → Fits limits.conns → Fits limits.rows → Fits limits.forwards → IsPeer (record { host = V4 listener.host; port = listener.port }) → Fits first_xid → Fits now → IsLine (options_text limits listener first_xid now)
 options_line limits listener first_xid now conns rows forwards peer xid_fits now_fits =
-    let four = peer.count in
-    let a = host_apart listener.host four peer.host 0 (omega arith) in
-    let b = host_apart listener.host four peer.host 1 (omega arith) in
-    let c = host_apart listener.host four peer.host 2 (omega arith) in
-    let d = host_apart listener.host four peer.host 3 (omega arith) in
-    let port = number_apart listener.port (omega (arith, peer.port)) in
+    let a = host_apart listener.host peer.0 0 (omega arith) in
+    let b = host_apart listener.host peer.0 1 (omega arith) in
+    let c = host_apart listener.host peer.0 2 (omega arith) in
+    let d = host_apart listener.host peer.0 3 (omega arith) in
+    let port = number_apart listener.port (omega (arith, peer.1)) in
     let of_limits = joined (codes " --conns ") _ o_conns (joined (decimal limits.conns) _ (number_apart limits.conns conns) (joined (codes " --rows ") _ o_rows (joined (decimal limits.rows) _ (number_apart limits.rows rows) (joined (codes " --forwards ") _ o_forwards (number_apart limits.forwards forwards))))) in
     let of_listener = joined (codes " --announce ") _ o_announce (joined (decimal (slice_index listener.host 0)) _ a (joined (codes ".") _ o_dot (joined (decimal (slice_index listener.host 1)) _ b (joined (codes ".") _ o_dot
     (joined (decimal (slice_index listener.host 2)) _ c (joined (codes ".") _ o_dot (joined (decimal (slice_index listener.host 3)) _ d (joined (codes " --port ") _ o_port port)))))))) in

@@ -1,12 +1,11 @@
--- What an event line is spelled from: words, with one space between each two.
-use Rattle.std.specs.Prelude.{◌≡◌, ◌↔◌, ◌⊎◌, ℕ, ◌+◌, ◌*◌, ◌^◌, ◌<◌, List, [], ◌∷◌, ◌++◌, length, codes, Some, All}
+-- What an event line is spelled from: words, with one space between each two. A peer is spelled as it is printed
+-- (`SpellsPeer` of rb_address).
+use Rattle.std.specs.Prelude.{◌≡◌, ◌↔◌, ◌⊎◌, ℕ, ◌+◌, ◌*◌, ◌^◌, ◌<◌, List, [], ◌∷◌, ◌++◌, codes}
 use Rattle.std.specs.Char.{digit_value}
 use Rattle.std.specs.Str.Parse.{IsNumeral, digits_value}
-use Rattle.rb_rpc.specs.declared.peer.Peer.{Peer}
-use Rattle.rb_rpc.specs.Peers.{peer_text}
+use Rattle.rb_address.specs.Reading.{SpellsPeer}
 use Rattle.rb_model.specs.Step.{Event}
 use Rattle.rb_model.specs.Step.Event.{Datagram, Open, Bytes, Pending, Gave, Closed, NextLost, Unsent, Sent, Forward, Expire}
-use Rattle.rb_lines.specs.Fields.{peer}
 use Rattle.rb_lines.specs.Lines.{line}
 use Rattle.rb_lines.specs.Lines.Line.{Skipped, Happens, Bad}
 
@@ -20,13 +19,6 @@ pub record SpellsNumber (n : ℕ) (text : List ℕ) : Type 0 where
   pub digits : IsNumeral 10 text
   pub value : digits_value 10 text ≡ n
   pub fits : n < 2 ^ 64
-
--- `h1.h2.h3.h4:port` in decimal without leading zeros, each h below 256
-pub record SpellsPeer (p : Peer) (text : List ℕ) : Type 0 where
-  pub count : length p.host ≡ 4
-  pub host_fits : All (λ h. h < 256) p.host
-  pub port_fits : p.port < 65536
-  pub text_is : text ≡ peer_text p
 
 -- two hexadecimal digits of either case, the high four bits first
 pub record SpellsByte (byte high low : ℕ) : Type 0 where
@@ -91,7 +83,3 @@ abbrev pub BadSpellNothing : Type 0
 BadSpellNothing =
     (text : List ℕ)
     → (line text ≡ Bad) ↔ ((SaysNothing text → ⊥) × ((event : Event) → SpellsEvent event text → ⊥))
-
--- A peer's text is read as this peer, and what is read as it is its text.
-abbrev pub PeersAreSpelled : Type 0
-PeersAreSpelled = (text : List ℕ) (p : Peer) → (peer text ≡ Some p) ↔ SpellsPeer p text

@@ -3,7 +3,8 @@ use Rattle.std.specs.Prelude.{◌≡◌, ℕ, ◌+◌, ◌^◌, ◌==◌, nat_lt
 use Rattle.std.specs.List.{slice_split}
 use Rattle.std.specs.Option.{option_map}
 use Rattle.std.specs.Str.{bytes_eq}
-use Rattle.rb_rpc.specs.declared.peer.Peer.{Peer}
+use Rattle.rb_address.specs.declared.peer.Peer.{Peer}
+use Rattle.rb_address.specs.Reading.{◌>>=◌, cut, number_below, peer}
 use Rattle.rb_model.specs.Step.{Event}
 use Rattle.rb_model.specs.Step.Event.{Open, Bytes, Pending, Gave, Closed, NextLost, Datagram, Unsent, Sent, Forward, Expire}
 use Rattle.rb_model.specs.declared.events.Event as event_type
@@ -13,7 +14,7 @@ use Rattle.rb_lines.specs.declared.lines.Line as line_type
 use Rattle.rb_lines.specs.declared.lines.Line.TheVariants as lines
 use Rattle.rb_lines.specs.declared.lines.ReadFault.{ReadFault}
 use Rattle.rb_lines.specs.declared.lines.ReadFault.TheVariants.{BadLine, TooLong, NoMemory}
-use Rattle.rb_lines.specs.Fields.{◌>>=◌, cut, number_below, peer, hex_bytes}
+use Rattle.rb_lines.specs.Fields.{hex_bytes}
 
 -- what follows the words `datagram` and `forward`: a moment, a peer and bytes, of which the event is made
 unfoldable pub datagram_line : (ℕ → Peer → List ℕ → Event) → List ℕ → Option Event

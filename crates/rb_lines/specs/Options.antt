@@ -1,11 +1,11 @@
 -- What the values of the options of `replay` mean.
 use Rattle.std.specs.Prelude.{ℕ, ◌^◌, ◌==◌, if◌then◌else◌, List, Option, Some, None, Result, Ok, Err}
+use Rattle.rb_address.specs.Reading.{number_below, ipv4_host}
 use Rattle.rb_model.specs.declared.types.Limits.{Limits}
 use Rattle.rb_lines.specs.declared.options.Valued.{Valued}
 use Rattle.rb_lines.specs.declared.options.Valued.TheVariants.{Announce, Conns, Rows, Forwards, Port, Xid, Now}
 use Rattle.rb_lines.specs.declared.options.ReplayTexts.{ReplayTexts}
 use Rattle.rb_lines.specs.declared.options.Beginning.{Beginning}
-use Rattle.rb_lines.specs.Fields.{number_below, host}
 
 -- one after the other, up to the first that can't be read
 infixl 10 ◌>>=◌
@@ -37,7 +37,7 @@ limits_of conns rows forwards = do
 -- what a replay begins with, or the first option whose value can't be read
 abbrev pub beginning_of : ReplayTexts → Result Beginning Valued
 beginning_of texts = do
-  announced ← value_of Announce (host texts.announce.now)
+  announced ← value_of Announce (ipv4_host texts.announce.now)
   limits ← limits_of texts.conns.now texts.rows.now texts.forwards.now
   listens ← value_of Port (port texts.port.now)
   xid ← value_of Xid (number_below (2 ^ 32) texts.xid.now)

@@ -1,7 +1,8 @@
 -- What was recorded of a run is read back as its events, and what it says of outputs is what they gave.
-use Rattle.std.specs.Prelude.{◌≡◌, ◌≤◌, ◌<◌, ℕ, suc, ◌^◌, List, ◌∷◌, ◌++◌, length, take, Option, Some, None, Ok, All}
+use Rattle.std.specs.Prelude.{◌≡◌, ◌≤◌, ◌<◌, ℕ, suc, ◌^◌, List, ◌∷◌, ◌++◌, length, take, Option, Some, None, Ok}
 use Rattle.std.specs.List.{AllByRecursion}
-use Rattle.rb_rpc.specs.declared.peer.Peer.{Peer}
+use Rattle.rb_address.specs.declared.host.Host.TheVariants.{V4}
+use Rattle.rb_address.specs.Peers.{IsPeer}
 use Rattle.rb_forward.specs.Forwards.{Unsent as UnsentCall}
 use Rattle.rb_proto.specs.declared.listener.Listener.{Listener}
 use Rattle.rb_model.specs.declared.types.Limits.{Limits}
@@ -14,18 +15,13 @@ use Rattle.rb_record.specs.Tapes.{HasFirst}
 use Rattle.rb_lines.specs.Lines.{longest_input, read}
 use Rattle.rb_lines.specs.OutputLines.{output_lines_in, output_lines}
 
--- ---- what has a line: numbers of 64 bits, bytes, hosts of four bytes and ports of 16 bits
+-- ---- what has a line: numbers of 64 bits, bytes, and peers
 
 abbrev pub Fits : ℕ → Type 0
 Fits n = n < 2 ^ 64
 
 abbrev pub AreBytes : List ℕ → Type 0
 AreBytes bytes = AllByRecursion (λ byte. byte < 256) bytes
-
-pub record IsPeer (p : Peer) : Type 0 where
-  pub count : length p.host ≡ 4
-  pub host : All (λ h. h < 256) p.host
-  pub port : p.port < 65536
 
 abbrev pub HasLine : Event → Type 0
 HasLine (Open now from) = Fits now × IsPeer from
@@ -71,7 +67,8 @@ pub record ReadsAs (text : List ℕ) (events : List Event) (outputs : List Outpu
 abbrev pub RecordsAreRead : Type 0
 RecordsAreRead =
     (limits : Limits) (listener : Listener) (first_xid now : ℕ) (events : List Event)
-    → Fits limits.conns → Fits limits.rows → Fits limits.forwards → IsPeer (record { host = listener.host; port = listener.port }) → Fits first_xid → Fits now
+    → Fits limits.conns → Fits limits.rows → Fits limits.forwards
+    → IsPeer (record { host = V4 listener.host; port = listener.port }) → Fits first_xid → Fits now
     → AllByRecursion HasLine events → AllByRecursion HasOutputLine (run (opening limits listener first_xid now) events)
     → length (options_text limits listener first_xid now ++ run_text (opening limits listener first_xid now) events) ≤ longest_input
     → ReadsAs (options_text limits listener first_xid now ++ run_text (opening limits listener first_xid now) events) events (run (opening limits listener first_xid now) events)
@@ -83,7 +80,8 @@ EndedRecordsAreRead =
     (limits : Limits) (listener : Listener) (first_xid now : ℕ) (events : List Event) (text : List ℕ) (k : ℕ)
     (held : HasFirst (options_text limits listener first_xid now ∷ run_entries (opening limits listener first_xid now) events) text)
     → held.count ≡ suc k
-    → Fits limits.conns → Fits limits.rows → Fits limits.forwards → IsPeer (record { host = listener.host; port = listener.port }) → Fits first_xid → Fits now
+    → Fits limits.conns → Fits limits.rows → Fits limits.forwards
+    → IsPeer (record { host = V4 listener.host; port = listener.port }) → Fits first_xid → Fits now
     → AllByRecursion HasLine events → AllByRecursion HasOutputLine (run (opening limits listener first_xid now) events)
     → length text ≤ longest_input
     → ReadsAs text (take k events) (run (opening limits listener first_xid now) (take k events))

@@ -5,6 +5,7 @@ use Rattle.std.specs.Char.{digit_value}
 use Rattle.std.specs.Str.Parse.{digits_value}
 use Rattle.std.specs.Borrow.{Bor}
 use Rattle.std.specs.declared.net.ipv4_addr.Ipv4Addr.{Ipv4Addr}
+use Rattle.rb_address.specs.Reading.{number_below, ipv4_host}
 use Rattle.rb_model.specs.declared.types.Limits.{Limits}
 use Rattle.rb_lines.specs.declared.options.Valued.{Valued}
 use Rattle.rb_lines.specs.declared.options.Valued.TheVariants.{Announce, Bind, Local, LocalMode, Port, Conns, Rows, Forwards, Xid, Now, Turns, RecordLimit}
@@ -13,7 +14,6 @@ use Rattle.rb_lines.specs.declared.serving.ServeFault.{ServeFault}
 use Rattle.rb_lines.specs.declared.serving.ServeFault.TheVariants.{BadValue, NoMemory}
 use Rattle.rb_lines.specs.declared.serving.Record.{Record}
 use Rattle.rb_lines.specs.declared.serving.Service as code
-use Rattle.rb_lines.specs.Fields.{number_below, host}
 use Rattle.rb_lines.specs.Options.{◌>>=◌, value_of, port, limits_of}
 
 -- what stands for an option that is not given
@@ -32,7 +32,7 @@ default_of Xid = []
 default_of Now = []
 
 abbrev pub address : List ℕ → Option Ipv4Addr
-address text = option_map (λ octets. record { octets = octets }) (host text)
+address text = option_map (λ octets. record { octets = octets }) (ipv4_host text)
 
 abbrev pub read_announce : Option (Bor (List ℕ)) → Result (Option Ipv4Addr) Valued
 read_announce None = Ok None

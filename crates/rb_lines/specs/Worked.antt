@@ -1,13 +1,15 @@
 -- Worked examples: what texts of event lines say, and what is printed for them.
-use Rattle.std.specs.Prelude.{◌≡◌, ◌^◌, ◌-◌, List, ℕ, [], ◌∷◌, ◌++◌, codes, Some, None, Ok, Err}
+use Rattle.std.specs.Prelude.{◌≡◌, ◌^◌, ◌-◌, List, ℕ, [], ◌∷◌, ◌++◌, replicate, codes, Some, None, Ok, Err}
 use Rattle.std.specs.List.{flat_map}
 use Rattle.std.specs.Int.{w32, to_be_bytes}
-use Rattle.rb_rpc.specs.declared.peer.Peer.{Peer}
+use Rattle.rb_address.specs.declared.host.Host.TheVariants.{V4, V6}
+use Rattle.rb_address.specs.declared.peer.Peer.{Peer}
+use Rattle.rb_address.specs.Reading.{number_below, peer}
 use Rattle.rb_model.specs.Step.Event.{Datagram, Open, Bytes, Pending, Gave, Closed, NextLost, Unsent, Sent, Forward, Expire}
 use Rattle.rb_model.specs.declared.types.CoreFault.TheVariants.{Full, Spent, Gone}
 use Rattle.rb_model.specs.Step.Output.{Replied, Silent, Opened, Refused, Took, TookAndClosed, IsPending, Done, TooMuch, LostIs, Forwarded, UnsentIs, Ignored, Nothing, Ready, RepliedTo}
+use Rattle.rb_record.specs.Entries.{event_text}
 use Rattle.rb_lines.specs.declared.lines.ReadFault.TheVariants.{BadLine}
-use Rattle.rb_lines.specs.Fields.{number_below, peer}
 use Rattle.rb_lines.specs.Lines.{read}
 use Rattle.rb_lines.specs.Printing.{report_of}
 
@@ -20,7 +22,11 @@ abbrev pub with_line_feed : List ℕ → List ℕ
 with_line_feed text = text ++ 10 ∷ []
 
 abbrev pub here : Peer
-here = record { host = 127 ∷ 0 ∷ 0 ∷ 1 ∷ []; port = 900 }
+here = record { host = V4 (127 ∷ 0 ∷ 0 ∷ 1 ∷ []); port = 900 }
+
+-- 2001:db8::1, of the documentation (RFC 3849)
+abbrev pub over_ipv6 : Peer
+over_ipv6 = record { host = V6 (32 ∷ 1 ∷ 13 ∷ 184 ∷ replicate 11 0 ++ 1 ∷ []); port = 900 }
 
 -- A SET, the port of its row, and the same SET again, as three lines and as three events.
 abbrev pub StoredRunIsRead : Type 0
@@ -77,8 +83,8 @@ NumbersOfLines =
 abbrev pub PeersOfLines : Type 0
 PeersOfLines =
     (peer (codes "127.0.0.1:900") ≡ Some here)
-    × (peer (codes "255.255.255.255:65535") ≡ Some (record { host = 255 ∷ 255 ∷ 255 ∷ 255 ∷ []; port = 65535 }))
-    × (peer (codes "0.0.0.0:0") ≡ Some (record { host = 0 ∷ 0 ∷ 0 ∷ 0 ∷ []; port = 0 }))
+    × (peer (codes "255.255.255.255:65535") ≡ Some (record { host = V4 (255 ∷ 255 ∷ 255 ∷ 255 ∷ []); port = 65535 }))
+    × (peer (codes "0.0.0.0:0") ≡ Some (record { host = V4 (0 ∷ 0 ∷ 0 ∷ 0 ∷ []); port = 0 }))
     × (peer (codes "127.0.0.01:900") ≡ None)
     × (peer (codes "127.0.0.1:0900") ≡ None)
     × (peer (codes "127.0.0.256:900") ≡ None)
@@ -137,3 +143,25 @@ ForwardsArePrinted =
     ≡ with_line_feed (codes "forwarded") ++ with_line_feed (codes "unsent -") ++ with_line_feed (codes "unsent 1 127.0.0.1:900 000003e8")
     ++ with_line_feed (codes "ignored") ++ with_line_feed (codes "nothing") ++ with_line_feed (codes "ready 7")
     ++ with_line_feed (codes "datagram 127.0.0.1:900 0000000f")
+
+-- The lines of peers of IPv6. Another spelling of the host, as one that is not shortened or has no brackets, makes a
+-- bad line.
+abbrev pub Ipv6PeersAreRead : Type 0
+Ipv6PeersAreRead =
+    (read
+    (with_line_feed (codes "open 5 [2001:db8::1]:900") ++ with_line_feed (codes "datagram 7 [2001:db8::1]:900 af")
+    ++ codes "forward 2000 [2001:db8::1]:900 -")
+    ≡ Ok (Open 5 over_ipv6 ∷ Datagram 7 over_ipv6 (175 ∷ []) ∷ Forward 2000 over_ipv6 [] ∷ []))
+    × (read (codes "open 5 [2001:db8:0:0:0:0:0:1]:900") ≡ Err (BadLine 1))
+    × (read (codes "open 5 [2001:DB8::1]:900") ≡ Err (BadLine 1))
+    × (read (codes "open 5 2001:db8::1:900") ≡ Err (BadLine 1))
+    × (read (codes "open 5 [::ffff:127.0.0.1]:900") ≡ Err (BadLine 1))
+    × (read (codes "open 5 [2001:db8::1]:0900") ≡ Err (BadLine 1))
+    × (read (codes "open 5 [2001:db8::1]") ≡ Err (BadLine 1))
+    × (read (codes "datagram 7 [2001:db8::1] :900 af") ≡ Err (BadLine 1))
+
+abbrev pub Ipv6PeersArePrinted : Type 0
+Ipv6PeersArePrinted =
+    (report_of (RepliedTo over_ipv6 (0 ∷ 0 ∷ 0 ∷ 15 ∷ []) ∷ []) ≡ with_line_feed (codes "datagram [2001:db8::1]:900 0000000f"))
+    × (event_text (Open 5 over_ipv6) ≡ with_line_feed (codes "open 5 [2001:db8::1]:900"))
+    × (event_text (Datagram 7 over_ipv6 (175 ∷ [])) ≡ with_line_feed (codes "datagram 7 [2001:db8::1]:900 af"))

@@ -1,5 +1,5 @@
 //! What holds of the definitions.
-ghost use Rattle.rb_lines.specs.LineGrammar.{EventsAreSpelled, SkippedSayNothing, BadSpellNothing, PeersAreSpelled};
+ghost use Rattle.rb_lines.specs.LineGrammar.{EventsAreSpelled, SkippedSayNothing, BadSpellNothing};
 ghost use Rattle.rb_lines.specs.RecordLaws.{RecordsAreRead, EndedRecordsAreRead};
 ghost use Rattle.rb_lines.specs.LineLaws.{ReadsTheEvents, StopsAtTheFirstBadLine, RefusesLongText};
 
@@ -11,13 +11,11 @@ pub fn text_reads_as_its_lines()
     ensures too_long { RefusesLongText }
 {}
 
-/// A line is an event exactly where it is spelled as one, is skipped exactly where it says nothing, and is bad else;
-/// a peer's text and its reading are inverse.
+/// A line is an event exactly where it is spelled as one, is skipped exactly where it says nothing, and is bad else.
 pub fn lines_are_of_the_grammar()
     ensures events { EventsAreSpelled }
     ensures skipped { SkippedSayNothing }
     ensures bad { BadSpellNothing }
-    ensures peers { PeersAreSpelled }
 {}
 
 /// What is recorded of a run from an opening is read as its events, and what it says of outputs is what they gave,

@@ -4,9 +4,9 @@ ghost use Rattle.std.specs.Option.{option_map};
 ghost use Rattle.rb_model.specs.Plain.{event_of, events_of};
 ghost use Rattle.rb_lines.specs.Lines.{AddsLine, AreFieldsOf, events_from, lines_of, IsLineFault, datagram_line, open_line, bytes_line, gave_line, event, lone_event, line, line_of, longest_input, GivesEvents, read};
 
-use crate::fields::{cut, hex_bytes, number_below, peer};
+use crate::fields::hex_bytes;
+use rb_address::{Peer, cut, number_below};
 use rb_model::Event;
-use rb_rpc::Peer;
 use rb_xdr::NoMemory;
 use std::alloc::Global;
 use thiserror::Error;
@@ -64,7 +64,7 @@ fn datagram_fields(alloc: Global, text: &[u8]) -> Result<Option<DatagramFields>,
     let Some(now) = number_below(now) else {
         return Ok(None);
     };
-    let Some(from) = peer(from) else {
+    let Some(from) = Peer::read(from) else {
         return Ok(None);
     };
     let Some(bytes) = hex_bytes(alloc, bytes)? else {
@@ -80,7 +80,7 @@ fn open_line(text: &[u8]) -> Option<Event>
 {
     let (now, from) = cut(text, b' ')?;
     let now = number_below(now)?;
-    let from = peer(from)?;
+    let from = Peer::read(from)?;
     Some(Event::Open(now, from))
 }
 

@@ -1,9 +1,9 @@
 //! What the values of the options of `replay` mean, and those that `serve` has too.
 ghost use Rattle.std.specs.Prelude.{◌≡◌, ◌^◌};
-ghost use Rattle.rb_lines.specs.Fields.{number_below, host};
+ghost use Rattle.rb_address.specs.Reading.{number_below, ipv4_host};
 ghost use Rattle.rb_lines.specs.Options.{value_of, port, limits_of, beginning_of};
 
-use crate::fields::{host, number_below};
+use rb_address::{cut, number_below, plain_number};
 use rb_model::Limits;
 use rb_proto::Listener;
 
@@ -79,15 +79,30 @@ pub(crate) fn number(option: Valued, text: &str) -> Result<u64, Valued>
     number_below(text.as_bytes()).ok_or(option)
 }
 
+/// A host as `h1.h2.h3.h4`, in decimal without leading zeros.
+#[tactic(auto, unfolding(rb_address::specs::Reading::ipv4_host))]
+fn host(text: &[u8]) -> Option<[u8; 4]>
+    ensures { result ≡ ipv4_host text.now }
+{
+    let (a, rest) = cut(text, b'.')?;
+    let (b, rest) = cut(rest, b'.')?;
+    let (c, d) = cut(rest, b'.')?;
+    let a = plain_number(a, 256)?;
+    let b = plain_number(b, 256)?;
+    let c = plain_number(c, 256)?;
+    let d = plain_number(d, 256)?;
+    Some([a as u8, b as u8, c as u8, d as u8])
+}
+
 /// An address in dotted decimal form.
 pub(crate) fn address(option: Valued, text: &str) -> Result<[u8; 4], Valued>
-    ensures { result ≡ value_of option (host text.now) }
+    ensures { result ≡ value_of option (ipv4_host text.now) }
 {
     host(text.as_bytes()).ok_or(option)
 }
 
 /// A number of 32 bits.
-#[tactic(auto, unfolding(crate::specs::Fields::number_below))]
+#[tactic(auto, unfolding(rb_address::specs::Reading::number_below))]
 fn number32(option: Valued, text: &str) -> Result<u32, Valued>
     ensures { result ≡ value_of option (number_below (2 ^ 32) text.now) }
 {
@@ -100,7 +115,7 @@ fn number32(option: Valued, text: &str) -> Result<u32, Valued>
 }
 
 /// A port from 1 to 65535. `Port` where the text is none.
-#[tactic(auto, unfolding(crate::specs::Fields::number_below))]
+#[tactic(auto, unfolding(rb_address::specs::Reading::number_below))]
 pub(crate) fn read_port(text: &str) -> Result<u16, Valued>
     ensures { result ≡ value_of Valued.Port (port text.now) }
 {

@@ -188,7 +188,7 @@ fn read_mode(text: &str) -> Result<u32, Valued>
 }
 
 /// The most bytes of a record.
-#[tactic(auto, unfolding(crate::specs::Fields::number_below))]
+#[tactic(auto, unfolding(rb_address::specs::Reading::number_below))]
 fn read_record_limit(text: &str) -> Result<usize, Valued>
     ensures { result ≡ value_of Valued.RecordLimit (record_limit text.now) }
 {

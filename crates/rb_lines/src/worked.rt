@@ -1,5 +1,5 @@
 //! Worked examples of the definitions, which the proof computes.
-ghost use Rattle.rb_lines.specs.Worked.{StoredRunIsRead, StoredRunIsPrinted, BadEventLine, LinesAreCounted, NumbersOfLines, PeersOfLines, ConnectionsAreRead, ConnectionsArePrinted, ForwardsAreRead, ForwardsArePrinted};
+ghost use Rattle.rb_lines.specs.Worked.{StoredRunIsRead, StoredRunIsPrinted, BadEventLine, LinesAreCounted, NumbersOfLines, PeersOfLines, ConnectionsAreRead, ConnectionsArePrinted, ForwardsAreRead, ForwardsArePrinted, Ipv6PeersAreRead, Ipv6PeersArePrinted};
 
 /// The definitions give what the worked examples say.
 pub fn worked_examples()
@@ -13,4 +13,6 @@ pub fn worked_examples()
     ensures connections_are_printed { ConnectionsArePrinted }
     ensures forwards_are_read { ForwardsAreRead }
     ensures forwards_are_printed { ForwardsArePrinted }
+    ensures ipv6_peers_are_read { Ipv6PeersAreRead }
+    ensures ipv6_peers_are_printed { Ipv6PeersArePrinted }
 {}

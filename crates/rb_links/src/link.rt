@@ -3,6 +3,7 @@ ghost use Rattle.std.specs.Prelude.{◌≤◌, length};
 
 use crate::inbox::{Inbox, READ_AHEAD};
 use crate::outbox::{OWN_ROOM, Outbox};
+use rb_address::Host;
 use rb_policy::{
     Holder, Next, Origin, Phase, Round, after_read, after_write, ends_record, is_cut_off, is_stuck,
     outcome_of_count, phase_of, reads_on, round_of,
@@ -62,7 +63,7 @@ impl Link {
             id: 0,
             stream: None,
             origin: Origin {
-                host: [0; 4],
+                host: Host::V4([0; 4]),
                 is_local: false,
             },
             since: 0,

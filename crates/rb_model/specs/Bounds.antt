@@ -9,6 +9,7 @@ use Rattle.rb_model.specs.Step.{Event, Output, step}
 use Rattle.rb_model.specs.Step.Output.{Took, TookAndClosed, IsPending, Done, Replied, UnsentIs, RepliedTo}
 use Rattle.rb_model.specs.Step.Event.{Gave, Datagram, Forward}
 use Rattle.rb_model.specs.State.{State}
+use Rattle.rb_forward.specs.Forwards.{entry_charge}
 
 -- ---- held bytes
 
@@ -20,9 +21,13 @@ longest_served_call = 9656
 abbrev pub longest_address : ℕ
 longest_address = 128
 
+-- what the fixed part of a connection counts as, in bytes
+abbrev pub connection_charge : ℕ
+connection_charge = 128
+
 abbrev pub bytes_bound : Limits → ℕ
 bytes_bound limits =
-    limits.conns * (128 + longest_served_call + longest_fragment) + limits.rows * (32 + longest_address) + limits.forwards * (128 + longest_forwarded_call)
+    limits.conns * (connection_charge + longest_served_call + longest_fragment) + limits.rows * (32 + longest_address) + limits.forwards * (entry_charge + longest_forwarded_call)
     + most_keys * 48 + longest_reply
 
 -- ---- steps

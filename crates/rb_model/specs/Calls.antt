@@ -7,8 +7,8 @@ use Rattle.rb_rpc.specs.Verdict.{verdict}
 use Rattle.rb_rpc.specs.declared.reply.ReplyStatus.{ReplyStatus}
 use Rattle.rb_rpc.specs.declared.reply.ReplyStatus.TheVariants as replies
 use Rattle.rb_rpc.specs.Replies.{reply_head}
-use Rattle.rb_rpc.specs.declared.peer.Caller.{Caller}
-use Rattle.rb_rpc.specs.declared.peer.Caller.TheVariants.{Tcp, Udp}
+use Rattle.rb_rpc.specs.declared.caller.Caller.{Caller}
+use Rattle.rb_rpc.specs.declared.caller.Caller.TheVariants.{Tcp, Udp}
 use Rattle.rb_feed.specs.Feeds.{arguments_of}
 use Rattle.rb_registry.specs.Rows.{rpcb_prog}
 use Rattle.rb_arguments.specs.declared.request.ArgumentFault.{ArgumentFault}
@@ -112,7 +112,7 @@ answer_outcome caller count xid bytes_of answers.Silent = Silent
 -- the outcome of an answer, and the ledger after it
 abbrev pub reply_with : Context → ℕ → Answer × Ledger → Outcome × Ledger
 reply_with context xid (given, ledger) = (
-  answer_outcome context.caller (length ledger.changes) xid (result_bytes context.listener.host (shown_of ledger)) given,
+  answer_outcome context.caller (length ledger.changes) xid (result_bytes (shown_of ledger)) given,
   ledger,
 )
 

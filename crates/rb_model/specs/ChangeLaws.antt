@@ -4,16 +4,18 @@ use Rattle.rb_xdr.specs.Xdr.{IsNumber, AreBytes, boolean}
 use Rattle.rb_rpc.specs.declared.call.Credential.{Credential}
 use Rattle.rb_rpc.specs.declared.call.Credential.TheVariants as credentials
 use Rattle.rb_rpc.specs.declared.call.CallHead.{CallHead}
-use Rattle.rb_rpc.specs.declared.peer.Caller.{Caller}
-use Rattle.rb_rpc.specs.declared.peer.Caller.TheVariants.{Tcp, Udp}
-use Rattle.rb_rpc.specs.declared.peer.Peer.{Peer}
+use Rattle.rb_rpc.specs.declared.caller.Caller.{Caller}
+use Rattle.rb_rpc.specs.declared.caller.Caller.TheVariants.{Tcp, Udp}
+use Rattle.rb_address.specs.declared.host.Host.TheVariants.{V4}
+use Rattle.rb_address.specs.declared.peer.Peer.{Peer}
 use Rattle.rb_rpc.specs.CallBytes.{call_bytes}
 use Rattle.rb_rpc.specs.Grammar.{IsCaller}
 use Rattle.rb_registry.specs.declared.row.Owner.{Owner}
 use Rattle.rb_registry.specs.declared.row.Owner.TheVariants.{Unknown, Uid}
 use Rattle.rb_registry.specs.declared.row.Row.{Row}
 use Rattle.rb_registry.specs.declared.row.Which.TheVariants.{Inet}
-use Rattle.rb_registry.specs.Rows.{Change, rpcb_prog, netid_text, left_by}
+use Rattle.rb_registry.specs.Rows.{Change, rpcb_prog, left_by}
+use Rattle.rb_address.specs.Netids.{netid_text}
 use Rattle.rb_registry.specs.Rows.Change.{Added, Removed}
 use Rattle.rb_arguments.specs.declared.rpcb.Rpcb.{Rpcb}
 use Rattle.rb_arguments.specs.declared.procedure.MappingProcedure.TheVariants as mappings
@@ -217,7 +219,7 @@ RowsAreSpelled = (s : State) → IsReachedByBytes s → All IsSpelled (set_rows 
 
 -- 127.0.0.1, port 0
 abbrev pub this_machine : Peer
-this_machine = record { host = 127 ∷ 0 ∷ 0 ∷ 1 ∷ []; port = 0 }
+this_machine = record { host = V4 (127 ∷ 0 ∷ 0 ∷ 1 ∷ []); port = 0 }
 
 -- a call of RPCBPROC_SET of version 4, by the owner of the row
 abbrev pub set_head : Row → CallHead

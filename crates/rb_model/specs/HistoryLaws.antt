@@ -3,8 +3,9 @@
 use Rattle.std.specs.Prelude.{◌≡◌, ℕ, max, is_some, Bool, true, false, if◌then◌else◌, List, [], ◌∷◌, ◌++◌, Option, Some, None}
 use Rattle.rb_rpc.specs.declared.call.CallHead.{CallHead}
 use Rattle.rb_registry.specs.declared.row.Row.{Row}
-use Rattle.rb_registry.specs.declared.row.Transport.{Transport}
-use Rattle.rb_registry.specs.Rows.{netid_of, find_exact, find_row}
+use Rattle.rb_address.specs.declared.netid.Transport.{Transport}
+use Rattle.rb_registry.specs.Rows.{find_exact, find_row}
+use Rattle.rb_address.specs.Netids.{netid_of, transport_of_protocol}
 use Rattle.rb_stats.specs.declared.key.Target.{Target}
 use Rattle.rb_stats.specs.Statistics.{Note}
 use Rattle.rb_stats.specs.Statistics.Note.{Called, WasSet, WasUnset, LookedUp}
@@ -17,7 +18,6 @@ use Rattle.rb_arguments.specs.declared.request.Request.TheVariants as requests
 use Rattle.rb_proto.specs.declared.context.Context.{Context}
 use Rattle.rb_proto.specs.declared.listener.Listener.{Listener}
 use Rattle.rb_proto.specs.Ledger.{rows_in, version_of}
-use Rattle.rb_proto.specs.Netids.{transport_of_prot}
 use Rattle.rb_proto.specs.Answers.{target_of, netid_asked}
 use Rattle.rb_proto.specs.Forwarding.{outcome_note, end_notes, target_replied, fell_due, caller_dropped}
 use Rattle.rb_model.specs.declared.message.Message.{Message}
@@ -61,7 +61,7 @@ failure_notes said failure = failure ∷ []
 abbrev pub notes_done : Context → CallHead → Request → Outcome → List Row → List Note
 notes_done context head (requests.Mapping mappings.Set m) said rows = notes_where (is_told_true head.xid said) (WasSet (version_of head.vers))
 notes_done context head (requests.Mapping mappings.Unset m) said rows = notes_where (is_told_true head.xid said) (WasUnset (version_of head.vers))
-notes_done context head (requests.Mapping mappings.Getport m) said rows = getport_notes head m rows (transport_of_prot m.prot)
+notes_done context head (requests.Mapping mappings.Getport m) said rows = getport_notes head m rows (transport_of_protocol m.prot)
 notes_done context head (requests.Rpcb rpcbs.Set r) said rows = notes_where (is_told_true head.xid said) (WasSet (version_of head.vers))
 notes_done context head (requests.Rpcb rpcbs.Unset r) said rows = notes_where (is_told_true head.xid said) (WasUnset (version_of head.vers))
 notes_done context head (requests.Rpcb rpcbs.Getaddr r) said rows = lookup_notes head (target_of context r) (find_row r.prog r.vers (netid_asked context) rows)

@@ -9,14 +9,6 @@ use Rattle.rb_model.specs.declared.served.Served.TheVariants.{Answered, Listed}
 use Rattle.rb_model.specs.declared.served.Outcome.{Outcome as Written}
 use Rattle.rb_model.specs.declared.served.Outcome.TheVariants as outcomes
 
--- what lists are made from: the host that they show, and the rows
-pub record Source : Type 0 where
-  pub host : List ℕ
-  pub registry : Registry
-
-abbrev pub source_for : List ℕ → Registry → Source
-source_for host registry = record { host = host; registry = registry }
-
 -- the outcome of the model for this outcome of the code, with the reply that it wrote
 abbrev pub outcome_with : Written → List ℕ → Outcome
 outcome_with outcomes.NoCall reply = said.NoCall
@@ -25,17 +17,17 @@ outcome_with outcomes.Forwarded reply = said.Forwarded
 outcome_with outcomes.Silent reply = said.Silent
 
 -- a list under this xid of the rows that are live now
-abbrev pub listing_outcome : Source → ℕ → Listing → Outcome
-listing_outcome source xid listing =
-    said.Reply (list_reply source.host xid (rows_of source.registry) listing) (Some source.registry.stamp)
+abbrev pub listing_outcome : Registry → ℕ → Listing → Outcome
+listing_outcome registry xid listing = said.Reply (list_reply xid (rows_of registry) listing) (Some registry.stamp)
 
--- the outcome of the model for what the code answers a message with, where `reply` is what it wrote
-abbrev pub served_in : Source → Served → List ℕ → Outcome
-served_in source (Answered given) reply = outcome_with given reply
-served_in source (Listed xid listing) reply = listing_outcome source xid listing
+-- The outcome of the model for what the code answers a message with: `reply` is what it wrote, and lists are made from
+-- the rows of this registry.
+abbrev pub served_in : Registry → Served → List ℕ → Outcome
+served_in registry (Answered given) reply = outcome_with given reply
+served_in registry (Listed xid listing) reply = listing_outcome registry xid listing
 
-abbrev pub is_lost_by : Source → Served → List ℕ → Bool
-is_lost_by source served reply = is_no_call (served_in source served reply)
+abbrev pub is_lost_by : Registry → Served → List ℕ → Bool
+is_lost_by registry served reply = is_no_call (served_in registry served reply)
 
 abbrev pub kind_in : Served → Written
 kind_in (Answered given) = given

@@ -1,6 +1,6 @@
 -- What the daemon knows between two events, as plain data.
 use Rattle.std.specs.Prelude.{ℕ, ◌-◌, ◌^◌, nat_le, max, Bool, ◌&&◌, List, [], Option}
-use Rattle.rb_rpc.specs.declared.peer.Peer.{Peer}
+use Rattle.rb_address.specs.declared.peer.Peer.{Peer}
 use Rattle.rb_proto.specs.declared.listener.Listener.{Listener}
 use Rattle.rb_proto.specs.Callers.{own_rows}
 use Rattle.rb_proto.specs.Ledger.{Ledger, fresh_ledger}

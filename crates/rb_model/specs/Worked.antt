@@ -1,14 +1,15 @@
 -- Worked examples: what runs give, word by word.
 use Rattle.std.specs.Prelude.{◌≡◌, ℕ, List, [], ◌∷◌, ◌++◌, replicate}
 use Rattle.rb_xdr.specs.Xdr.{words}
-use Rattle.rb_rpc.specs.declared.peer.Peer.{Peer}
+use Rattle.rb_address.specs.declared.host.Host.TheVariants.{V4}
+use Rattle.rb_address.specs.declared.peer.Peer.{Peer}
 use Rattle.rb_model.specs.State.{State, opening}
 use Rattle.rb_model.specs.Step.{Output, run}
 use Rattle.rb_model.specs.Step.Event.{Datagram}
 use Rattle.rb_model.specs.Step.Output.{Replied, Silent}
 
 abbrev pub loopback : Peer
-loopback = record { host = 127 ∷ 0 ∷ 0 ∷ 1 ∷ []; port = 900 }
+loopback = record { host = V4 (127 ∷ 0 ∷ 0 ∷ 1 ∷ []); port = 900 }
 
 abbrev pub fresh : State
 fresh = opening (record { conns = 4; rows = 300; forwards = 4 }) (record { host = 192 ∷ 0 ∷ 2 ∷ 1 ∷ []; port = 111 }) 1000 0
@@ -80,8 +81,8 @@ LimitIsReached =
 abbrev pub LocalCallersSet : Type 0
 LocalCallersSet =
     run fresh
-    (Datagram 0 (record { host = 198 ∷ 51 ∷ 100 ∷ 7 ∷ []; port = 900 }) (call2 3 1 (200001 ∷ 1 ∷ 6 ∷ 2049 ∷ []))
-    ∷ Datagram 0 (record { host = 192 ∷ 0 ∷ 2 ∷ 1 ∷ []; port = 900 }) (call2 3 1 (200001 ∷ 1 ∷ 6 ∷ 2049 ∷ []))
+    (Datagram 0 (record { host = V4 (198 ∷ 51 ∷ 100 ∷ 7 ∷ []); port = 900 }) (call2 3 1 (200001 ∷ 1 ∷ 6 ∷ 2049 ∷ []))
+    ∷ Datagram 0 (record { host = V4 (192 ∷ 0 ∷ 2 ∷ 1 ∷ []); port = 900 }) (call2 3 1 (200001 ∷ 1 ∷ 6 ∷ 2049 ∷ []))
     ∷ [])
     ≡ Replied (success_reply 3 (0 ∷ [])) ∷ Replied (success_reply 3 (1 ∷ [])) ∷ []
 

@@ -1,7 +1,8 @@
 -- Worked examples: calls that are forwarded, over UDP and on connections.
 use Rattle.std.specs.Prelude.{◌≡◌, ℕ, List, [], ◌∷◌, ◌++◌, length, map, replicate, Some, None}
 use Rattle.rb_xdr.specs.Xdr.{words}
-use Rattle.rb_rpc.specs.declared.peer.Peer.{Peer}
+use Rattle.rb_address.specs.declared.host.Host.TheVariants.{V4}
+use Rattle.rb_address.specs.declared.peer.Peer.{Peer}
 use Rattle.rb_forward.specs.Forwards.{Unsent as UnsentCall}
 use Rattle.rb_model.specs.State.{State, opening}
 use Rattle.rb_model.specs.Step.{Event, Output, run}
@@ -21,10 +22,10 @@ abbrev pub was_set : Output
 was_set = Replied (success_reply 1 (1 ∷ []))
 
 abbrev pub target : Peer
-target = record { host = 127 ∷ 0 ∷ 0 ∷ 1 ∷ []; port = 2049 }
+target = record { host = V4 (127 ∷ 0 ∷ 0 ∷ 1 ∷ []); port = 2049 }
 
 abbrev pub another : Peer
-another = record { host = 10 ∷ 0 ∷ 0 ∷ 9 ∷ []; port = 2049 }
+another = record { host = V4 (10 ∷ 0 ∷ 0 ∷ 9 ∷ []); port = 2049 }
 
 -- procedure 0 of version 1 of a program, without arguments: by INDIRECT, and by CALLIT of version 2
 abbrev pub indirect : ℕ → ℕ → List ℕ

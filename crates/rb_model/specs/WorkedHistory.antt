@@ -1,6 +1,6 @@
 -- Worked examples: what statistics count of a run.
 use Rattle.std.specs.Prelude.{◌≡◌, true, false, List, [], ◌∷◌}
-use Rattle.rb_registry.specs.declared.row.Transport.TheVariants.{Tcp, Udp}
+use Rattle.rb_address.specs.declared.netid.Transport.TheVariants.{Tcp, Udp}
 use Rattle.rb_stats.specs.declared.key.Version.TheVariants.{Two, Four}
 use Rattle.rb_stats.specs.Statistics.Note.{Called, WasSet, WasUnset, LookedUp, Forwarded}
 use Rattle.rb_model.specs.Step.{Event}

@@ -1,6 +1,6 @@
 //! Events of a run, and what they give.
 use crate::types::CoreFault;
-use rb_rpc::Peer;
+use rb_address::Peer;
 
 /// An event of a run: one call on a core, and where that makes a reply over UDP, the look at this reply. Moments are
 /// milliseconds since the start of 1970.

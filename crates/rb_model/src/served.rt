@@ -28,11 +28,12 @@ pub enum Served {
 
 impl Served {
     ghost use Rattle.std.specs.Prelude.{◌≡◌, ℕ, List};
-    ghost use Rattle.rb_model.specs.Served.{Source, is_lost_by};
+    ghost use Rattle.rb_registry.specs.Registry.{Registry};
+    ghost use Rattle.rb_model.specs.Served.{is_lost_by};
 
     /// Whether the message is no call: then the connection on which it came is Lost.
     pub fn is_no_call(self) -> bool
-        ensures { (source : Source) (reply : List ℕ) → result ≡ is_lost_by source self reply }
+        ensures { (registry : Registry) (reply : List ℕ) → result ≡ is_lost_by registry self reply }
     {
         matches!(self, Served::Answered(Outcome::NoCall))
     }

@@ -2,7 +2,7 @@
 ghost use Rattle.std.specs.Prelude.{◌≡◌};
 ghost use Rattle.rb_model.specs.State.{fault_number};
 
-use rb_rpc::Peer;
+use rb_address::Peer;
 use thiserror::Error;
 
 /// How much a core may hold.

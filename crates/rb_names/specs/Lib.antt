@@ -1,3 +1,2 @@
-pub mod Netids
 pub mod Numbers
 pub mod Services

@@ -2,7 +2,7 @@
 use Rattle.std.proofs.Common.{◌≡◌, ◌≤◌, ◌<◌, ◌++◌, ◌-◌, ℕ, true, false, List, [], ◌∷◌, length, slice_index_or, drop, take, slice_set, arith, sym, refl, ap, ◌∙◌}
 use Rattle.std.proofs.lemmas.Bool.{cond-true, cond-false}
 use Rattle.std.proofs.lemmas.List.{drop_all, take_all, append-nil, length-drop}
-use Rattle.rb_rpc.specs.declared.peer.Peer.{Peer}
+use Rattle.rb_address.specs.declared.peer.Peer.{Peer}
 use Rattle.rb_policy.specs.declared.asked.Ask.{Ask}
 use Rattle.rb_policy.specs.Asked.{socket_in, is_same_peer}
 

@@ -1,14 +1,14 @@
 -- What follows of who is given up.
 use Rattle.std.proofs.Common.{◌≡◌, ◌≤◌, ◌+◌, ℕ, Bool, true, false, cond, length, max, nat_lt, ◌||◌, Option, Some, slice_set, arith, refl, sym, ap, ◌∙◌}
-use Rattle.std.specs.Prelude.{bytes_eq}
 use Rattle.std.specs.declared.cmp.Ordering.{Ordering}
 use Rattle.std.specs.declared.cmp.Ordering.TheVariants.{Less, Equal, Greater}
 use Rattle.std.specs.Ordering.{nat_cmp, ordering_then, ordering_reverse}
 use mathlib.Core.Bool.{true≢false}
 use Rattle.std.proofs.lemmas.Bool.Decides.{nat_tests}
-use Rattle.std.proofs.lemmas.Slice.Eq.{bytes_eq-Decides}
 use Rattle.std.proofs.lemmas.Option.{slice_get_within, get_or_from_slice_get}
 use Rattle.std.proofs.lemmas.List.Sums.{sum_by-set}
+use Rattle.rb_address.specs.Hosts.{is_same_host}
+use Rattle.rb_address.proofs.HostLaws.{same_host_of}
 use Rattle.rb_policy.specs.declared.door.Origin.{Origin}
 use Rattle.rb_policy.specs.declared.door.Holder.{Holder}
 use Rattle.rb_policy.specs.declared.door.Standing.{Standing}
@@ -47,7 +47,7 @@ within true false before after all sum may elsewhere = absurd (true≢false else
 within false false before after all sum may elsewhere = grind (arith, nat_tests, sum, may)
 
 counts : (holder : Holder) (newcomer : Origin) → holder.origin ≡ newcomer → is_held_by newcomer.host (Some holder) ≡ true
-counts holder newcomer of = (bytes_eq-Decides holder.origin.host newcomer.host).1 (ap (λ o. o.host) of)
+counts holder newcomer of = same_host_of holder.origin.host newcomer.host (ap (λ o. o.host) of)
 
 pub shares_are_kept : SharesAreKept
 shares_are_kept places newcomer now place holder elsewhere of given =
@@ -55,7 +55,7 @@ shares_are_kept places newcomer now place holder elsewhere of given =
     let held = given.may.holds in
     let sum_is = sum_by-set f places place (Some holder) (Some given.holder) (slice_get_within places place (Some given.holder) held) in
     let old_is = get_or_from_slice_get places place (Some given.holder) (Some given.holder) held in
-    within newcomer.is_local (bytes_eq given.holder.origin.host newcomer.host) (count_held_by places newcomer.host) _ (length places)
+    within newcomer.is_local (is_same_host given.holder.origin.host newcomer.host) (count_held_by places newcomer.host) _ (length places)
     (ap (λ x. count_held_by (slice_set places place (Some holder)) newcomer.host + f x) (sym old_is)
     ∙ sum_is ∙ ap (λ b. count_held_by places newcomer.host + cond b 1 0) (counts holder newcomer of))
     given.may.may elsewhere

@@ -1,9 +1,11 @@
 -- Who gets a place for a connection, and who is given up for it.
-use Rattle.std.specs.Prelude.{◌≡◌, ℕ, ◌-◌, ◌/◌, max, true, false, nat_lt, nat_le, ◌==◌, Bool, not, ◌&&◌, ◌||◌, IsTrue, List, [], length, slice_get, slice_index, count_by, position, bytes_eq, Option, Some, None}
+use Rattle.std.specs.Prelude.{◌≡◌, ℕ, ◌-◌, ◌/◌, max, true, false, nat_lt, nat_le, Bool, not, ◌&&◌, ◌||◌, IsTrue, List, [], length, slice_get, count_by, position, Option, Some, None}
 use Rattle.std.specs.declared.cmp.Ordering.{Ordering}
 use Rattle.std.specs.declared.cmp.Ordering.TheVariants.{Less}
 use Rattle.std.specs.Ordering.{nat_cmp, bool_cmp, on, then_cmp}
-use Rattle.rb_rpc.specs.declared.peer.Peer.{Peer}
+use Rattle.rb_address.specs.declared.host.Host.{Host}
+use Rattle.rb_address.specs.declared.peer.Peer.{Peer}
+use Rattle.rb_address.specs.Hosts.{is_loopback, is_same_host}
 use Rattle.rb_policy.specs.declared.door.Phase.{Phase}
 use Rattle.rb_policy.specs.declared.door.Phase.TheVariants.{Idle, Reading, Owing, Awaiting}
 use Rattle.rb_policy.specs.declared.door.Origin.{Origin}
@@ -23,11 +25,11 @@ is_free (Some holder) = false
 
 -- ---- what is kept of a connection
 
--- of this host are 127.0.0.0/8 and the host that is announced
-abbrev pub origin_of : Peer → List ℕ → Origin
+-- of this host are 127.0.0.0/8, ::1 and the host that is announced
+abbrev pub origin_of : Peer → Host → Origin
 origin_of peer announced = record {
   host = peer.host;
-  is_local = slice_index peer.host 0 == 127 || bytes_eq peer.host announced;
+  is_local = is_loopback peer.host || is_same_host peer.host announced;
 }
 
 -- its phase: whether its call is forwarded, whether it is owed bytes, and whether a call is yet to come
@@ -52,11 +54,11 @@ is_stuck since now = nat_le OWED (now - since)
 abbrev pub share : ℕ → ℕ
 share places = max (places / 2) 1
 
-abbrev pub is_held_by : List ℕ → Option Holder → Bool
+abbrev pub is_held_by : Host → Option Holder → Bool
 is_held_by host None = false
-is_held_by host (Some holder) = bytes_eq holder.origin.host host
+is_held_by host (Some holder) = is_same_host holder.origin.host host
 
-abbrev pub count_held_by : Places → List ℕ → ℕ
+abbrev pub count_held_by : Places → Host → ℕ
 count_held_by places host = count_by (is_held_by host) places
 
 -- whether a peer may hold one place more; of this host it always may
@@ -107,7 +109,7 @@ GoesBefore a b = by_standing a b ≡ Less
 -- of its own host.
 pub record MayBeGivenUp (places : Places) (newcomer : Origin) (place : ℕ) (holder : Holder) : Type 0 where
   pub holds : slice_get places place ≡ Some (Some holder)
-  pub may : IsTrue (may_hold_more places newcomer || bytes_eq holder.origin.host newcomer.host)
+  pub may : IsTrue (may_hold_more places newcomer || is_same_host holder.origin.host newcomer.host)
 
 -- Of those that may be given up, it is the one that no other goes before.
 pub record IsGivenUp (places : Places) (newcomer : Origin) (now : ℕ) (place : ℕ) : Type 0 where

@@ -1,6 +1,7 @@
 -- For the search of who is given up: how the holder of each place stands, and which of two goes first.
-use Rattle.std.specs.Prelude.{◌≡◌, ℕ, ◌<◌, ◌||◌, slice_get, bytes_eq, Option, Some, None, if◌then◌else◌}
+use Rattle.std.specs.Prelude.{◌≡◌, ℕ, ◌<◌, ◌||◌, slice_get, Option, Some, None, if◌then◌else◌}
 use Rattle.std.specs.Ordering.{is_lt}
+use Rattle.rb_address.specs.Hosts.{is_same_host}
 use Rattle.rb_policy.specs.declared.door.Origin.{Origin}
 use Rattle.rb_policy.specs.declared.door.Holder.{Holder}
 use Rattle.rb_policy.specs.declared.door.Standing.{Standing}
@@ -10,7 +11,7 @@ abbrev pub candidate_in : Places → Origin → ℕ → ℕ → Option (Option H
 candidate_in places newcomer now place None = None
 candidate_in places newcomer now place (Some None) = None
 candidate_in places newcomer now place (Some (Some holder)) =
-    if may_hold_more places newcomer || bytes_eq holder.origin.host newcomer.host then Some (standing_of places now place holder) else None
+    if may_hold_more places newcomer || is_same_host holder.origin.host newcomer.host then Some (standing_of places now place holder) else None
 
 -- how the holder of a place stands, if there is one that may be given up for the newcomer
 abbrev pub candidate : Places → Origin → ℕ → ℕ → Option Standing

@@ -1,8 +1,8 @@
 //! On which socket a caller over UDP asked.
 ghost use Rattle.std.specs.Prelude.{◌≡◌, ◌<◌, ◌-◌, ◌∷◌, length, take};
-ghost use Rattle.rb_policy.specs.Asked.{socket_in};
+ghost use Rattle.rb_policy.specs.Asked.{is_same_peer, socket_in};
 
-use rb_rpc::Peer;
+use rb_address::{Host, Peer};
 use std::alloc::{AllocError, Global};
 use std::marker::Model;
 
@@ -40,15 +40,12 @@ impl Asked {
 
     /// None was forwarded yet: each entry is nobody's, at 0.0.0.0 and port 0. An error where the allocation is
     /// refused.
+    #[tactic(auto, unfolding(rb_address::specs::Hosts::plain_host))]
     pub fn new(alloc: Global) -> Result<Asked, AllocError>
         ensures { IfOk result (λ asked. asked ≡ replicate 64 ask_of_nobody) }
     {
-        let nobody = Peer {
-            host: [0, 0, 0, 0],
-            port: 0,
-        };
         let nobodys = Ask {
-            peer: nobody,
+            peer: Peer::new(Host::V4([0, 0, 0, 0]), 0),
             socket: 0,
         };
         let mut entries = Vec::with_capacity(alloc, ENTRIES)?;
@@ -80,12 +77,18 @@ fn put_first(asks: &mut [Ask], ask: Ask)
     asks[0] = ask;
 }
 
+fn is_same_peer(a: Peer, b: Peer) -> bool
+    ensures { result ≡ is_same_peer a b }
+{
+    a == b
+}
+
 fn socket_in(asks: &[Ask], peer: Peer) -> usize
     ensures { result ≡ socket_in asks.now peer }
 {
     match asks {
         [] => 0,
-        [ask, ..] if ask.peer == peer => ask.socket,
+        [ask, ..] if is_same_peer(ask.peer, peer) => ask.socket,
         [_, older @ ..] => socket_in(older, peer),
     }
 }

@@ -3,7 +3,7 @@ ghost use Rattle.std.specs.Prelude.{◌≡◌, ◌<◌, length, position, IfNone
 ghost use Rattle.rb_policy.specs.Door.{is_free, count_held_by, is_held_by, share, may_hold_more, is_within_share, IsGivenUp, IsAdmitted, origin_of, phase_of, is_stuck, ends_record};
 ghost use Rattle.rb_policy.specs.Standings.{candidate, sooner, NobodyMayBeGivenUp};
 
-use rb_rpc::Peer;
+use rb_address::{Host, Peer};
 
 /// For so many milliseconds after its last progress a connection is active.
 pub const ACTIVE: u64 = 1_000;
@@ -64,19 +64,19 @@ pub fn ends_record(taken: usize, held: usize, given: usize, is_awaiting: bool) -
 /// Where a connection came from.
 #[derive(Clone, Copy, Debug, PartialEq, Eq)]
 pub struct Origin {
-    /// The peer's IPv4 address.
-    pub host: [u8; 4],
+    /// The peer's host.
+    pub host: Host,
     /// Whether that is of this host.
     pub is_local: bool,
 }
 
-/// Where a connection came from, by its peer and the host that is announced: of this host are 127.0.0.0/8 and that.
-pub fn origin_of(peer: Peer, announced: [u8; 4]) -> Origin
+/// Where a connection came from, by its peer and the host that is announced: of this host are 127.0.0.0/8, ::1 and that.
+pub fn origin_of(peer: Peer, announced: Host) -> Origin
     ensures { result ≡ origin_of peer announced }
 {
     Origin {
-        host: peer.host,
-        is_local: peer.host[0] == 127 || peer.host == announced,
+        host: peer.host(),
+        is_local: peer.is_loopback() || peer.host() == announced,
     }
 }
 
@@ -241,7 +241,7 @@ fn share(places: usize) -> usize
     (places / 2).max(1)
 }
 
-fn count_held_by(places: &[Option<Holder>], host: &[u8; 4]) -> usize
+fn count_held_by(places: &[Option<Holder>], host: &Host) -> usize
     ensures { result ≡ count_held_by places.now host.now }
 {
     places
@@ -250,7 +250,7 @@ fn count_held_by(places: &[Option<Holder>], host: &[u8; 4]) -> usize
         .count()
 }
 
-fn is_held_by(place: &Option<Holder>, host: &[u8; 4]) -> bool
+fn is_held_by(place: &Option<Holder>, host: &Host) -> bool
     ensures { result ≡ is_held_by host.now place.now }
 {
     match place {

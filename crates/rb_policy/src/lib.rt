@@ -27,7 +27,7 @@ pub use outcome::{
     Next, Outcome, after_accept, after_read, after_receive, after_write, outcome_of,
     outcome_of_count,
 };
-pub use peers::{inet_peer, local_peer, loopback6_peer};
+pub use peers::{address_of, inet_peer, local_peer, loopback6_peer};
 pub use record_file::{RecordAction, RecordState, record_action};
 pub use turns::{
     Again, LAST_ROUND, Round, SOCKET_CALLS, STEP, accept_count, after_all_calls, is_cut_off,

@@ -4,8 +4,8 @@ use Rattle.rb_uaddr.specs.declared.address.Uaddr.{Uaddr}
 use Rattle.rb_uaddr.specs.Uaddr.{parse_ipv4, parse_ipv6}
 use Rattle.rb_uaddr.proofs.LocalTexts.{local_is_any_text}
 use Rattle.rb_uaddr.proofs.ShortTexts.{ipv4_short, ipv6_short}
-use Rattle.rb_registry.specs.declared.row.Netid.{Netid}
-use Rattle.rb_registry.specs.declared.row.Netid.TheVariants.{Tcp, Udp, Tcp6, Udp6, Local}
+use Rattle.rb_address.specs.declared.netid.Netid.{Netid}
+use Rattle.rb_address.specs.declared.netid.Netid.TheVariants.{Tcp, Udp, Tcp6, Udp6, Local}
 use Rattle.rb_proto.specs.Netids.{address_in, has_port, is_address}
 
 by_ipv4 : (text : List ℕ) (o : Option Uaddr) → parse_ipv4 text ≡ o → has_port o ≡ true → length text ≤ 128

@@ -24,22 +24,22 @@ use Rattle.rb_proto.proofs.Lists.{Passes, left}
 
 -- ---- the rows behind a cursor
 
-module _ (host : List ℕ) (list : Listing) where
-  first_row : (rows : List Row) (p : ℕ) (row : Row) → slice_get rows p ≡ Some row → rows_bytes host (drop p rows) list ≡ row_bytes host list row ++ rows_bytes host (drop (p + 1) rows) list
+module _ (list : Listing) where
+  first_row : (rows : List Row) (p : ℕ) (row : Row) → slice_get rows p ≡ Some row → rows_bytes (drop p rows) list ≡ row_bytes list row ++ rows_bytes (drop (p + 1) rows) list
   first_row rows p row here =
       let first : drop p rows ≡ row ∷ drop (p + 1) rows = rw (add-one p) (drop-cons rows p row (slice_get_within rows p row here) ∙ ap (λ (r : Row). r ∷ drop (suc p) rows) (get_or_from_slice_get rows p row row here)) in
-      ap (λ (rs : List Row). rows_bytes host rs list) first ∙ append_assoc (row_bytes host list row) (flat_map (row_bytes host list) (drop (p + 1) rows)) (boolean false)
+      ap (λ (rs : List Row). rows_bytes rs list) first ∙ append_assoc (row_bytes list row) (flat_map (row_bytes list) (drop (p + 1) rows)) (boolean false)
 
-  no_row : (rows : List Row) (p : ℕ) → p ≡ length rows → rows_bytes host (drop p rows) list ≡ boolean false
+  no_row : (rows : List Row) (p : ℕ) → p ≡ length rows → rows_bytes (drop p rows) list ≡ boolean false
   no_row rows p end = rw (end, drop-length rows) refl
 
 -- ---- filling
 
 -- The buffer has what stands before the cursor, and it is paid for.
-pub record Filling (host : List ℕ) (kept : Registry) (old now : ListReply) (most base : ℕ) (began out : Kept) (first meter : Meter) : Type 0 where
+pub record Filling (kept : Registry) (old now : ListReply) (most base : ℕ) (began out : Kept) (first meter : Meter) : Type 0 where
   pub moved : now ≡ record old { cursor = now.cursor }
   pub place : StandsIn kept now.stamp now.cursor
-  pub shows : out.bytes ++ rows_bytes host (rows_behind kept now.stamp now.cursor) now.list ≡ bytes_behind host kept old
+  pub shows : out.bytes ++ rows_bytes (rows_behind kept now.stamp now.cursor) now.list ≡ bytes_behind kept old
   pub base_is : base ≡ length out.bytes
   pub before : base ≤ most
   pub cap : out.cap ≡ began.cap
@@ -76,10 +76,10 @@ rows_left_fit kept stamp cursor = omega (arith, table_fits stamp kept.entries, l
 -- ---- its begin, its steps and its ends
 
 -- the head stands before the first row, and nothing before a later one
-pub filling_begins : (host : List ℕ) (kept : Registry) (r : ListReply) (most base : ℕ) (began out : Kept) (first meter : Meter) → StandsIn kept r.stamp r.cursor
+pub filling_begins : (kept : Registry) (r : ListReply) (most base : ℕ) (began out : Kept) (first meter : Meter) → StandsIn kept r.stamp r.cursor
     → out.bytes ≡ head_unless r.begun r.xid → out.cap ≡ began.cap → out.tie ≡ began.tie → base ≡ length out.bytes → base ≤ most → PaysAtMost first meter (length out.bytes + 3)
-    → Filling host kept r r most base began out first meter
-filling_begins host kept r most base began out first meter place head cap out_tie base_is before cost = record {
+    → Filling kept r r most base began out first meter
+filling_begins kept r most base began out first meter place head cap out_tie base_is before cost = record {
   moved = refl;
   place = place;
   shows = rw head refl;
@@ -92,28 +92,28 @@ filling_begins host kept r most base began out first meter place head cap out_ti
   steps = omega (arith, cost.steps, slots_left_fit kept r.cursor, rows_left_fit kept r.stamp r.cursor);
 }
 
-module _ (host : List ℕ) (kept : Registry) (old now : ListReply) (most base : ℕ) (began out : Kept) (first meter : Meter) (f : Filling host kept old now most base began out first meter) where
+module _ (kept : Registry) (old now : ListReply) (most base : ℕ) (began out : Kept) (first meter : Meter) (f : Filling kept old now most base began out first meter) where
   -- what stands at the cursor is behind what is shown
-  at_cursor : drop base (bytes_behind host kept old) ≡ rows_bytes host (rows_behind kept now.stamp now.cursor) now.list
+  at_cursor : drop base (bytes_behind kept old) ≡ rows_bytes (rows_behind kept now.stamp now.cursor) now.list
   at_cursor =
-      rw (f.base_is, ← f.shows) (drop-append_seam out.bytes (rows_bytes host (rows_behind kept now.stamp now.cursor) now.list))
+      rw (f.base_is, ← f.shows) (drop-append_seam out.bytes (rows_bytes (rows_behind kept now.stamp now.cursor) now.list))
 
-  module _ (row : Row) (next : Option ℕ) (passes : Passes kept now.stamp now.cursor row next) (more : Kept) (added : more ≡ record out { bytes = out.bytes ++ row_bytes host now.list row }) where
+  module _ (row : Row) (next : Option ℕ) (passes : Passes kept now.stamp now.cursor row next) (more : Kept) (added : more ≡ record out { bytes = out.bytes ++ row_bytes now.list row }) where
     -- what is shown with the row, and what stands behind it
-    shows_row : more.bytes ++ rows_bytes host (rows_behind kept now.stamp next) now.list ≡ bytes_behind host kept old
+    shows_row : more.bytes ++ rows_bytes (rows_behind kept now.stamp next) now.list ≡ bytes_behind kept old
     shows_row =
-        let row_first = first_row host now.list (rows_at kept now.stamp) (rows_passed kept now.stamp now.cursor) row passes.here in
+        let row_first = first_row now.list (rows_at kept now.stamp) (rows_passed kept now.stamp now.cursor) row passes.here in
         let later : rows_behind kept now.stamp next ≡ drop (rows_passed kept now.stamp now.cursor + 1) (rows_at kept now.stamp) = ap (λ (n : ℕ). drop n (rows_at kept now.stamp)) passes.passed in
         rw (ap (λ (k : Kept). k.bytes) added, later)
-        (append_assoc out.bytes (row_bytes host now.list row) (rows_bytes host (drop (rows_passed kept now.stamp now.cursor + 1) (rows_at kept now.stamp)) now.list)
+        (append_assoc out.bytes (row_bytes now.list row) (rows_bytes (drop (rows_passed kept now.stamp now.cursor + 1) (rows_at kept now.stamp)) now.list)
         ∙ ap (λ (bytes : List ℕ). out.bytes ++ bytes) (sym row_first) ∙ f.shows)
 
-    longer : length more.bytes ≡ length out.bytes + length (row_bytes host now.list row)
-    longer = ap (λ (k : Kept). length k.bytes) added ∙ length-append out.bytes (row_bytes host now.list row)
+    longer : length more.bytes ≡ length out.bytes + length (row_bytes now.list row)
+    longer = ap (λ (k : Kept). length k.bytes) added ∙ length-append out.bytes (row_bytes now.list row)
 
     -- the row is within so many bytes, and the cursor goes on
-    pub row_passed : (asked wrote paid : Meter) (len cost : ℕ) → PaysAtMost meter asked cost → asked.steps + 2 * slots_left kept next ≤ meter.steps + 2 * slots_left kept now.cursor → PaysAtMost asked wrote (length (row_bytes host now.list row))
-        → len ≡ length more.bytes → len ≤ most → paid ≡ record wrote { steps = wrote.steps + 1 } → Filling host kept old (record now { cursor = next }) most len began more first paid
+    pub row_passed : (asked wrote paid : Meter) (len cost : ℕ) → PaysAtMost meter asked cost → asked.steps + 2 * slots_left kept next ≤ meter.steps + 2 * slots_left kept now.cursor → PaysAtMost asked wrote (length (row_bytes now.list row))
+        → len ≡ length more.bytes → len ≤ most → paid ≡ record wrote { steps = wrote.steps + 1 } → Filling kept old (record now { cursor = next }) most len began more first paid
     row_passed asked wrote paid len cost looked passed writes len_is within pays =
         let within_rows = slice_get_within (rows_at kept now.stamp) (rows_passed kept now.stamp now.cursor) row passes.here in
         let one_paid : paid.steps ≡ wrote.steps + 1 = ap (λ (m : Meter). m.steps) pays in
@@ -131,11 +131,11 @@ module _ (host : List ℕ) (kept : Registry) (old now : ListReply) (most base : 
         }
 
     -- the row goes past so many bytes
-    pub row_crosses : IsShort (row_bytes host now.list row) → most < length more.bytes → Fills host kept old now most more.bytes base
+    pub row_crosses : IsShort (row_bytes now.list row) → most < length more.bytes → Fills kept old now most more.bytes base
     row_crosses short past = record {
       moved = f.moved;
       place = f.place;
-      front = sym (ap (λ (bytes : List ℕ). take (length more.bytes) bytes) (sym shows_row) ∙ take-append_seam more.bytes (rows_bytes host (rows_behind kept now.stamp next) now.list));
+      front = sym (ap (λ (bytes : List ℕ). take (length more.bytes) bytes) (sym shows_row) ∙ take-append_seam more.bytes (rows_bytes (rows_behind kept now.stamp next) now.list));
       all = λ within. absurd (omega (arith, within, past));
       behind = at_cursor;
       before = f.before;
@@ -149,15 +149,15 @@ module _ (host : List ℕ) (kept : Registry) (old now : ListReply) (most base : 
 
   -- there is no row behind the cursor
   module _ (more : Kept) (end : rows_passed kept now.stamp now.cursor ≡ length (rows_at kept now.stamp)) (added : more ≡ record out { bytes = out.bytes ++ boolean false }) where
-    shows_end : more.bytes ≡ bytes_behind host kept old
+    shows_end : more.bytes ≡ bytes_behind kept old
     shows_end =
         ap (λ (k : Kept). k.bytes) added
-        ∙ ap (λ (bytes : List ℕ). out.bytes ++ bytes) (sym (no_row host now.list (rows_at kept now.stamp) (rows_passed kept now.stamp now.cursor) end)) ∙ f.shows
+        ∙ ap (λ (bytes : List ℕ). out.bytes ++ bytes) (sym (no_row now.list (rows_at kept now.stamp) (rows_passed kept now.stamp now.cursor) end)) ∙ f.shows
 
     longer_by_end : length more.bytes ≡ length out.bytes + length (boolean false)
     longer_by_end = ap (λ (k : Kept). length k.bytes) added ∙ length-append out.bytes (boolean false)
 
-    pub list_ends : Fills host kept old now most more.bytes base
+    pub list_ends : Fills kept old now most more.bytes base
     list_ends = record {
       moved = f.moved;
       place = f.place;

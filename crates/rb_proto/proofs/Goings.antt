@@ -5,18 +5,21 @@ use Rattle.std.proofs.lemmas.Bool.{eqb-true}
 use Rattle.std.proofs.lemmas.Option.{none-some, same_Some}
 use Rattle.rb_rpc.specs.declared.reply.ReplyStatus.{ReplyStatus}
 use Rattle.rb_rpc.specs.declared.reply.ReplyStatus.TheVariants as replies
-use Rattle.rb_rpc.specs.declared.peer.Peer.{Peer}
+use Rattle.rb_address.specs.declared.host.Host.{Host}
+use Rattle.rb_address.specs.declared.host.Host.TheVariants as hosts
+use Rattle.rb_address.specs.declared.peer.Peer.{Peer}
 use Rattle.rb_uaddr.specs.declared.address.Uaddr.{Uaddr}
 use Rattle.rb_uaddr.specs.declared.address.Uaddr.TheVariants.{V4, V6}
 use Rattle.rb_uaddr.specs.Uaddr.{parse, parse_ipv4, merged_address, merged_host}
 use Rattle.rb_uaddr.proofs.GrammarLaws.{merges_any_host}
-use Rattle.rb_registry.specs.declared.row.Netid.{Netid}
-use Rattle.rb_registry.specs.declared.row.Netid.TheVariants.{Tcp, Udp, Tcp6, Udp6, Local}
+use Rattle.rb_address.specs.declared.netid.Netid.{Netid}
+use Rattle.rb_address.specs.declared.netid.Netid.TheVariants.{Tcp, Udp, Tcp6, Udp6, Local}
 use Rattle.rb_registry.specs.declared.row.Row.{Row}
-use Rattle.rb_registry.specs.Rows.{rpcb_prog, is_netid, is_on, is_row, find_exact}
+use Rattle.rb_registry.specs.Rows.{rpcb_prog, is_on, is_row, find_exact}
+use Rattle.rb_address.specs.Netids.{is_netid}
 use Rattle.rb_forward.specs.declared.types.Forward.{Forward}
-use Rattle.rb_rpc.specs.declared.peer.Kind.{Kind}
-use Rattle.rb_rpc.specs.declared.peer.Kind.TheVariants.{Callit2, Callit3, Bcast, Indirect}
+use Rattle.rb_rpc.specs.declared.caller.Kind.{Kind}
+use Rattle.rb_rpc.specs.declared.caller.Kind.TheVariants.{Callit2, Callit3, Bcast, Indirect}
 use Rattle.rb_forward.specs.Forwards.{can_start, with_next_entry}
 use Rattle.rb_proto.specs.declared.answers.Answer.{Answer}
 use Rattle.rb_proto.specs.declared.answers.Answer.TheVariants as answers
@@ -25,7 +28,7 @@ use Rattle.rb_arguments.specs.declared.remote.RemoteCall.{RemoteCall}
 use Rattle.rb_arguments.specs.Remote.{args_of}
 use Rattle.rb_proto.specs.Ledger.{Ledger, rows_in}
 use Rattle.rb_proto.specs.Netids.{address_in}
-use Rattle.rb_proto.specs.Forwarding.{peer_at, peer_of_row, refusal, refuse, peer_to_forward, forward_of, forward_to, forward_call}
+use Rattle.rb_proto.specs.Forwarding.{ipv4_peer_at, merged_in, peer_of_row, refusal, refuse, peer_to_forward, forward_of, forward_to, forward_call}
 use Rattle.rb_proto.specs.ForwardLaws.{IsRegisteredAt, StandsInForAny, AsksRegistered, ForwardsGoToRows}
 
 -- ---- the row
@@ -61,34 +64,51 @@ row_is prog vers row h =
     (eqb-true row.prog prog front.0, eqb-true row.vers vers whole.1, udp_is row.netid front.1)
 
 -- a row of udp is at the IPv4 address that its text spells
-spelled_at : (peer : Peer) (o : Option Uaddr) → option_and_then peer_at o ≡ Some peer → o ≡ Some (V4 peer.host peer.port)
+spelled_at : (peer : Peer) (o : Option Uaddr) → option_and_then ipv4_peer_at o ≡ Some peer → (host : List ℕ) × (peer.host ≡ hosts.V4 host) × (o ≡ Some (V4 host peer.port))
 spelled_at peer None is = absurd (none-some peer is)
-spelled_at peer (Some (V4 host port)) is = ap (λ (p : Peer). Some (V4 p.host p.port)) (same_Some _ peer is)
+spelled_at peer (Some (V4 host port)) is =
+    let same = same_Some _ peer is in
+    (host, sym (ap (λ (p : Peer). p.host) same), ap (λ (p : Peer). Some (V4 host p.port)) same)
 spelled_at peer (Some (V6 host port)) is = absurd (none-some peer is)
 
-udp_spells : (row : Row) (peer : Peer) → row.netid ≡ Udp → peer_of_row row ≡ Some peer → parse row.addr ≡ Some (V4 peer.host peer.port)
-unfolding parse address_in
+ipv4_spells : (text : List ℕ) (u : Uaddr) → parse_ipv4 text ≡ Some u → parse text ≡ Some u
+unfolding parse
+ipv4_spells text u is = rw is refl
+
+udp_spells : (row : Row) (peer : Peer) → row.netid ≡ Udp → peer_of_row row ≡ Some peer → (host : List ℕ) × (peer.host ≡ hosts.V4 host) × (parse row.addr ≡ Some (V4 host peer.port))
+unfolding address_in
 udp_spells row peer udp is =
-    let spelled : parse_ipv4 row.addr ≡ Some (V4 peer.host peer.port) = spelled_at peer (parse_ipv4 row.addr) (rw udp at is) in
-    rw spelled refl
+    let spelled = spelled_at peer (parse_ipv4 row.addr) (rw udp at is) in
+    (spelled.0, spelled.1, ipv4_spells row.addr _ spelled.2)
+
+-- it is at an IPv4 host, and one of the rows is there
+record IsAtRow (rows : List Row) (remote : RemoteCall) (peer : Peer) : Type 0 where
+  host : List ℕ
+  is_ipv4 : peer.host ≡ hosts.V4 host
+  is_registered : IsRegisteredAt rows remote host peer.port
 
 module _ (remote : RemoteCall) (rows : List Row) (peer : Peer) where
   by_row : remote.prog ≢ rpcb_prog → (o : Option Row) → find_exact remote.prog remote.vers Udp rows ≡ o
-      → option_and_then peer_of_row o ≡ Some peer → IsRegisteredAt rows remote peer.host peer.port
+      → option_and_then peer_of_row o ≡ Some peer → IsAtRow rows remote peer
   unfolding find_exact
   by_row other None found is = absurd (none-some peer is)
   by_row other (Some row) found is =
       let here = found_here (is_row remote.prog remote.vers Udp) rows row found in
       let has = row_is remote.prog remote.vers row here.1 in
-      record { row = row; is_there = here.0; prog = has.0; vers = has.1; netid = has.2; addr = udp_spells row peer has.2 is; is_other = other }
+      let spelled = udp_spells row peer has.2 is in
+      record {
+        host = spelled.0;
+        is_ipv4 = spelled.1;
+        is_registered = record { row = row; is_there = here.0; prog = has.0; vers = has.1; netid = has.2; addr = spelled.2; is_other = other };
+      }
 
-  registered : peer_to_forward remote.prog remote.vers rows ≡ Some peer → IsRegisteredAt rows remote peer.host peer.port
+  registered : peer_to_forward remote.prog remote.vers rows ≡ Some peer → IsAtRow rows remote peer
   unfolding peer_to_forward
   registered is = by_prog (eqb remote.prog rpcb_prog) refl is
     where
       by_prog : (b : Bool) → eqb remote.prog rpcb_prog ≡ b
           → cond b None (option_and_then peer_of_row (find_exact remote.prog remote.vers Udp rows)) ≡ Some peer
-          → IsRegisteredAt rows remote peer.host peer.port
+          → IsAtRow rows remote peer
       by_prog true own is = absurd (none-some peer is)
       by_prog false own is =
           by_row (λ same. let clash : true ≡ false = sym (eq-eqb remote.prog rpcb_prog same) ∙ own in absurd cc)
@@ -100,12 +120,15 @@ host_of : Uaddr → List ℕ
 host_of (V4 host port) = host
 host_of (V6 host port) = host
 
-stands_in : (other host : List ℕ) → StandsInForAny other host (merged_host other host)
+stands_in : (other host : List ℕ) → StandsInForAny other host (hosts.V4 (merged_host other host))
 unfolding host_of merged_address
 stands_in other host = (
-  λ any. ap (merged_host other) any ∙ ap host_of (merges_any_host.replaced other 0),
-  λ set. ap host_of (merges_any_host.kept other host 0 set),
+  λ any. ap hosts.V4 (ap (merged_host other) any ∙ ap host_of (merges_any_host.replaced other 0)),
+  λ set. ap hosts.V4 (ap host_of (merges_any_host.kept other host 0 set)),
 )
+
+stands_in_at : (other host : List ℕ) (own : Host) → own ≡ hosts.V4 host → StandsInForAny other host (merged_in other own)
+stands_in_at other host own is = rw is (stands_in other host)
 
 -- ---- the law
 
@@ -119,19 +142,21 @@ module _ (context : Context) (xid : ℕ) (kind : Kind) (remote : RemoteCall) (l 
   asks : (peer : Peer) → peer_to_forward remote.prog remote.vers (rows_in l) ≡ Some peer
       → AsksRegistered context (rows_in l) remote (forward_of context xid kind remote peer)
   unfolding forward_of
-  asks peer is = record {
-    host = peer.host;
-    port = peer.port;
-    is_registered = registered remote (rows_in l) peer is;
-    target_host = stands_in _ peer.host;
-    target_port = refl;
-    shown_host = stands_in context.listener.host peer.host;
-    shown_port = refl;
-    prog = refl;
-    vers = refl;
-    proc = refl;
-    caller = refl;
-  }
+  asks peer is =
+      let at_row = registered remote (rows_in l) peer is in
+      record {
+        host = at_row.host;
+        port = peer.port;
+        is_registered = at_row.is_registered;
+        target_host = stands_in_at _ at_row.host peer.host at_row.is_ipv4;
+        target_port = refl;
+        shown_host = stands_in_at context.listener.host at_row.host peer.host at_row.is_ipv4;
+        shown_port = refl;
+        prog = refl;
+        vers = refl;
+        proc = refl;
+        caller = refl;
+      }
 
   -- what is told and left, as an entry of a row
   abbrev Goes : List ℕ → Answer × Ledger → Type 0

@@ -27,7 +27,7 @@ list_reply_goes_on old new r goes low told =
     let passed : rows_passed new r.stamp r.cursor ≡ rows_passed old r.stamp r.cursor = goes.passed r.stamp r.cursor low told.place in
     record {
       told = record { place = goes.place r.stamp r.cursor low told.place; given = told.given };
-      rest = λ host. rw (passed, rows) refl;
+      rest = rw (passed, rows) refl;
     }
 
 -- ---- rows that are kept
@@ -37,10 +37,10 @@ removals_kept books l h = ap (λ (slots : List Slot). filter_map (λ slot. slot.
 
 -- ---- a reply that begins
 
-pub whole_is_left : (host : List ℕ) (kept : Registry) (xid stamp : ℕ) (list : Listing) (cursor : Option ℕ) → stamp ≡ kept.stamp → rows_passed kept stamp cursor ≡ 0
-    → rest_of host kept (record { xid = xid; list = list; stamp = stamp; cursor = cursor; given = 0; begun = false }) ≡ list_reply host xid (rows_of kept) list
+pub whole_is_left : (kept : Registry) (xid stamp : ℕ) (list : Listing) (cursor : Option ℕ) → stamp ≡ kept.stamp → rows_passed kept stamp cursor ≡ 0
+    → rest_of kept (record { xid = xid; list = list; stamp = stamp; cursor = cursor; given = 0; begun = false }) ≡ list_reply xid (rows_of kept) list
 unfolding rest_of
-whole_is_left host kept xid stamp list cursor now none = rw (none, now, list-rows host (rows_of kept) list) refl
+whole_is_left kept xid stamp list cursor now none = rw (none, now, list-rows (rows_of kept) list) refl
 
 -- ---- the head
 

@@ -39,15 +39,15 @@ module _ {A : Type 0} (spelling : A → List ℕ) (item : Row → A) where
   all_rows [] = refl
   all_rows (row ∷ rows) = ap (λ (xs : List ℕ). (boolean true ++ spelling (item row)) ++ xs) (all_rows rows)
 
-pub list-rows : (host : List ℕ) (rows : List Row) (list : Listing) → list_bytes host rows list ≡ rows_bytes host rows list
+pub list-rows : (rows : List Row) (list : Listing) → list_bytes rows list ≡ rows_bytes rows list
 unfolding linked_list row_bytes
-list-rows host rows Mappings = ap (λ (xs : List ℕ). xs ++ boolean false) (shown_rows mapping_spelling mapping_of is_inet rows)
-list-rows host rows Rpcbs = ap (λ (xs : List ℕ). xs ++ boolean false) (all_rows rpcb_spelling rpcb_of rows)
-list-rows host rows (Entries prog vers) = ap (λ (xs : List ℕ). xs ++ boolean false) (shown_rows entry_spelling (entry_of host) (is_version prog vers) rows)
+list-rows rows Mappings = ap (λ (xs : List ℕ). xs ++ boolean false) (shown_rows mapping_spelling mapping_of is_inet rows)
+list-rows rows Rpcbs = ap (λ (xs : List ℕ). xs ++ boolean false) (all_rows rpcb_spelling rpcb_of rows)
+list-rows rows (Entries prog vers host) = ap (λ (xs : List ℕ). xs ++ boolean false) (shown_rows entry_spelling (entry_of host) (is_version prog vers) rows)
 
-pub rows_result : (host : List ℕ) (shown : Shown) (list : Listing) (results : Results) → results ≡ Rows list → result_bytes host shown results ≡ rows_bytes host shown.rows list
+pub rows_result : (shown : Shown) (list : Listing) (results : Results) → results ≡ Rows list → result_bytes shown results ≡ rows_bytes shown.rows list
 unfolding result_bytes
-rows_result host shown list results is = ap (λ (a : Results). result_bytes host shown a) is ∙ list-rows host shown.rows list
+rows_result shown list results is = ap (λ (a : Results). result_bytes shown a) is ∙ list-rows shown.rows list
 
 -- ---- one row more
 

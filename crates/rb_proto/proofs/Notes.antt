@@ -6,11 +6,11 @@ use Rattle.std.specs.Option.{option_map}
 use Rattle.std.proofs.lemmas.Option.{none-some}
 use Rattle.rb_rpc.specs.declared.reply.ReplyStatus.{ReplyStatus}
 use Rattle.rb_rpc.specs.declared.reply.ReplyStatus.TheVariants as replies
-use Rattle.rb_rpc.specs.declared.peer.Peer.{Peer}
+use Rattle.rb_address.specs.declared.peer.Peer.{Peer}
 use Rattle.rb_stats.specs.Statistics.{Note}
 use Rattle.rb_stats.proofs.Items.{count_by-push}
 use Rattle.rb_forward.specs.declared.types.Forward.{Forward}
-use Rattle.rb_rpc.specs.declared.peer.Kind.{Kind}
+use Rattle.rb_rpc.specs.declared.caller.Kind.{Kind}
 use Rattle.rb_forward.specs.declared.types.Outcome.{Outcome}
 use Rattle.rb_forward.specs.declared.types.Outcome.TheVariants.{Failed, Dropped}
 use Rattle.rb_forward.specs.Forwards.{Entry, without_first, change_first, as_sent, is_unsent, ended_by, with_end, can_start, next_entry, with_next_entry, sent, counts_for, outcome_of, reply, is_due, due, is_of_connection, drop_caller}

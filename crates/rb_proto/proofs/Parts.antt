@@ -68,22 +68,22 @@ module _ (all shown : List ℕ) (given most end : ℕ) (front : shown ≡ take (
 
 -- ---- of a reply
 
-module _ (host : List ℕ) (kept : Registry) (old moved : ListReply) (shown : List ℕ) (base : ℕ) (f : Fills host kept old moved (old.given + fragment_size) shown base) (end : ℕ) (end_is : end ≡ min (length shown) (old.given + fragment_size)) where
-  pub part_is : slice_range shown (min moved.given end) end ≡ take fragment_size (rest_of host kept old)
+module _ (kept : Registry) (old moved : ListReply) (shown : List ℕ) (base : ℕ) (f : Fills kept old moved (old.given + fragment_size) shown base) (end : ℕ) (end_is : end ≡ min (length shown) (old.given + fragment_size)) where
+  pub part_is : slice_range shown (min moved.given end) end ≡ take fragment_size (rest_of kept old)
   unfolding rest_of
   part_is =
       let given : moved.given ≡ old.given = ap (λ (r : ListReply). r.given) f.moved in
-      rw given (part_shown (bytes_behind host kept old) shown old.given fragment_size end f.front f.all end_is)
+      rw given (part_shown (bytes_behind kept old) shown old.given fragment_size end f.front f.all end_is)
 
-  pub rest_is : rest_of host kept (record moved { given = end - base; begun = true }) ≡ drop fragment_size (rest_of host kept old)
+  pub rest_is : rest_of kept (record moved { given = end - base; begun = true }) ≡ drop fragment_size (rest_of kept old)
   unfolding rest_of
   rest_is =
       let count : base + (end - base) ≡ end = omega (arith, end_is, f.before, f.within) in
       ap (λ (bytes : List ℕ). drop (end - base) bytes) (sym f.behind)
-      ∙ drop-drop (end - base) base (bytes_behind host kept old)
-      ∙ ap (λ (n : ℕ). drop n (bytes_behind host kept old)) count
-      ∙ rest_shown (bytes_behind host kept old) shown old.given fragment_size end f.front f.all end_is
+      ∙ drop-drop (end - base) base (bytes_behind kept old)
+      ∙ ap (λ (n : ℕ). drop n (bytes_behind kept old)) count
+      ∙ rest_shown (bytes_behind kept old) shown old.given fragment_size end f.front f.all end_is
 
-  pub last_is : nat_le (length shown) (old.given + fragment_size) ≡ nat_le (length (rest_of host kept old)) fragment_size
+  pub last_is : nat_le (length shown) (old.given + fragment_size) ≡ nat_le (length (rest_of kept old)) fragment_size
   unfolding rest_of
-  last_is = last_shown (bytes_behind host kept old) shown old.given fragment_size end f.front f.all end_is
+  last_is = last_shown (bytes_behind kept old) shown old.given fragment_size end f.front f.all end_is

@@ -2,8 +2,8 @@
 use Rattle.std.proofs.Common.{◌≡◌, ℕ, Bool, true, false, List, Some, refl, sym, ◌∙◌, ap}
 use Rattle.std.specs.Prelude.{IsTrue}
 use Rattle.rb_rpc.specs.declared.reply.ReplyStatus.TheVariants as replies
-use Rattle.rb_rpc.specs.declared.peer.Peer.{Peer}
-use Rattle.rb_rpc.specs.declared.peer.Kind.{Kind}
+use Rattle.rb_address.specs.declared.peer.Peer.{Peer}
+use Rattle.rb_rpc.specs.declared.caller.Kind.{Kind}
 use Rattle.rb_forward.specs.Forwards.{can_start}
 use Rattle.rb_proto.specs.declared.answers.Answer.{Answer}
 use Rattle.rb_proto.specs.declared.context.Context.{Context}

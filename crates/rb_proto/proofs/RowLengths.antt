@@ -3,9 +3,9 @@ use Rattle.std.proofs.Common.{◌++◌, true, arith, rules}
 use Rattle.std.proofs.lemmas.List.{length-append}
 use Rattle.rb_xdr.specs.Xdr.{boolean, IsContent}
 use Rattle.rb_xdr.proofs.Types.{length-boolean}
-use Rattle.rb_registry.specs.declared.row.Netid.{Netid}
-use Rattle.rb_registry.specs.declared.row.Netid.TheVariants.{Tcp, Udp, Tcp6, Udp6, Local}
-use Rattle.rb_registry.specs.Rows.{netid_text}
+use Rattle.rb_address.specs.declared.netid.Netid.{Netid}
+use Rattle.rb_address.specs.declared.netid.Netid.TheVariants.{Tcp, Udp, Tcp6, Udp6, Local}
+use Rattle.rb_address.specs.Netids.{netid_text}
 use Rattle.rb_arguments.specs.declared.rpcb.Rpcb.{Rpcb}
 use Rattle.rb_arguments.specs.declared.entry.Entry.{Entry}
 use Rattle.rb_arguments.specs.Types.{IsRpcb, rpcb_spelling, IsEntry, entry_spelling}

@@ -5,13 +5,14 @@ use Rattle.rb_rpc.specs.declared.call.CallHead.{CallHead}
 use Rattle.rb_uaddr.specs.declared.address.Uaddr.{Uaddr}
 use Rattle.rb_uaddr.specs.declared.address.Uaddr.TheVariants.{V4, V6}
 use Rattle.rb_uaddr.specs.Uaddr.{port_of, any_host, text_of, parse, merged_address, transport_of, from_transport}
-use Rattle.rb_registry.specs.declared.row.Netid.{Netid}
-use Rattle.rb_registry.specs.declared.row.Transport.{Transport}
+use Rattle.rb_address.specs.declared.netid.Netid.{Netid}
+use Rattle.rb_address.specs.declared.netid.Transport.{Transport}
 use Rattle.rb_registry.specs.declared.row.Owner.{Owner}
 use Rattle.rb_registry.specs.declared.row.Row.{Row}
 use Rattle.rb_registry.specs.declared.row.Which.{Which}
 use Rattle.rb_registry.specs.declared.row.Which.TheVariants.{Inet}
-use Rattle.rb_registry.specs.Rows.{Change, netid_of, rpcb_prog, has_place, removes_some, find_exact, find_row}
+use Rattle.rb_registry.specs.Rows.{Change, rpcb_prog, has_place, removes_some, find_exact, find_row}
+use Rattle.rb_address.specs.Netids.{netid_of, netid_named, transport_of_protocol}
 use Rattle.rb_registry.specs.Rows.Change.{Added, Removed}
 use Rattle.rb_stats.specs.declared.key.Target.{Target}
 use Rattle.rb_stats.specs.Statistics.{Note}
@@ -33,7 +34,7 @@ use Rattle.rb_proto.specs.declared.answers.Listing.TheVariants.{Mappings, Rpcbs,
 use Rattle.rb_proto.specs.declared.answers.Value.TheVariants as values
 use Rattle.rb_proto.specs.Callers.{is_local, peer_of, transport_of_caller, owner_of}
 use Rattle.rb_proto.specs.Ledger.{Ledger, rows_in, version_of, with_note}
-use Rattle.rb_proto.specs.Netids.{netid_named, which_of, transport_of_prot, address_in, is_address}
+use Rattle.rb_proto.specs.Netids.{which_of, address_in, is_address}
 use Rattle.rb_proto.specs.Forwarding.{forward_call}
 pub use Rattle.rb_proto.specs.declared.answers.Answer.{Answer}
 pub use Rattle.rb_proto.specs.declared.answers.Results.{Results}
@@ -61,7 +62,7 @@ change_if accepted change note l = (
 -- version 2 names a transport by its protocol and an address by its port, at every host
 unfoldable pub row_of_mapping : Owner → Mapping → Option Row
 row_of_mapping owner m =
-    if nat_le m.port 65535 then option_map on (transport_of_prot m.prot) else None
+    if nat_le m.port 65535 then option_map on (transport_of_protocol m.prot) else None
   where
     on : Transport → Row
     on transport = record { prog = m.prog; vers = m.vers; netid = netid_of transport; owner = owner; addr = text_of (V4 any_host m.port) }
@@ -172,7 +173,7 @@ port_on head m (Some transport) l =
 
 -- PMAPPROC_GETPORT: by the transport of prot; port is ignored. Where prot is of none, nothing is looked up.
 unfoldable pub getport : CallHead → Mapping → Ledger → ℕ × Ledger
-getport head m l = port_on head m (transport_of_prot m.prot) l
+getport head m l = port_on head m (transport_of_protocol m.prot) l
 
 -- what is asked for, on the transport on which the call came; r_netid, r_addr and r_owner are ignored
 abbrev pub target_of : Context → Rpcb → Target
@@ -243,7 +244,7 @@ answer_to context head (requests.Rpcb rpcbs.Set r) arguments l = tell_done value
 answer_to context head (requests.Rpcb rpcbs.Unset r) arguments l = tell_done values.Bool (unset_rows context head r.prog r.vers (which_of r.netid) l)
 answer_to context head (requests.Rpcb rpcbs.Getaddr r) arguments l = tell_done values.Text (getaddr context head r l)
 answer_to context head (requests.Rpcb rpcbs.Getversaddr r) arguments l = tell_done values.Text (getversaddr context head r l)
-answer_to context head (requests.Rpcb rpcbs.Getaddrlist r) arguments l = tell_rows (Entries r.prog r.vers) l
+answer_to context head (requests.Rpcb rpcbs.Getaddrlist r) arguments l = tell_rows (Entries r.prog r.vers context.listener.host) l
 answer_to context head (requests.Uaddr2taddr text) arguments l = tell (values.Netbuf (taddr_of text)) l
 answer_to context head (requests.Taddr2uaddr netbuf) arguments l = tell (values.Text (uaddr_of netbuf)) l
 answer_to context head (requests.Forward kind remote) arguments l = forward_call context head.xid kind remote arguments l

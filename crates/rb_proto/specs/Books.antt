@@ -1,8 +1,8 @@
 -- What calls on the books say of the ledger, and what of the books stays.
 use Rattle.std.specs.Prelude.{◌≡◌, ◌<◌, ◌↔◌, ⊤, ℕ, ◌+◌, Bool, true, IsTrue, List, length, Option, Result, IsOk}
 use Rattle.std.specs.List.{filter_map}
-use Rattle.rb_rpc.specs.declared.peer.Caller.{Caller}
-use Rattle.rb_rpc.specs.declared.peer.Peer.{Peer}
+use Rattle.rb_rpc.specs.declared.caller.Caller.{Caller}
+use Rattle.rb_address.specs.declared.peer.Peer.{Peer}
 use Rattle.rb_registry.specs.declared.row.Row.{Row}
 use Rattle.rb_registry.specs.Slots.{slots_from}
 use Rattle.rb_registry.specs.Registry.{Registry, rows_of, retained_count, removals_of}
@@ -10,7 +10,7 @@ use Rattle.rb_stats.specs.Statistics.{Note}
 use Rattle.rb_forward.specs.StandsFor.{Table, slots_of}
 use Rattle.rb_forward.specs.Table.{OnlyWaitsAnew}
 use Rattle.rb_forward.specs.Forwards.{Unsent, unsent}
-use Rattle.rb_rpc.specs.declared.peer.Kind.{Kind}
+use Rattle.rb_rpc.specs.declared.caller.Kind.{Kind}
 use Rattle.rb_forward.specs.declared.types.Ended.{Ended}
 use Rattle.rb_proto.specs.declared.books.Books.{Books}
 use Rattle.rb_proto.specs.declared.call.Call.{Call}

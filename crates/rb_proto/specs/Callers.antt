@@ -1,16 +1,19 @@
 -- The listener, and what it knows of a caller.
-use Rattle.std.specs.Prelude.{ℕ, ◌==◌, Bool, ◌||◌, List, [], ◌∷◌, slice_index, bytes_eq, codes, decimal, if◌then◌else◌}
+use Rattle.std.specs.Prelude.{ℕ, ◌==◌, Bool, ◌||◌, List, [], ◌∷◌, codes, decimal, if◌then◌else◌}
 use Rattle.rb_rpc.specs.declared.call.Credential.{Credential}
 use Rattle.rb_rpc.specs.declared.call.Credential.TheVariants as credentials
-use Rattle.rb_rpc.specs.declared.peer.Peer.{Peer}
-use Rattle.rb_rpc.specs.declared.peer.Caller.{Caller}
-use Rattle.rb_rpc.specs.declared.peer.Caller.TheVariants as callers
+use Rattle.rb_address.specs.declared.host.Host.{Host}
+use Rattle.rb_address.specs.declared.host.Host.TheVariants as hosts
+use Rattle.rb_address.specs.declared.peer.Peer.{Peer}
+use Rattle.rb_address.specs.Hosts.{is_loopback, is_same_host}
+use Rattle.rb_rpc.specs.declared.caller.Caller.{Caller}
+use Rattle.rb_rpc.specs.declared.caller.Caller.TheVariants as callers
 use Rattle.rb_uaddr.specs.declared.address.Uaddr.TheVariants.{V4}
 use Rattle.rb_uaddr.specs.Uaddr.{any_host, text_of}
-use Rattle.rb_registry.specs.declared.row.Transport.{Transport}
-use Rattle.rb_registry.specs.declared.row.Transport.TheVariants as transports
-use Rattle.rb_registry.specs.declared.row.Netid.{Netid}
-use Rattle.rb_registry.specs.declared.row.Netid.TheVariants.{Tcp, Udp}
+use Rattle.rb_address.specs.declared.netid.Transport.{Transport}
+use Rattle.rb_address.specs.declared.netid.Transport.TheVariants as transports
+use Rattle.rb_address.specs.declared.netid.Netid.{Netid}
+use Rattle.rb_address.specs.declared.netid.Netid.TheVariants.{Tcp, Udp}
 use Rattle.rb_registry.specs.declared.row.Owner.{Owner}
 use Rattle.rb_registry.specs.declared.row.Owner.TheVariants.{Unknown, Uid}
 use Rattle.rb_registry.specs.declared.row.Row.{Row}
@@ -27,9 +30,9 @@ own_rows listener =
     own_row listener 4 Tcp ∷ own_row listener 3 Tcp ∷ own_row listener 2 Tcp
     ∷ own_row listener 4 Udp ∷ own_row listener 3 Udp ∷ own_row listener 2 Udp ∷ []
 
--- a host of 127.0.0.0/8 or the listener's own
-unfoldable pub is_local : Listener → List ℕ → Bool
-is_local listener host = slice_index host 0 == 127 || bytes_eq host listener.host
+-- by its address alone: 127.0.0.0/8, ::1, or the announced host
+unfoldable pub is_local : Listener → Host → Bool
+is_local listener host = is_loopback host || is_same_host host (hosts.V4 listener.host)
 
 abbrev pub peer_of : Caller → Peer
 peer_of (callers.Tcp id peer) = peer

@@ -1,15 +1,17 @@
 -- Laws of forwarded calls.
 use Rattle.std.specs.Prelude.{◌≡◌, ◌≢◌, ℕ, ◌+◌, Bool, true, false, List, length, Some, Contains}
 use Rattle.std.specs.List.{count_by}
-use Rattle.rb_rpc.specs.declared.peer.Peer.{Peer}
+use Rattle.rb_address.specs.declared.host.Host.{Host}
+use Rattle.rb_address.specs.declared.host.Host.TheVariants as hosts
+use Rattle.rb_address.specs.declared.peer.Peer.{Peer}
 use Rattle.rb_uaddr.specs.declared.address.Uaddr.TheVariants.{V4}
 use Rattle.rb_uaddr.specs.Uaddr.{any_host, parse}
-use Rattle.rb_registry.specs.declared.row.Netid.TheVariants as netids
+use Rattle.rb_address.specs.declared.netid.Netid.TheVariants as netids
 use Rattle.rb_registry.specs.declared.row.Row.{Row}
 use Rattle.rb_registry.specs.Rows.{rpcb_prog}
 use Rattle.rb_stats.specs.Statistics.{Note}
 use Rattle.rb_stats.specs.Statistics.Note.{Forwarded}
-use Rattle.rb_rpc.specs.declared.peer.Kind.{Kind}
+use Rattle.rb_rpc.specs.declared.caller.Kind.{Kind}
 use Rattle.rb_forward.specs.declared.types.Forward.{Forward}
 use Rattle.rb_forward.specs.Forwards.{with_next_entry}
 use Rattle.rb_proto.specs.declared.answers.Answer.TheVariants as answers
@@ -33,8 +35,8 @@ pub record IsRegisteredAt (rows : List Row) (remote : RemoteCall) (host : List �
   pub is_other : remote.prog ≢ rpcb_prog
 
 -- the host is another's in place of 0.0.0.0, else the one that was registered
-abbrev pub StandsInForAny : List ℕ → List ℕ → List ℕ → Type 0
-StandsInForAny other registered host = (registered ≡ any_host → host ≡ other) × (registered ≢ any_host → host ≡ registered)
+abbrev pub StandsInForAny : List ℕ → List ℕ → Host → Type 0
+StandsInForAny other registered host = (registered ≡ any_host → host ≡ hosts.V4 other) × (registered ≢ any_host → host ≡ hosts.V4 registered)
 
 -- what is asked where, and what its caller is shown
 pub record AsksRegistered (context : Context) (rows : List Row) (remote : RemoteCall) (forward : Forward) : Type 0 where

@@ -1,22 +1,24 @@
 -- Calls that are forwarded: where to, what their callers are told, and what is noted (RFC 1833 sections 2.2.1 and 3.2).
 use Rattle.std.specs.Prelude.{ℕ, ◌==◌, Bool, true, false, if◌then◌else◌, List, [], ◌∷◌, ◌++◌, Option, Some, None, option_and_then}
 use Rattle.rb_xdr.specs.Xdr.{number, opaque}
-use Rattle.rb_rpc.specs.declared.peer.Caller.{Caller}
-use Rattle.rb_rpc.specs.declared.peer.Peer.{Peer}
+use Rattle.rb_rpc.specs.declared.caller.Caller.{Caller}
+use Rattle.rb_address.specs.declared.host.Host.{Host}
+use Rattle.rb_address.specs.declared.host.Host.TheVariants as hosts
+use Rattle.rb_address.specs.declared.peer.Peer.{Peer}
 use Rattle.rb_rpc.specs.declared.reply.ReplyStatus.{ReplyStatus}
 use Rattle.rb_rpc.specs.declared.reply.ReplyStatus.TheVariants as replies
 use Rattle.rb_uaddr.specs.declared.address.Uaddr.{Uaddr}
 use Rattle.rb_uaddr.specs.declared.address.Uaddr.TheVariants.{V4, V6}
 use Rattle.rb_uaddr.specs.Uaddr.{text_of, merged_host}
-use Rattle.rb_registry.specs.declared.row.Netid.TheVariants as netids
+use Rattle.rb_address.specs.declared.netid.Netid.TheVariants as netids
 use Rattle.rb_registry.specs.declared.row.Row.{Row}
 use Rattle.rb_registry.specs.Rows.{rpcb_prog, find_exact}
 use Rattle.rb_stats.specs.declared.key.Version.{Version}
 use Rattle.rb_stats.specs.declared.key.Version.TheVariants as versions
 use Rattle.rb_stats.specs.Statistics.{Note}
 use Rattle.rb_stats.specs.Statistics.Note.{Forwarded}
-use Rattle.rb_rpc.specs.declared.peer.Kind.{Kind}
-use Rattle.rb_rpc.specs.declared.peer.Kind.TheVariants.{Callit2, Callit3, Bcast, Indirect}
+use Rattle.rb_rpc.specs.declared.caller.Kind.{Kind}
+use Rattle.rb_rpc.specs.declared.caller.Kind.TheVariants.{Callit2, Callit3, Bcast, Indirect}
 use Rattle.rb_forward.specs.declared.types.Forward.{Forward}
 use Rattle.rb_forward.specs.declared.types.Outcome.{Outcome}
 use Rattle.rb_forward.specs.declared.types.Outcome.TheVariants as outcomes
@@ -54,12 +56,12 @@ outcome_note kind caller prog vers proc passed =
 -- ---- where a call is forwarded
 
 -- calls are forwarded over IPv4 alone
-abbrev pub peer_at : Uaddr → Option Peer
-peer_at (V4 host port) = Some (record { host = host; port = port })
-peer_at (V6 host port) = None
+abbrev pub ipv4_peer_at : Uaddr → Option Peer
+ipv4_peer_at (V4 host port) = Some (record { host = hosts.V4 host; port = port })
+ipv4_peer_at (V6 host port) = None
 
 abbrev pub peer_of_row : Row → Option Peer
-peer_of_row row = option_and_then peer_at (address_in row.netid row.addr)
+peer_of_row row = option_and_then ipv4_peer_at (address_in row.netid row.addr)
 
 -- Where the program's exact version is on udp. The portmapper itself is not called.
 unfoldable pub peer_to_forward : ℕ → ℕ → List Row → Option Peer
@@ -70,9 +72,13 @@ peer_to_forward prog vers rows =
 abbrev pub loopback : List ℕ
 loopback = 127 ∷ 0 ∷ 0 ∷ 1 ∷ []
 
--- another host in place of 0.0.0.0
+-- another host in place of 0.0.0.0; each IPv6 host stays
+abbrev pub merged_in : List ℕ → Host → Host
+merged_in host (hosts.V4 own) = hosts.V4 (merged_host host own)
+merged_in host (hosts.V6 own) = hosts.V6 own
+
 abbrev pub merged_peer : List ℕ → Peer → Peer
-merged_peer host peer = record { host = merged_host host peer.host; port = peer.port }
+merged_peer host peer = record { host = merged_in host peer.host; port = peer.port }
 
 -- What is asked at the registered host and port. In place of 0.0.0.0 the call goes to 127.0.0.1, and the listener's host
 -- is shown.
@@ -153,12 +159,20 @@ call_sent number l = record l { forwards = sent number l.forwards }
 
 -- ---- results that passed
 
+abbrev pub uaddr_on : Host → ℕ → Uaddr
+uaddr_on (hosts.V4 host) port = V4 host port
+uaddr_on (hosts.V6 host) port = V6 host port
+
+-- the universal address of a peer
+abbrev pub uaddr_at : Peer → Uaddr
+uaddr_at peer = uaddr_on peer.host peer.port
+
 -- where the call went: the port in version 2, else the universal address
 abbrev pub place_bytes : Kind → Peer → List ℕ
 place_bytes Callit2 shown = number shown.port
-place_bytes Callit3 shown = opaque (text_of (V4 shown.host shown.port))
-place_bytes Bcast shown = opaque (text_of (V4 shown.host shown.port))
-place_bytes Indirect shown = opaque (text_of (V4 shown.host shown.port))
+place_bytes Callit3 shown = opaque (text_of (uaddr_at shown))
+place_bytes Bcast shown = opaque (text_of (uaddr_at shown))
+place_bytes Indirect shown = opaque (text_of (uaddr_at shown))
 
 -- rpcb_rmtcallres (RFC 1833 section 2.1) or call_result (section 3.1)
 unfoldable pub forwarded_bytes : Forward → List ℕ → List ℕ

@@ -23,32 +23,32 @@ abbrev pub FitsIfShort : List ℕ → Kept → Type 0
 FitsIfShort bytes kept = IsShort bytes → HasRoom bytes kept
 
 -- the whole reply that lists these rows
-abbrev pub list_reply : List ℕ → ℕ → List Row → Listing → List ℕ
-list_reply host xid rows list = reply_head xid Success ++ list_bytes host rows list
+abbrev pub list_reply : ℕ → List Row → Listing → List ℕ
+list_reply xid rows list = reply_head xid Success ++ list_bytes rows list
 
 -- A buffer shows the bytes from the old cursor on, all of them or more than `most`. The first `base` of them stand before
 -- the new cursor, and what is shown behind these is no more than a row adds.
-pub record Fills (host : List ℕ) (kept : Registry) (old new : ListReply) (most : ℕ) (shown : List ℕ) (base : ℕ) : Type 0 where
+pub record Fills (kept : Registry) (old new : ListReply) (most : ℕ) (shown : List ℕ) (base : ℕ) : Type 0 where
   pub moved : new ≡ record old { cursor = new.cursor }
   pub place : StandsIn kept new.stamp new.cursor
-  pub front : shown ≡ take (length shown) (bytes_behind host kept old)
-  pub all : length shown ≤ most → shown ≡ bytes_behind host kept old
-  pub behind : drop base (bytes_behind host kept old) ≡ rows_bytes host (rows_behind kept new.stamp new.cursor) new.list
+  pub front : shown ≡ take (length shown) (bytes_behind kept old)
+  pub all : length shown ≤ most → shown ≡ bytes_behind kept old
+  pub behind : drop base (bytes_behind kept old) ≡ rows_bytes (rows_behind kept new.stamp new.cursor) new.list
   pub before : base ≤ most
   pub within : base ≤ length shown
   pub short : length shown ≤ base + longest_row
 
 -- It is the reply under this xid that lists the live rows, of which nothing was given.
 abbrev pub ListsRows : ℕ → Listing → Registry → ListReply → Type 0
-ListsRows xid list kept r = (host : List ℕ) → rest_of host kept r ≡ list_reply host xid (rows_of kept) list
+ListsRows xid list kept r = rest_of kept r ≡ list_reply xid (rows_of kept) list
 
 -- the part stands in what is shown: the next bytes that are yet to be given
-abbrev pub IsNextPart : List ℕ → Registry → ListReply → List ℕ → ListPart → Type 0
-IsNextPart host kept r shown part = slice_range shown part.start part.end ≡ take fragment_size (rest_of host kept r)
+abbrev pub IsNextPart : Registry → ListReply → List ℕ → ListPart → Type 0
+IsNextPart kept r shown part = slice_range shown part.start part.end ≡ take fragment_size (rest_of kept r)
 
 -- the new reply goes on behind the next part of the old one
-abbrev pub IsBehindPart : List ℕ → Registry → ListReply → ListReply → Type 0
-IsBehindPart host kept old new = rest_of host kept new ≡ drop fragment_size (rest_of host kept old)
+abbrev pub IsBehindPart : Registry → ListReply → ListReply → Type 0
+IsBehindPart kept old new = rest_of kept new ≡ drop fragment_size (rest_of kept old)
 
 -- The rows of the reply can be listed, and what was given of that at the cursor is no more than a row adds.
 pub record CanBeContinued (kept : Registry) (r : ListReply) : Type 0 where
@@ -58,7 +58,7 @@ pub record CanBeContinued (kept : Registry) (r : ListReply) : Type 0 where
 -- in the new registry too the rows of the reply can be listed, and the same is yet to be given
 pub record ContinuesAlike (old new : Registry) (r : ListReply) : Type 0 where
   pub told : CanBeContinued new r
-  pub rest : (host : List ℕ) → rest_of host new r ≡ rest_of host old r
+  pub rest : rest_of new r ≡ rest_of old r
 
 -- Whatever is called in between, the same is yet to be given, as long as the floor isn't above the reply's stamp.
 abbrev pub ListRepliesGoOn : Type 0

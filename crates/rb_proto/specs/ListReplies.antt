@@ -29,10 +29,10 @@ abbrev pub rows_behind : Registry → ℕ → Option ℕ → List Row
 rows_behind kept stamp cursor = drop (rows_passed kept stamp cursor) (rows_at kept stamp)
 
 -- the bytes from the cursor on, those too that were given of what stands there
-abbrev pub bytes_behind : List ℕ → Registry → ListReply → List ℕ
-bytes_behind host kept r =
-    head_unless r.begun r.xid ++ rows_bytes host (rows_behind kept r.stamp r.cursor) r.list
+abbrev pub bytes_behind : Registry → ListReply → List ℕ
+bytes_behind kept r =
+    head_unless r.begun r.xid ++ rows_bytes (rows_behind kept r.stamp r.cursor) r.list
 
 -- what is yet to be given
-unfoldable pub rest_of : List ℕ → Registry → ListReply → List ℕ
-rest_of host kept r = drop r.given (bytes_behind host kept r)
+unfoldable pub rest_of : Registry → ListReply → List ℕ
+rest_of kept r = drop r.given (bytes_behind kept r)

@@ -1,25 +1,14 @@
 -- What is known of each netid (RFC 5665 section 5.1, RFC 1833 section 2.1).
-use Rattle.std.specs.Prelude.{ℕ, ◌==◌, Bool, false, not, List, [], ◌∷◌, Option, Some, None, option_map, find, codes, bytes_eq}
+use Rattle.std.specs.Prelude.{ℕ, ◌==◌, Bool, false, not, List, [], ◌∷◌, Option, Some, None, option_map, codes}
 use Rattle.std.specs.Option.{option_map_or}
 use Rattle.rb_uaddr.specs.declared.address.Uaddr.{Uaddr}
 use Rattle.rb_uaddr.specs.Uaddr.{port_of, parse_ipv4, parse_ipv6, is_local_text}
-use Rattle.rb_registry.specs.declared.row.Transport.{Transport}
-use Rattle.rb_registry.specs.declared.row.Transport.TheVariants as transports
-use Rattle.rb_registry.specs.declared.row.Netid.{Netid}
-use Rattle.rb_registry.specs.declared.row.Netid.TheVariants.{Tcp, Udp, Tcp6, Udp6, Local}
+use Rattle.rb_address.specs.declared.netid.Transport.TheVariants as transports
+use Rattle.rb_address.specs.declared.netid.Netid.{Netid}
+use Rattle.rb_address.specs.declared.netid.Netid.TheVariants.{Tcp, Udp, Tcp6, Udp6, Local}
 use Rattle.rb_registry.specs.declared.row.Which.{Which}
 use Rattle.rb_registry.specs.declared.row.Which.TheVariants.{All, One}
-use Rattle.rb_registry.specs.Rows.{netid_text}
-
-abbrev pub netids : List Netid
-netids = Tcp ∷ Udp ∷ Tcp6 ∷ Udp6 ∷ Local ∷ []
-
-abbrev pub first_named : List Netid → List ℕ → Option Netid
-first_named among text = find (λ netid. bytes_eq (netid_text netid) text) among
-
--- the netid of this name
-unfoldable pub netid_named : List ℕ → Option Netid
-netid_named text = first_named netids text
+use Rattle.rb_address.specs.Netids.{netid_named, protocol_of}
 
 -- the netids that UNSET means: every one where the name is empty
 unfoldable pub which_of : List ℕ → Option Which
@@ -28,21 +17,10 @@ which_of (c ∷ text) = option_map One (netid_named (c ∷ text))
 
 -- ---- version 2
 
-abbrev pub all_transports : List Transport
-all_transports = transports.Tcp ∷ transports.Udp ∷ []
-
--- the protocol that version 2 has for it
-abbrev pub prot_of : Transport → ℕ
-prot_of transports.Tcp = 6
-prot_of transports.Udp = 17
-
-unfoldable pub transport_of_prot : ℕ → Option Transport
-transport_of_prot prot = find (λ transport. prot_of transport == prot) all_transports
-
 -- The protocol of a row of tcp or udp. Version 2 shows no row of another netid.
 abbrev pub prot_on : Netid → ℕ
-prot_on Tcp = prot_of transports.Tcp
-prot_on Udp = prot_of transports.Udp
+prot_on Tcp = protocol_of transports.Tcp
+prot_on Udp = protocol_of transports.Udp
 prot_on Tcp6 = 0
 prot_on Udp6 = 0
 prot_on Local = 0

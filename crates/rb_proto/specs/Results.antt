@@ -2,14 +2,14 @@
 use Rattle.std.specs.Prelude.{ℕ, ◌==◌, Bool, true, false, ◌&&◌, if◌then◌else◌, List, [], ◌++◌, map, filter, take, drop}
 use Rattle.std.specs.List.{flat_map}
 use Rattle.rb_xdr.specs.Xdr.{number, boolean, opaque, linked_list}
-use Rattle.rb_registry.specs.declared.row.Netid.{Netid}
+use Rattle.rb_address.specs.declared.netid.Netid.{Netid}
 use Rattle.rb_registry.specs.declared.row.Row.{Row}
 use Rattle.rb_registry.specs.declared.row.Which.TheVariants.{Inet}
 use Rattle.rb_registry.specs.Registry.{rows_of}
-use Rattle.rb_registry.specs.Rows.{netid_text, is_among}
+use Rattle.rb_registry.specs.Rows.{is_among}
+use Rattle.rb_address.specs.Netids.{netid_text}
 use Rattle.rb_stats.specs.Statistics.{statistics}
 use Rattle.rb_stats.specs.Counting.{spelling}
-use Rattle.rb_proto.specs.declared.listener.Listener.{Listener}
 use Rattle.rb_arguments.specs.declared.mapping.Mapping.{Mapping}
 use Rattle.rb_arguments.specs.declared.rpcb.Rpcb.{Rpcb}
 use Rattle.rb_arguments.specs.declared.entry.Entry.{Entry}
@@ -59,10 +59,10 @@ entry_of host row = record {
 }
 
 -- the rows that a list shows, in their order
-abbrev pub list_bytes : List ℕ → List Row → Listing → List ℕ
-list_bytes host rows Mappings = linked_list mapping_spelling (map mapping_of (filter is_inet rows))
-list_bytes host rows Rpcbs = linked_list rpcb_spelling (map rpcb_of rows)
-list_bytes host rows (Entries prog vers) = linked_list entry_spelling (map (entry_of host) (filter (is_version prog vers) rows))
+abbrev pub list_bytes : List Row → Listing → List ℕ
+list_bytes rows Mappings = linked_list mapping_spelling (map mapping_of (filter is_inet rows))
+list_bytes rows Rpcbs = linked_list rpcb_spelling (map rpcb_of rows)
+list_bytes rows (Entries prog vers host) = linked_list entry_spelling (map (entry_of host) (filter (is_version prog vers) rows))
 
 -- ---- all results
 
@@ -74,18 +74,18 @@ pub record Shown : Type 0 where
 abbrev pub shown_of : Ledger → Shown
 shown_of l = record { rows = rows_in l; statistics = statistics l.history }
 
--- where the listener has this host and this is remembered
-unfoldable pub result_bytes : List ℕ → Shown → Results → List ℕ
-result_bytes host shown (results.Value value) = value_bytes value
-result_bytes host shown (results.Rows list) = list_bytes host shown.rows list
-result_bytes host shown results.Statistics = shown.statistics
+-- where this is remembered
+unfoldable pub result_bytes : Shown → Results → List ℕ
+result_bytes shown (results.Value value) = value_bytes value
+result_bytes shown (results.Rows list) = list_bytes shown.rows list
+result_bytes shown results.Statistics = shown.statistics
 
 -- what books show
 abbrev pub shown_in : Books → Shown
 shown_in books = record { rows = rows_of books.registry; statistics = spelling books.stats }
 
-abbrev pub results_at : Listener → Books → Results → List ℕ
-results_at listener books given = result_bytes listener.host (shown_in books) given
+abbrev pub results_at : Books → Results → List ℕ
+results_at books given = result_bytes (shown_in books) given
 
 -- ---- one row
 
@@ -93,21 +93,21 @@ results_at listener books given = result_bytes listener.host (shown_in books) gi
 abbrev pub is_shown : Listing → Row → Bool
 is_shown Mappings row = is_inet row
 is_shown Rpcbs row = true
-is_shown (Entries prog vers) row = is_version prog vers row
+is_shown (Entries prog vers host) row = is_version prog vers row
 
 -- the spelling of that item
-abbrev pub item_bytes : List ℕ → Listing → Row → List ℕ
-item_bytes host Mappings row = mapping_spelling (mapping_of row)
-item_bytes host Rpcbs row = rpcb_spelling (rpcb_of row)
-item_bytes host (Entries prog vers) row = entry_spelling (entry_of host row)
+abbrev pub item_bytes : Listing → Row → List ℕ
+item_bytes Mappings row = mapping_spelling (mapping_of row)
+item_bytes Rpcbs row = rpcb_spelling (rpcb_of row)
+item_bytes (Entries prog vers host) row = entry_spelling (entry_of host row)
 
 -- what a row adds to a list
-unfoldable pub row_bytes : List ℕ → Listing → Row → List ℕ
-row_bytes host list row = if is_shown list row then boolean true ++ item_bytes host list row else []
+unfoldable pub row_bytes : Listing → Row → List ℕ
+row_bytes list row = if is_shown list row then boolean true ++ item_bytes list row else []
 
 -- what the rows add to a list one after another, and its end
-abbrev pub rows_bytes : List ℕ → List Row → Listing → List ℕ
-rows_bytes host rows list = flat_map (row_bytes host list) rows ++ boolean false
+abbrev pub rows_bytes : List Row → Listing → List ℕ
+rows_bytes rows list = flat_map (row_bytes list) rows ++ boolean false
 
 -- TRUE and the item of one kind
 abbrev pub mapping_item : Row → List ℕ

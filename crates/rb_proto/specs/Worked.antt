@@ -4,9 +4,10 @@ use Rattle.rb_xdr.specs.Xdr.{words, opaque}
 use Rattle.rb_rpc.specs.declared.call.CallHead.{CallHead}
 use Rattle.rb_rpc.specs.declared.call.Credential.{Credential}
 use Rattle.rb_rpc.specs.declared.call.Credential.TheVariants as credentials
-use Rattle.rb_rpc.specs.declared.peer.Caller.{Caller}
-use Rattle.rb_rpc.specs.declared.peer.Caller.TheVariants.{Tcp, Udp}
-use Rattle.rb_registry.specs.declared.row.Netid.TheVariants as netids
+use Rattle.rb_rpc.specs.declared.caller.Caller.{Caller}
+use Rattle.rb_rpc.specs.declared.caller.Caller.TheVariants.{Tcp, Udp}
+use Rattle.rb_address.specs.declared.host.Host.TheVariants.{V4}
+use Rattle.rb_address.specs.declared.netid.Netid.TheVariants as netids
 use Rattle.rb_registry.specs.declared.row.Owner.TheVariants as owners
 use Rattle.rb_registry.specs.declared.row.Row.{Row}
 use Rattle.rb_registry.specs.Rows.{rpcb_prog}
@@ -38,7 +39,7 @@ listener = record { host = 192 ∷ 0 ∷ 2 ∷ 1 ∷ []; port = 111 }
 
 -- in a datagram from this host
 abbrev pub from : List ℕ → Caller
-from host = Udp (record { host = host; port = 900 })
+from host = Udp (record { host = V4 host; port = 900 })
 
 abbrev pub loopback : List ℕ
 loopback = 127 ∷ 0 ∷ 0 ∷ 1 ∷ []
@@ -65,7 +66,7 @@ call_of m request = record { head = head_of m; request = request }
 
 -- the results of an answer, if it has any, over the ledger that it left
 abbrev pub results_in : Answer → Ledger → List ℕ
-results_in (answers.Results given) l = result_bytes listener.host (shown_of l) given
+results_in (answers.Results given) l = result_bytes (shown_of l) given
 results_in (answers.Refused status) l = []
 results_in answers.Forwarded l = []
 results_in answers.Silent l = []
@@ -206,7 +207,7 @@ GetaddrByTransport =
     results_of (
     set_udp ∷ call 3 3 (0x30d41 ∷ 1 ∷ 3 ∷ 0x74637000 ∷ 0 ∷ 0 ∷ []) ∷ call 4 3 (0x30d41 ∷ 7 ∷ 3 ∷ 0x74637000 ∷ 0 ∷ 0 ∷ [])
     ∷ call 4 9 (0x30d41 ∷ 7 ∷ 3 ∷ 0x74637000 ∷ 0 ∷ 0 ∷ [])
-    ∷ record (call 3 3 (0x30d41 ∷ 1 ∷ 3 ∷ 0x75647000 ∷ 0 ∷ 0 ∷ [])) { caller = Tcp 1 (record { host = loopback; port = 900 }) } ∷ [])
+    ∷ record (call 3 3 (0x30d41 ∷ 1 ∷ 3 ∷ 0x75647000 ∷ 0 ∷ 0 ∷ [])) { caller = Tcp 1 (record { host = V4 loopback; port = 900 }) } ∷ [])
     ≡ yes ∷ says merged_8_1 ∷ says merged_8_1 ∷ no_ ∷ no_ ∷ []
 
 abbrev pub Getaddrlist : Type 0
@@ -303,4 +304,4 @@ more_rows (suc k) prog = record { prog = prog; vers = 1; netid = netids.Tcp; own
 
 -- DUMP of version 2 with 448 rows in all: with the reply's head 8,988 bytes
 abbrev pub LongPmapDump : Type 0
-LongPmapDump = length (list_bytes listener.host (own_rows listener ++ more_rows 442 200001) Mappings) ≡ 8964
+LongPmapDump = length (list_bytes (own_rows listener ++ more_rows 442 200001) Mappings) ≡ 8964

@@ -1,19 +1,20 @@
 -- Worked examples of forwarded calls. The listener, the callers and the calls are those of the other worked examples.
 use Rattle.std.specs.Prelude.{◌≡◌, ℕ, true, false, List, [], ◌∷◌, ◌++◌, length, replicate, Option, Some, None, Result, Ok, Err, codes}
 use Rattle.rb_xdr.specs.Xdr.{words, opaque}
-use Rattle.rb_rpc.specs.declared.peer.Peer.{Peer}
-use Rattle.rb_rpc.specs.declared.peer.Caller.{Caller}
-use Rattle.rb_rpc.specs.declared.peer.Caller.TheVariants.{Tcp, Udp}
+use Rattle.rb_address.specs.declared.host.Host.TheVariants.{V4}
+use Rattle.rb_address.specs.declared.peer.Peer.{Peer}
+use Rattle.rb_rpc.specs.declared.caller.Caller.{Caller}
+use Rattle.rb_rpc.specs.declared.caller.Caller.TheVariants.{Tcp, Udp}
 use Rattle.rb_rpc.specs.declared.call.Credential.TheVariants as credentials
 use Rattle.rb_rpc.specs.declared.reply.ReplyStatus.TheVariants as replies
-use Rattle.rb_registry.specs.declared.row.Transport.TheVariants as transports
+use Rattle.rb_address.specs.declared.netid.Transport.TheVariants as transports
 use Rattle.rb_registry.specs.Rows.{rpcb_prog}
 use Rattle.rb_stats.specs.declared.key.Version.TheVariants as versions
 use Rattle.rb_stats.specs.Statistics.{Note}
 use Rattle.rb_stats.specs.Statistics.Note.{Forwarded}
 use Rattle.rb_forward.specs.declared.types.Forward.{Forward}
-use Rattle.rb_rpc.specs.declared.peer.Kind.{Kind}
-use Rattle.rb_rpc.specs.declared.peer.Kind.TheVariants.{Callit2, Callit3, Bcast, Indirect}
+use Rattle.rb_rpc.specs.declared.caller.Kind.{Kind}
+use Rattle.rb_rpc.specs.declared.caller.Kind.TheVariants.{Callit2, Callit3, Bcast, Indirect}
 use Rattle.rb_forward.specs.declared.types.Ended.{Ended}
 use Rattle.rb_forward.specs.declared.types.Outcome.{Outcome}
 use Rattle.rb_forward.specs.declared.types.Outcome.TheVariants as outcomes
@@ -103,7 +104,7 @@ FailuresAreCounted =
 -- ---- what is forwarded
 
 abbrev pub at_host : List ℕ → Peer
-at_host host = record { host = host; port = 2049 }
+at_host host = record { host = V4 host; port = 2049 }
 
 -- that call, with these hosts
 abbrev pub forward_at : Kind → Caller → List ℕ → List ℕ → Forward
@@ -162,10 +163,10 @@ EndsWithNote kind caller outcome note given =
     )
 
 abbrev pub by_datagram : Caller
-by_datagram = Udp (record { host = loopback; port = 900 })
+by_datagram = Udp (record { host = V4 loopback; port = 900 })
 
 abbrev pub by_connection : Caller
-by_connection = Tcp 3 (record { host = loopback; port = 900 })
+by_connection = Tcp 3 (record { host = V4 loopback; port = 900 })
 
 -- an accepted reply by the target, at moment 2000, without results
 abbrev pub target_said : List ℕ → Ledger → Option Ended × Ledger

@@ -52,9 +52,6 @@ FullTableWantsNone =
 
 -- ---- lists in parts
 
-abbrev pub host : List ℕ
-host = listener.host
-
 -- a DUMP of version 2 under xid 1, as of so many changes
 abbrev pub fresh_dump : ℕ → ListReply
 fresh_dump stamp = record { xid = 1; list = Mappings; stamp = stamp; cursor = None; given = 0; begun = false }
@@ -66,13 +63,13 @@ dump_behind stamp key given = record (fresh_dump stamp) { cursor = Some key; giv
 -- a head of 24 bytes, and 20 for each row: 100 bytes end in the fourth row
 abbrev pub PartsCrossRows : Type 0
 PartsCrossRows =
-    (rest_of host (of_eight 0 []) (fresh_dump 0) ≡ list_reply host 1 own Mappings)
-    × (rest_of host (of_eight 0 []) (dump_behind 0 2 16) ≡ drop 100 (list_reply host 1 own Mappings))
-    × (rest_of host (of_eight 0 []) (dump_behind 0 5 4) ≡ [])
+    (rest_of (of_eight 0 []) (fresh_dump 0) ≡ list_reply 1 own Mappings)
+    × (rest_of (of_eight 0 []) (dump_behind 0 2 16) ≡ drop 100 (list_reply 1 own Mappings))
+    × (rest_of (of_eight 0 []) (dump_behind 0 5 4) ≡ [])
 
 -- the first of two rows was removed: it is listed as of before, and not as of now
 abbrev pub ListsAreAsOfTheirCall : Type 0
 ListsAreAsOfTheirCall =
-    (rest_of host (of_eight 2 one_removed) (fresh_dump 2) ≡ list_reply host 1 (own ++ first ∷ second ∷ []) Mappings)
-    × (rest_of host (of_eight 2 one_removed) (dump_behind 2 6 0) ≡ drop 164 (list_reply host 1 (own ++ first ∷ second ∷ []) Mappings))
-    × (rest_of host (of_eight 2 one_removed) (fresh_dump 3) ≡ list_reply host 1 (own ++ second ∷ []) Mappings)
+    (rest_of (of_eight 2 one_removed) (fresh_dump 2) ≡ list_reply 1 (own ++ first ∷ second ∷ []) Mappings)
+    × (rest_of (of_eight 2 one_removed) (dump_behind 2 6 0) ≡ drop 164 (list_reply 1 (own ++ first ∷ second ∷ []) Mappings))
+    × (rest_of (of_eight 2 one_removed) (fresh_dump 3) ≡ list_reply 1 (own ++ second ∷ []) Mappings)

@@ -50,8 +50,8 @@ pub enum Listing {
     Mappings,
     /// Each row as an rpcb.
     Rpcbs,
-    /// Each row of this program and version as an rpcb_entry.
-    Entries(u32, u32),
+    /// Each row of this program and version as an rpcb_entry, with this host in place of 0.0.0.0.
+    Entries(u32, u32, [u8; 4]),
 }
 
 /// Names each field, so that a further one does not compile until it stands here. It belongs in the table of
@@ -59,8 +59,8 @@ pub enum Listing {
 fn layout(list: &Listing) {
     match *list {
         Listing::Mappings | Listing::Rpcbs => {}
-        Listing::Entries(prog, vers) => {
-            let _: (u32, u32) = (prog, vers);
+        Listing::Entries(prog, vers, host) => {
+            let _: (u32, u32, [u8; 4]) = (prog, vers, host);
         }
     }
 }

@@ -109,7 +109,9 @@ pub fn answer(
             told(Value::Text(getversaddr(books, context, head, rpcb, meter)))
         }
         Request::Rpcb(RpcbProcedure::Getaddrlist, rpcb) => {
-            Answer::Results(Results::Rows(Listing::Entries(rpcb.prog(), rpcb.vers())))
+            let host = context.listener.host;
+            let list = Listing::Entries(rpcb.prog(), rpcb.vers(), host);
+            Answer::Results(Results::Rows(list))
         }
         Request::Uaddr2taddr(text) => told(Value::Netbuf(uaddr2taddr(text))),
         Request::Taddr2uaddr(netbuf) => told(Value::Text(taddr2uaddr(netbuf))),

@@ -1,11 +1,11 @@
 //! What a call sees.
 ghost use Rattle.std.specs.Prelude.{◌≡◌};
 ghost use Rattle.rb_proto.specs.Callers.{peer_of, transport_of_caller};
-ghost use Rattle.rb_proto.specs.Answers.{comes_from_here};
+ghost use Rattle.rb_proto.specs.Answers.{comes_from_here, netid_asked};
 
 use crate::listener::{Listener, is_local};
-use rb_registry::Transport;
-use rb_rpc::{Caller, Peer};
+use rb_address::{Family, Netid, Peer, Transport};
+use rb_rpc::Caller;
 
 /// What the answer to a call depends on beside the books: the listener, the limits, the moment and the caller.
 #[derive(Clone, Copy, PartialEq, Eq, Debug)]
@@ -46,7 +46,7 @@ impl Context {
     pub(crate) fn comes_from_here(&self) -> bool
         ensures { result ≡ comes_from_here self.now }
     {
-        is_local(&self.listener, &peer_of(&self.caller))
+        is_local(&self.listener, peer_of(&self.caller).host())
     }
 
     /// The transport on which the call came.
@@ -54,5 +54,12 @@ impl Context {
         ensures { result ≡ transport_of_caller self.now.caller }
     {
         transport_of_caller(&self.caller)
+    }
+
+    /// The netid of that transport over IPv4.
+    pub(crate) fn netid(&self) -> Netid
+        ensures { result ≡ netid_asked self.now }
+    {
+        Netid::of(self.transport(), Family::Inet)
     }
 }

@@ -8,7 +8,7 @@ ghost use Rattle.rb_forward.specs.StandsFor.{slots_of};
 ghost use Rattle.rb_forward.specs.Table.{IsNew};
 ghost use Rattle.rb_proto.specs.Books.{ActsAs, ForwardsAs, AreTied, OnlyCallerWaits, SameFrame, StayUnlessForwarded, note_asked};
 ghost use Rattle.rb_arguments.specs.Remote.{HasContent};
-ghost use Rattle.rb_proto.specs.Forwarding.{version_of_kind, is_indirect, is_pass, peer_at, peer_of_row, peer_to_forward, merged_peer, forward_of, refusal, refuse, end_note};
+ghost use Rattle.rb_proto.specs.Forwarding.{version_of_kind, is_indirect, is_pass, ipv4_peer_at, peer_of_row, peer_to_forward, merged_peer, uaddr_at, forward_of, refusal, refuse, end_note};
 ghost use Rattle.rb_proto.specs.Costs.{note_cost};
 ghost use Rattle.rb_proto.specs.Puts.{forwarding_cost, shows_rows};
 
@@ -16,10 +16,11 @@ use crate::answers::Answer;
 use crate::books::Books;
 use crate::context::{Context, transport_of_caller};
 use crate::netids::address_in;
+use rb_address::{Host, Netid, Peer};
 use rb_arguments::RemoteCall;
 use rb_forward::{Ended, Forward, Outcome};
-use rb_registry::{Netid, RPCB_PROG, Registry, Row};
-use rb_rpc::{Caller, Kind, Peer, ReplyStatus};
+use rb_registry::{RPCB_PROG, Registry, Row};
+use rb_rpc::{Caller, Kind, ReplyStatus};
 use rb_stats::{Stats, Target, Version};
 use rb_uaddr::{Uaddr, merge_host};
 use rb_xdr::Meter;
@@ -99,11 +100,12 @@ pub(crate) fn note_end(stats: &mut Stats, ended: &Ended, meter: &mut Meter)
 }
 
 /// The host and the port of an IPv4 address.
-fn peer_at(address: Uaddr) -> Option<Peer>
-    ensures { result ≡ peer_at address }
+#[tactic(auto, unfolding(rb_address::specs::Hosts::plain_host))]
+fn ipv4_peer_at(address: Uaddr) -> Option<Peer>
+    ensures { result ≡ ipv4_peer_at address }
 {
     match address {
-        Uaddr::V4(host, port) => Some(Peer { host, port }),
+        Uaddr::V4(host, port) => Some(Peer::new(Host::V4(host), port)),
         Uaddr::V6(..) => None,
     }
 }
@@ -111,7 +113,7 @@ fn peer_at(address: Uaddr) -> Option<Peer>
 fn peer_of_row(row: &Row) -> Option<Peer>
     ensures { result ≡ peer_of_row row.now }
 {
-    peer_at(address_in(row.netid, &row.addr)?)
+    ipv4_peer_at(address_in(row.netid, &row.addr)?)
 }
 
 /// Where the program's exact version is on udp. The portmapper itself is not called.
@@ -129,13 +131,24 @@ fn peer_to_forward(registry: &Registry, remote: &RemoteCall, meter: &mut Meter) 
     peer_of_row(row)
 }
 
-/// The same port, of another host in place of 0.0.0.0.
+/// The same port, of another host in place of 0.0.0.0. Each IPv6 host stays.
+#[tactic(auto, unfolding(rb_address::specs::Hosts::plain_host))]
 fn merged_peer(host: [u8; 4], peer: Peer) -> Peer
     ensures { result ≡ merged_peer host peer }
 {
-    Peer {
-        host: merge_host(host, peer.host),
-        port: peer.port,
+    match peer.host() {
+        Host::V4(own) => Peer::new(Host::V4(merge_host(host, own)), peer.port()),
+        Host::V6(_) => peer,
+    }
+}
+
+/// The universal address of a peer.
+pub(crate) fn uaddr_at(peer: Peer) -> Uaddr
+    ensures { result ≡ uaddr_at peer }
+{
+    match peer.host() {
+        Host::V4(host) => Uaddr::V4(host, peer.port()),
+        Host::V6(host) => Uaddr::V6(host, peer.port()),
     }
 }
 

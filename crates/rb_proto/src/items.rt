@@ -43,7 +43,7 @@ pub(crate) fn rpcb_of(row: &Row) -> Rpcb
     Rpcb {
         prog: row.prog,
         vers: row.vers,
-        netid: Text::new(row.netid.text()),
+        netid: Text::new(row.netid.text().as_bytes()),
         addr: Text::new(row.addr.as_slice()),
         owner: Text::new(owner_text(row.owner, &mut Buffer::new())),
     }
@@ -55,7 +55,7 @@ pub(crate) fn entry_of(host: [u8; 4], row: &Row) -> Entry
 {
     Entry {
         maddr: shown_text(host, row),
-        netid: Text::new(row.netid.text()),
+        netid: Text::new(row.netid.text().as_bytes()),
         semantics: semantics_of(row.netid),
         protofmly: Text::new(family_text(row.netid)),
         proto: Text::new(proto_text(row.netid)),

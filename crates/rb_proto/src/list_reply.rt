@@ -78,23 +78,15 @@ impl ListReply {
     }
 
     /// Makes the next part in a buffer, whose bytes are cleared before, and says where it stands there. It has 1,024
-    /// bytes, and the last part 1 to 1,024. `host` is shown in place of 0.0.0.0 where the list shows addresses of
-    /// entries.
-    pub fn next_part(
-        &mut self,
-        registry: &Registry,
-        host: [u8; 4],
-        out: &mut Kept,
-        meter: &mut Meter,
-    ) -> ListPart
+    /// bytes, and the last part 1 to 1,024.
+    pub fn next_part(&mut self, registry: &Registry, out: &mut Kept, meter: &mut Meter) -> ListPart
         requires registry { meter.old.tie ≡ registry.now.tie }
         requires tie { meter.old.tie ≡ out.old.tie }
         requires room { part_room ≤ out.old.cap }
         requires told { CanBeContinued registry.now self.old }
-        ensures part { IsNextPart host registry.now self.old out.new.bytes result }
-        ensures rest { IsBehindPart host registry.now self.old self.new }
-        ensures last { result.last
-            ≡ nat_le (length (rest_of host registry.now self.old)) fragment_size }
+        ensures part { IsNextPart registry.now self.old out.new.bytes result }
+        ensures rest { IsBehindPart registry.now self.old self.new }
+        ensures last { result.last ≡ nat_le (length (rest_of registry.now self.old)) fragment_size }
         ensures range { result.start ≤ result.end }
         ensures few { result.end ≤ result.start + fragment_size }
         ensures within { result.end ≤ length out.new.bytes }
@@ -105,7 +97,7 @@ impl ListReply {
         ensures cost { PaysAtMost meter.old meter.new (part_cost registry.now) }
     {
         let target = self.given + FRAGMENT_SIZE;
-        let base = self.fill(registry, host, target, out, meter);
+        let base = self.fill(registry, target, out, meter);
         let len = out.len(meter);
         let end = len.min(target);
         // what stands at the cursor is never less than was given of it
@@ -142,20 +134,13 @@ impl ListReply {
     /// row that goes past so many bytes, or to the end. The cursor moves on to that row, or behind all.
     ///
     /// It says how many bytes stand before the new cursor.
-    fn fill(
-        &mut self,
-        registry: &Registry,
-        host: [u8; 4],
-        most: usize,
-        out: &mut Kept,
-        meter: &mut Meter,
-    ) -> usize
+    fn fill(&mut self, registry: &Registry, most: usize, out: &mut Kept, meter: &mut Meter) -> usize
         requires registry { meter.old.tie ≡ registry.now.tie }
         requires tie { meter.old.tie ≡ out.old.tie }
         requires most { fragment_size ≤ most }
         requires room { most + longest_row ≤ out.old.cap }
         requires place { StandsIn registry.now self.old.stamp self.old.cursor }
-        ensures fills { Fills host registry.now self.old self.new most out.new.bytes result }
+        ensures fills { Fills registry.now self.old self.new most out.new.bytes result }
         ensures cap { out.new.cap ≡ out.old.cap }
         ensures tie { out.new.tie ≡ out.old.tie }
         ensures cost { PaysAtMost meter.old meter.new (fill_cost registry.now out.new) }
@@ -165,7 +150,7 @@ impl ListReply {
         let mut base = out.len(meter);
         'rows: while let Some(found) = registry.next_row(self.stamp, self.cursor, meter) {
             let (next, row) = found;
-            write_row(self.list, row, host, out, meter);
+            write_row(self.list, row, out, meter);
             let len = out.len(meter);
             if most < len {
                 return base;

@@ -4,8 +4,8 @@ ghost use Rattle.rb_registry.specs.Registry.{AreOwn};
 ghost use Rattle.rb_registry.specs.Rows.{are_distinct};
 ghost use Rattle.rb_proto.specs.Callers.{own_row, own_rows, is_local};
 
-use rb_registry::{Netid, Owner, RPCB_PROG, Row};
-use rb_rpc::Peer;
+use rb_address::{Host, Netid};
+use rb_registry::{Owner, RPCB_PROG, Row};
 use rb_uaddr::Uaddr;
 
 /// The host and the port of the daemon's own TCP and UDP sockets.
@@ -38,7 +38,7 @@ fn own_row(listener: &Listener, vers: u32, netid: Netid) -> Row
 }
 
 /// The rows of the portmapper itself: versions 4, 3 and 2, on tcp and then on udp, at the listener's port of every host.
-#[tactic(auto, unfolding(crate::specs::Callers::own_rows, rb_registry::specs::Rows::is_row, rb_registry::specs::Rows::is_on, rb_registry::specs::Rows::is_netid))]
+#[tactic(auto, unfolding(crate::specs::Callers::own_rows, rb_registry::specs::Rows::is_row, rb_registry::specs::Rows::is_on, rb_address::specs::Netids::is_netid))]
 pub(crate) fn own_rows(listener: &Listener) -> [Row; 6]
     ensures rows { result ≡ own_rows listener.now }
     ensures own { AreOwn result }
@@ -54,10 +54,10 @@ pub(crate) fn own_rows(listener: &Listener) -> [Row; 6]
     ]
 }
 
-/// Returns whether the caller's host is in 127.0.0.0/8 or the listener's own.
+/// Returns whether the host is this machine's by its address alone: of 127.0.0.0/8, ::1, or the announced host.
 #[tactic(auto, unfolding(crate::specs::Callers::is_local))]
-pub(crate) fn is_local(listener: &Listener, peer: &Peer) -> bool
-    ensures { result ≡ is_local listener.now peer.now.host }
+pub(crate) fn is_local(listener: &Listener, host: Host) -> bool
+    ensures { result ≡ is_local listener.now host }
 {
-    peer.host[0] == 127 || peer.host == listener.host
+    host.is_loopback() || host == Host::V4(listener.host)
 }

@@ -12,7 +12,8 @@ ghost use Rattle.rb_proto.specs.Puts.{lookup_cost};
 use crate::address_buf::AddressBuf;
 use crate::books::{Books, version_of};
 use crate::context::Context;
-use crate::netids::{address_in, transport_of_prot};
+use crate::netids::address_in;
+use rb_address::{Family, Netid, Transport};
 use rb_arguments::{LentNetbuf, LentRpcb, LentText, Mapping};
 use rb_registry::Row;
 use rb_rpc::CallHead;
@@ -105,7 +106,7 @@ pub(crate) fn getport(
     ensures frame { SameFrame books.old books.new }
     ensures cost { PaysAtMost meter.old meter.new (lookup_cost books.old) }
 {
-    let Some(transport) = transport_of_prot(mapping.prot) else {
+    let Some(transport) = Transport::of_protocol(mapping.prot) else {
         return 0;
     };
     let target = Target {
@@ -113,9 +114,10 @@ pub(crate) fn getport(
         vers: mapping.vers,
         transport,
     };
+    let netid = Netid::of(transport, Family::Inet);
     let found = books
         .registry
-        .find(mapping.prog, mapping.vers, transport.netid(), meter);
+        .find(mapping.prog, mapping.vers, netid, meter);
     let port = port_found(found);
     note_lookup(&mut books.stats, head, target, found.is_some(), meter);
     port
@@ -138,7 +140,9 @@ pub(crate) fn getaddr(
     ensures frame { SameFrame books.old books.new }
     ensures cost { PaysAtMost meter.old meter.new (lookup_cost books.old) }
 {
-    let found = books.registry.find(rpcb.prog(), rpcb.vers(), context.transport().netid(), meter);
+    let found = books
+        .registry
+        .find(rpcb.prog(), rpcb.vers(), context.netid(), meter);
     let addr = addr_found(context.listener.host, found);
     let target = target_of(context, rpcb);
     note_lookup(&mut books.stats, head, target, found.is_some(), meter);
@@ -161,12 +165,9 @@ pub(crate) fn getversaddr(
     ensures frame { SameFrame books.old books.new }
     ensures cost { PaysAtMost meter.old meter.new (lookup_cost books.old) }
 {
-    let found = books.registry.find_exact(
-        rpcb.prog(),
-        rpcb.vers(),
-        context.transport().netid(),
-        meter,
-    );
+    let found = books
+        .registry
+        .find_exact(rpcb.prog(), rpcb.vers(), context.netid(), meter);
     let addr = addr_found(context.listener.host, found);
     let target = target_of(context, rpcb);
     note_lookup(&mut books.stats, head, target, found.is_some(), meter);

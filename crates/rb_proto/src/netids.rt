@@ -1,39 +1,10 @@
 //! What is known of each netid.
 ghost use Rattle.std.specs.Prelude.{◌≡◌};
-ghost use Rattle.rb_proto.specs.Netids.{first_named, netid_named, which_of, prot_of, prot_on, transport_of_prot, semantics_of, family_text, proto_text, address_in, is_address};
+ghost use Rattle.rb_proto.specs.Netids.{which_of, prot_on, semantics_of, family_text, proto_text, address_in, is_address};
 
-use rb_registry::{Netid, Transport, Which};
+use rb_address::{Netid, Transport};
+use rb_registry::Which;
 use rb_uaddr::{AddressText, Uaddr};
-
-const NETIDS: [Netid; 5] = [
-    Netid::Tcp,
-    Netid::Udp,
-    Netid::Tcp6,
-    Netid::Udp6,
-    Netid::Local,
-];
-
-const TRANSPORTS: [Transport; 2] = [Transport::Tcp, Transport::Udp];
-
-/// The first of these netids that has this name.
-fn first_named(netids: &[Netid], text: &[u8]) -> Option<Netid>
-    ensures { result ≡ first_named netids.now text.now }
-{
-    for netid in netids {
-        if netid.text() == text {
-            return Some(*netid);
-        }
-    }
-    None
-}
-
-/// The netid of this name.
-#[tactic(auto, unfolding(crate::specs::Netids::netid_named))]
-pub(crate) fn netid_named(text: &[u8]) -> Option<Netid>
-    ensures { result ≡ netid_named text.now }
-{
-    first_named(&NETIDS, text)
-}
 
 /// The netids that an UNSET of this name means: all where it is empty.
 #[tactic(auto, unfolding(crate::specs::Netids::which_of))]
@@ -43,28 +14,7 @@ pub(crate) fn which_of(text: &[u8]) -> Option<Which>
     if text.is_empty() {
         return Some(Which::All);
     }
-    Some(Which::One(netid_named(text)?))
-}
-
-/// The protocol that version 2 has for a transport.
-pub(crate) fn prot_of(transport: Transport) -> u32
-    ensures { result ≡ prot_of transport }
-{
-    match transport {
-        Transport::Tcp => 6,
-        Transport::Udp => 17,
-    }
-}
-
-/// The transport of a protocol of version 2.
-#[tactic(auto, unfolding(crate::specs::Netids::transport_of_prot))]
-pub(crate) fn transport_of_prot(prot: u32) -> Option<Transport>
-    ensures { result ≡ transport_of_prot prot }
-{
-    TRANSPORTS
-        .iter()
-        .find(|transport| prot_of(**transport) == prot)
-        .copied()
+    Some(Which::One(Netid::named(text)?))
 }
 
 /// The protocol of a row of tcp or udp; 0 for another netid, whose rows version 2 does not show.
@@ -72,8 +22,8 @@ pub(crate) fn prot_on(netid: Netid) -> u32
     ensures { result ≡ prot_on netid }
 {
     match netid {
-        Netid::Tcp => prot_of(Transport::Tcp),
-        Netid::Udp => prot_of(Transport::Udp),
+        Netid::Tcp => Transport::Tcp.protocol(),
+        Netid::Udp => Transport::Udp.protocol(),
         Netid::Tcp6 | Netid::Udp6 | Netid::Local => 0,
     }
 }

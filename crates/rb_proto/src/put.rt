@@ -14,13 +14,12 @@ ghost use Rattle.rb_proto.specs.Results.{value_bytes, results_at, rows_bytes, sh
 
 use crate::answers::{Listing, Results, Value};
 use crate::books::Books;
-use crate::listener::Listener;
+use crate::forwarding::uaddr_at;
 use crate::rows::{room_after_rows, write_rows};
 use rb_forward::{Forward, LONGEST_RESULTS};
 use rb_registry::Registry;
 use rb_rpc::Kind;
 use rb_stats::Stats;
-use rb_uaddr::Uaddr;
 use rb_xdr::{Full, Kept, Meter, Opaque, Text, Xdr};
 
 /// Puts a value, unless the buffer would then have more than `limit` bytes.
@@ -66,7 +65,6 @@ fn put_value(value: &Value, limit: usize, out: &mut Kept, meter: &mut Meter) -> 
 fn put_rows(
     list: Listing,
     registry: &Registry,
-    host: [u8; 4],
     limit: usize,
     out: &mut Kept,
     meter: &mut Meter,
@@ -74,17 +72,17 @@ fn put_rows(
     requires registry { meter.old.tie ≡ registry.now.tie }
     requires out { meter.old.tie ≡ out.old.tie }
     requires limit { limit ≤ out.old.cap }
-    ensures puts { Puts (rows_bytes host (rows_of registry.now) list) limit out.old out.new result }
+    ensures puts { Puts (rows_bytes (rows_of registry.now) list) limit out.old out.new result }
     ensures cost { PaysAtMost meter.old meter.new (list_cost registry.now out.old out.new) }
 {
     let Some(room) = limit.checked_sub(out.len(meter)) else {
         return Err(Full { value: () });
     };
     let stamp = registry.stamp();
-    if room_after_rows(list, registry, stamp, host, room, meter).is_none() {
+    if room_after_rows(list, registry, stamp, room, meter).is_none() {
         return Err(Full { value: () });
     }
-    write_rows(list, registry, stamp, host, out, meter);
+    write_rows(list, registry, stamp, out, meter);
     Ok(())
 }
 
@@ -114,7 +112,6 @@ fn put_statistics(
 pub fn put_results(
     results: &Results,
     books: &Books,
-    listener: &Listener,
     limit: usize,
     out: &mut Kept,
     meter: &mut Meter,
@@ -122,8 +119,7 @@ pub fn put_results(
     requires tied { AreTied meter.old.tie books.now }
     requires out { meter.old.tie ≡ out.old.tie }
     requires limit { limit ≤ out.old.cap }
-    ensures puts { Puts (results_at listener.now books.now results.now) limit
-        out.old out.new result }
+    ensures puts { Puts (results_at books.now results.now) limit out.old out.new result }
     ensures shows { (l : Ledger) → StandsForLedger books.now l
         → shown_in books.now ≡ shown_of l }
     ensures within { length out.old.bytes ≤ limit → length out.new.bytes ≤ limit }
@@ -132,7 +128,7 @@ pub fn put_results(
 {
     match results {
         Results::Value(value) => put_value(value, limit, out, meter),
-        Results::Rows(list) => put_rows(*list, &books.registry, listener.host, limit, out, meter),
+        Results::Rows(list) => put_rows(*list, &books.registry, limit, out, meter),
         Results::Statistics => put_statistics(&books.stats, limit, out, meter),
     }
 }
@@ -159,12 +155,11 @@ pub fn put_forwarded(
     let results = Opaque::<LONGEST_RESULTS>::new(results);
     match forward.kind {
         Kind::Callit2 => {
-            let port = u32::from(forward.shown.port);
+            let port = u32::from(forward.shown.port());
             put_within(&(port, results), limit, out, meter)
         }
         Kind::Callit3 | Kind::Bcast | Kind::Indirect => {
-            let address = Uaddr::V4(forward.shown.host, forward.shown.port);
-            let text = Text::<128>::new(address.text().as_slice());
+            let text = Text::<128>::new(uaddr_at(forward.shown).text().as_slice());
             put_within(&(text, results), limit, out, meter)
         }
     }

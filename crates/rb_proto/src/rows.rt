@@ -13,7 +13,8 @@ ghost use Rattle.rb_proto.specs.Results.{mapping_item, netid_front, netid_rest, 
 use crate::answers::Listing;
 use crate::items::{entry_of, mapping_of, owner_text, rpcb_of};
 use itoa::Buffer;
-use rb_registry::{Cursor, Netid, Registry, Row, Which};
+use rb_address::Netid;
+use rb_registry::{Cursor, Registry, Row, Which};
 use rb_xdr::{Kept, Meter, Xdr, write_opaque};
 
 /// TRUE and a mapping, in bytes.
@@ -29,14 +30,14 @@ fn is_shown(list: Listing, row: &Row) -> bool
     match list {
         Listing::Mappings => Which::Inet.includes(row.netid),
         Listing::Rpcbs => true,
-        Listing::Entries(prog, vers) => row.prog == prog && row.vers == vers,
+        Listing::Entries(prog, vers, _) => row.prog == prog && row.vers == vers,
     }
 }
 
 /// The room that is left of so much behind what a row adds to a list, if that fits.
 #[tactic(auto, unfolding(crate::specs::Results::row_bytes))]
-fn room_after_row(list: Listing, row: &Row, host: [u8; 4], room: usize) -> Option<usize>
-    ensures { Leaves (row_bytes host list row.now) room result }
+fn room_after_row(list: Listing, row: &Row, room: usize) -> Option<usize>
+    ensures { Leaves (row_bytes list row.now) room result }
 {
     if !is_shown(list, row) {
         return Some(room);
@@ -44,7 +45,7 @@ fn room_after_row(list: Listing, row: &Row, host: [u8; 4], room: usize) -> Optio
     match list {
         Listing::Mappings => room.checked_sub(MAPPING_ITEM),
         Listing::Rpcbs => (true, rpcb_of(row)).room_after(room),
-        Listing::Entries(..) => (true, entry_of(host, row)).room_after(room),
+        Listing::Entries(_, _, host) => (true, entry_of(host, row)).room_after(room),
     }
 }
 
@@ -167,12 +168,12 @@ fn write_entry(host: [u8; 4], row: &Row, out: &mut Kept, meter: &mut Meter)
 /// Writes what a row adds to a list: TRUE and the item, or nothing where the list doesn't show the row. It is short, and
 /// the buffer has room for it if it is.
 #[tactic(auto, unfolding(crate::specs::Results::row_bytes))]
-pub(crate) fn write_row(list: Listing, row: &Row, host: [u8; 4], out: &mut Kept, meter: &mut Meter)
+pub(crate) fn write_row(list: Listing, row: &Row, out: &mut Kept, meter: &mut Meter)
     requires tie { meter.old.tie ≡ out.old.tie }
-    requires room { FitsIfShort (row_bytes host list row.now) out.old }
-    ensures short { IsShort (row_bytes host list row.now) }
-    ensures written { Appends (row_bytes host list row.now) out.old out.new }
-    ensures cost { PaysAtMost meter.old meter.new (length (row_bytes host list row.now)) }
+    requires room { FitsIfShort (row_bytes list row.now) out.old }
+    ensures short { IsShort (row_bytes list row.now) }
+    ensures written { Appends (row_bytes list row.now) out.old out.new }
+    ensures cost { PaysAtMost meter.old meter.new (length (row_bytes list row.now)) }
 {
     if !is_shown(list, row) {
         return;
@@ -182,7 +183,7 @@ pub(crate) fn write_row(list: Listing, row: &Row, host: [u8; 4], out: &mut Kept,
             let _ = out.extend(&mapping_item(row), meter);
         }
         Listing::Rpcbs => write_rpcb(row, out, meter),
-        Listing::Entries(..) => write_entry(host, row, out, meter),
+        Listing::Entries(_, _, host) => write_entry(host, row, out, meter),
     }
 }
 
@@ -192,20 +193,19 @@ pub(crate) fn room_after_rows(
     list: Listing,
     registry: &Registry,
     stamp: u64,
-    host: [u8; 4],
     room: usize,
     meter: &mut Meter,
 ) -> Option<usize>
     requires registry { meter.old.tie ≡ registry.now.tie }
     requires stamp { Reaches registry.now stamp }
-    ensures room { Leaves (rows_bytes host (rows_at registry.now stamp) list) room result }
+    ensures room { Leaves (rows_bytes (rows_at registry.now stamp) list) room result }
     ensures cost { PaysAtMost meter.old meter.new (2 * length (slots_of registry.now) + 2) }
 {
     let mut cursor = Cursor::start();
     let mut left = room;
     'rows: while let Some(found) = registry.next_row(stamp, cursor, meter) {
         let (next, row) = found;
-        left = room_after_row(list, row, host, left)?;
+        left = room_after_row(list, row, left)?;
         cursor = next;
     }
     false.room_after(left)
@@ -216,21 +216,20 @@ pub(crate) fn write_rows(
     list: Listing,
     registry: &Registry,
     stamp: u64,
-    host: [u8; 4],
     out: &mut Kept,
     meter: &mut Meter,
 )
     requires registry { meter.old.tie ≡ registry.now.tie }
     requires tie { meter.old.tie ≡ out.old.tie }
     requires stamp { Reaches registry.now stamp }
-    requires room { HasRoom (rows_bytes host (rows_at registry.now stamp) list) out.old }
-    ensures written { Appends (rows_bytes host (rows_at registry.now stamp) list) out.old out.new }
+    requires room { HasRoom (rows_bytes (rows_at registry.now stamp) list) out.old }
+    ensures written { Appends (rows_bytes (rows_at registry.now stamp) list) out.old out.new }
     ensures cost { PaysAtMost meter.old meter.new (write_cost registry.now out.old out.new) }
 {
     let mut cursor = Cursor::start();
     'rows: while let Some(found) = registry.next_row(stamp, cursor, meter) {
         let (next, row) = found;
-        write_row(list, row, host, out, meter);
+        write_row(list, row, out, meter);
         cursor = next;
     }
     false.write(out, meter);

@@ -12,7 +12,8 @@ ghost use Rattle.rb_proto.specs.Answers.{row_of_mapping, row_of_rpcb, can_be_set
 use crate::books::{Books, owner_of, version_of};
 use crate::call::Call;
 use crate::context::Context;
-use crate::netids::{is_address, netid_named, transport_of_prot};
+use crate::netids::is_address;
+use rb_address::{Family, Netid, Transport};
 use rb_arguments::{LentRpcb, Mapping, MappingProcedure, Request, RpcbProcedure};
 use rb_registry::{Owner, RPCB_PROG, Registry, Row, Which};
 use rb_rpc::CallHead;
@@ -25,11 +26,11 @@ pub(crate) fn row_of_mapping(owner: Owner, mapping: &Mapping) -> Option<Row>
     ensures { result ≡ row_of_mapping owner mapping.now }
 {
     let port = u16::try_from(mapping.port).ok()?;
-    let transport = transport_of_prot(mapping.prot)?;
+    let transport = Transport::of_protocol(mapping.prot)?;
     Some(Row {
         prog: mapping.prog,
         vers: mapping.vers,
-        netid: transport.netid(),
+        netid: Netid::of(transport, Family::Inet),
         owner,
         addr: Uaddr::any(port).text(),
     })
@@ -40,7 +41,7 @@ pub(crate) fn row_of_mapping(owner: Owner, mapping: &Mapping) -> Option<Row>
 pub(crate) fn row_of_rpcb(owner: Owner, rpcb: &LentRpcb) -> Option<Row>
     ensures { result ≡ row_of_rpcb owner rpcb.now }
 {
-    let netid = netid_named(rpcb.netid())?;
+    let netid = Netid::named(rpcb.netid())?;
     Some(Row {
         prog: rpcb.prog(),
         vers: rpcb.vers(),

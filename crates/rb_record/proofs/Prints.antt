@@ -1,6 +1,6 @@
 -- Printed digits, piece by piece.
 use Rattle.std.specs.Io.KnownBytes.{Appends}
-use Rattle.std.proofs.Common.{◌≡◌, ℕ, true, List, [], ◌∷◌, ◌++◌, length, take, drop, ◌/◌, ◌%◌, slice_index, eqb, Option, refl, sym, ap, ◌∙◌, take-append-drop}
+use Rattle.std.proofs.Common.{◌≡◌, ℕ, true, List, [], ◌∷◌, ◌++◌, length, take, drop, ◌/◌, ◌%◌, slice_index, eqb, Option, Result, Ok, Err, OnOk, refl, sym, ap, subst, ◌∙◌, append_assoc, take-append-drop}
 use Rattle.std.proofs.KnownBytes.{Appends-nil, Appends-trans}
 use Rattle.std.proofs.lemmas.Bool.{eqb-true}
 use Rattle.std.proofs.lemmas.List.{nil_from_length}
@@ -23,3 +23,8 @@ unfolding encode_with
 nothing_left old rest none =
     let empty : rest ≡ [] = nil_from_length rest (eqb-true (length rest) 0 (sym none)) in
     rw empty (Appends-nil old)
+
+-- two texts, and what is written behind them where that goes well
+pub behind_two : {E : Type 0} (result : Result (Unit {0}) E) (old new after : Option (List ℕ)) (first second third : List ℕ) → Appends old new (first ++ second) → OnOk result (Appends new after third) → OnOk result (Appends old after (first ++ (second ++ third)))
+behind_two (Ok done) old new after first second third before more = subst (Appends old after) (append_assoc first second third) (Appends-trans old new after (first ++ second) third before more)
+behind_two (Err fault) old new after first second third before more = tt

@@ -4,7 +4,7 @@ ghost use Rattle.rb_record.specs.Printing.{Writes};
 ghost use Rattle.rb_record.specs.Entries.{event_of, event_text};
 
 use crate::printing::{write_bytes, write_to};
-use rb_rpc::Peer;
+use rb_address::Peer;
 use std::io;
 use std::io::Write;
 

@@ -1,12 +1,12 @@
 //! The lines that outputs are printed as.
 ghost use Rattle.std.specs.Prelude.{OnOk};
 ghost use Rattle.hex.specs.Hex.{encode_lower};
-ghost use Rattle.rb_rpc.specs.Peers.{peer_text};
+ghost use Rattle.rb_address.specs.Peers.{peer_text};
 ghost use Rattle.rb_record.specs.Printing.{hex_text, bytes_line, peer_line, call_of, unsent_line, refusal_text, output_text, shown_output, Writes};
 
 use crate::shown::{Shown, ShownCall};
+use rb_address::Peer;
 use rb_model::CoreFault;
-use rb_rpc::Peer;
 use std::io;
 use std::io::Write;
 

@@ -3,8 +3,8 @@ ghost use Rattle.std.specs.Prelude.{◌≡◌};
 ghost use Rattle.rb_model.specs.Plain.{output_of};
 ghost use Rattle.rb_record.specs.Printing.{shown_output};
 
+use rb_address::Peer;
 use rb_model::{CoreFault, Output};
-use rb_rpc::Peer;
 
 /// A forwarded call that is to be sent.
 #[derive(Clone, Copy, Debug)]

@@ -8,14 +8,15 @@ use Rattle.rb_xdr.specs.Pool.{value_at, without, with_value, HasDistinctKeys}
 use Rattle.rb_xdr.specs.Ordered.{IsRising, looks, moves}
 use Rattle.rb_xdr.proofs.PoolLemmas.{value_at-without, distinct-without, length-without}
 use Rattle.rb_xdr.proofs.Ordering.{distinct_rising, looks_more}
-use Rattle.rb_registry.specs.declared.row.Netid.{Netid}
-use Rattle.rb_registry.specs.declared.row.Netid.TheVariants.{Tcp, Udp, Tcp6, Udp6, Local}
+use Rattle.rb_address.specs.declared.netid.Netid.{Netid}
+use Rattle.rb_address.specs.declared.netid.Netid.TheVariants.{Tcp, Udp, Tcp6, Udp6, Local}
 use Rattle.rb_registry.specs.declared.row.Owner.{Owner}
 use Rattle.rb_registry.specs.declared.row.Which.{Which}
 use Rattle.rb_registry.specs.declared.row.Which.TheVariants.{All, Inet, One}
 use Rattle.rb_registry.specs.declared.row.Row.{Row}
 use Rattle.rb_registry.specs.declared.slot.Slot.{Slot}
-use Rattle.rb_registry.specs.Rows.{Change, rpcb_prog, covers, is_netid, is_among, may_remove, is_on, is_row}
+use Rattle.rb_registry.specs.Rows.{Change, rpcb_prog, covers, is_among, may_remove, is_on, is_row}
+use Rattle.rb_address.specs.Netids.{is_netid}
 use Rattle.rb_registry.specs.Rows.Change.{Removed}
 use Rattle.rb_registry.specs.Registry.{Registry, removals, live_at, rows_of}
 use Rattle.rb_registry.specs.Table.{AreStamped, entries_with_marks, count_retained}

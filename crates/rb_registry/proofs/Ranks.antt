@@ -11,11 +11,12 @@ use Rattle.rb_xdr.specs.Search.{key_of}
 use Rattle.rb_xdr.specs.Ordered.{IsRising, last_upto, with_number}
 use Rattle.rb_xdr.proofs.Ordering.{value_at-with_number, length-with_number, last_greatest, last_there}
 use Rattle.rb_xdr.proofs.Walks.{distinct-push}
-use Rattle.rb_registry.specs.declared.row.Netid.{Netid}
-use Rattle.rb_registry.specs.declared.row.Netid.TheVariants.{Tcp, Udp, Tcp6, Udp6, Local}
+use Rattle.rb_address.specs.declared.netid.Netid.{Netid}
+use Rattle.rb_address.specs.declared.netid.Netid.TheVariants.{Tcp, Udp, Tcp6, Udp6, Local}
 use Rattle.rb_registry.specs.declared.row.Row.{Row}
 use Rattle.rb_registry.specs.declared.slot.Slot.{Slot}
-use Rattle.rb_registry.specs.Rows.{is_netid, is_on, is_row, is_of_key, are_distinct, find_exact, find_row, versions, greatest}
+use Rattle.rb_registry.specs.Rows.{is_on, is_row, is_of_key, are_distinct, find_exact, find_row, versions, greatest}
+use Rattle.rb_address.specs.Netids.{is_netid}
 use Rattle.rb_registry.specs.Slots.{is_live_at, slot_of, is_dropped, removed_by}
 use Rattle.rb_registry.specs.Registry.{table_at, live_at}
 use Rattle.rb_registry.specs.Table.{AreStamped, entries_left}

@@ -6,7 +6,7 @@ use Rattle.std.proofs.lemmas.Bool.{eqb-true}
 use Rattle.rb_xdr.specs.Pool.{value_at, HasDistinctKeys}
 use Rattle.rb_xdr.specs.Search.{key_of}
 use Rattle.rb_registry.specs.declared.row.Row.{Row}
-use Rattle.rb_registry.specs.declared.row.Netid.{Netid}
+use Rattle.rb_address.specs.declared.netid.Netid.{Netid}
 use Rattle.rb_registry.specs.declared.slot.Slot.{Slot}
 use Rattle.rb_registry.specs.Rows.{find_exact, is_row}
 use Rattle.rb_registry.specs.Slots.{is_live_at}

@@ -1,7 +1,7 @@
 -- What calls of a registry cost, in counted steps.
 use Rattle.std.specs.Prelude.{ℕ, ◌+◌, ◌*◌, if◌then◌else◌, length}
 use Rattle.rb_xdr.specs.Ordered.{Ordered, looks}
-use Rattle.rb_registry.specs.declared.row.Netid.{Netid}
+use Rattle.rb_address.specs.declared.netid.Netid.{Netid}
 use Rattle.rb_registry.specs.declared.row.Which.{Which}
 use Rattle.rb_registry.specs.declared.row.Which.TheVariants.{All, Inet, One}
 use Rattle.rb_registry.specs.declared.removal.Removal.{Removal}

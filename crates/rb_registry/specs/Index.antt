@@ -3,11 +3,12 @@ use Rattle.std.specs.Prelude.{◌≡◌, ◌<◌, ℕ, ◌+◌, ◌-◌, ◌*◌
 use Rattle.std.specs.Option.{option_or}
 use Rattle.rb_xdr.specs.Pool.{Pool, value_at, HasDistinctKeys}
 use Rattle.rb_xdr.specs.Ordered.{Ordered, last_upto}
-use Rattle.rb_registry.specs.declared.row.Netid.{Netid}
-use Rattle.rb_registry.specs.declared.row.Netid.TheVariants.{Tcp, Udp, Tcp6, Udp6, Local}
+use Rattle.rb_address.specs.declared.netid.Netid.{Netid}
+use Rattle.rb_address.specs.declared.netid.Netid.TheVariants.{Tcp, Udp, Tcp6, Udp6, Local}
 use Rattle.rb_registry.specs.declared.row.Row.{Row}
 use Rattle.rb_registry.specs.declared.slot.Slot.{Slot}
-use Rattle.rb_registry.specs.Rows.{Change, covers, is_netid}
+use Rattle.rb_registry.specs.Rows.{Change, covers}
+use Rattle.rb_address.specs.Netids.{is_netid}
 
 -- ---- ranks
 

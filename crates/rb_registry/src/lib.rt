@@ -15,5 +15,5 @@ pub use cursor::Cursor;
 pub use fault::RegistryFault;
 pub use laws::row_laws;
 pub use registry::Registry;
-pub use row::{Netid, Owner, RPCB_PROG, Row, Transport, Which};
+pub use row::{Owner, RPCB_PROG, Row, Which};
 pub use worked::worked_examples;

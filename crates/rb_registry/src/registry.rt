@@ -5,11 +5,12 @@ ghost use Rattle.rb_registry.specs.Rows.{is_change_left};
 use crate::cursor::Cursor;
 use crate::fault::RegistryFault;
 use crate::removal::Removal;
-use crate::row::{Netid, Owner, Row, Which};
+use crate::row::{Owner, Row, Which};
 use crate::slot::Slot;
 use crate::walk::{
     drop_retained, find_exact, find_row, has_key, least_removal, live_after, mark_covered,
 };
+use rb_address::Netid;
 use rb_xdr::{Meter, NoMemory, Ordered, Pool};
 use std::alloc::Global;
 use std::marker::Model;

@@ -11,8 +11,9 @@ ghost use Rattle.rb_registry.specs.Costs.{mark_cost, mark_cost_on};
 ghost use Rattle.rb_registry.specs.Table.{AreStamped, IsFoundAmong, count_going, with_marks, entries_left, count_retained, count_held, lesser_of, least_of, IsNextLive, count_left, PaysFor};
 
 use crate::removal::Removal;
-use crate::row::{Netid, Row, rank};
+use crate::row::{Row, rank};
 use crate::slot::Slot;
+use rb_address::Netid;
 use rb_xdr::{Meter, Ordered, Pool};
 
 /// The live row of exactly this version.

@@ -1,6 +1,6 @@
 -- Every run from an opening is served, within the bounds of bytes and steps.
 use Rattle.std.proofs.Common.{◌≡◌, ◌≤◌, [], refl, subst}
-use Rattle.rb_rpc.specs.declared.peer.Caller.TheVariants.{Udp}
+use Rattle.rb_rpc.specs.declared.caller.Caller.TheVariants.{Udp}
 use Rattle.rb_feed.specs.Feeds.{arguments_of}
 use Rattle.rb_proto.specs.Ledger.{Ledger}
 use Rattle.rb_model.specs.Calls.{Outcome, message_of, outcome}

@@ -15,34 +15,34 @@ use Rattle.rb_laws.proofs.WholeRuns.{whole_runs_are_bounded}
 use Rattle.rb_connections.specs.declared.slot.Slot.{Slot}
 use Rattle.rb_connections.specs.declared.slot.Stage.{Stage}
 use Rattle.rb_connections.specs.declared.slot.Stage.TheVariants as stages
-use Rattle.rb_model.specs.Served.{Source}
+use Rattle.rb_registry.specs.Registry.{Registry}
 use Rattle.rb_connections.specs.StandsFor.{StandsForPhase, StandsForConnection}
-use Rattle.rb_core.specs.StandsFor.{Held, StandsFor, source_of}
+use Rattle.rb_core.specs.StandsFor.{Held, StandsFor}
 use Rattle.rb_core.specs.Events.{count_shown, greatest_count}
 use Rattle.rb_replay.specs.Runs.{buffer_bytes}
 use Rattle.rb_core.proofs.Spending.{at_most}
 
 -- ---- what waits is in the buffers
 
-phase_buffer : (source : Source) (stage : Stage) (buffer window : Kept) (phase : Phase) → StandsForPhase source stage buffer window phase → args_in phase ≤ length buffer.bytes
-phase_buffer source (stages.Reading reader) buffer window (Reading fed) h = omega (arith, ap (λ (xs : List ℕ). length xs) h.0.data_is.kept_is)
-phase_buffer source stage buffer window (Reading fed) h = absurd h
-phase_buffer source stage buffer window Idle h = omega arith
-phase_buffer source stage buffer window (Owing o) h = omega arith
-phase_buffer source stage buffer window Awaiting h = omega arith
-phase_buffer source stage buffer window Lost h = omega arith
+phase_buffer : (registry : Registry) (stage : Stage) (buffer window : Kept) (phase : Phase) → StandsForPhase registry stage buffer window phase → args_in phase ≤ length buffer.bytes
+phase_buffer registry (stages.Reading reader) buffer window (Reading fed) h = omega (arith, ap (λ (xs : List ℕ). length xs) h.0.data_is.kept_is)
+phase_buffer registry stage buffer window (Reading fed) h = absurd h
+phase_buffer registry stage buffer window Idle h = omega arith
+phase_buffer registry stage buffer window (Owing o) h = omega arith
+phase_buffer registry stage buffer window Awaiting h = omega arith
+phase_buffer registry stage buffer window Lost h = omega arith
 
-all_buffers : (source : Source) (slots : List Slot) (all : List Connection) → AllZip (StandsForConnection source) slots all → args_waiting all ≤ sum_by (λ (slot : Slot). length slot.buffer.bytes) slots
-all_buffers source [] [] z = omega arith
-all_buffers source [] (c ∷ all) z = absurd z
-all_buffers source (slot ∷ slots) [] z = absurd z
-all_buffers source (slot ∷ slots) (c ∷ all) z =
-    let one = phase_buffer source slot.stage slot.buffer slot.window c.phase z.0.phase in
-    let rest = all_buffers source slots all z.1 in
+all_buffers : (registry : Registry) (slots : List Slot) (all : List Connection) → AllZip (StandsForConnection registry) slots all → args_waiting all ≤ sum_by (λ (slot : Slot). length slot.buffer.bytes) slots
+all_buffers registry [] [] z = omega arith
+all_buffers registry [] (c ∷ all) z = absurd z
+all_buffers registry (slot ∷ slots) [] z = absurd z
+all_buffers registry (slot ∷ slots) (c ∷ all) z =
+    let one = phase_buffer registry slot.stage slot.buffer slot.window c.phase z.0.phase in
+    let rest = all_buffers registry slots all z.1 in
     omega (arith, one, rest, sum_by-cons (λ (x : Slot). length x.buffer.bytes) slot slots, sum_by-cons (λ (x : Connection). args_in x.phase) c all)
 
 pub waits_in_buffers : (core : Held) (s : State) → StandsFor core s → args_waiting s.connections.all ≤ buffer_bytes core
-waits_in_buffers core s h = all_buffers (source_of core) (values_of core.connections.slots) s.connections.all h.connections.all
+waits_in_buffers core s h = all_buffers core.books.registry (values_of core.connections.slots) s.connections.all h.connections.all
 
 pub paid_within_whole : (core : Held) (s : State) (events : List Event) (a b : Meter) → StandsFor core s → IsReached s → are_good s.setting.limits ≡ true
     → PaysAtMost a b (run_cost s events) → PaysAtMost a b (whole_bound s.setting.limits (buffer_bytes core) events (run s events))
@@ -57,7 +57,7 @@ paid_within_whole core s events a b h reached good pays =
 pub no_buffer_bytes : (core : Held) (s : State) → StandsFor core s → s.connections.all ≡ [] → buffer_bytes core ≡ 0
 no_buffer_bytes core s h none = by_slots (values_of core.connections.slots) s.connections.all h.connections.all none
   where
-    by_slots : (slots : List Slot) (all : List Connection) → AllZip (StandsForConnection (source_of core)) slots all → all ≡ [] → sum_by (λ (slot : Slot). length slot.buffer.bytes) slots ≡ 0
+    by_slots : (slots : List Slot) (all : List Connection) → AllZip (StandsForConnection core.books.registry) slots all → all ≡ [] → sum_by (λ (slot : Slot). length slot.buffer.bytes) slots ≡ 0
     by_slots [] all z e = refl
     by_slots (slot ∷ slots) [] z e = absurd z
     by_slots (slot ∷ slots) (c ∷ all) z e = absurd cc

@@ -11,10 +11,11 @@ ghost use Rattle.rb_xdr.specs.Meter.{PaysAtMost};
 ghost use Rattle.rb_connections.specs.Slots.{Shows};
 ghost use Rattle.rb_connections.specs.Costs.{look_cost};
 
+use rb_address::Peer;
 use rb_core::Core;
 use rb_forward::{FwdId, LONGEST_FORWARDED_CALL};
 use rb_model::{Event, Expired, LONGEST_REPLY, Outcome, Output, Taken, Told, UnsentCall};
-use rb_rpc::{LONGEST_FRAGMENT, Peer};
+use rb_rpc::LONGEST_FRAGMENT;
 use rb_xdr::{Meter, NoMemory};
 use std::alloc::Global;
 

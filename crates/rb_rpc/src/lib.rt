@@ -3,17 +3,18 @@
 
 mod auth;
 mod call;
+mod caller;
 mod integers;
 mod laws;
 mod marks;
 mod opaque_auth;
-mod peer;
 mod reply;
 mod sys;
 mod worked;
 
 pub use auth::AuthStat;
 pub use call::{CALL, CallHead, Credential, RPC_VERSION, Verdict, put_call, read_call};
+pub use caller::{Caller, Kind, LONGEST_FORWARDED};
 pub use laws::{
     data_is_joined, fed_bytes_have_no_record, first_record_is_least, first_record_of_more,
     no_record_begins_another, records_are_unique, refusals_are_of_the_grammar, replies_are_marked,
@@ -24,7 +25,6 @@ pub use marks::{
     FRAGMENT_HEADER, FRAGMENT_SIZE, LONGEST_FRAGMENT, Marks, Part, fragment_header, one_fragment,
 };
 pub use opaque_auth::{AUTH_NONE, AUTH_SYS, MAX_AUTH_BODY};
-pub use peer::{Caller, Kind, LONGEST_FORWARDED, Peer};
 pub use reply::{BadReply, ReplyHead, ReplyStatus, put_reply, read_reply};
 pub use sys::{MAX_GIDS, MAX_MACHINE};
 pub use worked::{worked_calls, worked_records, worked_replies};

@@ -2,8 +2,8 @@
 use Rattle.std.proofs.Common.{◌≡◌, List, ℕ, [], ◌++◌, length, Some, None, refl, sym, ap, ◌∙◌, arith, append-nil}
 use Rattle.std.proofs.lemmas.Bool.{cond-false, le-ltb}
 use Rattle.rb_rpc.specs.declared.call.CallHead.{CallHead}
-use Rattle.rb_rpc.specs.declared.peer.Caller.{Caller}
-use Rattle.rb_rpc.specs.declared.peer.Caller.TheVariants.{Tcp, Udp}
+use Rattle.rb_rpc.specs.declared.caller.Caller.{Caller}
+use Rattle.rb_rpc.specs.declared.caller.Caller.TheVariants.{Tcp, Udp}
 use Rattle.rb_rpc.specs.declared.reply.ReplyStatus.TheVariants.{Success}
 use Rattle.rb_rpc.specs.Replies.{reply_head}
 use Rattle.rb_registry.specs.declared.row.Row.{Row}
@@ -30,7 +30,7 @@ use Rattle.rb_model.specs.Calls.Outcome.{Reply}
 use Rattle.rb_model.specs.declared.served.Served.TheVariants.{Listed}
 use Rattle.rb_model.specs.Served.{listing_outcome}
 use Rattle.rb_model.proofs.ReplyHeads.{short_head}
-use Rattle.rb_serving.specs.Serving.{source_in, IsStreamedTo, list_streamed}
+use Rattle.rb_serving.specs.Serving.{IsStreamedTo, list_streamed}
 use Rattle.rb_serving.specs.Messages.{null_message}
 
 -- the books stand for the ledger in which the call is noted, with the registry as it was
@@ -39,14 +39,14 @@ pub record Notes (head : CallHead) (old new : Books) : Type 0 where
   pub registry : new.registry ≡ old.registry
 
 module _ (context : Context) (call : Call) (arguments : List ℕ) (old mid new : Books) (given : Answer) (said : Outcome) (notes : Notes call.head old mid) (acts : ActsAs (answer context call arguments) mid new given) where
-  replied : ((l : Ledger) → StandsForLedger new l → said ≡ answer_outcome context.caller (length l.changes) call.head.xid (result_bytes context.listener.host (shown_of l)) given)
+  replied : ((l : Ledger) → StandsForLedger new l → said ≡ answer_outcome context.caller (length l.changes) call.head.xid (result_bytes (shown_of l)) given)
       → (p : Answer × Ledger) → given ≡ p.0 → StandsForLedger new p.1 → said ≡ (reply_with context call.head.xid p).0
-  replied told (a, l) e s = told l s ∙ ap (answer_outcome context.caller (length l.changes) call.head.xid (result_bytes context.listener.host (shown_of l))) e
+  replied told (a, l) e s = told l s ∙ ap (answer_outcome context.caller (length l.changes) call.head.xid (result_bytes (shown_of l))) e
 
   left : (p : Answer × Ledger) → (reply_with context call.head.xid p).1 ≡ p.1
   left (a, l) = refl
 
-  pub asked_acts : ((l : Ledger) → StandsForLedger new l → said ≡ answer_outcome context.caller (length l.changes) call.head.xid (result_bytes context.listener.host (shown_of l)) given)
+  pub asked_acts : ((l : Ledger) → StandsForLedger new l → said ≡ answer_outcome context.caller (length l.changes) call.head.xid (result_bytes (shown_of l)) given)
       → ActsAs (outcome context (says.Asked call) arguments) old new said
   unfolding outcome with_call_noted
   asked_acts told = record {
@@ -71,31 +71,31 @@ null_fits xid =
     let same : reply_head xid Success ++ [] ≡ reply_head xid Success = append-nil (reply_head xid Success) in
     rw same (cond-false _ _ _ (le-ltb 9000 (length (reply_head xid Success)) (omega (arith, short_head xid Success))))
 
-null_told : (caller : Caller) (count xid : ℕ) (host : List ℕ) (shown : Shown) → Reply (reply_head xid Success) None ≡ answer_outcome caller count xid (result_bytes host shown) null_answer
+null_told : (caller : Caller) (count xid : ℕ) (shown : Shown) → Reply (reply_head xid Success) None ≡ answer_outcome caller count xid (result_bytes shown) null_answer
 unfolding result_bytes
-null_told (Udp peer) count xid host shown = ap (λ (xs : List ℕ). Reply xs None) (sym (null_fits xid))
-null_told (Tcp id peer) count xid host shown = ap (λ (xs : List ℕ). Reply xs None) (sym (null_fits xid))
+null_told (Udp peer) count xid shown = ap (λ (xs : List ℕ). Reply xs None) (sym (null_fits xid))
+null_told (Tcp id peer) count xid shown = ap (λ (xs : List ℕ). Reply xs None) (sym (null_fits xid))
 
 -- A call of NULL is noted, and its reply is a head.
 pub null_served : (context : Context) (head : CallHead) (arguments : List ℕ) (old new : Books) → Notes head old new → ActsAs (outcome context (null_message head) arguments) old new (Reply (reply_head head.xid Success) None)
 null_served context head arguments old new notes =
     asked_acts context (record { head = head; request = requests.Void voids.Null }) arguments old new new null_answer (Reply (reply_head head.xid Success) None) notes (null_acts context head arguments new)
-    (λ l h. null_told context.caller (length l.changes) head.xid context.listener.host (shown_of l))
+    (λ l h. null_told context.caller (length l.changes) head.xid (shown_of l))
 
 -- ---- entries of forwarded calls
 
 -- ---- lists
 
-pub listed : (caller : Caller) (given : Results) (xid : ℕ) (books : Books) (host : List ℕ) (listing : Listing) (l : Ledger) → Some listing ≡ list_streamed caller given → StandsForLedger books l
-    → listing_outcome (source_in host books) xid listing ≡ results_outcome caller (length l.changes) xid (result_bytes host (shown_of l) given) given
+pub listed : (caller : Caller) (given : Results) (xid : ℕ) (books : Books) (listing : Listing) (l : Ledger) → Some listing ≡ list_streamed caller given → StandsForLedger books l
+    → listing_outcome books.registry xid listing ≡ results_outcome caller (length l.changes) xid (result_bytes (shown_of l) given) given
 unfolding result_bytes
-listed (Udp peer) given xid books host listing l e h = absurd cc
-listed (Tcp id peer) (results.Rows rows) xid books host listing l e h =
+listed (Udp peer) given xid books listing l e h = absurd cc
+listed (Tcp id peer) (results.Rows rows) xid books listing l e h =
     let same : listing ≡ rows = cc in
-    let live : list_reply host xid (rows_of books.registry) listing ≡ list_reply host xid (rows_in l) listing = ap (λ (rows : List Row). list_reply host xid rows listing) h.registry.rows in
+    let live : list_reply xid (rows_of books.registry) listing ≡ list_reply xid (rows_in l) listing = ap (λ (rows : List Row). list_reply xid rows listing) h.registry.rows in
     rw (live, h.registry.stamp, same) refl
-listed (Tcp id peer) (results.Value value) xid books host listing l e h = absurd cc
-listed (Tcp id peer) results.Statistics xid books host listing l e h = absurd cc
+listed (Tcp id peer) (results.Value value) xid books listing l e h = absurd cc
+listed (Tcp id peer) results.Statistics xid books listing l e h = absurd cc
 
 pub streamed_to : (caller : Caller) (given : Results) (xid : ℕ) (listing : Listing) → Some listing ≡ list_streamed caller given → IsStreamedTo caller (Listed xid listing)
 streamed_to (Udp peer) given xid listing e = absurd cc

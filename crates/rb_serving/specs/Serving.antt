@@ -2,8 +2,8 @@
 use Rattle.std.specs.Prelude.{◌≡◌, ◌≤◌, ⊤, ℕ, List, [], length, Option, Some, None}
 use Rattle.rb_xdr.specs.Kept.{Kept}
 use Rattle.rb_rpc.specs.declared.call.CallHead.{CallHead}
-use Rattle.rb_rpc.specs.declared.peer.Caller.{Caller}
-use Rattle.rb_rpc.specs.declared.peer.Caller.TheVariants.{Tcp, Udp}
+use Rattle.rb_rpc.specs.declared.caller.Caller.{Caller}
+use Rattle.rb_rpc.specs.declared.caller.Caller.TheVariants.{Tcp, Udp}
 use Rattle.rb_forward.specs.StandsFor.{Table as Entries, slots_of}
 use Rattle.rb_forward.specs.Table.{IsNew}
 use Rattle.rb_proto.specs.declared.answers.Listing.{Listing}
@@ -23,12 +23,8 @@ use Rattle.rb_model.specs.declared.served.Served.{Served}
 use Rattle.rb_model.specs.declared.served.Served.TheVariants.{Answered, Listed}
 use Rattle.rb_model.specs.declared.served.Outcome.{Outcome as Written}
 use Rattle.rb_model.specs.declared.served.Outcome.TheVariants as outcomes
-use Rattle.rb_model.specs.Served.{Source, source_for, outcome_with, IsWritten, kind_in, served_in}
+use Rattle.rb_model.specs.Served.{outcome_with, IsWritten, kind_in, served_in}
 use Rattle.rb_serving.specs.Messages.{null_message}
-
--- what lists are made from: the host that they show, and the registry of the books
-abbrev pub source_in : List ℕ → Books → Source
-source_in host books = source_for host books.registry
 
 -- the outcome of the model for this outcome of the code, with the reply in this buffer
 abbrev pub outcome_in : Written → Kept → Outcome
@@ -37,16 +33,15 @@ outcome_in given kept = outcome_with given kept.bytes
 -- ---- what is answered
 
 -- For each ledger that the books stand for, what is served is the outcome of the answer.
-abbrev pub TellsAnswer : Books → Context → ℕ → Answer → Served → List ℕ → Type 0
-TellsAnswer books context xid given served reply =
+abbrev pub TellsAnswer : Books → Caller → ℕ → Answer → Served → List ℕ → Type 0
+TellsAnswer books caller xid given served reply =
     (l : Ledger) → StandsForLedger books l
-    → served_in (source_in context.listener.host books) served reply
-    ≡ answer_outcome context.caller (length l.changes) xid (result_bytes context.listener.host (shown_of l)) given
+    → served_in books.registry served reply ≡ answer_outcome caller (length l.changes) xid (result_bytes (shown_of l)) given
 
 -- A message is served as the model's `outcome` says, where `out` is the buffer with its reply.
 abbrev pub ServesMessage : Context → Message → List ℕ → Books → Books → Served → Kept → Type 0
 ServesMessage context message arguments old new served out =
-    ActsAs (outcome context message arguments) old new (served_in (source_in context.listener.host new) served out.bytes)
+    ActsAs (outcome context message arguments) old new (served_in new.registry served out.bytes)
 
 -- A call of NULL with this head is served so in every context.
 abbrev pub ServesNull : CallHead → Books → Books → Served → Kept → Type 0

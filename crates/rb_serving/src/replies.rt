@@ -23,7 +23,7 @@ ghost use Rattle.rb_model.specs.Costs.{put_end_cost};
 use rb_forward::{Ended, Forward, Outcome as End};
 use rb_model::{LONGEST_REPLY, Message, Outcome, Served};
 use rb_proto::{
-    Answer, Books, Context, Listener, Listing, Results, answer, put_forwarded, put_results, refusal,
+    Answer, Books, Context, Listing, Results, answer, put_forwarded, put_results, refusal,
 };
 use rb_rpc::{CallHead, Caller, ReplyHead, ReplyStatus, put_reply};
 use rb_xdr::{Kept, Meter};
@@ -70,17 +70,10 @@ fn put_system_err(xid: u32, out: &mut Kept, meter: &mut Meter)
 
 /// Writes a whole reply into an empty buffer, or SYSTEM_ERR where it does not fit.
 #[tactic(auto, using(rb_model::proofs::ReplyHeads::some_fitting, crate::proofs::Costs::results_few), unfolding(rb_model::specs::Calls::fitting_reply, rb_model::specs::Calls::longest_reply))]
-fn put_reply_with(
-    results: &Results,
-    xid: u32,
-    books: &Books,
-    listener: &Listener,
-    out: &mut Kept,
-    meter: &mut Meter,
-)
+fn put_reply_with(results: &Results, xid: u32, books: &Books, out: &mut Kept, meter: &mut Meter)
     requires tied { AreTied meter.old.tie books.now }
     requires out { IsEmptyReply meter.old.tie out.old }
-    ensures written { out.new.bytes ≡ success xid (results_at listener.now books.now results.now) }
+    ensures written { out.new.bytes ≡ success xid (results_at books.now results.now) }
     ensures out { WritesReply out.old out.new }
     ensures shows { (l : Ledger) → StandsForLedger books.now l
         → shown_in books.now ≡ shown_of l }
@@ -88,7 +81,7 @@ fn put_reply_with(
     ensures cost { PaysForResults (are_rows results.now) books.now out.new meter.old meter.new }
 {
     put_success(xid, out, meter);
-    if put_results(results, books, listener, LONGEST_REPLY, out, meter).is_err() {
+    if put_results(results, books, LONGEST_REPLY, out, meter).is_err() {
         put_system_err(xid, out, meter);
     }
 }
@@ -113,15 +106,15 @@ fn put_answer(
     answer: &Answer,
     xid: u32,
     books: &Books,
-    context: &Context,
+    caller: Caller,
     out: &mut Kept,
     meter: &mut Meter,
 ) -> Served
     requires tied { AreTied meter.old.tie books.now }
     requires out { IsEmptyReply meter.old.tie out.old }
-    ensures given { TellsAnswer books.now context.now xid answer.now result out.new.bytes }
+    ensures given { TellsAnswer books.now caller xid answer.now result out.new.bytes }
     ensures kind { kind_in result ≡ kind_of answer.now }
-    ensures list { IsStreamedTo context.now.caller result }
+    ensures list { IsStreamedTo caller result }
     ensures written { IsWritten result out.new.bytes }
     ensures out { WritesReply out.old out.new }
     ensures listed { ListsAnswer answer.now result }
@@ -129,10 +122,10 @@ fn put_answer(
 {
     match answer {
         Answer::Results(results) => {
-            if let Some(listing) = list_in(results, context.caller) {
+            if let Some(listing) = list_in(results, caller) {
                 return Served::Listed(xid, listing);
             }
-            put_reply_with(results, xid, books, &context.listener, out, meter);
+            put_reply_with(results, xid, books, out, meter);
             Served::Answered(Outcome::Reply)
         }
         Answer::Refused(status) => {
@@ -185,7 +178,7 @@ pub fn serve(
             let xid = call.head.xid;
             books.note_call(&call.head);
             let given = answer(books, context, call, arguments, meter);
-            put_answer(&given, xid, books, context, out, meter)
+            put_answer(&given, xid, books, context.caller, out, meter)
         }
     }
 }

@@ -1,10 +1,10 @@
--- What the options `>N` and `<N` of a hole write.
+-- What the option `>N` of a hole writes.
 use Rattle.std.proofs.Common.{◌≡◌, ◌-◌, ◌^◌, ◌++◌, ◌∷◌, [], ℕ, List, zero, suc, false, arith, lit<, length, replicate, refl, ap, append-nil}
 use Rattle.std.specs.List.{repeat}
 use Rattle.std.specs.Prelude.{encode_utf8}
 use Rattle.std.proofs.lemmas.Str.{encode_ascii}
 use Rattle.std.specs.Fmt.{padded_integral, format_spec, char_count}
-use Rattle.rb_show.specs.Texts.{at_left, at_right}
+use Rattle.rb_show.specs.Texts.{at_right}
 
 pub repeat-single : (n x : ℕ) → repeat n (x ∷ []) ≡ replicate n x
 repeat-single zero x = refl
@@ -17,11 +17,6 @@ before n digits space e =
     let none : n - n ≡ 0 = omega arith in
     rw (e, same, none, repeat-single n 32, append-nil, append-nil, append-nil, append-nil) refl
 
-after : (n : ℕ) (digits space : List ℕ) → space ≡ 32 ∷ [] → (((repeat 0 space ++ []) ++ []) ++ []) ++ (digits ++ repeat ((n - 0 - 0) - 0) space) ≡ digits ++ replicate n 32
-after n digits space e =
-    let same : n - 0 - 0 - 0 ≡ n = omega arith in
-    rw (e, same, repeat-single n 32) refl
-
 -- the space's own encoding
 space_text : encode_utf8 32 ≡ 32 ∷ []
 space_text = encode_ascii 32 (lit< tt)
@@ -29,7 +24,3 @@ space_text = encode_ascii 32 (lit< tt)
 pub padded_right : (width : ℕ) (digits : List ℕ) → padded_integral (format_spec 32 3 0 width (2 ^ 64 - 1)) false [] digits ≡ at_right width digits
 unfolding padded_integral char_count
 padded_right width digits = before (width - length digits) digits _ space_text
-
-pub padded_left : (width : ℕ) (digits : List ℕ) → padded_integral (format_spec 32 1 0 width (2 ^ 64 - 1)) false [] digits ≡ at_left width digits
-unfolding padded_integral char_count
-padded_left width digits = after (width - length digits) digits _ space_text

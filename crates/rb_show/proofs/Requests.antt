@@ -7,9 +7,9 @@ use Rattle.rb_arguments.specs.Types.{IsMapping, mapping_spelling, IsRpcb, rpcb_s
 use Rattle.rb_arguments.specs.Grammar.{BeginsWith}
 use Rattle.rb_show.specs.declared.ask.Question.TheVariants.{Rows, Short, OldRows, OldShort, Summary, OldSummary, Pmap, Entries, Stats, Port, Address, Null, Probe, Callit, Unset}
 use Rattle.std.specs.List.{AllByRecursion}
-use Rattle.rb_names.specs.Netids.{netid_text}
-use Rattle.rb_names.specs.declared.netid.Netid.{Netid}
-use Rattle.rb_names.specs.declared.netid.Netid.TheVariants.{Tcp, Udp, Tcp6, Udp6, Local}
+use Rattle.rb_address.specs.Netids.{netid_text}
+use Rattle.rb_address.specs.declared.netid.Netid.{Netid}
+use Rattle.rb_address.specs.declared.netid.Netid.TheVariants.{Tcp, Udp, Tcp6, Udp6, Local}
 use Rattle.rb_rpc.specs.Forwarded.{longest_forwarded}
 use Rattle.rb_arguments.specs.Remote.{SpellsRemote}
 use Rattle.rb_show.specs.Asks.{netid_text_of, rpcb_of, mapping_of, callit_arguments}

@@ -16,8 +16,8 @@ use Rattle.rb_arguments.specs.declared.mapping.Mapping.{Mapping}
 use Rattle.rb_arguments.specs.declared.rpcb.Rpcb.{Rpcb}
 use Rattle.rb_arguments.specs.Numbers.{number_of}
 use Rattle.rb_arguments.specs.Types.{mapping_spelling, rpcb_spelling}
-use Rattle.rb_names.specs.declared.netid.Netid.{Netid}
-use Rattle.rb_names.specs.Netids.{netid_text}
+use Rattle.rb_address.specs.declared.netid.Netid.{Netid}
+use Rattle.rb_address.specs.Netids.{netid_text}
 use Rattle.rb_show.specs.declared.ask.Ask.{Ask}
 use Rattle.rb_show.specs.declared.ask.Question.{Question}
 use Rattle.rb_show.specs.declared.ask.Question.TheVariants.{Rows, Short, OldRows, OldShort, Summary, OldSummary, Pmap, Entries, Stats, Port, Address, Null, Probe, Callit, Unset}

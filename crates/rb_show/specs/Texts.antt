@@ -1,6 +1,8 @@
 -- Texts of a reply, as they are printed.
-use Rattle.std.specs.Prelude.{ℕ, ◌==◌, ◌-◌, nat_le, ◌&&◌, if◌then◌else◌, List, [], ◌∷◌, ◌++◌, map, length, replicate, codes}
+use Rattle.std.specs.Prelude.{ℕ, ◌-◌, nat_le, ◌&&◌, if◌then◌else◌, List, [], ◌∷◌, ◌++◌, map, length, replicate, codes, Option, Some, None}
 use Rattle.std.specs.Fmt.{decimal}
+use Rattle.rb_address.specs.declared.netid.Transport.{Transport}
+use Rattle.rb_address.specs.Netids.{netid_text, netid_of, transport_of_protocol}
 
 -- ---- texts of a reply
 
@@ -21,5 +23,12 @@ at_right width text = replicate (width - length text) 32 ++ text
 abbrev pub at_left : ℕ → List ℕ → List ℕ
 at_left width text = text ++ replicate (width - length text) 32
 
+-- ---- protocols
+
+abbrev pub transport_text : ℕ → Option Transport → List ℕ
+transport_text prot (Some transport) = netid_text (netid_of transport)
+transport_text prot None = decimal prot
+
+-- the name of the protocol's transport over IPv4, or its number
 abbrev pub prot_text : ℕ → List ℕ
-prot_text prot = if prot == 6 then codes "tcp" else if prot == 17 then codes "udp" else decimal prot
+prot_text prot = transport_text prot (transport_of_protocol prot)

@@ -5,27 +5,20 @@ ghost use Rattle.rb_show.specs.Lines.{mapping_columns, mapping_line, row_columns
 
 use crate::form::{Form, line_end};
 use crate::objects::{entry_object, mapping_object, old_row_object, row_object};
-use crate::texts::{prot_text, shown_text};
+use crate::texts::{at_left, prot_text, shown_text};
 use rb_arguments::{Entry, Mapping, Rpcb};
 use rb_ask::Style;
 use std::alloc::{AllocError, Global};
 
 /// The columns of a mapping.
-#[tactic(auto, using(crate::proofs::Columns::padded_right, crate::proofs::Columns::padded_left))]
+#[tactic(auto, using(crate::proofs::Columns::padded_right))]
 fn mapping_columns(alloc: Global, item: &Mapping) -> Result<String, AllocError>
     ensures { IfOk result (λ columns. string_bytes columns ≡ mapping_columns item.now) }
 {
-    let Mapping {
-        prog,
-        vers,
-        prot,
-        port,
-    } = *item;
-    match prot {
-        6 => format!(in alloc; "{prog:>10} {vers:>6} tcp   {port:>5}"),
-        17 => format!(in alloc; "{prog:>10} {vers:>6} udp   {port:>5}"),
-        _ => format!(in alloc; "{prog:>10} {vers:>6} {prot:<5} {port:>5}"),
-    }
+    let name = prot_text(alloc, item.prot)?;
+    let proto = at_left(alloc, &name, 5)?;
+    let (prog, vers, port) = (item.prog, item.vers, item.port);
+    format!(in alloc; "{prog:>10} {vers:>6} {proto} {port:>5}")
 }
 
 /// The table of mappings.

@@ -4,11 +4,10 @@ ghost use Rattle.std.specs.Fmt.{decimal};
 ghost use Rattle.std.specs.List.{list_any};
 ghost use Rattle.std.specs.Str.{bytes_eq};
 ghost use Rattle.std.specs.String.{string_bytes};
-ghost use Rattle.rb_show.specs.Texts.{at_left};
 ghost use Rattle.rb_show.specs.Summary.{ShownRow, shown_row, shown_rows, row_of, old_row_of, add_program, programs_of, AddsVersion, versions_of, borrowed_texts, AddsNetid, netids_of, owner_of, comma_list, service_text, versions_text, netids_text, summary_line, summary_text, items_summary};
 
 use crate::form::{Form, program_name};
-use crate::texts::{prot_text, shown_text};
+use crate::texts::{at_left, prot_text, shown_text};
 use rb_arguments::{Mapping, Rpcb};
 use std::alloc::{AllocError, Global};
 
@@ -183,17 +182,6 @@ fn joined_numbers(alloc: Global, numbers: &[u32]) -> Result<String, AllocError>
         text.push_str(&next)?;
     }
     Ok(text)
-}
-
-/// A text with spaces behind it, up to this width.
-fn at_left(alloc: Global, text: &str, width: usize) -> Result<String, AllocError>
-    ensures { IfOk result (λ padded. string_bytes padded ≡ at_left width text.now) }
-{
-    let mut padded = String::from_str(alloc, text)?;
-    for place in 0..width.saturating_sub(text.len()) {
-        padded.push(' ')?;
-    }
-    Ok(padded)
 }
 
 fn service_text(alloc: Global, form: Form<'_>, prog: u32) -> Result<String, AllocError>

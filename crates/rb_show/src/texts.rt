@@ -1,8 +1,9 @@
 //! Texts of a reply, as they are printed.
 ghost use Rattle.std.specs.Prelude.{◌≡◌, IfOk};
 ghost use Rattle.std.specs.String.{string_bytes};
-ghost use Rattle.rb_show.specs.Texts.{shown_byte, shown_text, prot_text};
+ghost use Rattle.rb_show.specs.Texts.{shown_byte, shown_text, at_left, prot_text};
 
+use rb_address::{Family, Netid, Transport};
 use std::alloc::{AllocError, Global};
 
 fn shown_char(byte: u8) -> char
@@ -29,13 +30,23 @@ pub(crate) fn shown_text(alloc: Global, text: &[u8]) -> Result<String, AllocErro
     Ok(shown)
 }
 
-/// A protocol as a netid.
+/// A protocol by the name of its transport over IPv4; of any other one the number.
 pub(crate) fn prot_text(alloc: Global, prot: u32) -> Result<String, AllocError>
     ensures { IfOk result (λ text. string_bytes text ≡ prot_text prot) }
 {
-    match prot {
-        6 => String::from_str(alloc, "tcp"),
-        17 => String::from_str(alloc, "udp"),
-        _ => format!(in alloc; "{prot}"),
+    match Transport::of_protocol(prot) {
+        Some(transport) => String::from_str(alloc, Netid::of(transport, Family::Inet).text()),
+        None => format!(in alloc; "{prot}"),
     }
+}
+
+/// A text with spaces behind it, up to this width.
+pub(crate) fn at_left(alloc: Global, text: &str, width: usize) -> Result<String, AllocError>
+    ensures { IfOk result (λ padded. string_bytes padded ≡ at_left width text.now) }
+{
+    let mut padded = String::from_str(alloc, text)?;
+    for place in 0..width.saturating_sub(text.len()) {
+        padded.push(' ')?;
+    }
+    Ok(padded)
 }

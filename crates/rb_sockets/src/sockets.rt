@@ -7,8 +7,8 @@ use crate::local;
 use crate::stream::Stream;
 use mio::net::{TcpListener, UdpSocket, UnixListener};
 use mio::{Interest, Registry, Token};
-use rb_policy::{Again, Ask, Asked, inet_peer, local_peer, loopback6_peer};
-use rb_rpc::Peer;
+use rb_address::Peer;
+use rb_policy::{Again, Ask, Asked, address_of, inet_peer, local_peer, loopback6_peer};
 use std::alloc::{AllocError, Global};
 use std::fs::Files;
 use std::io;
@@ -68,10 +68,6 @@ impl ForwardSocket {
     pub fn call(&self, call: &[u8], target: Peer) {
         let _ = self.0.send_to(call, address_of(target));
     }
-}
-
-fn address_of(peer: Peer) -> SocketAddr {
-    SocketAddr::from((Ipv4Addr::from_octets(peer.host), peer.port))
 }
 
 /// Where connections come in.

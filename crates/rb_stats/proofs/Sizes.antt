@@ -6,9 +6,9 @@ use Rattle.std.proofs.lemmas.List.{take-append-drop, length-map, length-take}
 use Rattle.std.proofs.lemmas.List.Folds.{list_all-append, list_all-map}
 use Rattle.rb_xdr.specs.Xdr.{number, words, boolean, opaque, linked_list}
 use Rattle.rb_xdr.proofs.Words.{length-number}
-use Rattle.rb_registry.specs.declared.row.Transport.{Transport}
-use Rattle.rb_registry.specs.declared.row.Transport.TheVariants.{Tcp, Udp}
-use Rattle.rb_registry.specs.Rows.{netid_of, netid_text}
+use Rattle.rb_address.specs.declared.netid.Transport.{Transport}
+use Rattle.rb_address.specs.declared.netid.Transport.TheVariants.{Tcp, Udp}
+use Rattle.rb_address.specs.Netids.{netid_of, netid_text}
 use Rattle.rb_stats.specs.declared.key.Version.{Version}
 use Rattle.rb_stats.specs.declared.key.Version.TheVariants.{Two, Three, Four}
 use Rattle.rb_stats.specs.declared.key.Info.{Info}

@@ -1,9 +1,9 @@
 -- Statistics over the history of completed calls (RFC 1833 section 2.1, rpcb_stat_byvers).
 use Rattle.std.specs.Prelude.{ℕ, ◌+◌, ◌-◌, ◌^◌, ◌==◌, min, Bool, true, false, not, ◌&&◌, List, [], ◌∷◌, ◌++◌, map, filter, filter_map, count_by, take, Option, Some, None, is_some, is_none}
 use Rattle.rb_xdr.specs.Xdr.{number, words, opaque, linked_list}
-use Rattle.rb_registry.specs.declared.row.Transport.{Transport}
-use Rattle.rb_registry.specs.declared.row.Transport.TheVariants.{Tcp, Udp}
-use Rattle.rb_registry.specs.Rows.{netid_of, netid_text}
+use Rattle.rb_address.specs.declared.netid.Transport.{Transport}
+use Rattle.rb_address.specs.declared.netid.Transport.TheVariants.{Tcp, Udp}
+use Rattle.rb_address.specs.Netids.{netid_of, netid_text}
 use Rattle.rb_stats.specs.declared.key.Version.{Version}
 use Rattle.rb_stats.specs.declared.key.Version.TheVariants.{Two, Three, Four}
 use Rattle.rb_stats.specs.declared.key.Info.{Info}

@@ -1,8 +1,8 @@
 -- Worked rows of the definitions.
 use Rattle.std.specs.Prelude.{◌≡◌, ℕ, zero, suc, ◌+◌, Bool, true, false, List, [], ◌∷◌, ◌++◌, length, map, take, drop, replicate}
 use Rattle.rb_xdr.specs.Xdr.{words, number_at}
-use Rattle.rb_registry.specs.declared.row.Transport.{Transport}
-use Rattle.rb_registry.specs.declared.row.Transport.TheVariants.{Tcp, Udp}
+use Rattle.rb_address.specs.declared.netid.Transport.{Transport}
+use Rattle.rb_address.specs.declared.netid.Transport.TheVariants.{Tcp, Udp}
 use Rattle.rb_stats.specs.declared.key.Version.TheVariants.{Two, Three, Four}
 use Rattle.rb_stats.specs.declared.key.Target.{Target}
 use Rattle.rb_stats.specs.declared.item.Item.{Item}

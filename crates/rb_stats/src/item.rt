@@ -6,7 +6,7 @@ ghost use Rattle.rb_stats.specs.Statistics.{one_more, item_spelling};
 ghost use Rattle.rb_stats.specs.Table.{new_item, item_after};
 
 use crate::key::{Key, Target, Version};
-use rb_registry::Transport;
+use rb_address::{Family, Netid, Transport};
 use rb_xdr::{Kept, Meter, Text, Xdr};
 
 /// The greatest number of type int (RFC 4506 section 4.1), at which counts stop.
@@ -81,7 +81,7 @@ impl Item {
             vers,
             transport,
         } = self.key.target;
-        let netid: Text<3> = Text::new(transport.netid().text());
+        let netid: Text<3> = Text::new(Netid::of(transport, Family::Inet).text().as_bytes());
         match self.key.proc {
             None => {
                 (prog, (vers, (self.success, (self.failure, netid)))).write(out, meter);

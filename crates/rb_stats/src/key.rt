@@ -2,7 +2,7 @@
 ghost use Rattle.std.specs.Prelude.{◌≡◌};
 ghost use Rattle.rb_stats.specs.Statistics.{is_version, is_target, is_proc, is_key, is_in, info_of};
 
-use rb_registry::Transport;
+use rb_address::Transport;
 
 /// A version of the protocol, which has an rpcb_stat of its own (RFC 1833 section 2.1,
 /// rpcb_stat_byvers).

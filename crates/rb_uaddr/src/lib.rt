@@ -11,5 +11,7 @@ mod transport;
 
 pub use address::{NotAnAddress, Uaddr, merge_host};
 pub use laws::{grammar_laws, transport_laws, worked_examples};
+pub use parse::ipv6_host;
+pub use print::ipv6_host_text;
 pub use text::{AddressText, MAX_KEPT, MAX_TEXT};
 pub use transport::{MAX_TRANSPORT, TransportForm};

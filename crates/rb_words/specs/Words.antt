@@ -13,18 +13,18 @@ use Rattle.rb_words.specs.declared.plan.Layout.{Layout}
 use Rattle.rb_words.specs.declared.plan.Layout.TheVariants as layouts
 use Rattle.rb_words.specs.declared.plan.Listing.{Listing}
 use Rattle.rb_words.specs.declared.plan.Listing.TheVariants as listings
-use Rattle.rb_words.specs.declared.plan.Transport.{Transport}
-use Rattle.rb_words.specs.declared.plan.Transport.TheVariants as transports
 use Rattle.rb_words.specs.declared.plan.Means.TheVariants as means
 use Rattle.rb_words.specs.declared.plan.Request.{Request}
 use Rattle.rb_words.specs.declared.shape.Shape.{Shape}
 use Rattle.rb_words.specs.declared.shape.Flag.TheVariants as flags
 use Rattle.rb_words.specs.declared.plan.Source.{Source}
 use Rattle.rb_words.specs.declared.plan.Source.TheVariants.{Here, Input, Named}
-use Rattle.rb_names.specs.declared.netid.Netid.{Netid}
-use Rattle.rb_names.specs.declared.netid.Netid.TheVariants as netids
+use Rattle.rb_address.specs.declared.netid.Netid.{Netid}
+use Rattle.rb_address.specs.declared.netid.Netid.TheVariants as netids
+use Rattle.rb_address.specs.declared.netid.Transport.{Transport}
+use Rattle.rb_address.specs.declared.netid.Transport.TheVariants as transports
+use Rattle.rb_address.specs.Netids.{netid_named}
 use Rattle.rb_names.specs.declared.services.Service.{Service}
-use Rattle.rb_names.specs.Netids.{netid_of}
 use Rattle.rb_names.specs.Services.{number_of}
 use Rattle.rb_words.specs.declared.plan.Means.{Means}
 use Rattle.rb_words.specs.declared.plan.Plan.{Plan}
@@ -161,7 +161,7 @@ program_and_version shape = do
 
 abbrev pub option_netid : Option (Bor (List ℕ)) → Result (Option Netid) Refusal
 option_netid None = Ok None
-option_netid (Some text) = some_or_refusal spots.Netid wants.Netid (netid_of text.now)
+option_netid (Some text) = some_or_refusal spots.Netid wants.Netid (netid_named text.now)
 
 -- ---- what each flag asks for
 

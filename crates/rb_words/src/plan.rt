@@ -1,5 +1,5 @@
 //! What is asked for.
-use rb_names::Netid;
+use rb_address::{Netid, Transport};
 
 /// What is listed of a host's portmapper.
 #[derive(Clone, Copy, Debug, PartialEq, Eq)]
@@ -25,15 +25,6 @@ pub enum Source {
     Input,
     /// The host that the first word names.
     Named,
-}
-
-/// The transports that version 2 has numbers for.
-#[derive(Clone, Copy, Debug, PartialEq, Eq)]
-pub enum Transport {
-    /// TCP.
-    Tcp,
-    /// UDP.
-    Udp,
 }
 
 /// How a program is found whose procedure 0 is called.

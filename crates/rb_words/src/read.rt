@@ -2,10 +2,11 @@
 ghost use Rattle.std.specs.Prelude.{◌≡◌, ◌<◌};
 ghost use Rattle.rb_words.specs.Words.{flag_of, option_number, number_at, program_of, program_at, ends_at, source_of, source_at, host_at, show_plan, entries_plan, ping_plan, ping_plan_at_host, program_and_version, option_netid, by_netid, by_transport, without_flag, delete_plan, plan_of, is_ping, is_broadcast, broadcast_plan, may_have_netid, is_here, wanted_with, has_layout, layout_of, only_where, check_options, request_of};
 
-use crate::plan::{Layout, Listing, Means, Plan, Request, Source, Transport};
+use crate::plan::{Layout, Listing, Means, Plan, Request, Source};
 use crate::refusal::{Refusal, Spot, Wanted};
 use crate::shape::{Flag, Shape};
-use rb_names::{Netid, Service, number_in, number_of};
+use rb_address::{Netid, Transport};
+use rb_names::{Service, number_in, number_of};
 
 /// The portmapper's port.
 const PORT: u16 = 111;
@@ -183,7 +184,7 @@ fn option_netid(text: Option<&str>) -> Result<Option<Netid>, Refusal>
 {
     match text {
         None => Ok(None),
-        Some(text) => match Netid::from_text(text) {
+        Some(text) => match Netid::named(text.as_bytes()) {
             Some(netid) => Ok(Some(netid)),
             None => refusal_at(Spot::Netid, Wanted::Netid),
         },

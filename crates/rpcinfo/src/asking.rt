@@ -5,10 +5,11 @@ ghost use Rattle.rpcinfo.specs.Running.{no_notices};
 
 use crate::hosts::{addresses_of, at_place, here, is_of};
 use crate::net::{Peer, ask_datagram, ask_stream};
+use rb_address::Transport;
 use rb_course::{Course, Place, Stage, asked, begin, fallback, next, show_lack};
 use rb_plans::{FIRST_XID, Fault, Notices, Words, aim_of, answer_of, course_end, way_of};
 use rb_show::{Ask, Form, InfoFault, Question, Shown};
-use rb_words::{Means, Transport};
+use rb_words::Means;
 use std::alloc::Global;
 use std::io::Write;
 use std::net::{Net, SocketAddr};

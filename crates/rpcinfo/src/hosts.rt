@@ -1,10 +1,9 @@
 //! The addresses of hosts.
+use rb_address::{Family, Transport};
 use rb_course::{Place, Way};
-use rb_names::Netid;
 use rb_plans::Fault;
 use rb_show::InfoFault;
 use rb_uaddr::Uaddr;
-use rb_words::Transport;
 use std::alloc::Global;
 use std::net::{IpAddr, Ipv4Addr, Ipv6Addr, Net, SocketAddr, ToSocketAddrs};
 
@@ -31,10 +30,13 @@ pub fn here(port: u16) -> SocketAddr {
 
 /// Returns whether an address is of the family of the netid by which a program is found.
 pub fn is_of(way: Way, address: SocketAddr) -> bool {
-    match way {
-        Way::Address(Netid::Tcp | Netid::Udp) => address.is_ipv4(),
-        Way::Address(Netid::Tcp6 | Netid::Udp6) => address.is_ipv6(),
-        Way::Address(Netid::Local) | Way::Port(_) | Way::Known(_) => true,
+    let Way::Address(netid) = way else {
+        return true;
+    };
+    match netid.family() {
+        Some(Family::Inet) => address.is_ipv4(),
+        Some(Family::Inet6) => address.is_ipv6(),
+        None => true,
     }
 }
 

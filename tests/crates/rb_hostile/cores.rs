@@ -1,14 +1,14 @@
 //! What the tests begin with: a core, and bytes that are written as words.
 
-use rb_core::{Core, CoreFault, Limits, Listener, Peer};
+use rb_address::{Host, Peer};
+use rb_core::{Core, CoreFault, Limits, Listener};
 use rb_xdr::Meter;
 use std::alloc::{AllocError, Global};
 
 /// Who calls.
-pub(crate) const LOOPBACK: Peer = Peer {
-    host: [127, 0, 0, 1],
-    port: 900,
-};
+pub(crate) fn loopback() -> Peer {
+    Peer::new(Host::V4([127, 0, 0, 1]), 900)
+}
 
 pub(crate) const LISTENER: Listener = Listener {
     host: [192, 0, 2, 1],

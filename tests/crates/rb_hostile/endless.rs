@@ -1,6 +1,6 @@
 //! Records that do not end: all of their bytes are taken, few are kept, and the connection is given up at its deadline.
 
-use crate::cores::{LOOPBACK, bytes_of, core_of};
+use crate::cores::{bytes_of, core_of, loopback};
 use rb_core::{Core, CoreFault, Expired, Taken};
 use rb_xdr::Meter;
 use std::process::Abort;
@@ -41,7 +41,7 @@ fn is_given_up(rt: &impl Abort, core: &mut Core, meter: &mut Meter) {
 fn endless_records_of_empty_fragments(rt: HostRuntime) -> Result<(), Fail> {
     let mut meter = Meter::new();
     let mut core = core_of(rt.alloc(), 300, &mut meter)?;
-    assert_eq!(rt; core.open(0, LOOPBACK, &mut meter), Ok(1));
+    assert_eq!(rt; core.open(0, loopback(), &mut meter), Ok(1));
     assert_eq!(rt;
         is_taken(&mut core, &[0; 4], 100_000, 398, &mut meter),
         Ok(true)
@@ -57,7 +57,7 @@ fn endless_records_of_one_fragment(rt: HostRuntime) -> Result<(), Fail> {
     let mut meter = Meter::new();
     let first = bytes_of(rt.alloc(), &HUGE)?;
     let mut core = core_of(rt.alloc(), 300, &mut meter)?;
-    assert_eq!(rt; core.open(0, LOOPBACK, &mut meter), Ok(1));
+    assert_eq!(rt; core.open(0, loopback(), &mut meter), Ok(1));
     assert_eq!(rt; is_taken(&mut core, &first, 1, 398, &mut meter), Ok(true));
     assert_eq!(rt;
         is_taken(&mut core, &[0xff; 960], 1, HELD_AT_MOST, &mut meter),

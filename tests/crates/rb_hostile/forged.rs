@@ -1,16 +1,20 @@
 //! Datagrams that are no reply to the forwarded call: they are ignored, and the honest reply passes after them.
 
-use crate::cores::{LOOPBACK, bytes_of, core_of, set_call};
-use rb_core::{Core, FwdId, Outcome, Peer, Told};
+use crate::cores::{bytes_of, core_of, loopback, set_call};
+use rb_address::{Host, Peer};
+use rb_core::{Core, FwdId, Outcome, Told};
 use rb_xdr::Meter;
 use std::process::Abort;
 use std::test::Fail;
 
+const HOST: [u8; 4] = [127, 0, 0, 1];
+
+const PORT: u16 = 2049;
+
 /// Where the program 200001 version 1 listens.
-const TARGET: Peer = Peer {
-    host: [127, 0, 0, 1],
-    port: 2049,
-};
+fn target() -> Peer {
+    Peer::new(Host::V4(HOST), PORT)
+}
 
 /// The xid of the first forwarded call.
 const XID: u32 = 1000;
@@ -38,7 +42,12 @@ fn is_ignored(core: &mut Core, from: Peer, reply: &[u8], meter: &mut Meter) -> b
 /// One bit of the xid is another.
 fn other_xids_are_ignored(core: &mut Core, meter: &mut Meter) -> bool {
     for bit in 0..32 {
-        if !is_ignored(core, TARGET, &success(XID ^ 1u32.wrapping_shl(bit)), meter) {
+        if !is_ignored(
+            core,
+            target(),
+            &success(XID ^ 1u32.wrapping_shl(bit)),
+            meter,
+        ) {
             return false;
         }
     }
@@ -47,10 +56,10 @@ fn other_xids_are_ignored(core: &mut Core, meter: &mut Meter) -> bool {
 
 /// One bit of the host is another.
 fn other_hosts_are_ignored(core: &mut Core, meter: &mut Meter) -> bool {
-    let (honest, port) = (u32::from_be_bytes(TARGET.host), TARGET.port);
+    let honest = u32::from_be_bytes(HOST);
     for bit in 0..32 {
         let host = (honest ^ 1u32.wrapping_shl(bit)).to_be_bytes();
-        let from = Peer { host, port };
+        let from = Peer::new(Host::V4(host), PORT);
         if !is_ignored(core, from, &success(XID), meter) {
             return false;
         }
@@ -60,10 +69,8 @@ fn other_hosts_are_ignored(core: &mut Core, meter: &mut Meter) -> bool {
 
 /// One bit of the port is another.
 fn other_ports_are_ignored(core: &mut Core, meter: &mut Meter) -> bool {
-    let host = TARGET.host;
     for bit in 0..16 {
-        let port = TARGET.port ^ 1u16.wrapping_shl(bit);
-        let from = Peer { host, port };
+        let from = Peer::new(Host::V4(HOST), PORT ^ 1u16.wrapping_shl(bit));
         if !is_ignored(core, from, &success(XID), meter) {
             return false;
         }
@@ -73,17 +80,17 @@ fn other_ports_are_ignored(core: &mut Core, meter: &mut Meter) -> bool {
 
 /// A call is forwarded, and waits to be sent.
 fn forwards(rt: &impl Abort, core: &mut Core, set: &[u8], indirect: &[u8], meter: &mut Meter) {
-    assert_eq!(rt; core.datagram(0, LOOPBACK, set, meter), Outcome::Reply);
+    assert_eq!(rt; core.datagram(0, loopback(), set, meter), Outcome::Reply);
     assert_eq!(rt;
-        core.datagram(1000, LOOPBACK, indirect, meter),
+        core.datagram(1000, loopback(), indirect, meter),
         Outcome::Forwarded
     );
 }
 
 /// What the target answers passes in the last millisecond.
 fn honest_reply_passes(rt: &impl Abort, core: &mut Core, passed: &[u8], meter: &mut Meter) {
-    let told = core.forward_reply(5999, TARGET, &success(XID), meter);
-    assert_eq!(rt; told, Some(Told::Datagram(LOOPBACK)));
+    let told = core.forward_reply(5999, target(), &success(XID), meter);
+    assert_eq!(rt; told, Some(Told::Datagram(loopback())));
     assert_eq!(rt; core.udp_reply(meter), passed);
 }
 
@@ -96,14 +103,14 @@ fn forged_replies(rt: HostRuntime) -> Result<(), Fail> {
     let mut core = core_of(rt.alloc(), 300, &mut meter)?;
     forwards(&rt, &mut core, &set, &indirect, &mut meter);
     assert!(rt;
-        is_ignored(&mut core, TARGET, &success(XID), &mut meter),
+        is_ignored(&mut core, target(), &success(XID), &mut meter),
         "before it was sent"
     );
     assert_eq!(rt; core.sent(FwdId { number: 1 }, &mut meter), Ok(()));
     assert!(rt; other_xids_are_ignored(&mut core, &mut meter));
     assert!(rt; other_hosts_are_ignored(&mut core, &mut meter));
     assert!(rt; other_ports_are_ignored(&mut core, &mut meter));
-    assert!(rt; is_ignored(&mut core, TARGET, &[0, 0, 3], &mut meter));
+    assert!(rt; is_ignored(&mut core, target(), &[0, 0, 3], &mut meter));
     honest_reply_passes(&rt, &mut core, &passed, &mut meter);
     Ok(())
 }

@@ -2,7 +2,7 @@
 //! nothing is refused, and the calls succeed. `tests/run-tests.sh rb_hostile -- --fail-alloc N` refuses the allocation
 //! of number N in each test, and then these fail only where an answer is wrong.
 
-use crate::cores::{LOOPBACK, bytes_of, core_of, set_call};
+use crate::cores::{bytes_of, core_of, loopback, set_call};
 use rb_core::{Core, CoreFault, NoMemory};
 use rb_lines::{ReadFault, read_events};
 use rb_replay::{Event, Output, replay};
@@ -22,12 +22,12 @@ fn all_events(alloc: Global) -> Result<Vec<Event>, AllocError> {
     let set = bytes_of(alloc, &set_call(1, 200_001, 17))?;
     let indirect = [2, 0, 2, 100_000, 4, 10, 0, 0, 0, 0, 200_001, 1, 0, 0];
     let mut events = Vec::new(alloc);
-    events.push(Event::Datagram(0, LOOPBACK, set))?;
-    events.push(Event::Datagram(0, LOOPBACK, bytes_of(alloc, &indirect)?))?;
+    events.push(Event::Datagram(0, loopback(), set))?;
+    events.push(Event::Datagram(0, loopback(), bytes_of(alloc, &indirect)?))?;
     events.push(Event::Unsent)?;
-    events.push(Event::Forward(0, LOOPBACK, Vec::new(alloc)))?;
+    events.push(Event::Forward(0, loopback(), Vec::new(alloc)))?;
     events.push(Event::Expire(5000))?;
-    events.push(Event::Open(5000, LOOPBACK))?;
+    events.push(Event::Open(5000, loopback()))?;
     events.push(Event::Pending(1))?;
     Ok(events)
 }

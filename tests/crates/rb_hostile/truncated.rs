@@ -1,7 +1,7 @@
 //! Calls that are cut short, as datagrams and as records. By the places of the fields: a call that ends within its head is no
 //! call, one that ends within its arguments is GARBAGE_ARGS.
 
-use crate::cores::{LOOPBACK, bytes_of, core_of};
+use crate::cores::{bytes_of, core_of, loopback};
 use rb_core::{Core, CoreFault, Outcome};
 use rb_xdr::Meter;
 use std::alloc::{AllocError, Global};
@@ -89,7 +89,7 @@ fn header_of(data: &[u8]) -> [u8; 4] {
 
 /// The datagram gets this reply, or is no call where that is empty.
 fn datagram_is_told(core: &mut Core, data: &[u8], reply: &[u8], meter: &mut Meter) -> bool {
-    let outcome = core.datagram(0, LOOPBACK, data, meter);
+    let outcome = core.datagram(0, loopback(), data, meter);
     if reply.is_empty() {
         outcome == Outcome::NoCall
     } else {
@@ -119,7 +119,7 @@ fn record_is_told(
     reply: &[u8],
     meter: &mut Meter,
 ) -> Result<bool, CoreFault> {
-    let id = core.open(0, LOOPBACK, meter)?;
+    let id = core.open(0, loopback(), meter)?;
     let closes = record_closes(core, id, data, meter)?;
     let is_told = if closes {
         reply.is_empty()

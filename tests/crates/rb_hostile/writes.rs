@@ -1,7 +1,7 @@
 //! What is given on connections, however it is written: as a script gives it, with writes of no byte between, and in single
 //! bytes.
 
-use crate::cores::{LOOPBACK, bytes_of, core_of, set_call};
+use crate::cores::{bytes_of, core_of, loopback, set_call};
 use rb_core::{Core, NoMemory};
 use rb_lines::{ReadFault, read_events};
 use rb_replay::{Event, Output, replay};
@@ -138,7 +138,7 @@ fn null_record(xid: u32) -> [u32; 11] {
 /// Behind an opening, the bytes of the first connection.
 fn arrival(alloc: Global, bytes: Vec<u8>) -> Result<Vec<Event>, AllocError> {
     let mut events = Vec::new(alloc);
-    events.push(Event::Open(0, LOOPBACK))?;
+    events.push(Event::Open(0, loopback()))?;
     events.push(Event::Bytes(0, 1, bytes))?;
     Ok(events)
 }
@@ -187,7 +187,7 @@ fn unset_call(xid: u32, prog: u32) -> [u32; 14] {
 }
 
 fn push_call(events: &mut Vec<Event>, alloc: Global, call: &[u32]) -> Result<(), AllocError> {
-    events.push(Event::Datagram(0, LOOPBACK, bytes_of(alloc, call)?))?;
+    events.push(Event::Datagram(0, loopback(), bytes_of(alloc, call)?))?;
     Ok(())
 }
 
@@ -196,8 +196,8 @@ fn evicting(alloc: Global) -> Result<Vec<Event>, AllocError> {
     let mut events = Vec::new(alloc);
     push_call(&mut events, alloc, &set_call(1, 200_001, 6))?;
     push_call(&mut events, alloc, &set_call(2, 200_002, 6))?;
-    events.push(Event::Open(0, LOOPBACK))?;
-    events.push(Event::Open(0, LOOPBACK))?;
+    events.push(Event::Open(0, loopback()))?;
+    events.push(Event::Open(0, loopback()))?;
     events.push(Event::Bytes(0, 1, bytes_of(alloc, &dump_record(3, 2))?))?;
     push_call(&mut events, alloc, &unset_call(4, 200_001))?;
     events.push(Event::Bytes(0, 2, bytes_of(alloc, &dump_record(5, 2))?))?;
@@ -233,7 +233,7 @@ fn long_dump(alloc: Global) -> Result<Vec<Event>, AllocError> {
         ];
         push_call(&mut events, alloc, &set)?;
     }
-    events.push(Event::Open(0, LOOPBACK))?;
+    events.push(Event::Open(0, loopback()))?;
     events.push(Event::Bytes(0, 1, bytes_of(alloc, &dump_record(1, 3))?))?;
     Ok(events)
 }

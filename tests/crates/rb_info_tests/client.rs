@@ -1,10 +1,10 @@
 //! A client that asks a daemon in the same process. Its sockets never wait, since the daemon's turns are taken by the same
 //! thread.
+use rb_address::Transport;
 use rb_course::{Aim, Answer, Course, End, Place, Stage, asked, begin, next};
 use rb_daemon::{Daemon, Limits, LocalSocket, Settings};
 use rb_show::{Ask, Form, HeldBytes, InfoFault, Shown, show_reply, write_call};
 use rb_uaddr::Uaddr;
-use rb_words::Transport;
 use std::io::{Read, Write};
 use std::net::{IpAddr, Ipv4Addr, Ipv6Addr, SocketAddr, TcpStream, UdpSocket};
 

@@ -1,9 +1,9 @@
 //! A course of questions to a daemon in the same process, on port 20116 of 127.0.0.1.
 use crate::turns::{daemon_of, receive};
+use rb_address::Transport;
 use rb_course::{Aim, Answer, Course, End, Place, Stage, Step, Way, asked, begin, next};
 use rb_daemon::Daemon;
 use rb_show::{Form, HeldBytes, InfoFault, Shown, show_reply, write_call};
-use rb_words::Transport;
 use std::io::Write;
 use std::net::{Ipv4Addr, SocketAddr, TcpStream};
 use std::test::Fail;

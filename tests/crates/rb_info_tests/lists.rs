@@ -1,7 +1,8 @@
 //! The forms of rpcinfo that ask a portmapper one question: it is asked of a daemon by turns.
 use crate::client::{Caller, Client, LOCAL, daemon_everywhere, portmapper, portmapper6};
+use rb_address::Netid;
 use rb_daemon::Daemon;
-use rb_names::{Netid, Service, read_services};
+use rb_names::{Service, read_services};
 use rb_show::{Ask, Form, HeldBytes, Question, Shown, show_reply};
 use std::net::{Ipv4Addr, SocketAddr};
 use std::os::unix::net::UnixStream;

@@ -1,16 +1,14 @@
-use rb_core::{
-    Core, CoreFault, Exchanged, Limits, Listener, NoMemory, Outcome, Peer, Standing, Taken,
-};
+use rb_address::{Host, Peer};
+use rb_core::{Core, CoreFault, Exchanged, Limits, Listener, NoMemory, Outcome, Standing, Taken};
 use rb_replay::{Event, Output, replay};
 use rb_xdr::Meter;
 use std::alloc::{AllocError, Global};
 use std::process::Abort;
 use std::test::Fail;
 
-const LOOPBACK: Peer = Peer {
-    host: [127, 0, 0, 1],
-    port: 900,
-};
+fn loopback() -> Peer {
+    Peer::new(Host::V4([127, 0, 0, 1]), 900)
+}
 
 const LISTENER: Listener = Listener {
     host: [192, 0, 2, 1],
@@ -62,7 +60,7 @@ fn outputs(
 // The call is answered, and the 24 bytes of its reply are held.
 fn null_is_answered(rt: &impl Abort, core: &mut Core, call: &[u8], meter: &mut Meter) {
     assert_eq!(rt; core.held(), 270);
-    assert_eq!(rt; core.datagram(0, LOOPBACK, call, meter), Outcome::Reply);
+    assert_eq!(rt; core.datagram(0, loopback(), call, meter), Outcome::Reply);
     assert_eq!(rt; core.udp_reply(meter), NULL_REPLY);
     assert_eq!(rt; core.held(), 294);
     assert!(rt; core.held() <= core.bytes_bound());
@@ -93,8 +91,8 @@ fn limits_and_numbers(rt: HostRuntime) {
 fn set_and_nothing(alloc: Global) -> Result<Vec<Event>, AllocError> {
     let set = [3, 0, 2, 100_000, 2, 1, 0, 0, 0, 0, 200_001, 1, 6, 2049];
     let mut events = Vec::new(alloc);
-    events.push(Event::Datagram(0, LOOPBACK, words(alloc, &set)?))?;
-    events.push(Event::Datagram(0, LOOPBACK, Vec::new(alloc)))?;
+    events.push(Event::Datagram(0, loopback(), words(alloc, &set)?))?;
+    events.push(Event::Datagram(0, loopback(), Vec::new(alloc)))?;
     Ok(events)
 }
 
@@ -111,7 +109,7 @@ fn replay_has_memory(rt: HostRuntime) -> Result<(), Fail> {
 /// A connection is opened, calls, is answered and is closed: each call of a connection once.
 fn one_connection(alloc: Global) -> Result<Vec<Event>, AllocError> {
     let mut events = Vec::new(alloc);
-    events.push(Event::Open(0, LOOPBACK))?;
+    events.push(Event::Open(0, loopback()))?;
     events.push(Event::Bytes(0, 1, words(alloc, &NULL_RECORD)?))?;
     events.push(Event::Gave(0, 1, 3))?;
     events.push(Event::Pending(1))?;
@@ -152,7 +150,7 @@ fn connections_have_memory(rt: HostRuntime) -> Result<(), Fail> {
 
 fn null_call(alloc: Global) -> Result<Vec<Event>, AllocError> {
     let mut events = Vec::new(alloc);
-    events.push(Event::Datagram(0, LOOPBACK, words(alloc, &NULL)?))?;
+    events.push(Event::Datagram(0, loopback(), words(alloc, &NULL)?))?;
     Ok(events)
 }
 
@@ -175,7 +173,7 @@ fn null_reply(rt: HostRuntime) -> Result<(), Fail> {
 
 fn opening(alloc: Global) -> Result<Vec<Event>, AllocError> {
     let mut events = Vec::new(alloc);
-    events.push(Event::Open(0, LOOPBACK))?;
+    events.push(Event::Open(0, loopback()))?;
     Ok(events)
 }
 
@@ -357,7 +355,7 @@ fn single_bytes_are_cheap(rt: HostRuntime) -> Result<(), Fail> {
     let record = greatest_callit(rt.alloc())?;
     let (_, front) = record.split_last().ok_or("empty")?;
     let mut core = Core::new(rt.alloc(), limits, LISTENER, 1000, 0, &mut meter)?;
-    assert_eq!(rt; core.open(0, LOOPBACK, &mut meter), Ok(1));
+    assert_eq!(rt; core.open(0, loopback(), &mut meter), Ok(1));
     assert_eq!(rt; bytes_are_cheap(&mut core, front, &mut meter), Ok(true));
     Ok(())
 }

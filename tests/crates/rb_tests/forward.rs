@@ -1,24 +1,21 @@
+use rb_address::{Host, Peer};
 use rb_forward::{Forward, Forwards};
-use rb_rpc::{Caller, Kind, Peer};
+use rb_rpc::{Caller, Kind};
 use rb_xdr::Meter;
 use std::test::Fail;
 
-const TARGET: Peer = Peer {
-    host: [127, 0, 0, 1],
-    port: 2049,
-};
+fn loopback(port: u16) -> Peer {
+    Peer::new(Host::V4([127, 0, 0, 1]), port)
+}
 
 // Procedure 0 of program 200001, version 1, for a datagram of xid 15.
 fn forward() -> Forward {
     Forward {
-        caller: Caller::Udp(Peer {
-            host: [127, 0, 0, 1],
-            port: 900,
-        }),
+        caller: Caller::Udp(loopback(900)),
         xid: 15,
         kind: Kind::Indirect,
-        target: TARGET,
-        shown: TARGET,
+        target: loopback(2049),
+        shown: loopback(2049),
         prog: 200_001,
         vers: 1,
         proc: 0,

@@ -1,6 +1,8 @@
 //! Tests of the public calls of the libraries, apart from them, so that no library is proved a second time for its tests.
 
 #[cfg(test)]
+mod address;
+#[cfg(test)]
 mod arguments;
 #[cfg(test)]
 mod events;

@@ -1,3 +1,4 @@
+use rb_address::{Host, Peer};
 use rb_arguments::{ArgumentFault, read_args};
 use rb_forward::{Forward, FwdId};
 use rb_proto::{
@@ -5,7 +6,7 @@ use rb_proto::{
     refusal,
 };
 use rb_registry::RegistryFault;
-use rb_rpc::{CallHead, Caller, Credential, Kind, Peer, ReplyStatus};
+use rb_rpc::{CallHead, Caller, Credential, Kind, ReplyStatus};
 use rb_xdr::{Kept, Meter};
 use std::alloc::Global;
 use std::process::Abort;
@@ -33,10 +34,9 @@ pub(crate) const REMOTE: &[u8] = b"\x00\x03\x0d\x41\0\0\0\x01\0\0\0\0\0\0\0\x04\
 pub(crate) const ARGS: &[u8] = b"\0\0\0\x07";
 
 // where that row is on this machine
-const TARGET: Peer = Peer {
-    host: [127, 0, 0, 1],
-    port: 2049,
-};
+fn target() -> Peer {
+    Peer::new(Host::V4([127, 0, 0, 1]), 2049)
+}
 
 // an accepted reply of xid 1000, without results
 const SUCCESS: &[u8] = b"\0\0\x03\xe8\0\0\0\x01\0\0\0\0\0\0\0\0\0\0\0\0\0\0\0\0";
@@ -51,10 +51,9 @@ const LISTED: &[u8] = b"\0\0\0\x07\0\0\0\x01\0\0\0\0\0\0\0\0\0\0\0\0\0\0\0\0\
 \0\0\0\x01\0\x01\x86\xa0\0\0\0\x03\0\0\0\x11\0\0\0\x6f\0\0\0\x01\0\x01\x86\xa0\0\0\0\x02\0\0\0\x11\0\0\0\x6f\
 \0\0\0\x01\x00\x03\x0d\x41\0\0\0\x01\0\0\0\x06\0\0\x08\x01\0\0\0\0";
 
-const CALLER: Peer = Peer {
-    host: [127, 0, 0, 1],
-    port: 900,
-};
+fn caller() -> Peer {
+    Peer::new(Host::V4([127, 0, 0, 1]), 900)
+}
 
 const LIMIT: usize = 8;
 
@@ -67,7 +66,7 @@ fn context() -> Context {
         limit: LIMIT,
         forwards: 1,
         clock: CLOCK,
-        caller: Caller::Udp(CALLER),
+        caller: Caller::Udp(caller()),
     }
 }
 
@@ -113,7 +112,7 @@ fn serve(
     let given = answer(books, &context, &Call { head, request }, args, meter);
     out.clear(meter);
     if let Answer::Results(results) = given {
-        put_results(&results, books, &LISTENER, 1000, out, meter)?;
+        put_results(&results, books, 1000, out, meter)?;
     }
     Ok(())
 }
@@ -154,7 +153,7 @@ fn list_is_as_of_its_call(
     meter: &mut Meter,
 ) -> Result<(), Fail> {
     let mut list = begin_list(books, out, meter)?;
-    let part = list.next_part(&books.registry, LISTENER.host, out, meter);
+    let part = list.next_part(&books.registry, out, meter);
     assert!(rt; part.last);
     assert_eq!(rt; out.lend(part.start..part.end, meter), LISTED);
     books.trim(Some(list.stamp()), meter);
@@ -217,7 +216,7 @@ fn forwarded_call_ends(
     serve(books, 4, 10, REMOTE, out, meter)?;
     assert!(rt; books.unsent(meter).is_some());
     assert!(rt; books.sent(FwdId { number: 1 }, meter).is_ok());
-    assert!(rt; books.reply(CLOCK, TARGET, SUCCESS, meter).is_some());
+    assert!(rt; books.reply(CLOCK, target(), SUCCESS, meter).is_some());
     assert!(rt; books.due(CLOCK + 5000, meter).is_none());
     books.drop_caller(1, meter);
     Ok(())
@@ -237,11 +236,11 @@ fn forwarded_results_are_put(rt: HostRuntime) -> Result<(), Fail> {
     let mut meter = Meter::new();
     let mut out = Kept::new(rt.alloc(), 100, &mut meter)?;
     let forward = Forward {
-        caller: Caller::Udp(TARGET),
+        caller: Caller::Udp(target()),
         xid: 1,
         kind: Kind::Callit2,
-        target: TARGET,
-        shown: TARGET,
+        target: target(),
+        shown: target(),
         prog: 200_001,
         vers: 1,
         proc: 0,

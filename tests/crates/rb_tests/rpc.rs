@@ -1,6 +1,6 @@
 use rb_rpc::{
-    BadReply, CallHead, Credential, Marks, Part, Peer, ReplyHead, ReplyStatus, Verdict,
-    fragment_header, put_call, put_reply, read_call, read_reply,
+    BadReply, CallHead, Credential, Marks, Part, ReplyHead, ReplyStatus, Verdict, fragment_header,
+    put_call, put_reply, read_call, read_reply,
 };
 use rb_xdr::{Kept, Meter};
 use std::test::Fail;
@@ -65,15 +65,5 @@ fn records_are_marked(rt: HostRuntime) -> Result<(), Fail> {
     }
     assert_eq!(rt; marks.feed(7), (Part::Data, false));
     assert_eq!(rt; marks.feed_data(&[8, 9, 0x80, 0]), (2, true));
-    Ok(())
-}
-
-#[test]
-fn peers_are_shown(rt: HostRuntime) -> Result<(), Fail> {
-    let peer = Peer {
-        host: [127, 0, 0, 1],
-        port: 900,
-    };
-    assert_eq!(rt; format!(in rt.alloc(); "{peer}")?.as_str(), "127.0.0.1:900");
     Ok(())
 }

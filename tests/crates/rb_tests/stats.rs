@@ -1,4 +1,4 @@
-use rb_registry::Transport;
+use rb_address::Transport;
 use rb_stats::{Stats, Target, Version};
 use rb_xdr::{Kept, Meter};
 use std::process::Abort;

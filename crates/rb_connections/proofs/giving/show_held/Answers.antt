@@ -4,7 +4,7 @@ use Rattle.rb_connections.proofs.Fragments.{held_part, part_shown}
 use Rattle.rb_connections.proofs.giving.show_held.Goals as goal
 
 pub returns-clause-shows : goal.returns-clause-shows
-returns-clause-shows c = λ source.
+returns-clause-shows c = λ registry.
     let buffer : List ℕ = c.args.buffer.now.bytes in
     let left = ap (λ (n : ℕ). n - c.args.start) c.len.ensures.len in
     let last = ap (λ (n : ℕ). leb n 1024) (left ∙ sym (length-drop c.args.start buffer)) in

@@ -9,7 +9,7 @@ returns-clause-shows c = λ buffer.
     record {
       fragment = c.show.ensures.shown
           ∙ ap (λ (xs : List ℕ). record c.args.window.now { bytes = xs })
-          (part_shown (rest_of c.args.host c.args.registry.now c.args.list) c.lend-data.result.now _ (c.lend-data.ensures.bytes ∙ p.part) p.last);
+          (part_shown (rest_of c.args.registry.now c.args.list) c.lend-data.result.now _ (c.lend-data.ensures.bytes ∙ p.part) p.last);
       rest_is = p.rest;
       last = p.last;
       place = refl;

@@ -26,7 +26,7 @@ returns-in-Err-clause-acts c =
 
 pub returns-in-Err-clause-lists : goal.returns-in-Err-clause-lists
 returns-in-Err-clause-lists c =
-    lists_then c.args.context.now.listener.host c.args.connections.now c.args.books.now c.serve.new.books c.serve.ensures.cursors c.serve.ensures.floor c.requires.lists
+    lists_then c.args.connections.now c.args.books.now c.serve.new.books c.serve.ensures.cursors c.serve.ensures.floor c.requires.lists
 
 pub returns-then-is_null-clause-acts : goal.returns-then-is_null-clause-acts
 returns-then-is_null-clause-acts c =
@@ -45,7 +45,7 @@ returns-clause-acts c =
 
 pub returns-clause-lists : goal.returns-clause-lists
 returns-clause-lists c =
-    lists_then c.args.context.now.listener.host c.make_room.new.connections c.make_room.new.books c.serve-2.new.books c.serve-2.ensures.cursors c.serve-2.ensures.floor c.make_room.ensures.lists
+    lists_then c.make_room.new.connections c.make_room.new.books c.serve-2.new.books c.serve-2.ensures.cursors c.serve-2.ensures.floor c.make_room.ensures.lists
 
 -- ---- what it costs
 

@@ -4,4 +4,4 @@ use Rattle.rb_proto.proofs.put.put_results.Goals as goal
 
 pub returns-in-Rows-clause-puts : goal.returns-in-Rows-clause-puts
 returns-in-Rows-clause-puts c =
-    rw (rows_result c.args.listener.now.host (shown_in c.args.books.now) c.in-Rows.list c.args.results.now c.in-Rows.is) c.put_rows.ensures.puts
+    rw (rows_result (shown_in c.args.books.now) c.in-Rows.list c.args.results.now c.in-Rows.is) c.put_rows.ensures.puts

@@ -2,11 +2,12 @@ use Rattle.std.proofs.Common.{◌≡◌, ℕ, List, take, length, get_or, refl, 
 use Rattle.std.specs.List.{list_any, count_by}
 use Rattle.std.proofs.lemmas.List.{length-map, take_more, take_all}
 use Rattle.rb_xdr.specs.Pool.{Pool}
-use Rattle.rb_registry.specs.declared.row.Netid.{Netid}
-use Rattle.rb_registry.specs.declared.row.Netid.TheVariants.{Tcp}
+use Rattle.rb_address.specs.declared.netid.Netid.{Netid}
+use Rattle.rb_address.specs.declared.netid.Netid.TheVariants.{Tcp}
 use Rattle.rb_registry.specs.declared.slot.Slot.{Slot}
 use Rattle.rb_registry.specs.Removals.{change_of}
-use Rattle.rb_registry.specs.Rows.{is_netid, is_among}
+use Rattle.rb_registry.specs.Rows.{is_among}
+use Rattle.rb_address.specs.Netids.{is_netid}
 use Rattle.rb_registry.specs.Table.{with_mark, with_marks, entries_with_marks, count_retained}
 use Rattle.rb_registry.specs.Index.{with_marks_where, marked_where}
 use Rattle.rb_registry.proofs.Counting.{removals-marked}

@@ -1,7 +1,8 @@
 use Rattle.std.proofs.Common.{◌≡◌, ◌+◌, ◌*◌, ◌≤◌, length, take}
 use Rattle.std.specs.List.{list_any, count_by}
 use Rattle.rb_xdr.specs.Pool.{HasDistinctKeys}
-use Rattle.rb_registry.specs.Rows.{is_netid, is_among}
+use Rattle.rb_registry.specs.Rows.{is_among}
+use Rattle.rb_address.specs.Netids.{is_netid}
 use Rattle.rb_registry.specs.Removals.{change_of}
 use Rattle.rb_registry.specs.Index.{IsIndexed, IsSameBut, with_marks_where}
 use Rattle.rb_registry.specs.Costs.{removal_cost}

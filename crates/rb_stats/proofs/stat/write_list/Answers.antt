@@ -1,7 +1,7 @@
 use Rattle.std.proofs.Common.{length, get_or, None, true, false, ap, arith, length-append}
 use Rattle.rb_xdr.specs.Xdr.{boolean, linked_list}
 use Rattle.rb_xdr.specs.Kept.{Kept}
-use Rattle.rb_registry.specs.declared.row.Transport.TheVariants.{Tcp}
+use Rattle.rb_address.specs.declared.netid.Transport.TheVariants.{Tcp}
 use Rattle.rb_stats.specs.declared.key.Version.TheVariants.{Two}
 use Rattle.rb_stats.specs.declared.item.Item.{Item}
 use Rattle.rb_stats.specs.Statistics.{item_spelling}

@@ -21,8 +21,8 @@ wanted_key-requires-clause-numbers c = distinct_numbers c.self.inside.last_numbe
 
 pub returns-in_default-clause-acts : goal.returns-in_default-clause-acts
 returns-in_default-clause-acts c =
-    λ source. subst (λ t. Acts (StandsForConnections source) (close_in_table c.args.id) t t (Err Gone)) c.self.view_is
-    (none_closed source c.args.id (the_view c.self.inside) (sym c.in_default.ensures.key))
+    λ registry. subst (λ t. Acts (StandsForConnections registry) (close_in_table c.args.id) t t (Err Gone)) c.self.view_is
+    (none_closed registry c.args.id (the_view c.self.inside) (sym c.in_default.ensures.key))
 
 pub unreachable-requires : goal.unreachable-requires
 unreachable-requires c = slot_is_there _ c.self.inside.slots.entries [] c.in-Some.key (sym c.in-Some.ensures.key) (sym c.in_default-remove.ensures.value)
@@ -63,9 +63,9 @@ invariant_of-self c =
 
 pub returns-clause-acts : goal.returns-clause-acts
 returns-clause-acts c =
-    λ source. rw c.remove.ensures.entries (
-    acts_from source (close_in_table c.args.id) (the_view c.self.inside) c.args.self.now _ _ c.self.view_is
-    (one_closed source c.args.id (the_view c.self.inside) c.in-Some.key c.in-Some-remove.slot c.self.invariant.distinct c.self.invariant.numbers (sym c.in-Some.ensures.key) (sym c.in-Some-remove.ensures.value)))
+    λ registry. rw c.remove.ensures.entries (
+    acts_from registry (close_in_table c.args.id) (the_view c.self.inside) c.args.self.now _ _ c.self.view_is
+    (one_closed registry c.args.id (the_view c.self.inside) c.in-Some.key c.in-Some-remove.slot c.self.invariant.distinct c.self.invariant.numbers (sym c.in-Some.ensures.key) (sym c.in-Some-remove.ensures.value)))
 
 pub returns-in_default-clause-goes_on : goal.returns-in_default-clause-goes_on
 returns-in_default-clause-goes_on c = goes_on_same _

@@ -17,14 +17,14 @@ invariant_of-self c =
     (table_evicted c.self.inside.slots c.self.inside.spare c.self.inside.last_number c.self.inside.conns c.self.inside.held c.args.earliest c.self.invariant)
 
 pub returns-clause-evicts : goal.returns-clause-evicts
-returns-clause-evicts c = λ changes e source x z.
+returns-clause-evicts c = λ changes e registry x z.
     rw c.evict_slots.ensures.evicted
-    (table_evicts source changes c.args.earliest (the_view c.self.inside) x e (subst (λ t. StandsForConnections source t x) (sym c.self.view_is) z))
+    (table_evicts registry changes c.args.earliest (the_view c.self.inside) x e (subst (λ t. StandsForConnections registry t x) (sym c.self.view_is) z))
 
 pub returns-clause-lists : goal.returns-clause-lists
-returns-clause-lists c = λ source told.
+returns-clause-lists c = λ registry told.
     rw c.evict_slots.ensures.evicted
-    (all_keep (CanContinueSlot source) c.args.earliest (lists_evicted source c.args.earliest) c.self.inside.slots.entries (subst (λ t. CanContinueAll source t) (sym c.self.view_is) told))
+    (all_keep (CanContinueSlot registry) c.args.earliest (lists_evicted registry c.args.earliest) c.self.inside.slots.entries (subst (λ t. CanContinueAll registry t) (sym c.self.view_is) told))
 
 pub returns-clause-later : goal.returns-clause-later
 returns-clause-later c = rw c.evict_slots.ensures.evicted (later_evicted c.args.earliest c.self.inside.slots.entries)

@@ -17,8 +17,8 @@ wanted_key-requires-clause-numbers c = distinct_numbers c.self.inside.last_numbe
 
 pub returns-in_default-clause-acts : goal.returns-in_default-clause-acts
 returns-in_default-clause-acts c =
-    λ source. subst (λ t. Acts (StandsForConnections source) (expire_first c.args.clock) t t None) c.self.view_is
-    (none_expires source c.args.clock (the_view c.self.inside) (sym c.in_default.ensures.key))
+    λ registry. subst (λ t. Acts (StandsForConnections registry) (expire_first c.args.clock) t t None) c.self.view_is
+    (none_expires registry c.args.clock (the_view c.self.inside) (sym c.in_default.ensures.key))
 
 pub unreachable-requires : goal.unreachable-requires
 unreachable-requires c = slot_is_there _ c.self.inside.slots.entries [] c.in-Some.key (sym c.in-Some.ensures.key) (sym c.in_default-get_mut.ensures.value)
@@ -32,8 +32,8 @@ invariant_of-self c =
 
 pub returns-clause-acts : goal.returns-clause-acts
 returns-clause-acts c =
-    λ source. acts_from source (expire_first c.args.clock) (the_view c.self.inside) c.args.self.now _ _ c.self.view_is
-    (one_expires source c.args.clock (the_view c.self.inside) c.in-Some.key c.in-Some-get_mut.slot.now _ _ c.self.invariant.distinct c.self.invariant.numbers (sym c.in-Some.ensures.key) (sym c.in-Some-get_mut.ensures.value) refl refl)
+    λ registry. acts_from registry (expire_first c.args.clock) (the_view c.self.inside) c.args.self.now _ _ c.self.view_is
+    (one_expires registry c.args.clock (the_view c.self.inside) c.in-Some.key c.in-Some-get_mut.slot.now _ _ c.self.invariant.distinct c.self.invariant.numbers (sym c.in-Some.ensures.key) (sym c.in-Some-get_mut.ensures.value) refl refl)
 
 pub returns-in_default-clause-goes_on : goal.returns-in_default-clause-goes_on
 returns-in_default-clause-goes_on c = goes_on_same _
@@ -42,5 +42,5 @@ pub returns-clause-goes_on : goal.returns-clause-goes_on
 returns-clause-goes_on c =
     let slot = c.in-Some-get_mut.slot.now in
     goes_on_changed (the_view c.self.inside) c.args.self.now c.self.view_is c.in-Some.key slot (record slot { stage = stages.Lost }) (sym c.in-Some-get_mut.ensures.value)
-    (λ source told. tt) refl (sym (due-free c.args.clock c.in-Some.key c.self.inside.slots.entries slot c.self.invariant.distinct (sym c.in-Some.ensures.key) (sym c.in-Some-get_mut.ensures.value)))
+    (λ registry told. tt) refl (sym (due-free c.args.clock c.in-Some.key c.self.inside.slots.entries slot c.self.invariant.distinct (sym c.in-Some.ensures.key) (sym c.in-Some-get_mut.ensures.value)))
     (All-value_at IsWithin c.self.inside.slots.entries c.in-Some.key slot c.self.invariant.within (sym c.in-Some-get_mut.ensures.value))

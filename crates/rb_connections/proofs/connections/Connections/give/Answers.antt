@@ -4,7 +4,6 @@ use Rattle.rb_xdr.proofs.PoolLemmas.{All-value_at}
 use Rattle.rb_model.specs.Connections.{on_live, give}
 use Rattle.rb_connections.specs.contracts.connections.Connections.{the_view}
 use Rattle.rb_connections.specs.Slots.{HasBuffers}
-use Rattle.rb_model.specs.Served.{source_for}
 use Rattle.rb_connections.specs.Listings.{CanContinueSlot, CanContinueAll}
 use Rattle.rb_connections.specs.Awaits.{is_free}
 use Rattle.rb_connections.proofs.Holding.{stays_changed}
@@ -32,18 +31,18 @@ invariant_of-self-2 c =
 
 pub returns-in_default-clause-acts : goal.returns-in_default-clause-acts
 returns-in_default-clause-acts c =
-    let source = source_for c.args.host c.args.registry.now in
-    acts_from source (on_live c.args.id (give c.args.clock c.args.n)) (the_view c.self.inside) c.args.self.now _ _ c.self.view_is
-    (gone_acts source c.args.id (give c.args.clock c.args.n) (the_view c.self.inside) c.in_default.ensures.found)
+    let registry = c.args.registry.now in
+    acts_from registry (on_live c.args.id (give c.args.clock c.args.n)) (the_view c.self.inside) c.args.self.now _ _ c.self.view_is
+    (gone_acts registry c.args.id (give c.args.clock c.args.n) (the_view c.self.inside) c.in_default.ensures.found)
 
 pub returns-clause-stays : goal.returns-clause-stays
 returns-clause-stays c = stays_changed (the_view c.self.inside) c.args.self.now _ c.give.new.self c.self.view_is (within_by c.give.new.self _ c.charge.ensures.charge c.charge.ensures.within)
 
 pub returns-clause-acts : goal.returns-clause-acts
 returns-clause-acts c =
-    let source = source_for c.args.host c.args.registry.now in
-    acts_from source (on_live c.args.id (give c.args.clock c.args.n)) (the_view c.self.inside) c.args.self.now _ _ c.self.view_is
-    (live_acts source c.args.id (give c.args.clock c.args.n) (the_view c.self.inside) _ c.in-Some.slot.now c.give.new.self _ c.self.invariant.distinct c.in-Some.ensures.found.key c.in-Some.ensures.found.there c.give.ensures.acts)
+    let registry = c.args.registry.now in
+    acts_from registry (on_live c.args.id (give c.args.clock c.args.n)) (the_view c.self.inside) c.args.self.now _ _ c.self.view_is
+    (live_acts registry c.args.id (give c.args.clock c.args.n) (the_view c.self.inside) _ c.in-Some.slot.now c.give.new.self _ c.self.invariant.distinct c.in-Some.ensures.found.key c.in-Some.ensures.found.there c.give.ensures.acts)
 
 pub returns-in_default-clause-free : goal.returns-in_default-clause-free
 returns-in_default-clause-free c = λ id none. subst (λ t. is_free id t ≡ false) (sym c.self.view_is) none
@@ -54,14 +53,14 @@ returns-clause-free c = freed_from (the_view c.self.inside) c.args.self.now _ c.
 
 pub give-requires-clause-lists : goal.give-requires-clause-lists
 give-requires-clause-lists c =
-    let source = source_for c.args.host c.args.registry.now in
-    All-value_at (CanContinueSlot source) c.self.inside.slots.entries _ c.in-Some.slot.now
-    (subst (λ t. CanContinueAll source t) (sym c.self.view_is) c.requires.lists) c.in-Some.ensures.found.there
+    let registry = c.args.registry.now in
+    All-value_at (CanContinueSlot registry) c.self.inside.slots.entries _ c.in-Some.slot.now
+    (subst (λ t. CanContinueAll registry t) (sym c.self.view_is) c.requires.lists) c.in-Some.ensures.found.there
 
 pub returns-clause-lists : goal.returns-clause-lists
 returns-clause-lists c =
-    let source = source_for c.args.host c.args.registry.now in
-    lists_changed (the_view c.self.inside) c.args.self.now c.self.view_is source _ c.give.new.self c.requires.lists c.give.ensures.lists
+    let registry = c.args.registry.now in
+    lists_changed (the_view c.self.inside) c.args.self.now c.self.view_is registry _ c.give.new.self c.requires.lists c.give.ensures.lists
 
 pub returns-clause-stands : goal.returns-clause-stands
 returns-clause-stands c =

@@ -7,13 +7,13 @@ use Rattle.rb_connections.proofs.connections.Connections.next_lost.Goals as goal
 
 pub returns-in-Some-clause-lost : goal.returns-in-Some-clause-lost
 unfolding next_lost_in_table is_wanted
-returns-in-Some-clause-lost c = λ source o h.
-    let f = c.in-Some.ensures.found source o h in
+returns-in-Some-clause-lost c = λ registry o h.
+    let f = c.in-Some.ensures.found registry o h in
     let e : next_lost_in_table o ≡ Some f.connection.number = ap (option_map (λ (x : Connection). x.number)) f.found in
     ap (λ (n : ℕ). Some n) f.stands.number ∙ sym e
 
 pub returns-in-None-clause-lost : goal.returns-in-None-clause-lost
 unfolding next_lost_in_table is_wanted
-returns-in-None-clause-lost c = λ source o h.
-    let e : next_lost_in_table o ≡ None = ap (option_map (λ (x : Connection). x.number)) (c.in-None.ensures.found source o h) in
+returns-in-None-clause-lost c = λ registry o h.
+    let e : next_lost_in_table o ≡ None = ap (option_map (λ (x : Connection). x.number)) (c.in-None.ensures.found registry o h) in
     sym e

@@ -6,10 +6,10 @@ use Rattle.rb_connections.proofs.connections.Connections.pending.Goals as goal
 
 pub returns-in_default-clause-lent : goal.returns-in_default-clause-lent
 unfolding is_wanted live_connection
-returns-in_default-clause-lent c = λ source o h. ap pending_on (c.in_default.ensures.found source o h)
+returns-in_default-clause-lent c = λ registry o h. ap pending_on (c.in_default.ensures.found registry o h)
 
 pub returns-clause-lent : goal.returns-clause-lent
 unfolding is_wanted live_connection
-returns-clause-lent c = λ source o h.
-    let f = c.in-Some.ensures.found source o h in
-    ap pending_on f.found ∙ ap Ok (sym (c.pending.ensures.pending source f.connection f.stands))
+returns-clause-lent c = λ registry o h.
+    let f = c.in-Some.ensures.found registry o h in
+    ap pending_on f.found ∙ ap Ok (sym (c.pending.ensures.pending registry f.connection f.stands))

@@ -7,10 +7,10 @@ use Rattle.rb_connections.proofs.connections.Connections.pending_len.Goals as go
 
 pub returns-in_default-clause-len : goal.returns-in_default-clause-len
 unfolding is_wanted live_connection
-returns-in_default-clause-len c = λ source o h. sym (ap (λ x. pending_count (pending_on x)) (c.in_default.ensures.found source o h))
+returns-in_default-clause-len c = λ registry o h. sym (ap (λ x. pending_count (pending_on x)) (c.in_default.ensures.found registry o h))
 
 pub returns-clause-len : goal.returns-clause-len
 unfolding is_wanted live_connection
-returns-clause-len c = λ source o h.
-    let f = c.in-Some.ensures.found source o h in
-    ap Ok (c.pending_len.ensures.len source f.connection f.stands) ∙ sym (ap (λ x. pending_count (pending_on x)) f.found)
+returns-clause-len c = λ registry o h.
+    let f = c.in-Some.ensures.found registry o h in
+    ap Ok (c.pending_len.ensures.len registry f.connection f.stands) ∙ sym (ap (λ x. pending_count (pending_on x)) f.found)

@@ -2,7 +2,7 @@ use Rattle.std.specs.Map.{values_of}
 use Rattle.std.proofs.Common.{ap, sym, subst, ◌∙◌, arith, ◌≡◌, true, false, refl}
 use Rattle.rb_model.specs.Connections.{settle}
 use Rattle.rb_connections.specs.contracts.connections.Connections.{the_view}
-use Rattle.rb_model.specs.Served.{served_in, source_for}
+use Rattle.rb_model.specs.Served.{served_in}
 use Rattle.rb_connections.specs.StandsFor.{StandsForConnections}
 use Rattle.rb_connections.specs.Slots.{HasBuffers}
 use Rattle.rb_connections.specs.Awaits.{has_idle, is_free}
@@ -31,18 +31,18 @@ invariant_of-self-2 c =
 
 pub returns-in_default-clause-stands : goal.returns-in_default-clause-stands
 returns-in_default-clause-stands c = λ o h.
-    let source = source_for c.args.host c.args.registry.now in
-    let z = subst (λ t. StandsForConnections source t o) (sym c.self.view_is) h in
-    gone_stays source c.args.id (settle c.args.clock (served_in source c.args.served c.args.draft.now.bytes)) (the_view c.self.inside) c.in_default.ensures.found o z
+    let registry = c.args.registry.now in
+    let z = subst (λ t. StandsForConnections registry t o) (sym c.self.view_is) h in
+    gone_stays registry c.args.id (settle c.args.clock (served_in registry c.args.served c.args.draft.now.bytes)) (the_view c.self.inside) c.in_default.ensures.found o z
 
 pub returns-clause-stays : goal.returns-clause-stays
 returns-clause-stays c = stays_changed (the_view c.self.inside) c.args.self.now _ c.settle.new.self c.self.view_is (within_by c.settle.new.self _ c.charge.ensures.charge c.charge.ensures.within)
 
 pub returns-clause-stands : goal.returns-clause-stands
 returns-clause-stands c = λ o h.
-    let source = source_for c.args.host c.args.registry.now in
-    let z = subst (λ t. StandsForConnections source t o) (sym c.self.view_is) h in
-    live_changed source c.args.id (settle c.args.clock (served_in source c.args.served c.args.draft.now.bytes)) (the_view c.self.inside) _ c.in-Some.slot.now c.settle.new.self c.self.invariant.distinct c.in-Some.ensures.found.key c.in-Some.ensures.found.there c.settle.ensures.stands o z
+    let registry = c.args.registry.now in
+    let z = subst (λ t. StandsForConnections registry t o) (sym c.self.view_is) h in
+    live_changed registry c.args.id (settle c.args.clock (served_in registry c.args.served c.args.draft.now.bytes)) (the_view c.self.inside) _ c.in-Some.slot.now c.settle.new.self c.self.invariant.distinct c.in-Some.ensures.found.key c.in-Some.ensures.found.there c.settle.ensures.stands o z
 
 pub returns-in_default-clause-others : goal.returns-in_default-clause-others
 returns-in_default-clause-others c = λ id apart none. subst (λ t. is_free id t ≡ false) (sym c.self.view_is) none
@@ -64,8 +64,8 @@ returns-clause-awaits c = λ forwarded idle.
 
 pub returns-clause-lists : goal.returns-clause-lists
 returns-clause-lists c =
-    let source = source_for c.args.host c.args.registry.now in
-    lists_changed (the_view c.self.inside) c.args.self.now c.self.view_is source _ c.settle.new.self c.requires.lists c.settle.ensures.lists
+    let registry = c.args.registry.now in
+    lists_changed (the_view c.self.inside) c.args.self.now c.self.view_is registry _ c.settle.new.self c.requires.lists c.settle.ensures.lists
 
 pub returns-clause-standing : goal.returns-clause-standing
 returns-clause-standing c =
@@ -79,5 +79,5 @@ returns-clause-standing c =
     (distinct_numbers _ _ made.numbers))
 
 pub returns-in_default-clause-standing : goal.returns-in_default-clause-standing
-returns-in_default-clause-standing c = λ source o h.
-    gone_standing c.args.id (the_view c.self.inside) c.in_default.ensures.found source o h
+returns-in_default-clause-standing c = λ registry o h.
+    gone_standing c.args.id (the_view c.self.inside) c.in_default.ensures.found registry o h

@@ -30,26 +30,26 @@ invariant_of-self-2 c =
 
 pub returns-in_default-clause-acts : goal.returns-in_default-clause-acts
 returns-in_default-clause-acts c =
-    λ source. acts_from source (on_live c.args.id (take_piece c.args.clock c.args.piece.now)) (the_view c.self.inside) c.args.self.now _ _ c.self.view_is
-    (gone_acts source c.args.id (take_piece c.args.clock c.args.piece.now) (the_view c.self.inside) c.in_default.ensures.found)
+    λ registry. acts_from registry (on_live c.args.id (take_piece c.args.clock c.args.piece.now)) (the_view c.self.inside) c.args.self.now _ _ c.self.view_is
+    (gone_acts registry c.args.id (take_piece c.args.clock c.args.piece.now) (the_view c.self.inside) c.in_default.ensures.found)
 
 pub returns-clause-acts : goal.returns-clause-acts
 returns-clause-acts c =
-    λ source. acts_from source (on_live c.args.id (take_piece c.args.clock c.args.piece.now)) (the_view c.self.inside) c.args.self.now _ _ c.self.view_is
-    (live_acts source c.args.id (take_piece c.args.clock c.args.piece.now) (the_view c.self.inside) _ c.in-Some.slot.now c.take-received.new.self _ c.self.invariant.distinct c.in-Some.ensures.found.key c.in-Some.ensures.found.there (c.take-received.ensures.acts source))
+    λ registry. acts_from registry (on_live c.args.id (take_piece c.args.clock c.args.piece.now)) (the_view c.self.inside) c.args.self.now _ _ c.self.view_is
+    (live_acts registry c.args.id (take_piece c.args.clock c.args.piece.now) (the_view c.self.inside) _ c.in-Some.slot.now c.take-received.new.self _ c.self.invariant.distinct c.in-Some.ensures.found.key c.in-Some.ensures.found.there (c.take-received.ensures.acts registry))
 
 pub returns-clause-as_many : goal.returns-clause-as_many
 returns-clause-as_many c = length-with c.self.inside.slots.entries _ c.take-received.new.self ∙ ap (λ t. length t.slots) c.self.view_is
 
 pub returns-in_default-clause-arguments : goal.returns-in_default-clause-arguments
 returns-in_default-clause-arguments c =
-    λ source. subst (λ t. Shows (StandsForConnections source) (arguments_on c.args.id c.args.arguments.now.bytes c.args.piece.now) t c.args.arguments.now.bytes) c.self.view_is
-    (gone_arguments source c.args.id c.args.arguments.now.bytes c.args.piece.now (the_view c.self.inside) c.in_default.ensures.found)
+    λ registry. subst (λ t. Shows (StandsForConnections registry) (arguments_on c.args.id c.args.arguments.now.bytes c.args.piece.now) t c.args.arguments.now.bytes) c.self.view_is
+    (gone_arguments registry c.args.id c.args.arguments.now.bytes c.args.piece.now (the_view c.self.inside) c.in_default.ensures.found)
 
 pub returns-clause-arguments : goal.returns-clause-arguments
 returns-clause-arguments c =
-    λ source. subst (λ t. Shows (StandsForConnections source) (arguments_on c.args.id c.args.arguments.now.bytes c.args.piece.now) t c.take-received.new.arguments.bytes) c.self.view_is
-    (live_arguments source c.args.id c.args.arguments.now.bytes c.args.piece.now (the_view c.self.inside) _ c.in-Some.slot.now c.take-received.new.arguments.bytes c.self.invariant.distinct c.in-Some.ensures.found.key c.in-Some.ensures.found.there (c.take-received.ensures.arguments source))
+    λ registry. subst (λ t. Shows (StandsForConnections registry) (arguments_on c.args.id c.args.arguments.now.bytes c.args.piece.now) t c.take-received.new.arguments.bytes) c.self.view_is
+    (live_arguments registry c.args.id c.args.arguments.now.bytes c.args.piece.now (the_view c.self.inside) _ c.in-Some.slot.now c.take-received.new.arguments.bytes c.self.invariant.distinct c.in-Some.ensures.found.key c.in-Some.ensures.found.there (c.take-received.ensures.arguments registry))
 
 pub returns-clause-ends : goal.returns-clause-ends
 returns-clause-ends c =

@@ -39,21 +39,21 @@ invariant_of-self-2 c =
     (sym c.in_ok-slot.ensures.value) c.take_whole.ensures.kept
 
 pub returns-clause-acts : goal.returns-clause-acts
-returns-clause-acts c = λ source.
+returns-clause-acts c = λ registry.
     let content = c.in_ok-content.content.now in
     let piece = c.args.piece.now in
     rw c.in_ok-peer.ensures.peer
-    (acts_from source (on_live c.args.id (take_piece c.args.clock piece)) (the_view c.self.inside) c.args.self.now _ _ c.self.view_is
+    (acts_from registry (on_live c.args.id (take_piece c.args.clock piece)) (the_view c.self.inside) c.args.self.now _ _ c.self.view_is
     (takes_whole_on c.args.id c.args.clock c.key.result (the_view c.self.inside) c.in_ok-slot.slot.now c.take_whole.new.self c.self.invariant.distinct c.self.invariant.numbers (sym c.in_ok-slot.ensures.value) c.take_whole.ensures.kept
-    c.in_ok-peer.ensures.number c.in_ok-peer.ensures.idle c.in_ok-peer.ensures.since source piece content c.in_ok-content.ensures.content))
+    c.in_ok-peer.ensures.number c.in_ok-peer.ensures.idle c.in_ok-peer.ensures.since registry piece content c.in_ok-content.ensures.content))
 
 pub returns-clause-arguments : goal.returns-clause-arguments
-returns-clause-arguments c = λ before source.
+returns-clause-arguments c = λ before registry.
     let content = c.in_ok-content.content.now in
     let piece = c.args.piece.now in
-    subst (λ (t : Table). Shows (StandsForConnections source) (arguments_on c.args.id before piece) t (kept_of content)) c.self.view_is
+    subst (λ (t : Table). Shows (StandsForConnections registry) (arguments_on c.args.id before piece) t (kept_of content)) c.self.view_is
     (keeps_whole_on c.args.id c.args.clock c.key.result (the_view c.self.inside) c.in_ok-slot.slot.now c.take_whole.new.self c.self.invariant.distinct c.self.invariant.numbers (sym c.in_ok-slot.ensures.value) c.take_whole.ensures.kept
-    c.in_ok-peer.ensures.number c.in_ok-peer.ensures.idle c.in_ok-peer.ensures.since source before piece content c.in_ok-content.ensures.content)
+    c.in_ok-peer.ensures.number c.in_ok-peer.ensures.idle c.in_ok-peer.ensures.since registry before piece content c.in_ok-content.ensures.content)
 
 pub returns-clause-from : goal.returns-clause-from
 returns-clause-from c =

@@ -14,7 +14,7 @@ returns-clause-received c = λ x fed b.
     ended_then fed piece x _ end.at _ _ end.is count b.peer end.says
 
 pub returns-clause-stands : goal.returns-clause-stands
-returns-clause-stands c = λ source x fed b.
+returns-clause-stands c = λ registry x fed b.
     let piece = c.args.piece.now in
     let end = has_ended fed piece (first_record (fed ++ piece)) c.feed-count.result c.in-Some.verdict (c.feed-count.ensures.taken fed b.reads) c.in-Some.is in
     rw (end.is, c.swap.ensures.x_after, c.clear.ensures.empty) (record { number = b.number; peer = b.peer; since = refl; phase = (refl, b.window) })
@@ -28,7 +28,7 @@ returns-clause-arguments c = λ x fed b.
 
 pub returns-in_default-clause-stands : goal.returns-in_default-clause-stands
 unfolding keep_reading
-returns-in_default-clause-stands c = λ source x fed b.
+returns-in_default-clause-stands c = λ registry x fed b.
     let piece = c.args.piece.now in
     let none = not_ended fed piece (first_record (fed ++ piece)) c.feed-count.result (c.feed-count.ensures.taken fed b.reads) c.in_default.is in
     rw none (record {

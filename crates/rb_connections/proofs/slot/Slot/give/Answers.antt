@@ -4,7 +4,6 @@ use Rattle.rb_xdr.specs.Kept.{Kept}
 use Rattle.rb_model.specs.State.Phase.{Owing}
 use Rattle.rb_model.specs.Connections.{phase_when_given}
 use Rattle.rb_connections.specs.declared.slot.Slot.{Slot}
-use Rattle.rb_model.specs.Served.{source_for}
 use Rattle.rb_connections.specs.StandsFor.{StandsForPhase}
 use Rattle.rb_connections.proofs.OneSlot.{none_given, some_given, goes_on_giving, is_given, nothing_pending, giving_phase}
 use Rattle.rb_connections.proofs.Progress.{pending_few, stays, moves, ends, slot_lists_on}
@@ -34,23 +33,23 @@ returns-then-place-shown-clause-acts c =
 
 pub returns-then-giving-clause-acts : goal.returns-then-giving-clause-acts
 returns-then-giving-clause-acts c =
-    let source = source_for c.args.host c.args.registry.now in
-    some_given source c.args.self.now _ c.args.clock c.args.n c.min-more.result c.in-Owing.giving c.in-Owing.is
+    let registry = c.args.registry.now in
+    some_given registry c.args.self.now _ c.args.clock c.args.n c.min-more.result c.in-Owing.giving c.in-Owing.is
     (λ o g. let count = pending_few _ c.in-Owing.giving _ _ o g in omega (arith, count)) (omega (arith, c.if-more-eq0.false)) refl refl refl
-    (λ o g. is_given source c.clear.new.self c.clear-then-giving.new.self _ o (ends source c.in-Owing.giving _ _ o g c.min-more.result (omega arith) c.if-giving.true)
+    (λ o g. is_given registry c.clear.new.self c.clear-then-giving.new.self _ o (ends registry c.in-Owing.giving _ _ o g c.min-more.result (omega arith) c.if-giving.true)
     (ap (λ (k : Kept). k.bytes) c.clear.ensures.empty) (ap (λ (k : Kept). k.bytes) c.clear-then-giving.ensures.empty))
 
 pub returns-else-giving-clause-acts : goal.returns-else-giving-clause-acts
 returns-else-giving-clause-acts c =
-    let source = source_for c.args.host c.args.registry.now in
+    let registry = c.args.registry.now in
     let old = c.args.self.now in
     let s = c.show.ensures.shows in
-    some_given source old c.show.new.self c.args.clock c.args.n c.min-more.result c.in-Owing.giving c.in-Owing.is
-    (λ o g. let count = pending_few source c.in-Owing.giving _ _ o g in omega (arith, count)) (omega (arith, c.if-more-eq0.false))
+    some_given registry old c.show.new.self c.args.clock c.args.n c.min-more.result c.in-Owing.giving c.in-Owing.is
+    (λ o g. let count = pending_few registry c.in-Owing.giving _ _ o g in omega (arith, count)) (omega (arith, c.if-more-eq0.false))
     (ap (λ (t : Slot). t.number) s.is) (ap (λ (t : Slot). t.peer) s.is) (ap (λ (t : Slot). t.since) s.is)
-    (λ o g. subst (λ (t : Slot). StandsForPhase source t.stage t.buffer t.window (phase_when_given c.min-more.result (Owing o))) (sym s.is)
-    (goes_on_giving source s.giving old.buffer c.show.new.self.window _ o
-    (moves source c.in-Owing.giving _ _ o g c.min-more.result c.show.new.self.window s.giving (omega arith) c.if-giving.false c.requires.buffers.window_cap s.shows)))
+    (λ o g. subst (λ (t : Slot). StandsForPhase registry t.stage t.buffer t.window (phase_when_given c.min-more.result (Owing o))) (sym s.is)
+    (goes_on_giving registry s.giving old.buffer c.show.new.self.window _ o
+    (moves registry c.in-Owing.giving _ _ o g c.min-more.result c.show.new.self.window s.giving (omega arith) c.if-giving.false c.requires.buffers.window_cap s.shows)))
 
 pub returns-else-giving-clause-lists : goal.returns-else-giving-clause-lists
 returns-else-giving-clause-lists c = slot_lists_on _ _ _ c.show.new.self c.show.ensures.shows

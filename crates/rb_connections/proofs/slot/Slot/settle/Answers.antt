@@ -31,14 +31,14 @@ returns-in-Answered-Reply-clause-lists c = slot_lists_on _ _ _ c.show.new.self c
 
 pub show-requires-in-Listed-clause-some : goal.show-requires-in-Listed-clause-some
 show-requires-in-Listed-clause-some c =
-    fresh_is_some c.args.host c.args.registry.now c.in-Listed.xid c.in-Listed.listing c.new-list.result c.new-list.ensures.rest
+    fresh_is_some c.args.registry.now c.in-Listed.xid c.in-Listed.listing c.new-list.result c.new-list.ensures.rest
 
 pub returns-in-Listed-clause-stands : goal.returns-in-Listed-clause-stands
 unfolding settle
 returns-in-Listed-clause-stands c = λ x h.
     rw c.in-Listed.is
     (slot_begins _ _ _ c.show-in-Listed.new.self c.show-in-Listed.ensures.shows c.args.clock x _ _ h.number h.peer refl c.requires.buffers.window_cap
-    (c.new-list.ensures.rest c.args.host) (ap (λ (n : ℕ). Some n) c.new-list.ensures.stamp))
+    c.new-list.ensures.rest (ap (λ (n : ℕ). Some n) c.new-list.ensures.stamp))
 
 pub returns-in-Listed-clause-lists : goal.returns-in-Listed-clause-lists
 returns-in-Listed-clause-lists c = slot_lists_on _ _ _ c.show-in-Listed.new.self c.show-in-Listed.ensures.shows

@@ -3,8 +3,8 @@ use Rattle.std.specs.Prelude.{Option}
 use Rattle.std.proofs.Common.{◌≡◌, true, false, Bool, List, ℕ, [], length, take, ◌+◌, refl, sym, subst, arith, ◌∙◌}
 use Rattle.std.proofs.lemmas.List.{length-take}
 use Rattle.rb_xdr.specs.Kept.{Kept}
-use Rattle.rb_rpc.specs.declared.peer.Peer.{Peer}
-use Rattle.rb_rpc.specs.declared.peer.Caller.TheVariants.{Tcp}
+use Rattle.rb_address.specs.declared.peer.Peer.{Peer}
+use Rattle.rb_rpc.specs.declared.caller.Caller.TheVariants.{Tcp}
 use Rattle.rb_proto.specs.declared.books.Books.{Books}
 use Rattle.rb_proto.specs.declared.context.Context.{Context}
 use Rattle.rb_proto.specs.Books.{SameFrame}
@@ -16,7 +16,7 @@ use Rattle.rb_model.specs.State.{State, Connections}
 use Rattle.rb_model.specs.Step.{settle_on, serve_message}
 use Rattle.rb_connections.specs.declared.slot.EndedRecord.{EndedRecord}
 use Rattle.rb_connections.specs.StandsFor.{StandsForConnections, Table}
-use Rattle.rb_model.specs.Served.{Source, served_in}
+use Rattle.rb_model.specs.Served.{served_in}
 use Rattle.rb_connections.specs.Slots.{Acts, BecomesFrom, StaysTable}
 use Rattle.rb_connections.specs.Awaits.{has_idle, IsIdleSince}
 use Rattle.rb_connections.specs.Settling.{Settles}
@@ -25,7 +25,6 @@ use Rattle.rb_connections.proofs.Standing.{idle_standing}
 use Rattle.rb_core.specs.contracts.events.Core.{the_view}
 use Rattle.rb_core.specs.StandsFor.{Held, StandsFor}
 use Rattle.rb_core.specs.Core.{arguments_in, serve_ended, context_of, without_arguments}
-use Rattle.rb_serving.specs.Serving.{source_in}
 use Rattle.rb_core.specs.Eviction.{ServesInRoom, ServesVerdict}
 use Rattle.rb_core.specs.AtOnce.{AnswersGiving, GivesAtOnce, IsGivenAtOnce, answer_and_give, count_when_answered}
 use Rattle.rb_xdr.specs.Meter.{Meter, PaysAtMost}
@@ -61,7 +60,7 @@ module _ (view : Held) (id : ℕ) (peer : Peer) (message : Message) (arguments :
 
   -- of what it is answered with this is left to its connection
   answers : (table : Table) (left : Outcome) (bytes : List ℕ) → StaysTable roomy table → Leaves given left bytes
-      → BecomesFrom (source_in view.setting.listener.host books) (changed_at id (settle view.clock left)) roomy table → (closed : Bool) → closed ≡ is_no_call given
+      → BecomesFrom books.registry (changed_at id (settle view.clock left)) roomy table → (closed : Bool) → closed ≡ is_no_call given
       → Acts StandsFor (λ s. answer_and_give id (length bytes) (settle_on id (serve_message s (Tcp id peer) message arguments))) view (record view { connections = table; books = books }) (closed, bytes)
   answers table left bytes later leave goes closed is = rw is (answer_giving view id peer message arguments roomy books given left bytes table served later leave idle goes)
 
@@ -77,11 +76,8 @@ module _ (c : goal.Then-given-gt0) where
   abbrev lent_then : List ℕ
   lent_then = c.lend_arguments-arguments.result.now
 
-  abbrev source_then : Source
-  source_then = source_in c.self.inside.listener.host c.serve_verdict-served.new.books
-
   acts_then : ServesInRoom (context_of view_then (Tcp c.args.id c.args.ended.peer)) (message_with c.args.ended.verdict lent_then) lent_then c.self.inside.connections c.self.inside.books c.serve_verdict-served.new.connections c.serve_verdict-served.new.books
-      (served_in source_then c.serve_verdict-served.result c.serve_verdict-served.new.out.bytes)
+      (served_in c.serve_verdict-served.new.books.registry c.serve_verdict-served.result c.serve_verdict-served.new.out.bytes)
   acts_then =
       let seen : c.context-context.result ≡ context_of view_then (Tcp c.args.id c.args.ended.peer) = sees (the_view c.self.inside) c.args.self.now c.context-context.result (Tcp c.args.id c.args.ended.peer) c.self.view_is c.context-context.ensures in
       subst (λ (x : Context). ServesVerdict x c.args.ended.verdict lent_then c.self.inside.connections c.self.inside.books c.serve_verdict-served.new.connections c.serve_verdict-served.new.books c.serve_verdict-served.result c.serve_verdict-served.new.out)
@@ -101,12 +97,12 @@ returns-then-given-gt0-clause-acts c =
     rw c.clear.ensures.empty (
     answered_from c.args.id c.args.ended c.args.arguments (lent_then c) (the_view c.self.inside) c.args.self.now c.lend_arguments-arguments.ensures.value c.self.view_is _ false once.result once.new.room
     (answers (view_then c) c.args.id c.args.ended.peer (message_with c.args.ended.verdict (lent_then c)) (lent_then c) v.new.books v.new.connections
-    (served_in (source_then c) v.result v.new.out.bytes) (acts_then c) v.ensures.leaves.frame v.ensures.open.stays (v.ensures.open.idle c.args.id (idle_then c).is_idle)
+    (served_in v.new.books.registry v.result v.new.out.bytes) (acts_then c) v.ensures.leaves.frame v.ensures.open.stays (v.ensures.open.idle c.args.id (idle_then c).is_idle)
     v.new.connections Silent (take once.result once.new.room) (record { conns = refl; tie = refl; within = λ within. within })
-    (leaves_none (source_then c) v.result v.new.out once.new.draft _ (omega (arith, length-take once.result once.new.room, once.ensures.within, c.if-given-gt0.true)) reply)
+    (leaves_none v.new.books.registry v.result v.new.out once.new.draft _ (omega (arith, length-take once.result once.new.room, once.ensures.within, c.if-given-gt0.true)) reply)
     (λ o h.
-    subst (λ (t : Connections). StandsForConnections (source_then c) v.new.connections t)
-    (sym (settled_stays (source_then c) c.args.id c.self.inside.clock v.new.connections o (v.ensures.open.if_there c.args.id c.self.inside.clock (idle_then c).if_there) h)) h)
+    subst (λ (t : Connections). StandsForConnections v.new.books.registry v.new.connections t)
+    (sym (settled_stays v.new.books.registry c.args.id c.self.inside.clock v.new.connections o (v.ensures.open.if_there c.args.id c.self.inside.clock (idle_then c).if_there) h)) h)
     false (rw reply.is_reply refl)))
 
 pub returns-then-given-gt0-clause-count : goal.returns-then-given-gt0-clause-count
@@ -115,8 +111,8 @@ returns-then-given-gt0-clause-count c =
     let once = c.give_at_once-given in
     counted_from c.args.id c.args.ended c.args.arguments (lent_then c) (the_view c.self.inside) c.args.self.now c.lend_arguments-arguments.ensures.value c.self.view_is c.args.room.now once.result
     (counts (view_then c) c.args.id c.args.ended.peer (message_with c.args.ended.verdict (lent_then c)) (lent_then c) v.new.books v.new.connections
-    (served_in (source_then c) v.result v.new.out.bytes) (acts_then c) v.ensures.leaves.frame v.ensures.open.stays (v.ensures.open.idle c.args.id (idle_then c).is_idle)
-    (length c.args.room.now) once.result (once.ensures.count ∙ counts_served (length c.args.room.now) (source_then c) v.result v.new.out.bytes))
+    (served_in v.new.books.registry v.result v.new.out.bytes) (acts_then c) v.ensures.leaves.frame v.ensures.open.stays (v.ensures.open.idle c.args.id (idle_then c).is_idle)
+    (length c.args.room.now) once.result (once.ensures.count ∙ counts_served (length c.args.room.now) v.new.books.registry v.result v.new.out.bytes))
 
 -- ---- all of the answer is left
 
@@ -127,11 +123,8 @@ module _ (c : goal.After-is_no_call) where
   abbrev lent_else : List ℕ
   lent_else = c.lend_arguments-arguments.result.now
 
-  abbrev source_else : Source
-  source_else = source_in c.self.inside.listener.host c.serve_verdict-served.new.books
-
   acts_else : ServesInRoom (context_of view_else (Tcp c.args.id c.args.ended.peer)) (message_with c.args.ended.verdict lent_else) lent_else c.self.inside.connections c.self.inside.books c.serve_verdict-served.new.connections c.serve_verdict-served.new.books
-      (served_in source_else c.serve_verdict-served.result c.serve_verdict-served.new.out.bytes)
+      (served_in c.serve_verdict-served.new.books.registry c.serve_verdict-served.result c.serve_verdict-served.new.out.bytes)
   acts_else =
       let seen : c.context-context.result ≡ context_of view_else (Tcp c.args.id c.args.ended.peer) = sees (the_view c.self.inside) c.args.self.now c.context-context.result (Tcp c.args.id c.args.ended.peer) c.self.view_is c.context-context.ensures in
       subst (λ (x : Context). ServesVerdict x c.args.ended.verdict lent_else c.self.inside.connections c.self.inside.books c.serve_verdict-served.new.connections c.serve_verdict-served.new.books c.serve_verdict-served.result c.serve_verdict-served.new.out)
@@ -149,18 +142,18 @@ returns-clause-acts c =
     rw c.clear.ensures.empty (
     answered_from c.args.id c.args.ended c.args.arguments (lent_else c) (the_view c.self.inside) c.args.self.now c.lend_arguments-arguments.ensures.value c.self.view_is _ c.is_no_call.result 0 c.give_at_once-given.new.room
     (answers (view_else c) c.args.id c.args.ended.peer (message_with c.args.ended.verdict (lent_else c)) (lent_else c) v.new.books v.new.connections
-    (served_in (source_else c) v.result v.new.out.bytes) (acts_else c) v.ensures.leaves.frame v.ensures.open.stays (v.ensures.open.idle c.args.id (idle_else c))
-    c.settle-standing.new.self (served_in (source_else c) v.result v.new.out.bytes) [] c.settle-standing.ensures.stays (leaves_all (served_in (source_else c) v.result v.new.out.bytes))
-    (subst (λ (k : Kept). Settles (source_else c) c.args.id c.self.inside.clock v.result k.bytes v.new.connections c.settle-standing.new.self) (c.give_at_once-given.ensures.none (none_given c)) c.settle-standing.ensures.stands)
-    c.is_no_call.result (c.is_no_call.ensures (source_else c) v.new.out.bytes)))
+    (served_in v.new.books.registry v.result v.new.out.bytes) (acts_else c) v.ensures.leaves.frame v.ensures.open.stays (v.ensures.open.idle c.args.id (idle_else c))
+    c.settle-standing.new.self (served_in v.new.books.registry v.result v.new.out.bytes) [] c.settle-standing.ensures.stays (leaves_all (served_in v.new.books.registry v.result v.new.out.bytes))
+    (subst (λ (k : Kept). Settles v.new.books.registry c.args.id c.self.inside.clock v.result k.bytes v.new.connections c.settle-standing.new.self) (c.give_at_once-given.ensures.none (none_given c)) c.settle-standing.ensures.stands)
+    c.is_no_call.result (c.is_no_call.ensures v.new.books.registry v.new.out.bytes)))
 
 pub returns-clause-count : goal.returns-clause-count
 returns-clause-count c =
     let v = c.serve_verdict-served in
     counted_from c.args.id c.args.ended c.args.arguments (lent_else c) (the_view c.self.inside) c.args.self.now c.lend_arguments-arguments.ensures.value c.self.view_is c.args.room.now 0
     (counts (view_else c) c.args.id c.args.ended.peer (message_with c.args.ended.verdict (lent_else c)) (lent_else c) v.new.books v.new.connections
-    (served_in (source_else c) v.result v.new.out.bytes) (acts_else c) v.ensures.leaves.frame v.ensures.open.stays (v.ensures.open.idle c.args.id (idle_else c))
-    (length c.args.room.now) 0 (sym (none_given c) ∙ c.give_at_once-given.ensures.count ∙ counts_served (length c.args.room.now) (source_else c) v.result v.new.out.bytes))
+    (served_in v.new.books.registry v.result v.new.out.bytes) (acts_else c) v.ensures.leaves.frame v.ensures.open.stays (v.ensures.open.idle c.args.id (idle_else c))
+    (length c.args.room.now) 0 (sym (none_given c) ∙ c.give_at_once-given.ensures.count ∙ counts_served (length c.args.room.now) v.new.books.registry v.result v.new.out.bytes))
 
 pub returns-then-given-gt0-clause-stands : goal.returns-then-given-gt0-clause-stands
 returns-then-given-gt0-clause-stands c = λ s h.

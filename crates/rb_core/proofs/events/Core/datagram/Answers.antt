@@ -1,7 +1,7 @@
 use Rattle.std.proofs.Common.{◌≡◌, List, ℕ, length, refl, subst, rules}
 use Rattle.rb_rpc.specs.declared.call.Verdict.{Verdict}
 use Rattle.rb_rpc.specs.Verdict.{verdict}
-use Rattle.rb_rpc.specs.declared.peer.Caller.TheVariants.{Udp}
+use Rattle.rb_rpc.specs.declared.caller.Caller.TheVariants.{Udp}
 use Rattle.rb_feed.specs.Feeds.{arguments_of}
 use Rattle.rb_forward.specs.StandsFor.{slots_of}
 use Rattle.rb_forward.specs.Table.{OnlyWaitsAnew}
@@ -19,7 +19,7 @@ use Rattle.rb_core.specs.contracts.events.Core.{the_view}
 use Rattle.rb_core.specs.StandsFor.{Held}
 use Rattle.rb_core.specs.Eviction.{ServesInRoom}
 use Rattle.rb_core.proofs.Awaited.{awaited_by_udp}
-use Rattle.rb_core.proofs.Answering.{lists_for_room, lists_for_view, served_by}
+use Rattle.rb_core.proofs.Answering.{served_by}
 use Rattle.rb_core.proofs.Steps.{datagram_acts}
 use Rattle.rb_core.proofs.Begun.{with_steps_before, acts_begun}
 use Rattle.rb_xdr.specs.Meter.{PaysAtMost}
@@ -40,10 +40,6 @@ of_content : (context : Context) (said : Message) (arguments content : List ℕ)
 of_content context said arguments content before after old new given says behind acts =
     subst (λ (xs : List ℕ). ServesInRoom context (message_of content) xs before old after new given) behind
     (subst (λ (m : Message). ServesInRoom context m arguments before old after new given) says acts)
-
-pub serve_verdict-served-requires-clause-lists : goal.serve_verdict-served-requires-clause-lists
-serve_verdict-served-requires-clause-lists c =
-    lists_for_room (record (with_steps_before (the_view c.self.inside) c.count-self-inside.result) { clock = c.max-self-inside.result }) (Udp c.args.peer) c.context-context.result c.context-context.ensures c.self.invariant.lists
 
 written_is : (given : Written) (reply : List ℕ) → IsWritten (Answered given) reply → reply ≡ reply_in (outcome_with given reply)
 written_is outcomes.NoCall reply none = none
@@ -105,5 +101,5 @@ invariant_of-self-2 c =
     core_changed _ _ _ _ _ _ _ _ _ _ _ _ _ c.self.invariant c.serve_verdict-served.ensures.open.stays
     c.serve_verdict-served.ensures.leaves.frame (search rules) (search rules) c.len.ensures.len c.serve_verdict-served.ensures.leaves.reply.short
     (awaited_by_udp old.books.forwards books.forwards c.args.peer table awaited anew)
-    (lists_for_view old (Udp c.args.peer) c.context-context.result c.context-context.ensures table books c.serve_verdict-served.ensures.lists)
+    c.serve_verdict-served.ensures.lists
     (search rules) (search rules) (search rules)

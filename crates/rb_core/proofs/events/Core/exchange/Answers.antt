@@ -11,7 +11,7 @@ use Rattle.rb_connections.specs.Giving.{whole_cost}
 use Rattle.rb_core.specs.contracts.events.Core.{the_view}
 use Rattle.rb_core.specs.CallCosts.{sizes_of}
 use Rattle.rb_core.specs.Core.{arguments_in}
-use Rattle.rb_core.specs.StandsFor.{Held, StandsFor, source_of}
+use Rattle.rb_core.specs.StandsFor.{Held, StandsFor}
 use Rattle.rb_core.proofs.Spending.{as_large, looked_paid, received_paid, answered_paid, plain_record_paid}
 use Rattle.rb_core.proofs.Steps.{bytes_refused, quiet_acts, quiet_gives_none, with_ended, fed_by, held_after}
 use Rattle.rb_core.proofs.AtOnce.{plainly, counted, none_refused, by_count, exchange_ended, counted_ended, whole_few}
@@ -27,7 +27,7 @@ pub returns-in_err-got-clause-acts : goal.returns-in_err-got-clause-acts
 returns-in_err-got-clause-acts c =
     let p = err_from_is_err_and c.from_residual.result c.from_residual.ensures.1 in
     let view = with_steps_before (the_view c.self.inside) c.count-self-inside.result in
-    let refused = bytes_refused view c.args.now c.max-clock.result c.args.id c.args.piece.now c.take_piece.new.connections _ (c.in_err-got.ensures.acts (source_of (the_view c.self.inside))) in
+    let refused = bytes_refused view c.args.now c.max-clock.result c.args.id c.args.piece.now c.take_piece.new.connections _ (c.in_err-got.ensures.acts c.self.inside.books.registry) in
     rw (p.1, p.2, c.in_err-got.ensures.refused, c.in_err-got.ensures.kept) (
     acts_begun _ (the_view c.self.inside) c.args.self.now _ c.count-self-inside.result _ c.self.view_is
     (counted c.args.now c.args.id 0 c.args.piece.now _ view view _ (plainly c.args.now c.args.id c.args.piece.now view view _ refused) (none_refused c.args.now c.args.id c.args.piece.now _ view view _ refused)))
@@ -36,7 +36,7 @@ pub returns-in_err-got-clause-count : goal.returns-in_err-got-clause-count
 returns-in_err-got-clause-count c =
     let p = err_from_is_err_and c.from_residual.result c.from_residual.ensures.1 in
     let view = with_steps_before (the_view c.self.inside) c.count-self-inside.result in
-    let refused = bytes_refused view c.args.now c.max-clock.result c.args.id c.args.piece.now c.take_piece.new.connections _ (c.in_err-got.ensures.acts (source_of (the_view c.self.inside))) in
+    let refused = bytes_refused view c.args.now c.max-clock.result c.args.id c.args.piece.now c.take_piece.new.connections _ (c.in_err-got.ensures.acts c.self.inside.books.registry) in
     rw (p.1) (shows_begun _ (the_view c.self.inside) c.args.self.now c.count-self-inside.result 0 c.self.view_is (none_refused c.args.now c.args.id c.args.piece.now _ view view _ refused))
 
 -- a bound by what was held, of a core by its other name
@@ -63,16 +63,16 @@ returns-in_err-got-clause-bound c =
 -- ---- no record ended
 
 -- the buffer has the arguments where none lie in the piece
-in_buffer : (view : Held) (id : ℕ) (piece kept : List ℕ) (o : Option (Bor (List ℕ))) → o ≡ None → Shows (StandsForConnections (source_of view)) (arguments_on id view.arguments piece) view.connections (arguments_in o kept)
-    → Shows (StandsForConnections (source_of view)) (arguments_on id view.arguments piece) view.connections kept
-in_buffer view id piece kept o none holds = subst (λ (x : Option (Bor (List ℕ))). Shows (StandsForConnections (source_of view)) (arguments_on id view.arguments piece) view.connections (arguments_in x kept)) none holds
+in_buffer : (view : Held) (id : ℕ) (piece kept : List ℕ) (o : Option (Bor (List ℕ))) → o ≡ None → Shows (StandsForConnections view.books.registry) (arguments_on id view.arguments piece) view.connections (arguments_in o kept)
+    → Shows (StandsForConnections view.books.registry) (arguments_on id view.arguments piece) view.connections kept
+in_buffer view id piece kept o none holds = subst (λ (x : Option (Bor (List ℕ))). Shows (StandsForConnections view.books.registry) (arguments_on id view.arguments piece) view.connections (arguments_in x kept)) none holds
 
 pub returns-in_default-clause-acts : goal.returns-in_default-clause-acts
 returns-in_default-clause-acts c =
     let view = with_steps_before (the_view c.self.inside) c.count-self-inside.result in
     let got = c.in_ok-got.got.received in
-    let taken = with_ended (source_of view) c.args.id c.max-clock.result c.args.piece.now view.connections c.take_piece.new.connections got None c.in_default.is (c.in_ok-got.ensures.acts (source_of view)) in
-    let holds = in_buffer view c.args.id c.args.piece.now c.take_piece.new.arguments.bytes c.in_ok-got.got.arguments (c.in_ok-got.ensures.arguments.none c.in_default.is) (c.in_ok-got.ensures.arguments.shows (source_of view)) in
+    let taken = with_ended view.books.registry c.args.id c.max-clock.result c.args.piece.now view.connections c.take_piece.new.connections got None c.in_default.is (c.in_ok-got.ensures.acts view.books.registry) in
+    let holds = in_buffer view c.args.id c.args.piece.now c.take_piece.new.arguments.bytes c.in_ok-got.got.arguments (c.in_ok-got.ensures.arguments.none c.in_default.is) (c.in_ok-got.ensures.arguments.shows view.books.registry) in
     acts_begun _ (the_view c.self.inside) c.args.self.now _ c.count-self-inside.result _ c.self.view_is
     (counted c.args.now c.args.id 0 c.args.piece.now _ view _ _
     (plainly c.args.now c.args.id c.args.piece.now view _ _ (quiet_acts view c.args.now c.max-clock.result c.args.id c.args.piece.now c.max-clock.ensures c.take_piece.new.connections c.in_ok-got.ensures.goes_on.stays c.take_piece.new.arguments.bytes holds got.count taken))
@@ -82,8 +82,8 @@ pub returns-in_default-clause-count : goal.returns-in_default-clause-count
 returns-in_default-clause-count c =
     let view = with_steps_before (the_view c.self.inside) c.count-self-inside.result in
     let got = c.in_ok-got.got.received in
-    let taken = with_ended (source_of view) c.args.id c.max-clock.result c.args.piece.now view.connections c.take_piece.new.connections got None c.in_default.is (c.in_ok-got.ensures.acts (source_of view)) in
-    let holds = in_buffer view c.args.id c.args.piece.now c.take_piece.new.arguments.bytes c.in_ok-got.got.arguments (c.in_ok-got.ensures.arguments.none c.in_default.is) (c.in_ok-got.ensures.arguments.shows (source_of view)) in
+    let taken = with_ended view.books.registry c.args.id c.max-clock.result c.args.piece.now view.connections c.take_piece.new.connections got None c.in_default.is (c.in_ok-got.ensures.acts view.books.registry) in
+    let holds = in_buffer view c.args.id c.args.piece.now c.take_piece.new.arguments.bytes c.in_ok-got.got.arguments (c.in_ok-got.ensures.arguments.none c.in_default.is) (c.in_ok-got.ensures.arguments.shows view.books.registry) in
     shows_begun _ (the_view c.self.inside) c.args.self.now c.count-self-inside.result 0 c.self.view_is
     (quiet_gives_none view c.args.now c.max-clock.result c.args.id c.args.piece.now c.max-clock.ensures c.take_piece.new.connections c.in_ok-got.ensures.goes_on.stays c.take_piece.new.arguments.bytes holds _ got.count taken)
 
@@ -92,8 +92,8 @@ returns-in_default-clause-cost c = λ s h.
     let view = with_steps_before (the_view c.self.inside) c.count-self-inside.result in
     let z = still_stands (the_view c.self.inside) c.count-self-inside.result s (subst (λ (held : Held). StandsFor held s) (sym c.self.view_is) h) in
     let f =
-    fed_by view c.args.now c.max-clock.result c.args.id c.args.piece.now c.max-clock.ensures c.take_piece.new.connections c.in_ok-got.ensures.goes_on.stays (arguments_in c.in_ok-got.got.arguments c.take_piece.new.arguments.bytes) (c.in_ok-got.ensures.arguments.shows (source_of view))
-    c.in_ok-got.got.received (c.in_ok-got.ensures.acts (source_of view)) s z in
+    fed_by view c.args.now c.max-clock.result c.args.id c.args.piece.now c.max-clock.ensures c.take_piece.new.connections c.in_ok-got.ensures.goes_on.stays (arguments_in c.in_ok-got.got.arguments c.take_piece.new.arguments.bytes) (c.in_ok-got.ensures.arguments.shows view.books.registry)
+    c.in_ok-got.got.received (c.in_ok-got.ensures.acts view.books.registry) s z in
     by_view (the_view c.self.inside) c.args.self.now (the_view c.self.inside) c.args.id c.args.piece.now s (whole_cost (length c.args.room.now) 0) c.args.meter.now c.take_piece.new.meter c.self.view_is
     (rw f.there (received_paid (sizes_of (the_view c.self.inside) (the_view c.self.inside)) c.args.piece.now _ _ (whole_cost (length c.args.room.now) 0) f.connection c.in_ok-got.got.received f.gives c.in_ok-got.ensures.cost))
 
@@ -107,15 +107,15 @@ returns-in_default-clause-bound c =
 
 -- ---- a record that is answered
 
-ended : (c : goal.After-slice_known-2-1) → Acts (StandsForConnections (source_of (the_view c.self.inside))) (on_live c.args.id (take_piece c.max-clock.result c.args.piece.now)) c.self.inside.connections c.take_piece.new.connections (Ok (record { count = c.in_ok-got.got.received.count; ended = Some c.in-Some.ended }))
-ended c = with_ended (source_of (the_view c.self.inside)) c.args.id c.max-clock.result c.args.piece.now c.self.inside.connections c.take_piece.new.connections c.in_ok-got.got.received (Some c.in-Some.ended) c.in-Some.is (c.in_ok-got.ensures.acts (source_of (the_view c.self.inside)))
+ended : (c : goal.After-slice_known-2-1) → Acts (StandsForConnections c.self.inside.books.registry) (on_live c.args.id (take_piece c.max-clock.result c.args.piece.now)) c.self.inside.connections c.take_piece.new.connections (Ok (record { count = c.in_ok-got.got.received.count; ended = Some c.in-Some.ended }))
+ended c = with_ended c.self.inside.books.registry c.args.id c.max-clock.result c.args.piece.now c.self.inside.connections c.take_piece.new.connections c.in_ok-got.got.received (Some c.in-Some.ended) c.in-Some.is (c.in_ok-got.ensures.acts c.self.inside.books.registry)
 
 pub returns-clause-acts : goal.returns-clause-acts
 returns-clause-acts c =
     let room : List ℕ = c.answer-closed.new.room in
     let view = with_steps_before (the_view c.self.inside) c.count-self-inside.result in
     let arguments = arguments_in c.in_ok-got.got.arguments c.take_piece.new.arguments.bytes in
-    let holds = c.in_ok-got.ensures.arguments.shows (source_of view) in
+    let holds = c.in_ok-got.ensures.arguments.shows view.books.registry in
     let n : ℕ = c.answer-closed.result.1 in
     acts_begun _ (the_view c.self.inside) c.args.self.now _ c.count-self-inside.result _ c.self.view_is
     (counted c.args.now c.args.id n c.args.piece.now (length room) view _ _
@@ -129,7 +129,7 @@ pub returns-clause-count : goal.returns-clause-count
 returns-clause-count c =
     let view = with_steps_before (the_view c.self.inside) c.count-self-inside.result in
     shows_begun _ (the_view c.self.inside) c.args.self.now c.count-self-inside.result c.answer-closed.result.1 c.self.view_is
-    (counted_ended view c.args.now c.max-clock.result c.args.id c.args.piece.now c.max-clock.ensures c.take_piece.new.connections c.in_ok-got.ensures.goes_on.stays (arguments_in c.in_ok-got.got.arguments c.take_piece.new.arguments.bytes) (c.in_ok-got.ensures.arguments.shows (source_of view)) c.in_ok-got.got.received.count (length c.args.room.now) c.answer-closed.result.1 c.in-Some.ended
+    (counted_ended view c.args.now c.max-clock.result c.args.id c.args.piece.now c.max-clock.ensures c.take_piece.new.connections c.in_ok-got.ensures.goes_on.stays (arguments_in c.in_ok-got.got.arguments c.take_piece.new.arguments.bytes) (c.in_ok-got.ensures.arguments.shows view.books.registry) c.in_ok-got.got.received.count (length c.args.room.now) c.answer-closed.result.1 c.in-Some.ended
     (ended c) c.answer-closed.ensures.count)
 
 pub returns-clause-cost : goal.returns-clause-cost
@@ -137,9 +137,9 @@ returns-clause-cost c = λ s h.
     let view = with_steps_before (the_view c.self.inside) c.count-self-inside.result in
     let z = still_stands (the_view c.self.inside) c.count-self-inside.result s (subst (λ (held : Held). StandsFor held s) (sym c.self.view_is) h) in
     let arguments = arguments_in c.in_ok-got.got.arguments c.take_piece.new.arguments.bytes in
-    let holds = c.in_ok-got.ensures.arguments.shows (source_of view) in
+    let holds = c.in_ok-got.ensures.arguments.shows view.books.registry in
     let got = c.in_ok-got.got.received in
-    let f = fed_by view c.args.now c.max-clock.result c.args.id c.args.piece.now c.max-clock.ensures c.take_piece.new.connections c.in_ok-got.ensures.goes_on.stays arguments holds got (c.in_ok-got.ensures.acts (source_of view)) s z in
+    let f = fed_by view c.args.now c.max-clock.result c.args.id c.args.piece.now c.max-clock.ensures c.take_piece.new.connections c.in_ok-got.ensures.goes_on.stays arguments holds got (c.in_ok-got.ensures.acts view.books.registry) s z in
     let kept = held_after view c.args.now c.max-clock.result c.args.id c.args.piece.now c.max-clock.ensures c.take_piece.new.connections c.in_ok-got.ensures.goes_on.stays arguments holds s f.connection _ z f.there refl in
     by_view (the_view c.self.inside) c.args.self.now c.answer-closed.new.self c.args.id c.args.piece.now s (whole_cost (length c.args.room.now) c.answer-closed.result.1) c.args.meter.now c.answer-closed.new.meter c.self.view_is
     (rw f.there (

@@ -1,7 +1,6 @@
 use Rattle.std.proofs.Common.{◌≡◌, sym, ap, ◌∙◌}
 use Rattle.rb_model.specs.Ending.{lost_as, expire_connection}
 use Rattle.rb_core.specs.contracts.events.Core.{the_view}
-use Rattle.rb_core.specs.StandsFor.{source_of}
 use Rattle.rb_core.proofs.Steps.{acts_from}
 use Rattle.rb_core.proofs.Expiries.{due_closed}
 use Rattle.rb_core.proofs.Cores.{core_moved}
@@ -14,7 +13,7 @@ returns-clause-acts c =
     let is : c.match-expire.result ≡ lost_as c.expire.result =
     elim c.match-expire.branch [ in-Some w ↦ w.result-is ∙ ap lost_as (sym w.in-Some.is) | in-None w ↦ w.result-is ∙ ap lost_as (sym w.in-None.is) ] in
     acts_from expire_connection (the_view c.self.inside) c.args.self.now _ _ c.self.view_is
-    (due_closed (the_view c.self.inside) c.expire.new.self c.expire.result c.match-expire.result is c.expire.ensures.goes_on.stays (c.expire.ensures.acts (source_of (the_view c.self.inside))))
+    (due_closed (the_view c.self.inside) c.expire.new.self c.expire.result c.match-expire.result is c.expire.ensures.goes_on.stays (c.expire.ensures.acts c.self.inside.books.registry))
 
 pub invariant_of-self : goal.invariant_of-self
 invariant_of-self c =

@@ -3,9 +3,8 @@ use Rattle.rb_xdr.specs.Meter.{PaysAtMost}
 use Rattle.rb_model.specs.Costs.{pending_cost}
 use Rattle.rb_model.specs.Step.{pending}
 use Rattle.rb_connections.specs.Costs.{look_cost}
-use Rattle.rb_core.specs.StandsFor.{Held, StandsFor, source_of}
+use Rattle.rb_core.specs.StandsFor.{Held, StandsFor}
 use Rattle.rb_core.specs.Events.{length_lent}
-use Rattle.rb_core.specs.contracts.events.Core.{the_view}
 use Rattle.rb_core.proofs.Begun.{begins_at}
 use Rattle.rb_core.proofs.CallBounds.{pending_within}
 use Rattle.rb_core.proofs.events.Core.pending.Goals as goal
@@ -21,7 +20,7 @@ returns c = (
     begun = tt;
     lent = λ s h.
         let z = subst (λ held. StandsFor held s) (sym c.self.view_is) h in
-        c.pending.ensures.lent (source_of (the_view c.self.inside)) s.connections z.connections;
+        c.pending.ensures.lent c.self.inside.books.registry s.connections z.connections;
     few = c.pending.ensures.few;
     cost = paid c;
     bound = pending_within c.args.self.now _ _ (length_lent c.pending.result) (paid c);

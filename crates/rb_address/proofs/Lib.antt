@@ -1,0 +1,5 @@
+pub mod Digits
+pub mod HostTexts
+pub mod Words
+pub mod HostLaws
+pub mod NameLaws

@@ -1,0 +1,24 @@
+use Rattle.std.proofs.Common.{refl}
+use Rattle.std.specs.Fmt.{digits}
+use Rattle.std.specs.Net.Reader.{read_number, read_octet, read_ipv4, read_segment, read_segments, read_ipv6}
+use Rattle.std.specs.Net.Text.{hex, hex_groups_text}
+use Rattle.rb_uaddr.specs.Uaddr.{ipv6_host, ipv6_host_text}
+use Rattle.rb_address.specs.Hosts.{is_loopback, is_any, is_mapped, plain_host}
+use Rattle.rb_address.specs.Reading.{cut, number_below, plain_number, ipv4_host, printed_ipv6, ipv4_peer, ipv6_peer, peer}
+use Rattle.rb_address.proofs.laws.worked_examples.Goals as goal
+
+pub returns-clause-hosts_of_this_host : goal.returns-clause-hosts_of_this_host
+unfolding is_loopback is_any is_mapped plain_host
+returns-clause-hosts_of_this_host c = record { all_of_127 = refl; not_128 = refl; one_of_ipv6 = refl; not_any = refl; every_host = refl; in_ipv6 = refl }
+
+pub returns-clause-peers_printed : goal.returns-clause-peers_printed
+unfolding digits ipv6_host_text hex hex_groups_text
+returns-clause-peers_printed c = record { ipv4 = refl; ipv6 = refl }
+
+pub returns-clause-peers_read : goal.returns-clause-peers_read
+unfolding digits ipv6_host_text hex hex_groups_text cut number_below plain_number ipv4_host printed_ipv6 ipv4_peer ipv6_peer peer is_mapped ipv6_host read_ipv6 read_segments read_segment read_ipv4 read_octet read_number
+returns-clause-peers_read c = record { ipv4 = refl; ipv6 = refl }
+
+pub returns-clause-other_texts_refused : goal.returns-clause-other_texts_refused
+unfolding digits ipv6_host_text hex hex_groups_text cut number_below plain_number ipv4_host printed_ipv6 ipv4_peer ipv6_peer peer is_mapped ipv6_host read_ipv6 read_segments read_segment read_ipv4 read_octet read_number
+returns-clause-other_texts_refused c = record { upper_case = refl; not_shortened = refl; leading_zero = refl; no_brackets = refl; in_ipv6 = refl; with_a_zone = refl; brackets_of_ipv4 = refl; large_port = refl }

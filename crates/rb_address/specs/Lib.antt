@@ -1,0 +1,5 @@
+pub mod Hosts
+pub mod Netids
+pub mod Peers
+pub mod Reading
+pub mod Worked

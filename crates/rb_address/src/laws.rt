@@ -1,0 +1,32 @@
+//! What holds of hosts, peers and netids, and worked examples.
+ghost use Rattle.rb_address.specs.Hosts.{PlainIsHost, PlainStays, MappedIsPlain};
+ghost use Rattle.rb_address.specs.Netids.{NamesAreExact, NetidsAreExact, ProtocolsAreExact};
+ghost use Rattle.rb_address.specs.Reading.{PeersAreSpelled};
+ghost use Rattle.rb_address.specs.Worked.{HostsOfThisHost, PeersPrinted, PeersRead, OtherTextsRefused};
+
+/// IPv4 in IPv6's form counts as IPv4, and no other host changes.
+pub fn host_laws()
+    ensures plain_is_host { PlainIsHost }
+    ensures plain_stays { PlainStays }
+    ensures mapped_is_plain { MappedIsPlain }
+{}
+
+/// Names, protocols and families are of one netid.
+pub fn name_laws()
+    ensures names_are_exact { NamesAreExact }
+    ensures netids_are_exact { NetidsAreExact }
+    ensures protocols_are_exact { ProtocolsAreExact }
+{}
+
+/// A text is read as a peer exactly where it is what is printed of the peer.
+pub fn peer_laws()
+    ensures peers_are_spelled { PeersAreSpelled }
+{}
+
+/// Worked examples of the definitions.
+pub fn worked_examples()
+    ensures hosts_of_this_host { HostsOfThisHost }
+    ensures peers_printed { PeersPrinted }
+    ensures peers_read { PeersRead }
+    ensures other_texts_refused { OtherTextsRefused }
+{}

@@ -1,0 +1,40 @@
+//! Who sends a call, and how one asks that another is made for it.
+use rb_address::Peer;
+
+/// The most bytes of arguments of a call that is forwarded: `args` of RFC 1833 sections 2.1 and 3.1.
+pub const LONGEST_FORWARDED: usize = 8_800;
+
+/// Where a call came from: a connection, by its number, or a datagram.
+#[derive(Clone, Copy, PartialEq, Eq, Debug)]
+pub enum Caller {
+    /// A connection, by its number, and the peer at its other end.
+    Tcp(u64, Peer),
+    /// A datagram, by its sender.
+    Udp(Peer),
+}
+
+/// By which procedure a caller has another call made for it. It says what is answered, and when.
+#[derive(Clone, Copy, PartialEq, Eq, Debug)]
+pub enum Kind {
+    /// PMAPPROC_CALLIT of version 2 (RFC 1833 section 3.2).
+    Callit2,
+    /// RPCBPROC_CALLIT of version 3 (section 2.2.1).
+    Callit3,
+    /// RPCBPROC_BCAST of version 4 (section 2.2.1).
+    Bcast,
+    /// RPCBPROC_INDIRECT of version 4 (section 2.2.1).
+    Indirect,
+}
+
+/// Names each field, so that a further one does not compile until it stands here. It belongs in the table of
+/// charges of docs/RULES.md first.
+fn layout(caller: &Caller) {
+    match *caller {
+        Caller::Tcp(number, peer) => {
+            let _: (u64, Peer) = (number, peer);
+        }
+        Caller::Udp(peer) => {
+            let _: Peer = peer;
+        }
+    }
+}
