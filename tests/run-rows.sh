@@ -419,7 +419,7 @@ run_daemon_without_announce() {
 
 # Words of `serve` that can't be read: the value, the option, and what is wanted.
 run_bad_words_of_serve() {
-    local option value wanted
+    local option value wanted words
     while IFS=: read -r option value wanted; do
         echo "error: invalid value '$value' for '--$option': $wanted is wanted" > "$work/wanted"
         run /dev/null serve "--$option" "$value"
@@ -432,11 +432,70 @@ local-mode:+6:a mode from 0 to 777 in octal digits
 record-limit:999:a number from 1000 to 16777216
 record-limit:16777217:a number from 1000 to 16777216
 bind:localhost:an IPv4 address as 192.0.2.1
+from:localhost:a network as 192.0.2.0/24 or 2001:db8::/32
+from:192.0.2.0/33:a network as 192.0.2.0/24 or 2001:db8::/32
+from:192.0.2.1/24:a network as 192.0.2.0/24 or 2001:db8::/32
+from:192.0.2.0/255.255.255.0:a network as 192.0.2.0/24 or 2001:db8::/32
 END
     echo "error: invalid value '::' for '--bind': an IPv4 address as 192.0.2.1 is wanted" > "$work/wanted"
     run /dev/null serve --bind 127.0.0.1 --bind ::
     as_wanted /dev/null "$work/wanted" 2
     judge $? "--bind '::' can't be read"
+    echo "error: invalid value '2001:db8::1/32' for '--from': a network as 192.0.2.0/24 or 2001:db8::/32 is wanted" > "$work/wanted"
+    run /dev/null serve --from 2001:db8::/32 --from 2001:db8::1/32
+    as_wanted /dev/null "$work/wanted" 2
+    judge $? "--from '2001:db8::1/32' can't be read"
+    echo "error: invalid value '192.0.2.17' for '--from': no more than 16 networks is wanted" > "$work/wanted"
+    mapfile -t words < <(printf -- '--from=192.0.2.%s\n' $(seq 17))
+    run /dev/null serve "${words[@]}"
+    as_wanted /dev/null "$work/wanted" 2
+    judge $? "--from is given 17 times"
+}
+
+# Sixteen networks, of both families, with a host alone among them.
+run_daemon_of_networks() {
+    local words
+    echo 'rpcbind: listening on 127.0.0.1 port 20112' > "$work/wanted"
+    mapfile -t words < <(printf -- '--from=192.0.2.%s\n' $(seq 13))
+    run /dev/null serve --port 20112 --turns 1 --from 0.0.0.0/0 --from 198.51.100.0/24 --from 2001:DB8::/32 "${words[@]}"
+    as_wanted "$work/wanted" /dev/null 0
+    judge $? "a daemon that serves sixteen networks"
+}
+
+# Whether a call over TCP (t) or UDP (u) to this address of the machine, and so from it, is answered.
+is_answered() {
+    timeout 2 "$rpcinfo" --port 20112 "-$1" "$2" 100000 2 > /dev/null 2>&1
+}
+
+# In a network namespace whose machine has an address in a network that is served and another one, which is announced. The
+# other is not served: over TCP it is told so at once, by a connection that is closed.
+callers_of_networks() {
+    local bad=0 host transport status
+    ip link set lo up && ip address add 192.0.2.1/32 dev lo && ip address add 198.51.100.1/32 dev lo || return 1
+    start_daemon "$work/listening" --port 20112 --bind 0.0.0.0 --announce 198.51.100.1 --from 192.0.2.0/24 || return 1
+    for host in 127.0.0.1 192.0.2.1; do
+        for transport in t u; do
+            is_answered $transport $host || { echo "$host -$transport: not answered"; bad=1; }
+        done
+    done
+    is_answered t 198.51.100.1
+    status=$?
+    [ $status -eq 1 ] || { echo "198.51.100.1 -t: status $status"; bad=1; }
+    ! is_answered u 198.51.100.1 || { echo "198.51.100.1 -u: answered"; bad=1; }
+    is_answered u 192.0.2.1 || { echo "192.0.2.1 -u: not answered at the end"; bad=1; }
+    kill "$daemon"
+    return $bad
+}
+
+run_callers_of_networks() {
+    if [ "$(id -u)" -ne 0 ] || ! unshare --net true 2> /dev/null || ! command -v ip > /dev/null; then
+        echo "callers of other networks are not tried: that wants root, unshare and ip"
+        return
+    fi
+    export program rpcinfo work
+    export -f is_answered callers_of_networks start_daemon
+    unshare --net "$BASH" -c callers_of_networks
+    judge $? "callers of other networks"
 }
 
 # Both programs are of one version, the newest of CHANGELOG that has a number.
@@ -703,8 +762,9 @@ if [ -x "$program" ]; then
     run_daemon_elsewhere
     run_daemon_without_announce
     run_bad_words_of_serve
+    run_daemon_of_networks
     run_help_of '' help version
-    run_help_of serve bind announce local local-mode loopback6 port conns rows forwards turns record record-limit help version
+    run_help_of serve bind from announce local local-mode loopback6 port conns rows forwards turns record record-limit help version
     run_help_of replay announce port conns rows forwards check steps xid now help version
     run_version_of '' rpcbind
     run_version_of serve rpcbind-serve
@@ -719,6 +779,7 @@ if [ -x "$rpcinfo" ]; then
     run_rpcinfo_to_full_device
     run_rpcinfo_of_a_folder
     [ ! -x "$program" ] || run_rpcinfo_over_sockets
+    [ ! -x "$program" ] || run_callers_of_networks
     run_rpcinfo_help
 else
     judge 1 "no program $rpcinfo: run 'make' first"

@@ -3,3 +3,4 @@ pub mod HostTexts
 pub mod Words
 pub mod HostLaws
 pub mod NameLaws
+pub mod NetworkBits

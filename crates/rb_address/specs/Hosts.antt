@@ -11,6 +11,11 @@ abbrev pub octets_of_host : Host → List ℕ
 octets_of_host (V4 octets) = octets
 octets_of_host (V6 octets) = octets
 
+-- how many bits it has
+abbrev pub bit_count : Host → ℕ
+bit_count (V4 octets) = 32
+bit_count (V6 octets) = 128
+
 abbrev pub family_of : Host → Family
 family_of (V4 octets) = Inet
 family_of (V6 octets) = Inet6

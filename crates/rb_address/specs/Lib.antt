@@ -1,5 +1,6 @@
 pub mod Hosts
 pub mod Netids
+pub mod Networks
 pub mod Peers
 pub mod Reading
 pub mod Worked

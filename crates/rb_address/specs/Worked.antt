@@ -1,9 +1,11 @@
 -- Worked examples.
-use Rattle.std.specs.Prelude.{◌≡◌, true, false, [], ◌∷◌, ◌++◌, replicate, codes, Some, None}
+use Rattle.std.specs.Prelude.{◌≡◌, ℕ, Bool, true, false, List, [], ◌∷◌, ◌++◌, replicate, codes, Option, Some, None, option_map, Err}
 use Rattle.rb_address.specs.declared.host.Host.{Host}
 use Rattle.rb_address.specs.declared.host.Host.TheVariants.{V4, V6}
 use Rattle.rb_address.specs.declared.peer.Peer.{Peer}
+use Rattle.rb_address.specs.declared.network.NetworkFault.TheVariants.{TooLong, BitsBehind, Mapped}
 use Rattle.rb_address.specs.Hosts.{is_loopback, is_any, plain_host}
+use Rattle.rb_address.specs.Networks.{has, network_at, network_of}
 use Rattle.rb_address.specs.Peers.{peer_text}
 use Rattle.rb_address.specs.Reading.{peer}
 
@@ -43,3 +45,36 @@ pub record OtherTextsRefused : Type 0 where
   pub with_a_zone : peer (codes "[fe80::1%2]:900") ≡ None
   pub brackets_of_ipv4 : peer (codes "[192.0.2.1]:900") ≡ None
   pub large_port : peer (codes "[2001:db8::1]:65536") ≡ None
+
+-- whether the network of this text has the host
+abbrev pub is_in : List ℕ → Host → Option Bool
+is_in text host = option_map (λ network. has network host) (network_of text)
+
+-- 2001:db8::/32, with this fifth byte and such others behind it
+abbrev pub of_2001_db8 : ℕ → ℕ → Host
+of_2001_db8 fifth others = V6 (32 ∷ 1 ∷ 13 ∷ 184 ∷ fifth ∷ replicate 11 others)
+
+pub record NetworksRead : Type 0 where
+  pub last_of_24 : is_in (codes "192.0.2.0/24") (V4 (192 ∷ 0 ∷ 2 ∷ 255 ∷ [])) ≡ Some true
+  pub after_24 : is_in (codes "192.0.2.0/24") (V4 (192 ∷ 0 ∷ 3 ∷ 0 ∷ [])) ≡ Some false
+  pub before_24 : is_in (codes "192.0.2.0/24") (V4 (192 ∷ 0 ∷ 1 ∷ 255 ∷ [])) ≡ Some false
+  pub all_of_ipv4 : is_in (codes "0.0.0.0/0") (V4 (255 ∷ 254 ∷ 253 ∷ 252 ∷ [])) ≡ Some true
+  pub none_of_ipv6 : is_in (codes "0.0.0.0/0") (V6 (replicate 16 0)) ≡ Some false
+  pub none_of_ipv4 : is_in (codes "::/0") (V4 (0 ∷ 0 ∷ 0 ∷ 0 ∷ [])) ≡ Some false
+  pub last_of_33 : is_in (codes "2001:db8::/33") (of_2001_db8 127 255) ≡ Some true
+  pub after_33 : is_in (codes "2001:db8::/33") (of_2001_db8 128 0) ≡ Some false
+  pub one_host : network_of (codes "192.0.2.1/32") ≡ network_of (codes "192.0.2.1")
+  pub that_host : is_in (codes "192.0.2.1") (V4 (192 ∷ 0 ∷ 2 ∷ 1 ∷ [])) ≡ Some true
+  pub no_other : is_in (codes "192.0.2.1") (V4 (192 ∷ 0 ∷ 2 ∷ 0 ∷ [])) ≡ Some false
+  pub any_spelling : network_of (codes "2001:DB8:0:0::/32") ≡ network_of (codes "2001:db8::/32")
+
+pub record OtherNetworksRefused : Type 0 where
+  pub too_long : network_at (V4 (192 ∷ 0 ∷ 2 ∷ 0 ∷ [])) 33 ≡ Err TooLong
+  pub bits_behind : network_at (V4 (192 ∷ 0 ∷ 2 ∷ 1 ∷ [])) 24 ≡ Err BitsBehind
+  pub mapped : network_at (V6 (replicate 10 0 ++ 255 ∷ 255 ∷ replicate 4 0)) 96 ≡ Err Mapped
+  pub longer : network_of (codes "2001:db8::/129") ≡ None
+  pub mistyped : network_of (codes "192.0.2.128/24") ≡ None
+  pub leading_zero : network_of (codes "192.0.2.0/024") ≡ None
+  pub no_length : network_of (codes "192.0.2.0/") ≡ None
+  pub no_host : network_of (codes "/24") ≡ None
+  pub a_mask : network_of (codes "192.0.2.0/255.255.255.0") ≡ None

@@ -2,7 +2,7 @@
 ghost use Rattle.rb_address.specs.Hosts.{PlainIsHost, PlainStays, MappedIsPlain};
 ghost use Rattle.rb_address.specs.Netids.{NamesAreExact, NetidsAreExact, ProtocolsAreExact};
 ghost use Rattle.rb_address.specs.Reading.{PeersAreSpelled};
-ghost use Rattle.rb_address.specs.Worked.{HostsOfThisHost, PeersPrinted, PeersRead, OtherTextsRefused};
+ghost use Rattle.rb_address.specs.Worked.{HostsOfThisHost, PeersPrinted, PeersRead, OtherTextsRefused, NetworksRead, OtherNetworksRefused};
 
 /// IPv4 in IPv6's form counts as IPv4, and no other host changes.
 pub fn host_laws()
@@ -29,4 +29,6 @@ pub fn worked_examples()
     ensures peers_printed { PeersPrinted }
     ensures peers_read { PeersRead }
     ensures other_texts_refused { OtherTextsRefused }
+    ensures networks_read { NetworksRead }
+    ensures other_networks_refused { OtherNetworksRefused }
 {}

@@ -5,8 +5,8 @@ use crate::options::command;
 use clap::error::ErrorKind;
 use clap::{ArgMatches, Error};
 use rb_lines::{
-    Beginning, Fault, MOST_HOSTS, ReplayTexts, ServeFault, ServeTexts, Service, Valued, explain,
-    read_beginning, read_service,
+    Beginning, Fault, MOST_HOSTS, MOST_NETWORKS, ReplayTexts, ServeFault, ServeTexts, Service,
+    Valued, explain, read_beginning, read_service,
 };
 use std::alloc::Global;
 use std::convert::AsStr;
@@ -17,6 +17,8 @@ use std::io::Write;
 const NUMBER: &str = "a number of 64 bits";
 
 const ADDRESS: &str = "an IPv4 address as 192.0.2.1";
+
+const NETWORK: &str = "a network as 192.0.2.0/24 or 2001:db8::/32";
 
 /// What a command line asks for.
 #[derive(Debug, Drop)]
@@ -144,6 +146,7 @@ fn service_of<'a>(alloc: Global, matches: &ArgMatches<'a>) -> Result<Service<'a>
     let texts = ServeTexts {
         announce: matches.get_str("announce"),
         bind: matches.get_strs("bind").unwrap_or(&[]),
+        from: matches.get_strs("from").unwrap_or(&[]),
         loopback6: matches.get_flag("loopback6"),
         local: matches.get_str("local"),
         local_mode: text_of(matches, "local-mode"),
@@ -185,6 +188,7 @@ fn bad_value<'a>(bad: Valued, matches: &ArgMatches<'a>) -> BadValue<'a> {
     let (option, wanted) = match bad {
         Valued::Announce => ("announce", ADDRESS),
         Valued::Bind(place) => return bad_host(place, matches),
+        Valued::From(place) => return bad_network(place, matches),
         Valued::Local => ("local", "a path of at most 107 bytes"),
         Valued::LocalMode => ("local-mode", "a mode from 0 to 777 in octal digits"),
         Valued::Conns => ("conns", NUMBER),
@@ -213,6 +217,20 @@ fn bad_host<'a>(place: usize, matches: &ArgMatches<'a>) -> BadValue<'a> {
             ADDRESS
         } else {
             "no more than 16 addresses"
+        },
+    }
+}
+
+/// What is wrong with the value of `--from` at a place.
+fn bad_network<'a>(place: usize, matches: &ArgMatches<'a>) -> BadValue<'a> {
+    let values = matches.get_strs("from").unwrap_or(&[]);
+    BadValue {
+        option: "from",
+        value: values.get(place).copied().unwrap_or(""),
+        wanted: if place < MOST_NETWORKS {
+            NETWORK
+        } else {
+            "no more than 16 networks"
         },
     }
 }

@@ -32,10 +32,18 @@ fn serve<'a>(alloc: Global) -> Result<Command<'a>, AllocError> {
     )
     .action(ArgAction::Append)
     .default_value(serve_default(Valued::Bind(0)));
+    let from = option(
+        alloc,
+        "from",
+        "NETWORK",
+        "Serve hosts of this network and this machine alone, as 192.0.2.0/24; may be given up to 16 times",
+    )
+    .action(ArgAction::Append);
     let command = Command::new(alloc, "serve")
         .version(VERSION)
         .about("Listens over TCP and UDP, and serves until it is stopped")
         .arg(bind)?
+        .arg(from)?
         .arg(announce(
             alloc,
             "IPv4 address that answers show for 0.0.0.0; callers from it are local [default: the first --bind]",

@@ -30,6 +30,7 @@ pub fn settings_of<'a>(service: &'a Service<'a>) -> Settings<'a> {
     };
     Settings {
         hosts: service.hosts.as_slice(),
+        networks: service.networks.as_slice(),
         loopback6: service.loopback6,
         local,
         announce: announced_address(service.announce, first),

@@ -192,7 +192,10 @@ impl Serving {
             let Some(calls) = self.sockets.calls.all.get(i) else {
                 break;
             };
-            match calls.socket.receive(&mut self.datagram) {
+            match calls
+                .socket
+                .receive(&self.sockets.networks, &mut self.datagram)
+            {
                 Ok((len, from)) => {
                     got_some = true;
                     self.answer(i, len, from);
@@ -335,7 +338,7 @@ impl Serving {
             let Some(listener) = self.sockets.listeners.get(which) else {
                 break;
             };
-            match listener.socket.accept() {
+            match listener.socket.accept(&self.sockets.networks) {
                 Ok((stream, from)) => {
                     got_some = true;
                     *left = left.saturating_sub(1);

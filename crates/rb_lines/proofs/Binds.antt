@@ -3,54 +3,54 @@ use Rattle.std.specs.Borrow.{Bor}
 use Rattle.std.specs.List.{list_all}
 use Rattle.std.specs.Char.{digit_value}
 use Rattle.std.specs.Str.Parse.{IsNumeral, AllDigits, without_leading_plus, digits_value}
-use Rattle.std.specs.declared.net.ipv4_addr.Ipv4Addr.{Ipv4Addr}
 use Rattle.std.proofs.Common.{◌≡◌, ◌≢◌, ◌<◌, ◌≤◌, ◌+◌, ◌^◌, ℕ, true, List, [], ◌∷◌, ◌++◌, length, get_or, drop, arith, inl, inr, None, Result, Ok, Err, refl, sym, ap, subst, ◌∙◌, append_assoc, append-nil}
 use Rattle.std.proofs.lemmas.List.{drop_more, drop_all, length_push}
 use Rattle.std.proofs.lemmas.Bool.{cases_lt, and_parts, ltb-true}
 use Rattle.std.proofs.lemmas.Str.Parse.{without_leading_plus_none}
 use Rattle.rb_lines.specs.declared.options.Valued.{Valued}
 use Rattle.rb_lines.specs.Options.{◌>>=◌}
-use Rattle.rb_lines.specs.Serving.{host_at, hosts_from, is_octal, read_mode}
+use Rattle.rb_lines.specs.Serving.{values_from, is_octal, read_mode}
 
--- ---- the addresses of `--bind`
+-- ---- the values of `--bind`, and of `--from`
 
--- the addresses that were read, in front of those that are left
-abbrev pub with_front : List Ipv4Addr → Result (List Ipv4Addr) Valued → Result (List Ipv4Addr) Valued
-with_front front (Ok hosts) = Ok (front ++ hosts)
-with_front front (Err bad) = Err bad
+module _ {A : Type 0} (value_at : ℕ → List ℕ → Result A Valued) where
+  -- the values that were read, in front of those that are left
+  abbrev pub with_front : List A → Result (List A) Valued → Result (List A) Valued
+  with_front front (Ok others) = Ok (front ++ others)
+  with_front front (Err bad) = Err bad
 
-abbrev onto : Ipv4Addr → Result (List Ipv4Addr) Valued → Result (List Ipv4Addr) Valued
-onto host rest = rest >>= λ others. Ok (host ∷ others)
+  abbrev onto : A → Result (List A) Valued → Result (List A) Valued
+  onto value rest = rest >>= λ others. Ok (value ∷ others)
 
-with_front-onto : (front : List Ipv4Addr) (host : Ipv4Addr) (rest : Result (List Ipv4Addr) Valued) → with_front front (onto host rest) ≡ with_front (front ++ host ∷ []) rest
-with_front-onto front host (Ok hosts) = ap Ok (sym (append_assoc front (host ∷ []) hosts))
-with_front-onto front host (Err bad) = refl
+  with_front-onto : (front : List A) (value : A) (rest : Result (List A) Valued) → with_front front (onto value rest) ≡ with_front (front ++ value ∷ []) rest
+  with_front-onto front value (Ok others) = ap Ok (sym (append_assoc front (value ∷ []) others))
+  with_front-onto front value (Err bad) = refl
 
--- the addresses from a place on are the one there and those after it
-taken : (k i : ℕ) (texts : List (Bor (List ℕ))) (none : Bor (List ℕ)) → i < length texts
-    → hosts_from k (drop i texts) ≡ (host_at k (get_or texts i none).now >>= λ host. onto host (hosts_from (k + 1) (drop (i + 1) texts)))
-unfolding hosts_from
-taken k i texts none lt = ap (hosts_from k) (drop_more texts i none lt)
+  -- the values from a place on are the one there and those after it
+  taken : (k i : ℕ) (texts : List (Bor (List ℕ))) (none : Bor (List ℕ)) → i < length texts
+      → values_from value_at k (drop i texts) ≡ (value_at k (get_or texts i none).now >>= λ value. onto value (values_from value_at (k + 1) (drop (i + 1) texts)))
+  unfolding values_from
+  taken k i texts none lt = ap (values_from value_at k) (drop_more texts i none lt)
 
-pub goes_on : (front : List Ipv4Addr) (host : Ipv4Addr) (i : ℕ) (texts : List (Bor (List ℕ))) (none : Bor (List ℕ)) (all : Result (List Ipv4Addr) Valued) → i < length texts
-    → (k : ℕ) → k ≡ length front → Ok host ≡ host_at k (get_or texts i none).now → with_front front (hosts_from (length front) (drop i texts)) ≡ all
-    → with_front (front ++ host ∷ []) (hosts_from (length (front ++ host ∷ [])) (drop (i + 1) texts)) ≡ all
-goes_on front host i texts none all lt k place given h =
-    let read = ap (λ (k : ℕ). host_at k (get_or texts i none).now) (sym place) ∙ sym given in
-    let rest = hosts_from (length front + 1) (drop (i + 1) texts) in
-    let first : hosts_from (length front) (drop i texts) ≡ onto host rest = taken (length front) i texts none lt ∙ ap (λ (r : Result Ipv4Addr Valued). r >>= λ host. onto host rest) read in
-    rw (length_push front host) (sym (with_front-onto front host rest) ∙ ap (with_front front) (sym first) ∙ h)
+  pub goes_on : (front : List A) (value : A) (i : ℕ) (texts : List (Bor (List ℕ))) (none : Bor (List ℕ)) (all : Result (List A) Valued) → i < length texts
+      → (k : ℕ) → k ≡ length front → Ok value ≡ value_at k (get_or texts i none).now → with_front front (values_from value_at (length front) (drop i texts)) ≡ all
+      → with_front (front ++ value ∷ []) (values_from value_at (length (front ++ value ∷ [])) (drop (i + 1) texts)) ≡ all
+  goes_on front value i texts none all lt k place given h =
+      let read = ap (λ (k : ℕ). value_at k (get_or texts i none).now) (sym place) ∙ sym given in
+      let rest = values_from value_at (length front + 1) (drop (i + 1) texts) in
+      let first : values_from value_at (length front) (drop i texts) ≡ onto value rest = taken (length front) i texts none lt ∙ ap (λ (r : Result A Valued). r >>= λ value. onto value rest) read in
+      rw (length_push front value) (sym (with_front-onto front value rest) ∙ ap (with_front front) (sym first) ∙ h)
 
-pub stops : (front : List Ipv4Addr) (bad : Valued) (i : ℕ) (texts : List (Bor (List ℕ))) (none : Bor (List ℕ)) (all : Result (List Ipv4Addr) Valued) → i < length texts
-    → (k : ℕ) → k ≡ length front → Err bad ≡ host_at k (get_or texts i none).now → with_front front (hosts_from (length front) (drop i texts)) ≡ all → all ≡ Err bad
-stops front bad i texts none all lt k place given h =
-    let read = ap (λ (k : ℕ). host_at k (get_or texts i none).now) (sym place) ∙ sym given in
-    let rest = hosts_from (length front + 1) (drop (i + 1) texts) in
-    sym h ∙ ap (with_front front) (taken (length front) i texts none lt ∙ ap (λ (r : Result Ipv4Addr Valued). r >>= λ host. onto host rest) read)
+  pub stops : (front : List A) (bad : Valued) (i : ℕ) (texts : List (Bor (List ℕ))) (none : Bor (List ℕ)) (all : Result (List A) Valued) → i < length texts
+      → (k : ℕ) → k ≡ length front → Err bad ≡ value_at k (get_or texts i none).now → with_front front (values_from value_at (length front) (drop i texts)) ≡ all → all ≡ Err bad
+  stops front bad i texts none all lt k place given h =
+      let read = ap (λ (k : ℕ). value_at k (get_or texts i none).now) (sym place) ∙ sym given in
+      let rest = values_from value_at (length front + 1) (drop (i + 1) texts) in
+      sym h ∙ ap (with_front front) (taken (length front) i texts none lt ∙ ap (λ (r : Result A Valued). r >>= λ value. onto value rest) read)
 
-pub ends : (front : List Ipv4Addr) (i : ℕ) (texts : List (Bor (List ℕ))) (all : Result (List Ipv4Addr) Valued) → length texts ≤ i → with_front front (hosts_from (length front) (drop i texts)) ≡ all → all ≡ Ok front
-unfolding hosts_from
-ends front i texts all le h = sym h ∙ ap (λ (ts : List (Bor (List ℕ))). with_front front (hosts_from (length front) ts)) (drop_all i texts le) ∙ ap Ok (append-nil front)
+  pub ends : (front : List A) (i : ℕ) (texts : List (Bor (List ℕ))) (all : Result (List A) Valued) → length texts ≤ i → with_front front (values_from value_at (length front) (drop i texts)) ≡ all → all ≡ Ok front
+  unfolding values_from
+  ends front i texts all le h = sym h ∙ ap (λ (ts : List (Bor (List ℕ))). with_front front (values_from value_at (length front) ts)) (drop_all i texts le) ∙ ap Ok (append-nil front)
 
 -- ---- the mode of the local socket
 

@@ -5,10 +5,12 @@ use Rattle.std.specs.Char.{digit_value}
 use Rattle.std.specs.Str.Parse.{digits_value}
 use Rattle.std.specs.Borrow.{Bor}
 use Rattle.std.specs.declared.net.ipv4_addr.Ipv4Addr.{Ipv4Addr}
+use Rattle.rb_address.specs.declared.network.Network.{Network}
 use Rattle.rb_address.specs.Reading.{number_below, ipv4_host}
+use Rattle.rb_address.specs.Networks.{network_of}
 use Rattle.rb_model.specs.declared.types.Limits.{Limits}
 use Rattle.rb_lines.specs.declared.options.Valued.{Valued}
-use Rattle.rb_lines.specs.declared.options.Valued.TheVariants.{Announce, Bind, Local, LocalMode, Port, Conns, Rows, Forwards, Xid, Now, Turns, RecordLimit}
+use Rattle.rb_lines.specs.declared.options.Valued.TheVariants.{Announce, Bind, From, Local, LocalMode, Port, Conns, Rows, Forwards, Xid, Now, Turns, RecordLimit}
 use Rattle.rb_lines.specs.declared.serving.ServeTexts.{ServeTexts}
 use Rattle.rb_lines.specs.declared.serving.ServeFault.{ServeFault}
 use Rattle.rb_lines.specs.declared.serving.ServeFault.TheVariants.{BadValue, NoMemory}
@@ -27,6 +29,7 @@ default_of Forwards = codes "0"
 default_of Turns = codes "0"
 default_of RecordLimit = codes "16000000"
 default_of Announce = []
+default_of (From place) = []
 default_of Local = []
 default_of Xid = []
 default_of Now = []
@@ -42,12 +45,23 @@ read_announce (Some text) = value_of Announce (address text.now) >>= λ given. O
 abbrev pub host_at : ℕ → List ℕ → Result Ipv4Addr Valued
 host_at place text = if nat_lt place 16 then value_of (Bind place) (address text) else Err (Bind place)
 
-unfoldable pub hosts_from : ℕ → List (Bor (List ℕ)) → Result (List Ipv4Addr) Valued
-hosts_from place [] = Ok []
-hosts_from place (text ∷ texts) = do
-  first ← host_at place text.now
-  others ← hosts_from (place + 1) texts
+-- the network at a place of `--from`, of which there are at most 16
+abbrev pub network_at : ℕ → List ℕ → Result Network Valued
+network_at place text = if nat_lt place 16 then value_of (From place) (network_of text) else Err (From place)
+
+-- the values from a place on, each read as one of its place
+unfoldable pub values_from : {A : Type 0} → (ℕ → List ℕ → Result A Valued) → ℕ → List (Bor (List ℕ)) → Result (List A) Valued
+values_from value_at place [] = Ok []
+values_from value_at place (text ∷ texts) = do
+  first ← value_at place text.now
+  others ← values_from value_at (place + 1) texts
   Ok (first ∷ others)
+
+abbrev pub hosts_from : ℕ → List (Bor (List ℕ)) → Result (List Ipv4Addr) Valued
+hosts_from place texts = values_from host_at place texts
+
+abbrev pub networks_from : ℕ → List (Bor (List ℕ)) → Result (List Network) Valued
+networks_from place texts = values_from network_at place texts
 
 -- a path of 1 to 107 bytes
 abbrev pub is_path : List ℕ → Bool
@@ -74,9 +88,10 @@ if_between least most (Some n) = if nat_le least n && nat_le n most then Some n 
 abbrev pub record_limit : List ℕ → Option ℕ
 record_limit text = if_between 1000 16777216 (number_below (2 ^ 64) text)
 
--- the addresses of the vector, and the other fields
+-- the addresses and networks of the vectors, and the other fields
 pub record Service : Type 0 where
   pub hosts : List Ipv4Addr
+  pub networks : List Network
   pub loopback6 : Bool
   pub local : Option (Bor (List ℕ))
   pub local_mode : ℕ
@@ -87,8 +102,8 @@ pub record Service : Type 0 where
   pub recorded : Option Record
 
 -- the same from `--local` on
-abbrev pub rest_of : Option Ipv4Addr → List Ipv4Addr → ServeTexts → Result Service Valued
-rest_of given hosts texts = do
+abbrev pub rest_of : Option Ipv4Addr → List Ipv4Addr → List Network → ServeTexts → Result Service Valued
+rest_of given hosts networks texts = do
   path ← read_local texts.local
   bits ← value_of LocalMode (read_mode texts.local_mode.now)
   listens ← value_of Port (port texts.port.now)
@@ -97,6 +112,7 @@ rest_of given hosts texts = do
   bytes ← value_of RecordLimit (record_limit texts.record_limit.now)
   Ok (record {
     hosts = hosts;
+    networks = networks;
     loopback6 = texts.loopback6;
     local = path;
     local_mode = bits;
@@ -112,13 +128,15 @@ abbrev pub service_of : ServeTexts → Result Service Valued
 service_of texts = do
   given ← read_announce texts.announce
   hosts ← hosts_from 0 texts.bind.now
-  rest_of given hosts texts
+  networks ← networks_from 0 texts.from.now
+  rest_of given hosts networks texts
 
 -- ---- as the code has them
 
 abbrev pub service_view : code.Service → Service
 service_view s = record {
   hosts = s.hosts.items;
+  networks = s.networks.items;
   loopback6 = s.loopback6;
   local = s.local;
   local_mode = s.local_mode;

@@ -29,6 +29,8 @@ pub enum Valued {
     Announce,
     /// The value of `--bind` at this place, from 0. None may stand at place 16.
     Bind(usize),
+    /// The value of `--from` at this place, from 0. None may stand at place 16.
+    From(usize),
     /// `--local PATH`
     Local,
     /// `--local-mode MODE`

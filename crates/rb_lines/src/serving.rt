@@ -2,15 +2,19 @@
 ghost use Rattle.std.specs.Prelude.{◌≡◌};
 ghost use Rattle.std.specs.List.{list_all};
 ghost use Rattle.rb_lines.specs.Options.{value_of};
-ghost use Rattle.rb_lines.specs.Serving.{Serves, address, default_of, read_announce, host_at, hosts_from, read_local, is_octal, read_mode, record_limit, rest_of, service_of, service_view, result_view};
+ghost use Rattle.rb_lines.specs.Serving.{Serves, address, default_of, read_announce, host_at, hosts_from, network_at, networks_from, read_local, is_octal, read_mode, record_limit, rest_of, service_of, service_view, result_view};
 
 use crate::options::{Valued, address, number, read_limits, read_port};
+use rb_address::Network;
 use rb_model::Limits;
 use std::alloc::Global;
 use std::net::Ipv4Addr;
 
 /// The most addresses of `--bind`.
 pub const MOST_HOSTS: usize = 16;
+
+/// The most networks of `--from`.
+pub const MOST_NETWORKS: usize = 16;
 
 /// The longest path of a local socket, in bytes.
 const LONGEST_PATH: usize = 107;
@@ -22,6 +26,8 @@ pub struct ServeTexts<'m, 'a> {
     pub announce: Option<&'a str>,
     /// At most 16 such addresses.
     pub bind: &'m [&'a str],
+    /// At most 16 networks, as 192.0.2.0/24 or 2001:db8::/32.
+    pub from: &'m [&'a str],
     /// Whether `--loopback6` is given.
     pub loopback6: bool,
     /// A path of 1 to 107 bytes.
@@ -49,6 +55,8 @@ pub struct ServeTexts<'m, 'a> {
 pub struct Service<'a> {
     /// The addresses to listen on.
     pub hosts: Vec<Ipv4Addr>,
+    /// The networks whose hosts may ask, beside this machine; with none everybody may.
+    pub networks: Vec<Network>,
     /// Whether to listen on [::1] over TCP besides.
     pub loopback6: bool,
     /// The path of the local socket, if there is one.
@@ -99,7 +107,7 @@ pub fn serve_default(option: Valued) -> &'static str
         Valued::Forwards => "0",
         Valued::Turns => "0",
         Valued::RecordLimit => "16000000",
-        Valued::Announce | Valued::Local | Valued::Xid | Valued::Now => "",
+        Valued::Announce | Valued::From(_) | Valued::Local | Valued::Xid | Valued::Now => "",
     }
 }
 
@@ -147,6 +155,34 @@ fn read_hosts(alloc: Global, texts: &[&str]) -> Result<Vec<Ipv4Addr>, ServeFault
         }
     }
     Ok(hosts)
+}
+
+/// The network of `--from` at a place.
+fn network_at(place: usize, text: &str) -> Result<Network, Valued>
+    ensures { result ≡ network_at place text.now }
+{
+    if place < MOST_NETWORKS {
+        Network::read(text.as_bytes()).ok_or(Valued::From(place))
+    } else {
+        Err(Valued::From(place))
+    }
+}
+
+/// The networks of `--from`.
+fn read_networks(alloc: Global, texts: &[&str]) -> Result<Vec<Network>, ServeFault>
+    ensures { Serves (λ networks. networks.items) result (networks_from 0 texts.now) }
+{
+    let mut networks = Vec::new(alloc);
+    for text in texts {
+        let network = match network_at(networks.len(), text) {
+            Ok(network) => network,
+            Err(bad) => return Err(ServeFault::BadValue(bad)),
+        };
+        if networks.push(network).is_err() {
+            return Err(ServeFault::NoMemory);
+        }
+    }
+    Ok(networks)
 }
 
 /// The path of the local socket. One of no bytes or of more than 107 names no socket.
@@ -200,13 +236,14 @@ fn read_record_limit(text: &str) -> Result<usize, Valued>
     }
 }
 
-/// What the values of the options from `--local` on mean, with the addresses that were read.
+/// What the values of the options from `--local` on mean, with the addresses and networks that were read.
 fn read_rest<'a>(
     announce: Option<Ipv4Addr>,
     hosts: Vec<Ipv4Addr>,
+    networks: Vec<Network>,
     texts: &ServeTexts<'_, 'a>,
 ) -> Result<Service<'a>, Valued>
-    ensures { result_view result ≡ rest_of announce hosts.items texts.now }
+    ensures { result_view result ≡ rest_of announce hosts.items networks.items texts.now }
 {
     let local = read_local(texts.local)?;
     let local_mode = read_mode(texts.local_mode)?;
@@ -216,6 +253,7 @@ fn read_rest<'a>(
     let limit = read_record_limit(texts.record_limit)?;
     Ok(Service {
         hosts,
+        networks,
         loopback6: texts.loopback6,
         local,
         local_mode,
@@ -246,7 +284,11 @@ pub fn read_service<'a>(
         Ok(hosts) => hosts,
         Err(fault) => return Err(fault),
     };
-    match read_rest(announce, hosts, texts) {
+    let networks = match read_networks(alloc, texts.from) {
+        Ok(networks) => networks,
+        Err(fault) => return Err(fault),
+    };
+    match read_rest(announce, hosts, networks, texts) {
         Ok(service) => Ok(service),
         Err(bad) => Err(ServeFault::BadValue(bad)),
     }

@@ -2,6 +2,7 @@ pub mod Outcomes
 pub mod Turns
 pub mod Deadlines
 pub mod Peers
+pub mod Networks
 pub mod Moments
 pub mod LocalFile
 pub mod RecordFile

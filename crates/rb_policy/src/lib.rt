@@ -8,6 +8,7 @@ mod door;
 mod laws;
 mod local_file;
 mod moments;
+mod networks;
 mod outcome;
 mod peers;
 mod record_file;
@@ -20,9 +21,10 @@ pub use door::{
     ACTIVE, Admission, Holder, OWED, Origin, Phase, admit, ends_record, is_stuck, origin_of,
     phase_of,
 };
-pub use laws::door_laws;
+pub use laws::{door_laws, network_laws};
 pub use local_file::{FileAction, FileState, file_action};
 pub use moments::Moments;
+pub use networks::{asker, may_ask};
 pub use outcome::{
     Next, Outcome, after_accept, after_read, after_receive, after_write, outcome_of,
     outcome_of_count,

@@ -1,5 +1,6 @@
 //! What a daemon is started with.
 use crate::addresses::{Addresses, LocalSocket};
+use rb_address::Network;
 use rb_model::Limits;
 use std::net::Ipv4Addr;
 
@@ -8,6 +9,8 @@ use std::net::Ipv4Addr;
 pub struct Settings<'a> {
     /// The addresses to listen on over TCP and UDP. Forwarded calls go out from the first.
     pub hosts: &'a [Ipv4Addr],
+    /// The networks whose hosts may ask, beside this machine; with none everybody may.
+    pub networks: &'a [Network],
     /// Whether to listen on [::1] over TCP besides.
     pub loopback6: bool,
     /// The local socket to listen on besides, if any.
@@ -26,10 +29,11 @@ pub struct Settings<'a> {
 }
 
 impl<'a> Settings<'a> {
-    /// Where it listens.
+    /// Where it listens, and whom it serves there.
     pub fn addresses(&self) -> Addresses<'a> {
         Addresses {
             hosts: self.hosts,
+            networks: self.networks,
             loopback6: self.loopback6,
             local: self.local,
             port: self.port,

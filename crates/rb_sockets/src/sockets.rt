@@ -7,8 +7,8 @@ use crate::local;
 use crate::stream::Stream;
 use mio::net::{TcpListener, UdpSocket, UnixListener};
 use mio::{Interest, Registry, Token};
-use rb_address::Peer;
-use rb_policy::{Again, Ask, Asked, address_of, inet_peer, local_peer, loopback6_peer};
+use rb_address::{Network, Peer};
+use rb_policy::{Again, Ask, Asked, address_of, asker, inet_peer, local_peer, loopback6_peer};
 use std::alloc::{AllocError, Global};
 use std::fs::Files;
 use std::io;
@@ -28,12 +28,16 @@ impl CallSocket {
         }
     }
 
-    /// A datagram, how long it is, and from whom, if that may call.
-    pub fn receive(&self, room: &mut [u8]) -> io::Result<(usize, Option<Peer>)>
+    /// A datagram, how long it is, and from whom, if that may call where these networks are served.
+    pub fn receive(
+        &self,
+        networks: &[Network],
+        room: &mut [u8],
+    ) -> io::Result<(usize, Option<Peer>)>
         ensures { IfOk result (λ r. r.0 ≤ length room.new) }
     {
         let (len, from) = self.0.recv_from(room)?;
-        Ok((len, inet_peer(from)))
+        Ok((len, asker(networks, inet_peer(from))))
     }
 
     /// Sends a reply. One that the socket does not take is lost.
@@ -89,8 +93,15 @@ impl Listener {
         }
     }
 
-    /// A connection, and the peer that the core is handed for it. One without a peer is to be closed.
-    pub fn accept(&self) -> io::Result<(Stream, Option<Peer>)> {
+    /// A connection, and the peer that the core is handed for it where these networks are served. One without a peer is
+    /// to be closed.
+    pub fn accept(&self, networks: &[Network]) -> io::Result<(Stream, Option<Peer>)> {
+        let (stream, peer) = self.accept_any()?;
+        Ok((stream, asker(networks, peer)))
+    }
+
+    /// A connection from anywhere, and its peer.
+    fn accept_any(&self) -> io::Result<(Stream, Option<Peer>)> {
         match self {
             Listener::Inet(listener) => {
                 let (stream, from) = listener.accept()?;
@@ -227,6 +238,8 @@ pub struct Sockets {
     pub forwards: Watched<ForwardSocket>,
     /// Where connections come in: over TCP one for each address, then [::1], then the local socket.
     pub listeners: Vec<Watched<Listener>>,
+    /// The networks whose hosts may ask.
+    pub networks: Vec<Network>,
 }
 
 impl Sockets {
@@ -264,10 +277,13 @@ impl Sockets {
             put(&mut listeners, Listener::Local(listener))?;
         }
         let asked = Asked::new(alloc)?;
+        let mut networks = Vec::with_capacity(alloc, addresses.networks.len())?;
+        networks.extend_from_slice(addresses.networks)?;
         Ok(Sockets {
             calls: CallSockets { all, asked },
             forwards,
             listeners,
+            networks,
         })
     }
 

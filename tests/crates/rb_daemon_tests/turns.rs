@@ -89,6 +89,7 @@ pub(crate) fn address6() -> SocketAddr {
 pub(crate) fn plain(hosts: &[Ipv4Addr], conns: usize) -> Settings<'_> {
     Settings {
         hosts,
+        networks: &[],
         loopback6: false,
         local: None,
         announce: Ipv4Addr::LOCALHOST,

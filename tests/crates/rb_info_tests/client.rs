@@ -39,6 +39,7 @@ pub fn daemon_everywhere(rt: &HostRuntime) -> Option<Daemon<'_, HostRuntime>> {
     let host = Ipv4Addr::LOCALHOST;
     let settings = Settings {
         hosts: &[host],
+        networks: &[],
         loopback6: true,
         local: Some(LocalSocket {
             path: LOCAL,

@@ -49,6 +49,7 @@ pub fn daemon_of(rt: &HostRuntime, port: u16, conns: usize) -> Option<Daemon<'_,
     };
     let settings = Settings {
         hosts: &[host],
+        networks: &[],
         loopback6: false,
         local: None,
         announce: host,

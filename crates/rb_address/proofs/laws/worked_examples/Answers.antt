@@ -4,6 +4,7 @@ use Rattle.std.specs.Net.Reader.{read_number, read_octet, read_ipv4, read_segmen
 use Rattle.std.specs.Net.Text.{hex, hex_groups_text}
 use Rattle.rb_uaddr.specs.Uaddr.{ipv6_host, ipv6_host_text}
 use Rattle.rb_address.specs.Hosts.{is_loopback, is_any, is_mapped, plain_host}
+use Rattle.rb_address.specs.Networks.{network_at, network_of}
 use Rattle.rb_address.specs.Reading.{cut, number_below, plain_number, ipv4_host, printed_ipv6, ipv4_peer, ipv6_peer, peer}
 use Rattle.rb_address.proofs.laws.worked_examples.Goals as goal
 
@@ -22,3 +23,11 @@ returns-clause-peers_read c = record { ipv4 = refl; ipv6 = refl }
 pub returns-clause-other_texts_refused : goal.returns-clause-other_texts_refused
 unfolding digits ipv6_host_text hex hex_groups_text cut number_below plain_number ipv4_host printed_ipv6 ipv4_peer ipv6_peer peer is_mapped ipv6_host read_ipv6 read_segments read_segment read_ipv4 read_octet read_number
 returns-clause-other_texts_refused c = record { upper_case = refl; not_shortened = refl; leading_zero = refl; no_brackets = refl; in_ipv6 = refl; with_a_zone = refl; brackets_of_ipv4 = refl; large_port = refl }
+
+pub returns-clause-networks_read : goal.returns-clause-networks_read
+unfolding digits cut number_below plain_number ipv4_host is_mapped plain_host ipv6_host read_ipv6 read_segments read_segment read_ipv4 read_octet read_number network_at network_of
+returns-clause-networks_read c = record { last_of_24 = refl; after_24 = refl; before_24 = refl; all_of_ipv4 = refl; none_of_ipv6 = refl; none_of_ipv4 = refl; last_of_33 = refl; after_33 = refl; one_host = refl; that_host = refl; no_other = refl; any_spelling = refl }
+
+pub returns-clause-other_networks_refused : goal.returns-clause-other_networks_refused
+unfolding digits cut number_below plain_number ipv4_host is_mapped plain_host ipv6_host read_ipv6 read_segments read_segment read_ipv4 read_octet read_number network_at network_of
+returns-clause-other_networks_refused c = record { too_long = refl; bits_behind = refl; mapped = refl; longer = refl; mistyped = refl; leading_zero = refl; no_length = refl; no_host = refl; a_mask = refl }
