@@ -625,9 +625,26 @@ run_rpcinfo_of_nobody() {
     run_rpcinfo /dev/null -n 20199 -u 127.0.0.1 100000 4
     as_wanted /dev/null "$work/wanted" 1
     judge $? "rpcinfo by a datagram where nobody listens"
+    echo 'rpcinfo: nobody listens on the socket' > "$work/wanted"
     run_rpcinfo /dev/null --local "$work/nobody" --port 20199 -p
     as_wanted /dev/null "$work/wanted" 1
-    judge $? "rpcinfo where nobody listens on a socket either"
+    judge $? "rpcinfo where no socket is"
+}
+
+# A word that is no text can't be read.
+run_rpcinfo_word_without_text() {
+    echo 'rpcinfo: a word is no text' > "$work/wanted"
+    run_rpcinfo /dev/null $'\xff'
+    as_wanted /dev/null "$work/wanted" 2
+    judge $? "rpcinfo: a word that is no text"
+}
+
+# A host is there, and has no address of the netid's family.
+run_rpcinfo_of_other_family() {
+    echo 'rpcinfo: the host has no IPv6 address' > "$work/wanted"
+    run_rpcinfo /dev/null --port 20199 -T tcp6 127.0.0.1 100000
+    as_wanted /dev/null "$work/wanted" 1
+    judge $? "rpcinfo: a host of the other family"
 }
 
 # Status 0 says that the output was written out.
@@ -674,6 +691,10 @@ run_rpcinfo_over_sockets() {
     ask_form "127.0.0.1" '100000 '{4,3,2}' tcp 0.0.0.0.78.144 superuser' '100000 '{4,3,2}' udp 0.0.0.0.78.144 superuser'
     ask_form "-s ::1" '100000 '{4,3,2}' tcp' '100000 '{4,3,2}' udp'
     ask_form "-s --local $local_socket" '100000 '{4,3,2}' tcp' '100000 '{4,3,2}' udp'
+    echo 'rpcinfo: nobody listens on the socket' > "$work/wanted"
+    run_rpcinfo /dev/null --port 20112 --local "$local_socket.misspelt" -s
+    as_wanted /dev/null "$work/wanted" 1
+    judge $? "rpcinfo over sockets: a path that is misspelt"
     ask_form "--json -p 127.0.0.1" '{"program":100000,"version":'{4,3,2}',"protocol":6,"port":20112}' \
         '{"program":100000,"version":'{4,3,2}',"protocol":17,"port":20112}'
     ask_form "--programs $work/programs --summary 127.0.0.1" \
@@ -687,6 +708,39 @@ run_rpcinfo_over_sockets() {
     judge $? "rpcinfo over sockets: a row that is not there"
     kill "$daemon"
     wait "$daemon" 2> /dev/null
+}
+
+# The words of one form, asked of the programs at 127.0.0.2, and the file of lines that it must print, with the status and
+# what is said.
+ask_programs() {
+    printf '%s' "$3" > "$work/wanted-stderr"
+    run_rpcinfo /dev/null --port 20130 $1
+    as_wanted "$work/wanted" "$work/wanted-stderr" "$2"
+    judge $? "rpcinfo of programs: $1"
+}
+
+# Each version has its line, whatever those before it did. 127.0.0.2 is a host of its own: nobody listens there else, and
+# an address of every host that is told there is called there.
+run_rpcinfo_of_programs() {
+    local programs
+    tests/programs.py 127.0.0.2 20130 > "$work/listening" 2> /dev/null &
+    programs=$!
+    for _ in $(seq 50); do
+        grep -qs listening "$work/listening" && break
+        sleep 0.1
+    done
+    printf 'program 200001 version %s\n' '1 ready' '2 not available' '3 ready' > "$work/wanted"
+    ask_programs '-t 127.0.0.2 200001' 1 ''
+    printf 'program 200003 version %s\n' '1 ready' '2 not available' '3 ready' > "$work/wanted"
+    ask_programs '-t 127.0.0.2 200003' 1 ''
+    : > "$work/wanted"
+    ask_programs '-t 127.0.0.2 200001 2' 1 $'rpcinfo: no connection\n'
+    ask_programs '-t 127.0.0.2 200003 2' 1 $'rpcinfo: no reply\n'
+    ask_programs '-t 127.0.0.2 200002' 1 $'rpcinfo: too many versions\n'
+    echo 'program 200001 version 3 ready' > "$work/wanted"
+    ask_programs '-T tcp 127.0.0.2 200001 3' 0 ''
+    kill "$programs"
+    wait "$programs" 2> /dev/null
 }
 
 run_rpcinfo_help() {
@@ -776,6 +830,9 @@ if [ -x "$rpcinfo" ]; then
     run_rpcinfo_rows
     run_rpcinfo_longest_lists
     run_rpcinfo_of_nobody
+    run_rpcinfo_of_programs
+    run_rpcinfo_word_without_text
+    run_rpcinfo_of_other_family
     run_rpcinfo_to_full_device
     run_rpcinfo_of_a_folder
     [ ! -x "$program" ] || run_rpcinfo_over_sockets

@@ -1,5 +1,6 @@
 -- Versions from the least to the greatest.
-use Rattle.std.proofs.Common.{◌≡◌, ◌≤◌, ◌<◌, ℕ, zero, suc, ◌+◌, ◌-◌, Bool, true, false, List, [], ◌∷◌, refl, ap, sym, ◌∙◌, arith, add-one}
+use Rattle.std.specs.Prelude.{IfSome}
+use Rattle.std.proofs.Common.{◌≡◌, ◌≤◌, ◌<◌, ℕ, zero, suc, ◌+◌, ◌-◌, Bool, true, false, List, [], ◌∷◌, Option, Some, None, refl, ap, sym, ◌∙◌, arith, add-one}
 use Rattle.std.proofs.lemmas.Bool.{lt-ltb, le-ltb, lt-leb}
 use Rattle.rb_course.specs.declared.course.Course.{Course}
 use Rattle.rb_course.specs.declared.course.Way.TheVariants as ways
@@ -8,16 +9,17 @@ use Rattle.rb_course.specs.declared.course.Aim.TheVariants as aims
 use Rattle.rb_course.specs.declared.course.Answer.{Answer}
 use Rattle.rb_course.specs.declared.course.Answer.TheVariants as answers
 use Rattle.rb_course.specs.declared.course.Stage.TheVariants.{Call}
-use Rattle.rb_course.specs.Next.{next_stage, step_to_versions, next, most_versions}
-use Rattle.rb_course.specs.Laws.{IsOfCall, versions_called_from, upwards, EachVersionIsCalled}
+use Rattle.rb_course.specs.Next.{next_stage, step_to_versions, most_versions}
+use Rattle.rb_course.specs.Laws.{IsOfCall, follow, versions_called_from, upwards, EachVersionIsCalled}
 
-module _ (course : Course) (place : Place) (answer : ℕ → Answer) (known : course.way ≡ ways.Known place) (of_call : (vers : ℕ) → IsOfCall (answer vers)) where
+module _ (course : Course) (place : Place) (answer : ℕ → Option Answer) (known : course.way ≡ ways.Known place) (of_call : (vers : ℕ) → IfSome (answer vers) IsOfCall) where
   -- whatever is answered, the version behind it follows
-  follows : (vers high : ℕ) (lacks : Bool) (a : Answer) → IsOfCall a → (after : Bool) × ((next course (Call (aims.Each vers high lacks) place) a).stage ≡ next_stage course vers high after)
-  follows vers high lacks answers.Ready of = (lacks, refl)
-  follows vers high lacks (answers.Refused status) of = (true, refl)
-  follows vers high lacks (answers.Port port) of = absurd of
-  follows vers high lacks (answers.Address address) of = absurd of
+  follows : (vers high : ℕ) (lacks : Bool) (a : Option Answer) → IfSome a IsOfCall → (after : Bool) × ((follow course (Call (aims.Each vers high lacks) place) a).stage ≡ next_stage course vers high after)
+  follows vers high lacks (Some answers.Ready) of = (lacks, refl)
+  follows vers high lacks (Some (answers.Refused status)) of = (true, refl)
+  follows vers high lacks (Some (answers.Port port)) of = absurd of
+  follows vers high lacks (Some (answers.Address address)) of = absurd of
+  follows vers high lacks None of = (true, refl)
 
   at_last : (fuel vers : ℕ) (lacks : Bool) → versions_called_from fuel course answer (next_stage course vers (vers + 0) lacks) ≡ []
   at_last zero vers lacks = refl

@@ -8,6 +8,10 @@ use Rattle.std.specs.Str.{bytes_eq}
 use Rattle.hex.specs.Hex.{decode_sized}
 use Rattle.hex.specs.declared.error.FromHexError.{FromHexError}
 
+-- at most so many bytes of the routes are read
+abbrev pub longest_routes : ℕ
+longest_routes = 1048576
+
 -- the pieces of a text between bytes of this value
 abbrev pub pieces_of : ℕ → List ℕ → List (List ℕ)
 pieces_of between text = slice_split (λ b. b == between) text

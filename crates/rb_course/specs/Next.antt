@@ -1,9 +1,15 @@
 -- What is asked of a portmapper and of a program, and what follows of each answer.
 use Rattle.std.specs.Prelude.{ℕ, ◌+◌, ◌-◌, ◌==◌, ◌||◌, nat_lt, nat_le, Bool, true, false, if◌then◌else◌, Option, Some, None, option_map, unwrap_or}
+use Rattle.rb_address.specs.declared.host.Host.{Host}
+use Rattle.rb_address.specs.declared.host.Host.TheVariants as hosts
 use Rattle.rb_address.specs.declared.netid.Netid.{Netid}
 use Rattle.rb_address.specs.declared.netid.Transport.{Transport}
 use Rattle.rb_address.specs.declared.netid.Transport.TheVariants as transports
+use Rattle.rb_address.specs.Hosts.{is_any}
 use Rattle.rb_address.specs.Netids.{protocol_of, transport_of as transport_of_netid}
+use Rattle.rb_uaddr.specs.declared.address.Uaddr.{Uaddr}
+use Rattle.rb_uaddr.specs.declared.address.Uaddr.TheVariants as uaddrs
+use Rattle.rb_uaddr.specs.Uaddr.{port_of}
 use Rattle.rb_rpc.specs.declared.reply.ReplyStatus.{ReplyStatus}
 use Rattle.rb_rpc.specs.declared.reply.ReplyStatus.TheVariants as statuses
 use Rattle.rb_show.specs.declared.ask.Ask.{Ask}
@@ -112,18 +118,33 @@ after_port course aim port =
     if port == 0 || nat_le 65536 port then after_lack course aim None
     else step_to (Call aim (places.Port (transport_at course.way) port))
 
+abbrev pub host_in : Uaddr → Host
+host_in (uaddrs.V4 octets port) = hosts.V4 octets
+host_in (uaddrs.V6 octets port) = hosts.V6 octets
+
+-- an address of every host is a port of the host whose portmapper told it
+abbrev pub after_address : Course → Aim → Uaddr → Step
+after_address course aim address =
+    if is_any (host_in address) then after_port course aim (port_of address)
+    else step_to (Call aim (places.Address (transport_at course.way) address))
+
+-- the portmapper refused to say where the version is: the end, or, of several, the next one
+abbrev pub refused_find : Course → Aim → ReplyStatus → Step
+refused_find course (aims.Each vers high lacks) status = after_lack course (aims.Each vers high lacks) (Some status)
+refused_find course aim status = step_to (End (ends.Refused status))
+
 -- a portmapper without GETADDR is asked by GETPORT
-abbrev pub after_find_refusal_by : Way → Aim → ReplyStatus → Step
-after_find_refusal_by (ways.Address netid) aim (statuses.ProgMismatch low high) = step_to (FindOld aim (transport_of netid))
-after_find_refusal_by way aim status = step_to (End (ends.Refused status))
+abbrev pub after_find_refusal_by : Way → Course → Aim → ReplyStatus → Step
+after_find_refusal_by (ways.Address netid) course aim (statuses.ProgMismatch low high) = step_to (FindOld aim (transport_of netid))
+after_find_refusal_by way course aim status = refused_find course aim status
 
 abbrev pub after_find_refusal : Course → Aim → ReplyStatus → Step
-after_find_refusal course aim status = after_find_refusal_by course.way aim status
+after_find_refusal course aim status = after_find_refusal_by course.way course aim status
 
 -- it was asked where the version is
 abbrev pub after_find : Course → Aim → Answer → Step
 after_find course aim (answers.Port port) = after_port course aim port
-after_find course aim (answers.Address (Some address)) = step_to (Call aim (places.Address (transport_at course.way) address))
+after_find course aim (answers.Address (Some address)) = after_address course aim address
 after_find course aim (answers.Address None) = after_lack course aim None
 after_find course aim answers.Ready = step_to (End ends.Unreadable)
 after_find course aim (answers.Refused status) = after_find_refusal course aim status
@@ -133,7 +154,7 @@ abbrev pub after_find_old : Course → Aim → Answer → Step
 after_find_old course aim (answers.Port port) = after_port course aim port
 after_find_old course aim (answers.Address address) = step_to (End ends.Unreadable)
 after_find_old course aim answers.Ready = step_to (End ends.Unreadable)
-after_find_old course aim (answers.Refused status) = step_to (End (ends.Refused status))
+after_find_old course aim (answers.Refused status) = refused_find course aim status
 
 -- procedure 0 answered
 abbrev pub after_ready : Course → Aim → Step
@@ -159,3 +180,17 @@ next course (Find aim) answer = after_find course aim answer
 next course (FindOld aim transport) answer = after_find_old course aim answer
 next course (Call aim place) answer = after_call course aim answer
 next course (End end) answer = step_to (End end)
+
+-- ---- without an answer
+
+-- the next of several versions; none where another is asked of
+abbrev pub lack_of_several : Course → Aim → Option Step
+lack_of_several course (aims.Each vers high lacks) = Some (after_lack course (aims.Each vers high lacks) None)
+lack_of_several course aim = None
+
+-- A question had no answer, or none that can be read: of several versions this one is not available, else the course ends.
+abbrev pub unanswered : Course → Stage → Option Step
+unanswered course (Find aim) = lack_of_several course aim
+unanswered course (FindOld aim transport) = lack_of_several course aim
+unanswered course (Call aim place) = lack_of_several course aim
+unanswered course (End end) = None

@@ -2,7 +2,7 @@
 ghost use Rattle.rb_course.specs.Laws.{EachVersionIsCalled};
 
 /// Where a program's place is known, each of the versions that it has is called once, from the least to the greatest,
-/// whatever is answered.
+/// whatever is answered, or not.
 pub fn courses_are_whole()
     ensures { EachVersionIsCalled }
 {}

@@ -1,10 +1,20 @@
 //! The networks of this machine, as Linux lists its routes in /proc/net/route (proc(5)): a line each, of fields with tabs
 //! between them.
-ghost use Rattle.std.specs.Prelude.{◌≡◌, IfOk, OnOk};
-ghost use Rattle.rb_course.specs.Networks.{AddsNetworks, pieces_of, route_address, broadcast_of, network_of, networks_in_line, networks_in};
+ghost use Rattle.std.specs.Prelude.{◌≡◌, length, nat_le, IfOk, OnOk};
+ghost use Rattle.rb_course.specs.Networks.{longest_routes, AddsNetworks, pieces_of, route_address, broadcast_of, network_of, networks_in_line, networks_in};
 ghost use Rattle.rb_show.specs.Summary.{borrowed_texts};
 
 use std::alloc::{AllocError, Global};
+
+/// At most so many bytes of the routes are read.
+pub const LONGEST_ROUTES: usize = 1_048_576;
+
+/// Returns whether a text of routes is read whole, and is not longer than what is read.
+pub fn are_read_whole(routes: &[u8]) -> bool
+    ensures { result ≡ nat_le (length routes.now) longest_routes }
+{
+    routes.len() <= LONGEST_ROUTES
+}
 
 /// The pieces of a text between bytes of this value.
 fn pieces_of<'a>(alloc: Global, text: &'a [u8], between: u8) -> Result<Vec<&'a [u8]>, AllocError>

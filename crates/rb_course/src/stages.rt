@@ -1,11 +1,12 @@
 //! What is asked, and what follows of each answer.
 ghost use Rattle.std.specs.Prelude.{◌≡◌};
-ghost use Rattle.rb_course.specs.Next.{transport_of, version_of, call_question, find_of, question_at, ask_at, begin, step_to, next_stage, step_to_versions, after_lack, transport_at, after_port, after_find_refusal, after_find, after_find_old, after_ready, after_refusal, after_call, next};
+ghost use Rattle.rb_course.specs.Next.{transport_of, version_of, call_question, find_of, question_at, ask_at, begin, step_to, next_stage, step_to_versions, after_lack, transport_at, after_port, host_in, after_address, refused_find, after_find_refusal, after_find, after_find_old, after_ready, after_refusal, after_call, next, lack_of_several, unanswered};
 
 use crate::course::{Aim, Answer, Course, End, Place, Stage, Step, Way};
-use rb_address::{Netid, Transport};
+use rb_address::{Host, Netid, Transport};
 use rb_rpc::ReplyStatus;
 use rb_show::{Ask, Question};
+use rb_uaddr::Uaddr;
 
 /// At most so many versions of a program are called.
 const MOST_VERSIONS: u32 = 256;
@@ -189,6 +190,36 @@ fn after_port(course: &Course, aim: Aim, port: u32) -> Step
     }
 }
 
+fn host_in(address: Uaddr) -> Host
+    ensures { result ≡ host_in address }
+{
+    match address {
+        Uaddr::V4(octets, _) => Host::V4(octets),
+        Uaddr::V6(octets, _) => Host::V6(octets),
+    }
+}
+
+/// An address of every host is a port of the host whose portmapper told it.
+#[tactic(auto, unfolding(rb_uaddr::specs::Uaddr::port_of))]
+fn after_address(course: &Course, aim: Aim, address: Uaddr) -> Step
+    ensures { result ≡ after_address course.now aim address }
+{
+    if host_in(address).is_any() {
+        return after_port(course, aim, u32::from(address.port()));
+    }
+    step_to(Stage::Call(aim, Place::Address(transport_at(course.way), address)))
+}
+
+/// The portmapper refused to say where a version is: the end, or, of several, the next one.
+fn refused_find(course: &Course, aim: Aim, status: ReplyStatus) -> Step
+    ensures { result ≡ refused_find course.now aim status }
+{
+    match aim {
+        Aim::Each { .. } => after_lack(course, aim, Some(status)),
+        Aim::Only(_) | Aim::Least | Aim::Greatest => end(End::Refused(status)),
+    }
+}
+
 /// A portmapper without GETADDR is asked by GETPORT.
 fn after_find_refusal(course: &Course, aim: Aim, status: ReplyStatus) -> Step
     ensures { result ≡ after_find_refusal course.now aim status }
@@ -198,7 +229,7 @@ fn after_find_refusal(course: &Course, aim: Aim, status: ReplyStatus) -> Step
             aim,
             transport_of(netid),
         )),
-        _ => end(End::Refused(status)),
+        _ => refused_find(course, aim, status),
     }
 }
 
@@ -208,10 +239,7 @@ fn after_find(course: &Course, aim: Aim, answer: Answer) -> Step
 {
     match answer {
         Answer::Port(port) => after_port(course, aim, port),
-        Answer::Address(Some(address)) => step_to(Stage::Call(
-            aim,
-            Place::Address(transport_at(course.way), address),
-        )),
+        Answer::Address(Some(address)) => after_address(course, aim, address),
         Answer::Address(None) => after_lack(course, aim, None),
         Answer::Ready => end(End::Unreadable),
         Answer::Refused(status) => after_find_refusal(course, aim, status),
@@ -225,7 +253,7 @@ fn after_find_old(course: &Course, aim: Aim, answer: Answer) -> Step
     match answer {
         Answer::Port(port) => after_port(course, aim, port),
         Answer::Address(_) | Answer::Ready => end(End::Unreadable),
-        Answer::Refused(status) => end(End::Refused(status)),
+        Answer::Refused(status) => refused_find(course, aim, status),
     }
 }
 
@@ -275,5 +303,28 @@ pub fn next(course: &Course, stage: Stage, answer: Answer) -> Step
         Stage::FindOld(aim, _) => after_find_old(course, aim, answer),
         Stage::Call(aim, _) => after_call(course, aim, answer),
         Stage::End(_) => step_to(stage),
+    }
+}
+
+/// The next of several versions; none where another is asked of.
+fn lack_of_several(course: &Course, aim: Aim) -> Option<Step>
+    ensures { result ≡ lack_of_several course.now aim }
+{
+    match aim {
+        Aim::Each { .. } => Some(after_lack(course, aim, None)),
+        Aim::Only(_) | Aim::Least | Aim::Greatest => None,
+    }
+}
+
+/// Returns the step behind a question that had no answer, or none that can be read: of several versions this one is not
+/// available, and the next one follows. `None` where the course ends.
+pub fn unanswered(course: &Course, stage: Stage) -> Option<Step>
+    ensures { result ≡ unanswered course.now stage }
+{
+    match stage {
+        Stage::Find(aim) | Stage::FindOld(aim, _) | Stage::Call(aim, _) => lack_of_several(
+            course, aim,
+        ),
+        Stage::End(_) => None,
     }
 }

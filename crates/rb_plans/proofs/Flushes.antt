@@ -10,7 +10,7 @@ use Rattle.rb_show.specs.declared.ask.Ask.{Ask}
 use Rattle.rb_show.specs.declared.form.Form.{Form}
 use Rattle.rb_show.specs.declared.show.Shown.{Shown}
 use Rattle.rb_plans.specs.declared.fault.Fault.{Fault}
-use Rattle.rb_plans.specs.declared.fault.Fault.TheVariants.{Info, NoConnection, NoHost, NotAvailable, NoProgram, SomeLack}
+use Rattle.rb_plans.specs.declared.fault.Fault.TheVariants.{Info, NoConnection, NoSocket, NoReply, NoHost, NoAddress, NotAvailable, NoProgram, TooManyVersions, TooManyRoutes, SomeLack}
 use Rattle.rb_plans.specs.Input.{tell_text, IsTold, IsToldOr}
 use Rattle.rb_plans.specs.Told.{IsToldAs, IsOut}
 
@@ -59,7 +59,12 @@ told_out told a b c (Ok shown) result k (inl e) p = rw e (shown_out told a b c s
 told_out told a b c (Ok shown) result k (inr e) p = rw e (not_out told a b c shown p)
 told_out told a b c (Err (Info fault)) result k e p = rw e (err_out told a b c fault k p)
 told_out told a b c (Err NoConnection) result k e p = absurd p
+told_out told a b c (Err NoSocket) result k e p = absurd p
+told_out told a b c (Err NoReply) result k e p = absurd p
 told_out told a b c (Err NoHost) result k e p = absurd p
+told_out told a b c (Err (NoAddress family)) result k e p = absurd p
+told_out told a b c (Err TooManyVersions) result k e p = absurd p
+told_out told a b c (Err TooManyRoutes) result k e p = absurd p
 told_out told a b c (Err (NotAvailable prog vers why)) result k e p = absurd p
 told_out told a b c (Err (NoProgram prog why)) result k e p = absurd p
 told_out told a b c (Err SomeLack) result k e p = absurd p

@@ -1,4 +1,5 @@
 mod Inputs
 mod HexTexts
 mod Written
+mod Asked
 pub mod Flushes

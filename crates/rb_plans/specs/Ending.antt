@@ -4,6 +4,8 @@ use Rattle.std.specs.Fmt.{decimal}
 use Rattle.std.specs.Io.KnownBytes.{Appends}
 use Rattle.std.specs.Net.Text.{ip_text}
 use Rattle.std.specs.declared.net.ip_addr.IpAddr.{IpAddr}
+use Rattle.rb_address.specs.declared.host.Family.{Family}
+use Rattle.rb_address.specs.declared.host.Family.TheVariants.{Inet, Inet6}
 use Rattle.rb_rpc.specs.declared.auth.AuthStat.{AuthStat}
 use Rattle.rb_rpc.specs.declared.auth.AuthStat.TheVariants as stats
 use Rattle.rb_rpc.specs.declared.reply.ReplyStatus.{ReplyStatus}
@@ -15,7 +17,7 @@ use Rattle.rb_show.specs.declared.show.Shown.TheVariants.{Rows, Statistics, Port
 use Rattle.rb_plans.specs.declared.ending.Ending.{Ending}
 use Rattle.rb_plans.specs.declared.ending.Notices.{Notices}
 use Rattle.rb_plans.specs.declared.fault.Fault.{Fault}
-use Rattle.rb_plans.specs.declared.fault.Fault.TheVariants.{Info, NoConnection, NoHost, NotAvailable, NoProgram, SomeLack}
+use Rattle.rb_plans.specs.declared.fault.Fault.TheVariants.{Info, NoConnection, NoSocket, NoReply, NoHost, NoAddress, NotAvailable, NoProgram, TooManyVersions, TooManyRoutes, SomeLack}
 
 -- ---- the lines of a fault
 
@@ -33,11 +35,20 @@ info_text Memory = codes "no memory"
 abbrev pub own_line : List ℕ → List ℕ
 own_line text = codes "rpcinfo: " ++ (text ++ codes "\n")
 
+abbrev pub family_text : Family → List ℕ
+family_text Inet = codes "IPv4"
+family_text Inet6 = codes "IPv6"
+
 -- the first line; where versions had their own lines there is none
 abbrev pub fault_line : Fault → List ℕ
 fault_line (Info fault) = own_line (info_text fault)
 fault_line NoConnection = codes "rpcinfo: no connection\n"
+fault_line NoSocket = codes "rpcinfo: nobody listens on the socket\n"
+fault_line NoReply = codes "rpcinfo: no reply\n"
 fault_line NoHost = codes "rpcinfo: no such host\n"
+fault_line (NoAddress family) = codes "rpcinfo: the host has no " ++ (family_text family ++ codes " address\n")
+fault_line TooManyVersions = codes "rpcinfo: too many versions\n"
+fault_line TooManyRoutes = codes "rpcinfo: too many routes\n"
 fault_line (NotAvailable prog vers why) =
     codes "rpcinfo: program " ++ (decimal prog ++ (codes " version " ++ (decimal vers ++ codes " not available\n")))
 fault_line (NoProgram prog why) = codes "rpcinfo: program " ++ (decimal prog ++ codes " not available\n")
@@ -92,7 +103,12 @@ status_in (Info TooLong) = None
 status_in (Info TooMany) = None
 status_in (Info Memory) = None
 status_in NoConnection = None
+status_in NoSocket = None
+status_in NoReply = None
 status_in NoHost = None
+status_in (NoAddress family) = None
+status_in TooManyVersions = None
+status_in TooManyRoutes = None
 status_in (NotAvailable prog vers why) = why
 status_in (NoProgram prog why) = why
 status_in SomeLack = None
@@ -106,6 +122,10 @@ detail_line fault = line_of (status_in fault)
 
 abbrev pub fault_lines : Fault → List ℕ
 fault_lines fault = fault_line fault ++ detail_line fault
+
+-- a word of the command line that is no text
+abbrev pub text_line : List ℕ
+text_line = codes "rpcinfo: a word is no text\n"
 
 -- ---- the end by an answer
 

@@ -2,6 +2,8 @@ pub mod Input
 pub mod InputLaws
 pub mod Plans
 pub mod Waits
+pub mod Addresses
+pub mod AddressLaws
 pub mod Ending
 pub mod Words
 pub mod Told

@@ -1,5 +1,5 @@
 -- Plans as questions and courses.
-use Rattle.std.specs.Prelude.{ℕ, Option, Some, None, option_map, Result, Ok, Err}
+use Rattle.std.specs.Prelude.{ℕ, Bool, true, false, if◌then◌else◌, Option, Some, None, option_map, Result, Ok, Err}
 use Rattle.rb_uaddr.specs.declared.address.Uaddr.{Uaddr}
 use Rattle.rb_address.specs.declared.netid.Netid.{Netid}
 use Rattle.rb_words.specs.declared.plan.Listing.{Listing}
@@ -10,7 +10,7 @@ use Rattle.rb_words.specs.declared.plan.Plan.{Plan}
 use Rattle.rb_words.specs.declared.plan.Plan.TheVariants.{Show, Entries, Ping, Delete, Broadcast}
 use Rattle.rb_words.specs.declared.plan.Source.{Source}
 use Rattle.rb_words.specs.declared.plan.Source.TheVariants.{Here}
-use Rattle.rb_ask.specs.declared.fault.InfoFault.TheVariants.{Unreadable, Refused, TooMany}
+use Rattle.rb_ask.specs.declared.fault.InfoFault.TheVariants.{Write, Unreadable, Refused, Memory}
 use Rattle.rb_show.specs.declared.ask.Question.{Question}
 use Rattle.rb_show.specs.declared.ask.Question.TheVariants as questions
 use Rattle.rb_show.specs.declared.show.Shown.{Shown}
@@ -25,9 +25,11 @@ use Rattle.rb_course.specs.declared.course.Stage.{Stage}
 use Rattle.rb_course.specs.declared.course.Stage.TheVariants.{Find, FindOld, Call, End}
 use Rattle.rb_course.specs.declared.course.Way.{Way}
 use Rattle.rb_course.specs.declared.course.Way.TheVariants as ways
-use Rattle.rb_course.specs.Next.{transport_of}
+use Rattle.rb_course.specs.declared.course.Course.{Course}
+use Rattle.rb_course.specs.declared.course.Step.{Step}
+use Rattle.rb_course.specs.Next.{transport_of, next, unanswered}
 use Rattle.rb_plans.specs.declared.fault.Fault.{Fault}
-use Rattle.rb_plans.specs.declared.fault.Fault.TheVariants.{Info, NotAvailable, NoProgram, SomeLack}
+use Rattle.rb_plans.specs.declared.fault.Fault.TheVariants.{Info, NotAvailable, NoProgram, TooManyVersions, TooManyRoutes, SomeLack}
 
 abbrev pub question_of : Listing → Question
 question_of listings.Rows = questions.Rows
@@ -58,7 +60,7 @@ abbrev pub aim_of : Option ℕ → Aim
 aim_of (Some vers) = aims.Only vers
 aim_of None = aims.Least
 
--- a refusal is an answer, and every other fault ends a course
+-- a refusal is an answer, and no other fault is
 abbrev pub answer_of : Result Shown Fault → Result Answer Fault
 answer_of (Ok (shown.Port port)) = Ok (answers.Port port)
 answer_of (Ok (shown.Address address)) = Ok (answers.Address address)
@@ -69,6 +71,30 @@ answer_of (Ok (shown.Removed removed)) = Err (Info Unreadable)
 answer_of (Err (Info (Refused head))) = Ok (answers.Refused head.status)
 answer_of (Err fault) = Err fault
 
+-- a fault of this machine, whoever is asked
+abbrev pub is_of_here : Fault → Bool
+is_of_here (Info Memory) = true
+is_of_here (Info Write) = true
+is_of_here TooManyRoutes = true
+is_of_here fault = false
+
+-- where the course goes on, or ends by this fault
+abbrev pub step_or : Fault → Option Step → Result Step Fault
+step_or fault (Some step) = Ok step
+step_or fault None = Err fault
+
+-- a fault of this machine ends a course, and any other one unless it is of one of several versions
+abbrev pub passed_over : Course → Stage → Fault → Result Step Fault
+passed_over course stage fault = if is_of_here fault then Err fault else step_or fault (unanswered course stage)
+
+abbrev pub follow_answer : Course → Stage → Result Answer Fault → Result Step Fault
+follow_answer course stage (Ok answer) = Ok (next course stage answer)
+follow_answer course stage (Err fault) = passed_over course stage fault
+
+-- what follows of a reply
+abbrev pub follow : Course → Stage → Result Shown Fault → Result Step Fault
+follow course stage reply = follow_answer course stage (answer_of reply)
+
 -- the end of a program's course
 abbrev pub course_end : ℕ → ℕ → Stage → Result Shown Fault
 course_end prog xid (End ends.Ready) = Ok shown.Null
@@ -77,7 +103,7 @@ course_end prog xid (End (ends.NotAvailable vers why)) = Err (NotAvailable prog 
 course_end prog xid (End (ends.NoProgram why)) = Err (NoProgram prog why)
 course_end prog xid (End (ends.Refused status)) = Err (Info (Refused (record { xid = xid; status = status })))
 course_end prog xid (End ends.Unreadable) = Err (Info Unreadable)
-course_end prog xid (End ends.TooMany) = Err (Info TooMany)
-course_end prog xid (Find aim) = Err (Info TooMany)
-course_end prog xid (FindOld aim transport) = Err (Info TooMany)
-course_end prog xid (Call aim place) = Err (Info TooMany)
+course_end prog xid (End ends.TooMany) = Err TooManyVersions
+course_end prog xid (Find aim) = Err TooManyVersions
+course_end prog xid (FindOld aim transport) = Err TooManyVersions
+course_end prog xid (Call aim place) = Err TooManyVersions

@@ -8,7 +8,7 @@ use Rattle.rb_show.specs.declared.ask.Question.{Question}
 use Rattle.rb_show.specs.declared.form.Form.{Form}
 use Rattle.rb_show.specs.declared.show.Shown.{Shown}
 use Rattle.rb_plans.specs.declared.fault.Fault.{Fault}
-use Rattle.rb_plans.specs.declared.fault.Fault.TheVariants.{Info, NoConnection, NoHost, NotAvailable, NoProgram, SomeLack}
+use Rattle.rb_plans.specs.declared.fault.Fault.TheVariants.{Info, NoConnection, NoSocket, NoReply, NoHost, NoAddress, NotAvailable, NoProgram, TooManyVersions, TooManyRoutes, SomeLack}
 use Rattle.rb_plans.specs.declared.words.Words.{Words}
 use Rattle.rb_plans.specs.Input.{tell_text, IsToldOr}
 use Rattle.rb_plans.specs.Words.{ask_of}
@@ -18,7 +18,12 @@ abbrev pub IsToldAs : Told Shown → Option (List ℕ) → Option (List ℕ) →
 IsToldAs told old new (Ok shown) = IsToldOr told old new (Ok shown)
 IsToldAs told old new (Err (Info fault)) = IsToldOr told old new (Err fault)
 IsToldAs told old new (Err NoConnection) = ⊥
+IsToldAs told old new (Err NoSocket) = ⊥
+IsToldAs told old new (Err NoReply) = ⊥
 IsToldAs told old new (Err NoHost) = ⊥
+IsToldAs told old new (Err (NoAddress family)) = ⊥
+IsToldAs told old new (Err TooManyVersions) = ⊥
+IsToldAs told old new (Err TooManyRoutes) = ⊥
 IsToldAs told old new (Err (NotAvailable prog vers why)) = ⊥
 IsToldAs told old new (Err (NoProgram prog why)) = ⊥
 IsToldAs told old new (Err SomeLack) = ⊥

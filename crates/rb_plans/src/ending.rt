@@ -1,9 +1,10 @@
 //! How the command ends.
 ghost use Rattle.std.specs.Prelude.{◌≡◌, None, true, false, IsOk};
 ghost use Rattle.rb_words.specs.Refusals.{Prints};
-ghost use Rattle.rb_plans.specs.Ending.{info_text, fault_line, auth_text, server_line, versions_line, auth_line, status_line, status_in, detail_line, fault_lines, no_row_line, answered_line, old_line, notice_lines, shown_status, status_of, answer_lines, EndsBy, IsNothing, Says, SaysWhere};
+ghost use Rattle.rb_plans.specs.Ending.{info_text, family_text, fault_line, text_line, auth_text, server_line, versions_line, auth_line, status_line, status_in, detail_line, fault_lines, no_row_line, answered_line, old_line, notice_lines, shown_status, status_of, answer_lines, EndsBy, IsNothing, Says, SaysWhere};
 
 use crate::fault::Fault;
+use rb_address::Family;
 use rb_rpc::{AuthStat, ReplyStatus};
 use rb_show::{InfoFault, Shown};
 use std::io;
@@ -47,6 +48,23 @@ fn info_text(fault: InfoFault) -> &'static str
     }
 }
 
+fn family_text(family: Family) -> &'static str
+    ensures { result.now ≡ family_text family }
+{
+    match family {
+        Family::Inet => "IPv4",
+        Family::Inet6 => "IPv6",
+    }
+}
+
+/// Writes the line of a host without an address of this family.
+fn write_no_address<E: Write>(family: Family, faults: &mut E) -> io::Result<()>
+    ensures { Prints E.contents faults.old faults.new (fault_line (Fault.NoAddress family)) result }
+{
+    let text = family_text(family);
+    writeln!(faults, "rpcinfo: the host has no {text} address")
+}
+
 /// Writes the first line of a fault.
 #[tactic(auto, using(crate::proofs::Written::nothing))]
 fn write_line<E: Write>(fault: Fault, faults: &mut E) -> io::Result<()>
@@ -58,7 +76,12 @@ fn write_line<E: Write>(fault: Fault, faults: &mut E) -> io::Result<()>
             writeln!(faults, "rpcinfo: {text}")
         }
         Fault::NoConnection => writeln!(faults, "rpcinfo: no connection"),
+        Fault::NoSocket => writeln!(faults, "rpcinfo: nobody listens on the socket"),
+        Fault::NoReply => writeln!(faults, "rpcinfo: no reply"),
         Fault::NoHost => writeln!(faults, "rpcinfo: no such host"),
+        Fault::NoAddress(family) => write_no_address(family, faults),
+        Fault::TooManyVersions => writeln!(faults, "rpcinfo: too many versions"),
+        Fault::TooManyRoutes => writeln!(faults, "rpcinfo: too many routes"),
         Fault::NotAvailable(prog, vers, _) => {
             writeln!(
                 faults,
@@ -142,7 +165,15 @@ fn status_in(fault: Fault) -> Option<ReplyStatus>
     match fault {
         Fault::Info(InfoFault::Refused(head)) => Some(head.status),
         Fault::NotAvailable(_, _, why) | Fault::NoProgram(_, why) => why,
-        Fault::Info(_) | Fault::NoConnection | Fault::NoHost | Fault::SomeLack => None,
+        Fault::Info(_)
+        | Fault::NoConnection
+        | Fault::NoSocket
+        | Fault::NoReply
+        | Fault::NoHost
+        | Fault::NoAddress(_)
+        | Fault::TooManyVersions
+        | Fault::TooManyRoutes
+        | Fault::SomeLack => None,
     }
 }
 
@@ -173,6 +204,18 @@ pub fn explain<E: Write>(fault: Fault, faults: &mut E) -> Ending
     let is_told = write_fault(fault, faults).is_ok();
     Ending {
         status: FAILED,
+        is_told,
+    }
+}
+
+/// Says that a word of the command line is no text.
+pub fn refuse_text<E: Write>(faults: &mut E) -> Ending
+    ensures status { result.status ≡ 2 }
+    ensures said { Says E.contents faults.old faults.new result text_line }
+{
+    let is_told = writeln!(faults, "rpcinfo: a word is no text").is_ok();
+    Ending {
+        status: UNREADABLE,
         is_told,
     }
 }

@@ -1,4 +1,5 @@
 //! What holds of the definitions.
+ghost use Rattle.rb_plans.specs.AddressLaws.{AskedUpToAnAnswer, AllAreAsked};
 ghost use Rattle.rb_plans.specs.InputLaws.{HexTextsGiveBytes, OnlyHexTextsDo, OthersAreUnreadable, DigitsGiveTheirBytes, LongTextsAreNotRead, TheRestIsRead};
 
 /// A text gives bytes exactly where it is an even number of hexadecimal digits with white space anywhere, and bytes'
@@ -10,4 +11,10 @@ pub fn texts_are_hexadecimal()
     ensures bytes { DigitsGiveTheirBytes }
     ensures long { LongTextsAreNotRead }
     ensures short { TheRestIsRead }
+{}
+
+/// The addresses of a host are asked in their order up to the first that answers, and all where none does.
+pub fn addresses_are_asked_in_order()
+    ensures first { AskedUpToAnAnswer }
+    ensures none { AllAreAsked }
 {}

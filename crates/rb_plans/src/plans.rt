@@ -1,9 +1,11 @@
 //! Plans as questions and courses.
 ghost use Rattle.std.specs.Prelude.{◌≡◌};
-ghost use Rattle.rb_plans.specs.Plans.{question_of, plan_question, way_of, aim_of, answer_of, course_end};
+ghost use Rattle.rb_plans.specs.Plans.{question_of, plan_question, way_of, aim_of, answer_of, is_of_here, passed_over, follow, course_end};
 
 use crate::fault::Fault;
-use rb_course::{Aim, Answer, End, Place, Stage, Way, transport_of};
+use rb_course::{
+    Aim, Answer, Course, End, Place, Stage, Step, Way, next, transport_of, unanswered,
+};
 use rb_rpc::ReplyHead;
 use rb_show::{InfoFault, Question, Shown};
 use rb_uaddr::Uaddr;
@@ -58,8 +60,8 @@ pub fn aim_of(vers: Option<u32>) -> Aim
     }
 }
 
-/// What a reply answers in a course. A refusal is an answer too, and every other fault ends the course.
-pub fn answer_of(reply: Result<Shown, Fault>) -> Result<Answer, Fault>
+/// What a reply answers in a course. A refusal is an answer too, and no other fault is.
+fn answer_of(reply: Result<Shown, Fault>) -> Result<Answer, Fault>
     ensures { result ≡ answer_of reply }
 {
     match reply {
@@ -71,6 +73,56 @@ pub fn answer_of(reply: Result<Shown, Fault>) -> Result<Answer, Fault>
         )),
         Err(Fault::Info(InfoFault::Refused(head))) => Ok(Answer::Refused(head.status)),
         Err(fault) => Err(fault),
+    }
+}
+
+/// Whether a fault is one of this machine, whoever is asked.
+fn is_of_here(fault: Fault) -> bool
+    ensures { result ≡ is_of_here fault }
+{
+    match fault {
+        Fault::Info(InfoFault::Memory | InfoFault::Write) | Fault::TooManyRoutes => true,
+        Fault::Info(
+            InfoFault::Read
+            | InfoFault::Unreadable
+            | InfoFault::CutOff
+            | InfoFault::TooLong
+            | InfoFault::Refused(_)
+            | InfoFault::TooMany,
+        )
+        | Fault::NoConnection
+        | Fault::NoSocket
+        | Fault::NoReply
+        | Fault::NoHost
+        | Fault::NoAddress(_)
+        | Fault::NotAvailable(..)
+        | Fault::NoProgram(..)
+        | Fault::TooManyVersions
+        | Fault::SomeLack => false,
+    }
+}
+
+/// What follows of a question that had no answer: a fault of this machine ends a course, and any other one unless it is
+/// of one of several versions.
+fn passed_over(course: &Course, stage: Stage, fault: Fault) -> Result<Step, Fault>
+    ensures { result ≡ passed_over course.now stage fault }
+{
+    if is_of_here(fault) {
+        return Err(fault);
+    }
+    match unanswered(course, stage) {
+        Some(step) => Ok(step),
+        None => Err(fault),
+    }
+}
+
+/// What follows of a reply in a course, which an `Err` ends.
+pub fn follow(course: &Course, stage: Stage, reply: Result<Shown, Fault>) -> Result<Step, Fault>
+    ensures { result ≡ follow course.now stage reply }
+{
+    match answer_of(reply) {
+        Ok(answer) => Ok(next(course, stage, answer)),
+        Err(fault) => passed_over(course, stage, fault),
     }
 }
 
@@ -88,8 +140,8 @@ pub fn course_end(prog: u32, xid: u32, stage: Stage) -> Result<Shown, Fault>
             Err(Fault::Info(InfoFault::Refused(head)))
         }
         Stage::End(End::Unreadable) => Err(Fault::Info(InfoFault::Unreadable)),
-        Stage::End(End::TooMany) | Stage::Find(..) | Stage::FindOld(..) | Stage::Call(..) => Err(
-            Fault::Info(InfoFault::TooMany),
-        ),
+        Stage::End(End::TooMany) | Stage::Find(..) | Stage::FindOld(..) | Stage::Call(..) => {
+            Err(Fault::TooManyVersions)
+        }
     }
 }

@@ -3,11 +3,14 @@
 ghost use Rattle.std.specs.Prelude.{◌≡◌};
 ghost use Rattle.rpcinfo.specs.Running.{no_notices};
 
-use crate::hosts::{addresses_of, at_place, here, is_of};
+use crate::hosts::{addresses_of, here};
 use crate::net::{Peer, ask_datagram, ask_stream};
 use rb_address::Transport;
-use rb_course::{Course, Place, Stage, asked, begin, fallback, next, show_lack};
-use rb_plans::{FIRST_XID, Fault, Notices, Words, aim_of, answer_of, course_end, way_of};
+use rb_course::{Course, Place, Stage, asked, begin, called_at, fallback, show_lack};
+use rb_plans::{
+    FIRST_XID, Fault, Notices, Words, aim_of, course_end, falls_back, follow, is_asked,
+    is_unanswered, none_asked, notices_at, way_of,
+};
 use rb_show::{Ask, Form, InfoFault, Question, Shown};
 use rb_words::Means;
 use std::alloc::Global;
@@ -71,7 +74,8 @@ fn ask_portmapper<N: Net + Clock, O: Write>(
     (answer, true)
 }
 
-/// Asks the portmapper of this machine: over the socket that the words name, where somebody listens there.
+/// Asks the portmapper of this machine: over the socket that the words name, or without one, and where nobody is at the one
+/// path at which rpcbinds listen, at 127.0.0.1.
 pub fn ask_here<N: Net + Clock, O: Write>(
     alloc: Global,
     net: &N,
@@ -82,7 +86,7 @@ pub fn ask_here<N: Net + Clock, O: Write>(
     if let Some(path) = words.local {
         let peer = Peer::Here(path);
         let (answer, is_old) = ask_portmapper(alloc, net, words, peer, question, output);
-        if answer != Err(Fault::NoConnection) {
+        if !falls_back(path, answer) {
             let notices = Notices {
                 answered: None,
                 is_old,
@@ -111,25 +115,17 @@ pub fn ask_named<N: Net + Clock, O: Write>(
         Ok(addresses) => addresses,
         Err(fault) => return silently(Err(fault)),
     };
-    let mut last = Fault::NoHost;
+    let mut last = silently(Err(Fault::NoHost));
     for address in &addresses {
         let peer = Peer::Host(*address);
         let (answer, is_old) = ask_portmapper(alloc, net, words, peer, question, output);
-        if answer == Err(Fault::NoConnection) {
-            last = Fault::NoConnection;
-            continue;
+        let notices = notices_at(address.ip(), addresses.len(), answer, is_old);
+        last = (answer, notices);
+        if !is_unanswered(answer) {
+            break;
         }
-        return (answer, notices_of(*address, addresses.len(), is_old));
     }
-    silently(Err(last))
-}
-
-/// The address is named where the host has several.
-fn notices_of(address: SocketAddr, count: usize, is_old: bool) -> Notices {
-    Notices {
-        answered: if count > 1 { Some(address.ip()) } else { None },
-        is_old,
-    }
+    last
 }
 
 fn ask_at<N: Net + Clock, O: Write>(
@@ -141,7 +137,7 @@ fn ask_at<N: Net + Clock, O: Write>(
     xid: u32,
     output: &mut O,
 ) -> Result<Shown, Fault> {
-    match at_place(place, portmapper) {
+    match called_at(place, portmapper) {
         (Transport::Tcp, address) => {
             ask_stream(
                 alloc,
@@ -185,7 +181,7 @@ fn run_course<N: Net + Clock, O: Write>(
             *is_old = true;
         }
         let reply = ask_at(alloc, net, place, portmapper, &ask, xid, output);
-        let step = next(course, stage, answer_of(reply)?);
+        let step = follow(course, stage, reply)?;
         if let Some(vers) = step.lacks {
             if show_lack(course.prog, vers, output).is_err() {
                 return Err(Fault::Info(InfoFault::Write));
@@ -209,20 +205,20 @@ fn ping_named<N: Net + Clock, O: Write>(
         Ok(addresses) => addresses,
         Err(fault) => return silently(Err(fault)),
     };
-    let mut last = Fault::NoHost;
+    let mut last = silently(Err(none_asked(course.way, addresses.len())));
     for address in &addresses {
-        if !is_of(course.way, *address) {
+        if !is_asked(course.way, *address) {
             continue;
         }
         let mut is_old = false;
         let answer = run_course(alloc, net, *address, course, vers, &mut is_old, output);
-        if answer == Err(Fault::NoConnection) {
-            last = Fault::NoConnection;
-            continue;
+        let notices = notices_at(address.ip(), addresses.len(), answer, is_old);
+        last = (answer, notices);
+        if !is_unanswered(answer) {
+            break;
         }
-        return (answer, notices_of(*address, addresses.len(), is_old));
     }
-    silently(Err(last))
+    last
 }
 
 /// Calls procedure 0 of a program.

@@ -127,7 +127,7 @@ pub fn broadcast<N: Net + Clock + Files, O: Write>(
 ) -> Result<Shown, Fault> {
     let question = Question::Callit(prog, vers);
     let call = call_of(alloc, &words.ask(question), FIRST_XID)?;
-    let networks = networks_of(alloc, net, words.network).map_err(Fault::Info)?;
+    let networks = networks_of(alloc, net, words.network)?;
     let Ok(begun) = Instant::now(net) else {
         return Err(Fault::NoConnection);
     };

@@ -1,6 +1,8 @@
 //! `rpcinfo` asks a portmapper and shows what it answers.
 #![tactic(auto)]
 
+ghost use Rattle.std.specs.Prelude.{◌≤◌, IfErr};
+
 mod asking;
 mod broadcast;
 mod files;
@@ -12,31 +14,43 @@ mod programs;
 mod run;
 mod words;
 
-use rb_plans::{FAILED, UNREADABLE};
+use rb_plans::{Fault, explain, refuse_text};
+use rb_show::InfoFault;
 use run::run_info;
-use std::io::ErrorKind;
+use std::io::{ErrorKind, Write};
 use std::process::ExitCode;
 use std::{env, io};
 
-/// The words of the command line, where each is text.
-fn command_words(rt: &HostRuntime) -> io::Result<Vec<String>> {
+fn words_of(rt: &HostRuntime) -> io::Result<Vec<String>> {
     let words = env::args(rt)?.collect(rt.alloc())?;
     Ok(words)
 }
 
+/// The words of the command line, where each is text. A fault is written to `faults`, and the error is the exit status.
+fn command_words<E: Write>(rt: &HostRuntime, faults: &mut E) -> Result<Vec<String>, u8>
+    ensures { IfErr result (λ status. status ≤ 2) }
+{
+    match words_of(rt) {
+        Ok(words) => Ok(words),
+        Err(error) if error.kind() == ErrorKind::OutOfMemory => {
+            Err(explain(Fault::Info(InfoFault::Memory), faults).status)
+        }
+        Err(_) => Err(refuse_text(faults).status),
+    }
+}
+
 fn main(rt: HostRuntime) -> ExitCode {
-    let status = match command_words(&rt) {
-        Ok(words) => run_info(
-            rt.alloc(),
-            &rt,
-            &words,
-            &mut rt.reader(),
-            &mut io::writer(&rt),
-            &mut rt.stderr(),
-        )
-        .status,
-        Err(error) if error.kind() == ErrorKind::OutOfMemory => FAILED,
-        Err(_) => UNREADABLE,
+    let words = match command_words(&rt, &mut rt.stderr()) {
+        Ok(words) => words,
+        Err(status) => return ExitCode::from(status),
     };
-    ExitCode::from(status)
+    let ending = run_info(
+        rt.alloc(),
+        &rt,
+        &words,
+        &mut rt.reader(),
+        &mut io::writer(&rt),
+        &mut rt.stderr(),
+    );
+    ExitCode::from(ending.status)
 }

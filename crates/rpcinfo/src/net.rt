@@ -4,7 +4,7 @@ use rb_plans::{Fault, WAITS, wait_left};
 use rb_show::{Ask, Form, HeldBytes, InfoFault, ReadBytes, Shown, show_reply, write_call};
 use std::alloc::{AllocError, Global};
 use std::io;
-use std::io::{BufReader, ErrorKind, Read, Write};
+use std::io::{BufRead, BufReader, ErrorKind, Read, Write};
 use std::net::{IpAddr, Ipv4Addr, Ipv6Addr, Net, SocketAddr, TcpStream, UdpSocket};
 use std::os::unix::net::UnixStream;
 use std::rt::Clock;
@@ -50,6 +50,14 @@ pub fn call_of(alloc: Global, ask: &Ask, xid: u32) -> Result<Vec<u8>, Fault> {
     }
 }
 
+/// Why there is no connection.
+fn connect_fault(peer: Peer<'_>, error: io::Error) -> Fault {
+    match (peer, error.kind()) {
+        (Peer::Here(_), ErrorKind::NotFound | ErrorKind::ConnectionRefused) => Fault::NoSocket,
+        (Peer::Here(_) | Peer::Host(_), _) => Fault::NoConnection,
+    }
+}
+
 /// A connection whose call counts from now on.
 fn open<'a, N: Net + Clock>(
     net: &'a N,
@@ -60,15 +68,23 @@ fn open<'a, N: Net + Clock>(
     };
     match connect(net, peer) {
         Ok(stream) => Ok(Patient::new(net, stream, begun, WAITS)),
-        Err(_) => Err(Fault::NoConnection),
+        Err(error) => Err(connect_fault(peer, error)),
     }
 }
 
-/// Writes a call.
+/// Writes a call. Where it isn't taken, there is no reply to it.
 fn send<S: Write>(call: &[u8], stream: &mut S) -> Result<(), Fault> {
     match stream.write_all(call) {
         Ok(()) => Ok(()),
-        Err(_) => Err(Fault::Info(InfoFault::Write)),
+        Err(_) => Err(Fault::NoReply),
+    }
+}
+
+/// Waits for the first byte of a reply.
+fn await_reply<S: BufRead>(reader: &mut S) -> Result<(), Fault> {
+    match reader.fill_buf() {
+        Ok(bytes) if !bytes.is_empty() => Ok(()),
+        Ok(_) | Err(_) => Err(Fault::NoReply),
     }
 }
 
@@ -81,9 +97,10 @@ fn show_stream<S: Read + Drop, W: Write>(
     xid: u32,
     output: &mut W,
 ) -> Result<Shown, Fault> {
-    let Ok(reader) = BufReader::new(alloc, stream) else {
+    let Ok(mut reader) = BufReader::new(alloc, stream) else {
         return Err(Fault::Info(InfoFault::Memory));
     };
+    await_reply(&mut reader)?;
     let mut source = ReadBytes::new(reader);
     show_reply(alloc, ask, form, xid, &mut source, output).map_err(Fault::Info)
 }
@@ -148,7 +165,7 @@ fn receive_fault(error: io::Error) -> Fault {
     if error.kind() == ErrorKind::ConnectionRefused {
         Fault::NoConnection
     } else {
-        Fault::Info(InfoFault::Read)
+        Fault::NoReply
     }
 }
 

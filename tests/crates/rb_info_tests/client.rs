@@ -1,12 +1,11 @@
 //! A client that asks a daemon in the same process. Its sockets never wait, since the daemon's turns are taken by the same
 //! thread.
 use rb_address::Transport;
-use rb_course::{Aim, Answer, Course, End, Place, Stage, asked, begin, next};
+use rb_course::{Aim, Answer, Course, End, Stage, asked, begin, called_at, next};
 use rb_daemon::{Daemon, Limits, LocalSocket, Settings};
 use rb_show::{Ask, Form, HeldBytes, InfoFault, Shown, show_reply, write_call};
-use rb_uaddr::Uaddr;
 use std::io::{Read, Write};
-use std::net::{IpAddr, Ipv4Addr, Ipv6Addr, SocketAddr, TcpStream, UdpSocket};
+use std::net::{Ipv4Addr, Ipv6Addr, SocketAddr, TcpStream, UdpSocket};
 
 /// The port of the daemon that is asked: 78 times 256, and 150.
 pub const PORT: u16 = 20_118;
@@ -56,26 +55,6 @@ pub fn daemon_everywhere(rt: &HostRuntime) -> Option<Daemon<'_, HostRuntime>> {
         record: 0,
     };
     Daemon::new(rt.alloc(), rt, rt, &settings).ok()
-}
-
-/// Where a question goes, of the host whose portmapper is there.
-fn at_place(place: Place, portmapper: SocketAddr) -> (Transport, SocketAddr) {
-    match place {
-        Place::Portmapper(transport) => (transport, portmapper),
-        Place::Port(transport, port) => (transport, SocketAddr::new(portmapper.ip(), port)),
-        Place::Address(transport, Uaddr::V4(host, port)) => {
-            (
-                transport,
-                SocketAddr::new(IpAddr::V4(Ipv4Addr::from(host)), port),
-            )
-        }
-        Place::Address(transport, Uaddr::V6(host, port)) => {
-            (
-                transport,
-                SocketAddr::new(IpAddr::V6(Ipv6Addr::from(host)), port),
-            )
-        }
-    }
 }
 
 fn answer_of(shown: Result<Shown, InfoFault>) -> Option<Answer> {
@@ -209,7 +188,7 @@ impl<'r, 'f> Client<'r, 'f> {
             let Some((place, ask)) = asked(course, stage) else {
                 break;
             };
-            let shown = self.ask_at(daemon, at_place(place, portmapper), &ask, xid)?;
+            let shown = self.ask_at(daemon, called_at(place, portmapper), &ask, xid)?;
             stage = next(course, stage, answer_of(shown)?).stage;
         }
         match stage {

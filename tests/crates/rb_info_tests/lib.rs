@@ -14,6 +14,8 @@ mod networks;
 #[cfg(test)]
 mod pings;
 #[cfg(test)]
+mod places;
+#[cfg(test)]
 mod turns;
 #[cfg(test)]
 mod words;
