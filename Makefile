@@ -15,7 +15,7 @@ NAMES = proved
 SUFFIX = $(if $(filter plain,$(NAMES)),,-proved)
 PLACED = sed 's|@PREFIX@|$(PREFIX)|g; s|@SUFFIX@|$(SUFFIX)|g'
 
-.PHONY: all run quick test rows peers memory hostile units bench measure install uninstall clean
+.PHONY: all run quick test rows hosts peers memory hostile units bench measure install uninstall clean
 
 # Proves each crate, side by side, and builds the programs, crates/rpcbind/out/rpcbind and crates/rpcinfo/out/rpcinfo.
 all:
@@ -30,13 +30,17 @@ run:
 quick:
 	@tests/run-all.sh --quick
 
-# Each test, every proof from nothing, the edits that must be refused, and the rows.
+# Each test, every proof from nothing, the edits that must be refused, the rows, and two hosts.
 test:
 	@tests/run-all.sh
 
 # The rows alone, over the program that `make` or `make test` built.
 rows:
 	tests/run-rows.sh
+
+# The built programs on two hosts, the daemon's and a client's, with two networks between them. Needs root.
+hosts:
+	tests/two-hosts.sh
 
 # Real clients against the built daemon, in a namespace of its own. Needs root; says what was skipped.
 peers:

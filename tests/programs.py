@@ -1,13 +1,15 @@
 #!/usr/bin/env python3
 """A portmapper and its programs at one address of TCP, for rows of rpcinfo that no daemon of ours can give.
 
-programs.py HOST PORT prints 'listening' once it listens, and answers calls until it is ended.
+programs.py HOST PORT prints 'listening' once it listens, and answers calls until it is ended. HOST may be of IPv6, and one
+of a link stands with its interface behind PORT. programs.py --null PORT answers each call over UDP as procedure 0 is.
 
 Program 200001 has versions 1 to 3, and GETPORT tells a port of version 2 at which nobody listens.
 Program 200002 answers every version.
 Program 200003 has versions 1 to 3, and a call of version 2 is not answered.
-GETADDR tells 0.0.0.0 as the host of each.
+GETADDR tells 0.0.0.0, or ::, as the host of each.
 """
+import socket
 import socketserver
 import struct
 import sys
@@ -30,7 +32,7 @@ def portmapper(vers, proc, arguments, port):
     if vers == 2 and proc == 3:
         return SUCCESS, struct.pack(">I", DEAD if (prog, of) == (200001, 2) else port)
     if vers == 3 and proc == 3:
-        return SUCCESS, text(b"0.0.0.0.%d.%d" % divmod(port, 256))
+        return SUCCESS, text(ANY_HOST + b".%d.%d" % divmod(port, 256))
     return PROC_UNAVAIL, b""
 
 
@@ -56,11 +58,28 @@ class Calls(socketserver.BaseRequestHandler):
             self.request.sendall(accepted(xid, *answer))
 
 
+class Null(socketserver.BaseRequestHandler):
+    def handle(self):
+        call, answers = self.request
+        answers.sendto(accepted(*struct.unpack_from(">I", call), SUCCESS)[4:], self.client_address)
+
+
 class Server(socketserver.ThreadingTCPServer):
+    address_family = socket.AF_INET6 if ":" in sys.argv[1] else socket.AF_INET
     allow_reuse_address = True
     daemon_threads = True
 
 
-with Server((sys.argv[1], int(sys.argv[2])), Calls) as server:
+def address_of(host, port, interface=None):
+    """The socket address of a host, on a link where an interface of it is given."""
+    of = socket.getaddrinfo(f"{host}%{interface}" if interface else host, int(port), type=socket.SOCK_STREAM)
+    return of[0][4]
+
+
+ANY_HOST = b"::" if ":" in sys.argv[1] else b"0.0.0.0"
+if sys.argv[1] == "--null":
+    with socketserver.UDPServer(("0.0.0.0", int(sys.argv[2])), Null) as server:
+        server.serve_forever()
+with Server(address_of(*sys.argv[1:]), Calls) as server:
     print("listening", flush=True)
     server.serve_forever()

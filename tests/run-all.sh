@@ -1,6 +1,6 @@
 #!/usr/bin/env bash
 # The whole test: the tests without proof, `rt ci` (every proof from nothing, the edits that must be refused, and each
-# program), and the rows. The last line is 'N passed, N failed' over all; the status is 1 where one failed. With --anew,
+# program), the rows, and two hosts. The last line is 'N passed, N failed' over all; the status is 1 where one failed. With --anew,
 # nothing that this machine passed before is kept. With --quick nothing is proved: the rows run programs that were built
 # without proof.
 set -u
@@ -54,6 +54,7 @@ if [ "${1:-}" = --quick ]; then
     echo "make quick: each test and each row on $cores cores, and no proof"
     add tests/run-tests.sh --programs "$work"
     add tests/run-rows.sh "$work/rpcbind" "$work/rpcinfo"
+    add tests/two-hosts.sh "$work/rpcbind" "$work/rpcinfo"
 else
     echo "make test: $crates crates on $cores cores: from nothing about $(minutes_of_test "$cores") minutes;" \
         "what this machine passed before is not proved again"
@@ -65,6 +66,7 @@ else
     # With a number given, `rt` has each check work on one core: on several, each loads all that the crate stands on.
     add env RT_JOBS="$(count_slots "$memory_of_one")" rt ci "$@"
     add tests/run-rows.sh
+    add tests/two-hosts.sh
 fi
 echo "$passed passed, $failed failed"
 [ "$failed" -eq 0 ]
