@@ -432,16 +432,16 @@ local-mode:+6:a mode from 0 to 777 in octal digits
 record-limit:999:a number from 1000 to 16777216
 record-limit:16777217:a number from 1000 to 16777216
 bind:localhost:an IPv4 address as 192.0.2.1
-from:localhost:a network as 192.0.2.0/24 or 2001:db8::/32
-from:192.0.2.0/33:a network as 192.0.2.0/24 or 2001:db8::/32
-from:192.0.2.1/24:a network as 192.0.2.0/24 or 2001:db8::/32
-from:192.0.2.0/255.255.255.0:a network as 192.0.2.0/24 or 2001:db8::/32
+from:localhost:a network as 192.0.2.0/24, with no bit set behind its length,
+from:192.0.2.0/33:a network as 192.0.2.0/24, with no bit set behind its length,
+from:192.0.2.1/24:a network as 192.0.2.0/24, with no bit set behind its length,
+from:192.0.2.0/255.255.255.0:a network as 192.0.2.0/24, with no bit set behind its length,
 END
     echo "error: invalid value '::' for '--bind': an IPv4 address as 192.0.2.1 is wanted" > "$work/wanted"
     run /dev/null serve --bind 127.0.0.1 --bind ::
     as_wanted /dev/null "$work/wanted" 2
     judge $? "--bind '::' can't be read"
-    echo "error: invalid value '2001:db8::1/32' for '--from': a network as 192.0.2.0/24 or 2001:db8::/32 is wanted" > "$work/wanted"
+    echo "error: invalid value '2001:db8::1/32' for '--from': a network as 192.0.2.0/24, with no bit set behind its length, is wanted" > "$work/wanted"
     run /dev/null serve --from 2001:db8::/32 --from 2001:db8::1/32
     as_wanted /dev/null "$work/wanted" 2
     judge $? "--from '2001:db8::1/32' can't be read"

@@ -18,7 +18,7 @@ const NUMBER: &str = "a number of 64 bits";
 
 const ADDRESS: &str = "an IPv4 address as 192.0.2.1";
 
-const NETWORK: &str = "a network as 192.0.2.0/24 or 2001:db8::/32";
+const NETWORK: &str = "a network as 192.0.2.0/24, with no bit set behind its length,";
 
 /// What a command line asks for.
 #[derive(Debug, Drop)]

@@ -32,18 +32,11 @@ fn serve<'a>(alloc: Global) -> Result<Command<'a>, AllocError> {
     )
     .action(ArgAction::Append)
     .default_value(serve_default(Valued::Bind(0)));
-    let from = option(
-        alloc,
-        "from",
-        "NETWORK",
-        "Serve hosts of this network and this machine alone, as 192.0.2.0/24; may be given up to 16 times",
-    )
-    .action(ArgAction::Append);
     let command = Command::new(alloc, "serve")
         .version(VERSION)
         .about("Listens over TCP and UDP, and serves until it is stopped")
         .arg(bind)?
-        .arg(from)?
+        .arg(from(alloc))?
         .arg(announce(
             alloc,
             "IPv4 address that answers show for 0.0.0.0; callers from it are local [default: the first --bind]",
@@ -65,6 +58,17 @@ fn serve<'a>(alloc: Global) -> Result<Command<'a>, AllocError> {
         "End after N turns of at most 100 milliseconds; 0 never ends",
     )
     .default_value(serve_default(Valued::Turns)))
+}
+
+/// Whom `serve` serves.
+fn from<'a>(alloc: Global) -> Arg<'a> {
+    option(
+        alloc,
+        "from",
+        "NETWORK",
+        "Serve hosts of this network alone, as 192.0.2.0/24, beside the loopback and the local socket; may be given up to 16 times",
+    )
+    .action(ArgAction::Append)
 }
 
 /// What `serve` listens on besides.

@@ -1,6 +1,6 @@
 //! What is asked, and what follows of each answer.
 ghost use Rattle.std.specs.Prelude.{◌≡◌};
-ghost use Rattle.rb_course.specs.Next.{transport_of, version_of, call_question, find_of, question_at, ask_at, begin, step_to, next_stage, step_to_versions, after_lack, transport_at, after_port, host_in, after_address, refused_find, after_find_refusal, after_find, after_find_old, after_ready, after_refusal, after_call, next, lack_of_several, unanswered};
+ghost use Rattle.rb_course.specs.Next.{transport_of, version_of, call_question, find_of, question_at, ask_at, begin, step_to, next_stage, step_to_versions, after_lack, transport_at, after_port, host_in, is_of_teller, after_address, refused_find, after_find_refusal, after_find, after_find_old, after_ready, after_refusal, after_call, next, lack_of_several, unanswered};
 
 use crate::course::{Aim, Answer, Course, End, Place, Stage, Step, Way};
 use rb_address::{Host, Netid, Transport};
@@ -199,12 +199,20 @@ fn host_in(address: Uaddr) -> Host
     }
 }
 
-/// An address of every host is a port of the host whose portmapper told it.
+/// Whether an address means the host that tells it: every one of its hosts, or itself.
+fn is_of_teller(address: Uaddr) -> bool
+    ensures { result ≡ is_of_teller address }
+{
+    let host = host_in(address);
+    host.is_any() || host.is_loopback()
+}
+
+/// Such an address is a port of the host whose portmapper told it.
 #[tactic(auto, unfolding(rb_uaddr::specs::Uaddr::port_of))]
 fn after_address(course: &Course, aim: Aim, address: Uaddr) -> Step
     ensures { result ≡ after_address course.now aim address }
 {
-    if host_in(address).is_any() {
+    if is_of_teller(address) {
         return after_port(course, aim, u32::from(address.port()));
     }
     step_to(Stage::Call(aim, Place::Address(transport_at(course.way), address)))
