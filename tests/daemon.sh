@@ -20,3 +20,13 @@ check_record() {
     mapfile -t words < <(sed -n '1s/^# rpcbind //p' "$1" | tr ' ' '\n')
     "$program" "${words[@]}" < "$1"
 }
+
+# Counts a check by the status given in `passed` or `failed`, and says what failed.
+judge() {
+    if [ "$1" -eq 0 ]; then
+        passed=$((passed + 1))
+    else
+        failed=$((failed + 1))
+        echo "failed: $2"
+    fi
+}

@@ -42,16 +42,6 @@ skip() {
     echo "skipped: $1"
 }
 
-# Counts a check by the status given, and says what was checked where it failed.
-judge() {
-    if [ "$1" -eq 0 ]; then
-        passed=$((passed + 1))
-    else
-        failed=$((failed + 1))
-        echo "failed: $2"
-    fi
-}
-
 # Runs a client, shows what it wrote, and wants status 0 and a line that has these words in it, in this order.
 wants() {
     local name=$1 words=$2

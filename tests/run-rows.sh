@@ -25,16 +25,6 @@ beside=()
 work=$(mktemp -d) || exit 1
 trap 'rm -rf "$work"' EXIT
 
-# Counts a check by the status given, and says what failed.
-judge() {
-    if [ "$1" -eq 0 ]; then
-        passed=$((passed + 1))
-    else
-        failed=$((failed + 1))
-        echo "failed: $2"
-    fi
-}
-
 # Compares a file with what is wanted of it, and prints the first lines of the difference.
 same() {
     diff --label "$3, wanted" --label "$3, got" -u "$1" "$2" | head -n 20
