@@ -79,6 +79,7 @@ def address_of(host, port, interface=None):
 ANY_HOST = b"::" if ":" in sys.argv[1] else b"0.0.0.0"
 if sys.argv[1] == "--null":
     with socketserver.UDPServer(("0.0.0.0", int(sys.argv[2])), Null) as server:
+        print("listening", flush=True)
         server.serve_forever()
 with Server(address_of(*sys.argv[1:]), Calls) as server:
     print("listening", flush=True)
