@@ -15,7 +15,7 @@ given bytes = Ok bytes
 abbrev refused : InfoFault → Result (List ℕ) InfoFault
 refused fault = Err fault
 
-was_ok : (r : Result (List ℕ) FromHexError) (bytes : List ℕ) → or_unreadable r ≡ Ok bytes → r ≡ Ok bytes
+pub was_ok : (r : Result (List ℕ) FromHexError) (bytes : List ℕ) → or_unreadable r ≡ Ok bytes → r ≡ Ok bytes
 was_ok (Ok read) bytes e = rw (same read bytes e) refl
   where
     same : (a b : List ℕ) → given a ≡ given b → a ≡ b

@@ -1,5 +1,6 @@
 pub mod Input
 pub mod InputLaws
+pub mod ObjectLaws
 pub mod Plans
 pub mod Waits
 pub mod Addresses

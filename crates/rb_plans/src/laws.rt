@@ -1,6 +1,7 @@
 //! What holds of the definitions.
 ghost use Rattle.rb_plans.specs.AddressLaws.{AskedUpToAnAnswer, AllAreAsked};
 ghost use Rattle.rb_plans.specs.InputLaws.{HexTextsGiveBytes, OnlyHexTextsDo, OthersAreUnreadable, DigitsGiveTheirBytes, LongTextsAreNotRead, TheRestIsRead};
+ghost use Rattle.rb_plans.specs.ObjectLaws.{ObjectsAreAskedFor, VersionTwoHasObjects, TextsAreShownAsObjects};
 
 /// A text gives bytes exactly where it is an even number of hexadecimal digits with white space anywhere, and bytes'
 /// own digits give them; any other text is unreadable. One of more than 67,108,864 bytes is not read at all.
@@ -17,4 +18,12 @@ pub fn texts_are_hexadecimal()
 pub fn addresses_are_asked_in_order()
     ensures first { AskedUpToAnAnswer }
     ensures none { AllAreAsked }
+{}
+
+/// Words that want objects ask only for what is shown as objects, in version 2 too where it is asked in place of
+/// another. Of a reply on standard input nothing but whole lines of such objects is written, unless the output fails.
+pub fn objects_are_shown()
+    ensures asked { ObjectsAreAskedFor }
+    ensures old { VersionTwoHasObjects }
+    ensures texts { TextsAreShownAsObjects }
 {}

@@ -4,4 +4,8 @@ pub mod ShownBytes
 pub mod Calls
 pub mod Requests
 pub mod JsonTexts
+pub mod JsonGrammar
+pub mod ObjectLines
+pub mod ObjectTellers
+pub mod WorkedTexts
 pub mod SummaryRows

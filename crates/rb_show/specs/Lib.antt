@@ -7,6 +7,8 @@ pub mod Worked
 pub mod Texts
 pub mod Json
 pub mod JsonLaws
+pub mod JsonGrammar
+pub mod ObjectLaws
 pub mod Objects
 pub mod Statistics
 pub mod Summary

@@ -7,9 +7,10 @@ use Rattle.rb_ask.specs.Telling.Told.{Done, Stop}
 use Rattle.rb_show.specs.declared.ask.Ask.{Ask}
 use Rattle.rb_show.specs.declared.ask.Question.{Question}
 use Rattle.rb_show.specs.declared.ask.Question.TheVariants.{Pmap, Rows}
-use Rattle.rb_show.specs.declared.form.Form.TheVariants.{Plain}
+use Rattle.rb_show.specs.declared.form.Form.TheVariants.{Plain, Json}
 use Rattle.rb_show.specs.declared.show.Shown.TheVariants as shown
 use Rattle.rb_show.specs.Asks.{marked_call}
+use Rattle.rb_show.specs.JsonGrammar.{IsNumber, IsText}
 use Rattle.rb_show.specs.Replies.{tell_reply}
 
 -- without a uid
@@ -44,3 +45,21 @@ OtherXidIsUnreadable = tell_reply (of_nobody Pmap) Plain 2 CutOff (accepted 1 3)
 abbrev pub CutListTellsItsRows : Type 0
 CutListTellsItsRows =
     tell_reply (of_nobody Rows) Plain 1 CutOff (accepted 1 0 ++ take 32 one_row) ≡ Stop (codes "7 3 udp - a?b\n" ∷ []) CutOff
+
+-- ---- as objects
+
+-- a row with a quotation mark and the byte 200 in its owner, and a list that breaks off behind it
+abbrev pub quoted_row : List ℕ
+quoted_row = words (1 ∷ 7 ∷ 3 ∷ []) ++ opaque (codes "udp") ++ opaque [] ++ opaque (97 ∷ 34 ∷ 200 ∷ [])
+
+abbrev pub CutListTellsItsObjects : Type 0
+CutListTellsItsObjects =
+    tell_reply (of_nobody Rows) Json 1 CutOff (accepted 1 0 ++ quoted_row)
+    ≡ Stop (codes "{\"program\":7,\"version\":3,\"netid\":\"udp\",\"address\":\"\",\"owner\":\"a\\\"\\u00c8\"}\n" ∷ []) CutOff
+
+-- with white space, and each kind of value
+abbrev pub SpacedTextIsOfTheGrammar : Type 0
+SpacedTextIsOfTheGrammar = IsText (codes " { \"a\\n\" : [ true,-0.5E+3, null, [] ] }\n")
+
+abbrev pub LeadingZeroIsNoNumber : Type 0
+LeadingZeroIsNoNumber = IsNumber (codes "01") → ⊥

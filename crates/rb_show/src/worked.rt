@@ -1,5 +1,5 @@
 //! Worked examples of the definitions, which the proof computes.
-ghost use Rattle.rb_show.specs.Worked.{CallOfTheTable, RowIsTold, RefusalIsTold, CutHeadIsCutOff, OtherXidIsUnreadable, CutListTellsItsRows};
+ghost use Rattle.rb_show.specs.Worked.{CallOfTheTable, RowIsTold, RefusalIsTold, CutHeadIsCutOff, OtherXidIsUnreadable, CutListTellsItsRows, CutListTellsItsObjects, SpacedTextIsOfTheGrammar, LeadingZeroIsNoNumber};
 
 /// The definitions give what the worked examples say.
 pub fn worked_examples()
@@ -9,4 +9,7 @@ pub fn worked_examples()
     ensures cut_head { CutHeadIsCutOff }
     ensures other_xid { OtherXidIsUnreadable }
     ensures cut_list { CutListTellsItsRows }
+    ensures objects { CutListTellsItsObjects }
+    ensures spaced { SpacedTextIsOfTheGrammar }
+    ensures leading_zero { LeadingZeroIsNoNumber }
 {}

@@ -11,6 +11,7 @@ use Rattle.rb_ask.specs.Heads.{take_accepted, take_head}
 use Rattle.rb_ask.specs.Lists.{tell_items}
 use Rattle.rb_show.specs.Asks.{call_of}
 use Rattle.rb_show.specs.Replies.{tell_list, by_head, tell_reply}
+use Rattle.rb_show.proofs.WorkedTexts.{spaced_text, no_leading_zero}
 use Rattle.rb_show.proofs.worked.worked_examples.Goals as goal
 
 pub returns-clause-call : goal.returns-clause-call
@@ -36,3 +37,13 @@ returns-clause-other_xid c = refl
 pub returns-clause-cut_list : goal.returns-clause-cut_list
 unfolding number number_at opaque read_number read_bool read_content read_opaque read_pair read_optional read_rpcb ◌>>=◌ take_one take_accepted take_head tell_items tell_list by_head tell_reply digits
 returns-clause-cut_list c = refl
+
+pub returns-clause-objects : goal.returns-clause-objects
+unfolding number number_at opaque read_number read_bool read_content read_opaque read_pair read_optional read_rpcb ◌>>=◌ take_one take_accepted take_head tell_items tell_list by_head tell_reply digits
+returns-clause-objects c = refl
+
+pub returns-clause-spaced : goal.returns-clause-spaced
+returns-clause-spaced c = spaced_text
+
+pub returns-clause-leading_zero : goal.returns-clause-leading_zero
+returns-clause-leading_zero c = no_leading_zero
