@@ -15,7 +15,7 @@ NAMES = proved
 SUFFIX = $(if $(filter plain,$(NAMES)),,-proved)
 PLACED = sed 's|@PREFIX@|$(PREFIX)|g; s|@SUFFIX@|$(SUFFIX)|g'
 
-.PHONY: all run quick test rows hosts peers memory hostile units bench measure install uninstall clean
+.PHONY: all run quick test rows hosts peers memory hostile attacks units bench measure install uninstall clean
 
 # Proves each crate, side by side, and builds the programs, crates/rpcbind/out/rpcbind and crates/rpcinfo/out/rpcinfo.
 all:
@@ -54,6 +54,11 @@ memory:
 # PROGRAM=PATH takes another program.
 hostile:
 	tests/run-hostile.sh
+
+# As another user against the rows of root's and of rpc.statd's, in a namespace of its own, by each door of the built daemon.
+# Needs root; says what was skipped.
+attacks:
+	tests/attacks.sh
 
 # The units of systemd with the built programs, under a systemd of its own in a Debian that debootstrap makes. Needs root.
 # CACHE=FOLDER keeps that Debian there for the next time.

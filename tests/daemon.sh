@@ -4,7 +4,8 @@
 start_daemon() {
     local written=$1
     shift
-    "$program" serve "$@" > "$written" 2>&1 &
+    : > "$written" # what a daemon before wrote there is not to be taken for its own
+    "$program" serve "$@" >> "$written" 2>&1 &
     daemon=$!
     for _ in $(seq 50); do
         grep -q listening "$written" && return
@@ -17,7 +18,7 @@ start_daemon() {
 # Runs the events of a daemon's record again, by the command in its first line. The status is 0 where all outputs agree.
 check_record() {
     local words
-    mapfile -t words < <(sed -n '1s/^# rpcbind //p' "$1" | tr ' ' '\n')
+    eval "words=($(sed -n '1s/^# rpcbind //p' "$1"))" # a path stands there in quotes, and has none
     "$program" "${words[@]}" < "$1"
 }
 

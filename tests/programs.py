@@ -2,7 +2,8 @@
 """A portmapper and its programs at one address of TCP, for rows of rpcinfo that no daemon of ours can give.
 
 programs.py HOST PORT prints 'listening' once it listens, and answers calls until it is ended. HOST may be of IPv6, and one
-of a link stands with its interface behind PORT. programs.py --null PORT answers each call over UDP as procedure 0 is.
+of a link stands with its interface behind PORT. programs.py --null HOST PORT answers each call over UDP as procedure 0 is,
+and programs.py --silent HOST PORT answers none.
 
 Program 200001 has versions 1 to 3, and GETPORT tells a port of version 2 at which nobody listens.
 Program 200002 answers every version.
@@ -14,6 +15,9 @@ import socketserver
 import struct
 import sys
 
+KIND = sys.argv.pop(1) if sys.argv[1].startswith("--") else "--programs"
+FAMILY = socket.AF_INET6 if ":" in sys.argv[1] else socket.AF_INET
+ANY_HOST = b"::" if FAMILY == socket.AF_INET6 else b"0.0.0.0"
 DEAD = 20199
 SUCCESS, PROG_UNAVAIL, PROG_MISMATCH, PROC_UNAVAIL = 0, 1, 2, 3
 
@@ -64,10 +68,19 @@ class Null(socketserver.BaseRequestHandler):
         answers.sendto(accepted(*struct.unpack_from(">I", call), SUCCESS)[4:], self.client_address)
 
 
-class Server(socketserver.ThreadingTCPServer):
-    address_family = socket.AF_INET6 if ":" in sys.argv[1] else socket.AF_INET
+class Silent(socketserver.BaseRequestHandler):
+    def handle(self):
+        pass
+
+
+class Streams(socketserver.ThreadingTCPServer):
+    address_family = FAMILY
     allow_reuse_address = True
     daemon_threads = True
+
+
+class Datagrams(socketserver.UDPServer):
+    address_family = FAMILY
 
 
 def address_of(host, port, interface=None):
@@ -76,11 +89,8 @@ def address_of(host, port, interface=None):
     return of[0][4]
 
 
-ANY_HOST = b"::" if ":" in sys.argv[1] else b"0.0.0.0"
-if sys.argv[1] == "--null":
-    with socketserver.UDPServer(("0.0.0.0", int(sys.argv[2])), Null) as server:
-        print("listening", flush=True)
-        server.serve_forever()
-with Server(address_of(*sys.argv[1:]), Calls) as server:
+SERVERS = {"--programs": (Streams, Calls), "--null": (Datagrams, Null), "--silent": (Datagrams, Silent)}
+server_of, handler = SERVERS[KIND]
+with server_of(address_of(*sys.argv[1:]), handler) as server:
     print("listening", flush=True)
     server.serve_forever()

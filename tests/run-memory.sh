@@ -124,8 +124,8 @@ judge $? "calls over UDP are answered"
 after=$(own)
 all=$(resident)
 echo "resident after the load: $all kB, its own $after kB"
-[ "$all" -le 4096 ]
-judge $? "at most 4,096 kB"
+[ "$all" -le 5120 ]
+judge $? "at most 5,120 kB"
 [ "$after" -eq "$before" ]
 judge $? "the load takes not a page more of its own"
 kill -0 "$daemon" 2> /dev/null

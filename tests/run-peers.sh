@@ -5,8 +5,9 @@
 # path of another built program. With RECORD=1 in the environment the daemon records its events, and its record is checked
 # at its end. The last line is 'N passed, N failed, N skipped'; the status is 1 where one failed.
 #
-# `rpcinfo` is that of Debian's package rpcbind; a program of tests/peers is built with cc and libtirpc; services are those of
-# nfs-common, nfs-kernel-server, rstatd, rusersd, rwalld, quota and nfs-ganesha-vfs, clients those of rusers and libnfs-utils.
+# `rpcinfo` is that of Debian's package rpcbind, and what it shows of an empty daemon is what it shows of that package's; a
+# program of tests/peers is built with cc and libtirpc; services are those of nfs-common, nfs-kernel-server, rstatd, rusersd,
+# rwalld, quota and nfs-ganesha-vfs, clients those of rusers, libnfs-utils and nfs-common.
 set -u
 here=$(cd "$(dirname "$0")/.." && pwd) || exit 1
 cd "$here" || exit 1
@@ -85,19 +86,53 @@ run_rpcinfo() {
     wants "rpcinfo -T tcp" 'program 100000 version 4 ready' "$rpcinfo" -T tcp 127.0.0.1 100000
     wants "rpcinfo -t" 'program 100000 version 2 ready' "$rpcinfo" -t 127.0.0.1 100000 2
     wants "rpcinfo -u" 'program 100000 version 2 ready' "$rpcinfo" -u 127.0.0.1 100000 2
+    has_netid udp6 || return
+    wants "rpcinfo -T udp6" 'program 100000 version 4 ready' "$rpcinfo" -T udp6 ::1 100000
+    wants "rpcinfo -T tcp6" 'program 100000 version 4 ready' "$rpcinfo" -T tcp6 ::1 100000
 }
 
-# A DUMP of version 4 over TCP [::1]: the reply is one fragment that has the six rows of program 100000, of 56 bytes
-# each, behind a head of 24, and a word of its end.
+# The lists of a daemon that has only its own rows, as Debian's rpcinfo shows them.
+list_own_rows() {
+    local words
+    for words in "" -p -s 127.0.0.1 ::1; do
+        echo "\$ rpcinfo $words"
+        timeout 30 "$rpcinfo" $words 2>&1 < /dev/null
+    done
+}
+
+# What these are of Debian's daemon.
+ask_debians() {
+    local debians number
+    debians=$(dpkg -L rpcbind 2> /dev/null | grep '/sbin/rpcbind$' | head -n 1)
+    [ -x "$debians" ] || { skip "rpcbind is not installed"; return; }
+    "$debians" -f > "$work/debians" 2>&1 &
+    number=$!
+    for _ in $(seq 50); do
+        "$rpcinfo" > /dev/null 2>&1 && break
+        sleep 0.1
+    done
+    list_own_rows > "$work/rows"
+    kill "$number" && wait "$number" 2> /dev/null
+}
+
+# With a netconfig of IPv4 alone Debian's has rows of IPv4 alone, ours those of its sockets.
+compare_own_rows() {
+    [ -s "$work/rows" ] && has_netid udp6 || return
+    list_own_rows | diff "$work/rows" -
+    judge $? "own rows are those of Debian's rpcbind"
+}
+
+# A DUMP of version 4 over TCP [::1]: the reply is one fragment that has the twelve rows of program 100000 behind a head of
+# 24 bytes, and a word of its end. A row has 56 bytes on tcp and udp, 48 on tcp6 and udp6, and 64 on local.
 dump_over_loopback6() {
     local socket reply
     exec {socket}<> /dev/tcp/::1/111 || return 1
     printf '\x80\x00\x00\x28\x00\x00\x00\x01\x00\x00\x00\x00\x00\x00\x00\x02\x00\x01\x86\xa0\x00\x00\x00\x04\x00\x00\x00\x04' >&"$socket"
     printf '\0%.0s' $(seq 16) >&"$socket"
-    reply=$(timeout 5 head -c 368 <&"$socket" | od -An -v -tx1 | tr -d ' \n')
+    reply=$(timeout 5 head -c 688 <&"$socket" | od -An -v -tx1 | tr -d ' \n')
     echo "$reply" > "$work/reply"
     exec {socket}>&-
-    [ "${#reply}" -eq 736 ] && [ "${reply:0:56}" = 8000016c000000010000000100000000000000000000000000000000 ]
+    [ "${#reply}" -eq 1376 ] && [ "${reply:0:56}" = 800002ac000000010000000100000000000000000000000000000000 ]
 }
 
 run_libtirpc() {
@@ -133,8 +168,17 @@ end_service() {
     for number in $(pidof "$1"); do kill "$number"; done
 }
 
-# Starts a service, wants its program to be registered on each netid that is told, and not any more at its end, unless it
-# leaves its rows behind at any rpcbind. Between, it runs a client, if there is one: a function.
+# As whom a service registers: it may change to a user before.
+owner_of() {
+    case $1 in
+        rpc.statd) id -u statd ;;
+        rpc.rusersd | rpc.rwalld) id -u nobody ;;
+        *) echo superuser ;;
+    esac
+}
+
+# Starts a service, wants its program to be registered on each netid that is told, as its own user, and not any more at its
+# end, unless it leaves its rows behind at any rpcbind. Between, it runs a client, if there is one: a function.
 run_service() {
     local name=$1 program_number=$2 netids=$3 client=$4 netid
     shift 4
@@ -150,6 +194,8 @@ run_service() {
         registered "$program_number" | awk -v netid="$netid" '$3 == netid { found = 1 } END { exit !found }'
         judge $? "$name is registered on $netid"
     done
+    [ "$(registered "$program_number" | awk '{ print $NF }' | sort -u)" = "$(owner_of "$name")" ]
+    judge $? "$name is registered as its own user"
     [ -z "$client" ] || "$client"
     end_service "$(basename "$1")"
     [ "$name" != rpc.rwalld ] || return
@@ -200,11 +246,38 @@ EXPORT {
 END
 }
 
-# A whole mount of NFS version 3 in user space: each port is looked up.
 ask_ganesha() {
-    local place=nfs://127.0.0.1/run/served
-    command -v showmount > /dev/null && wants "showmount -e" '/run/served' showmount -e 127.0.0.1
+    mount_from 127.0.0.1
+    mount_by_kernel 127.0.0.1 tcp
+    mount_by_kernel 127.0.0.1 udp
+    has_netid tcp6 || return
+    mount_from ::1
+    mount_by_kernel "[::1]" tcp6
+    mount_by_kernel "[::1]" udp6
+}
+
+# A mount of NFS version 3 by the kernel. Where it has none, mount.nfs comes as far as the ports of nfs and mountd.
+mount_by_kernel() {
+    local host=$1 protocol=$2 found='prog (100003 vers 3 prot [A-Z]+ port 2049|100005 vers 3 prot [A-Z]+ port [0-9]+)$'
+    command -v mount.nfs > /dev/null || { skip "mount.nfs is not installed (package nfs-common)"; return; }
+    echo "\$ mount.nfs -v -o vers=3,nolock,proto=$protocol $host:/run/served /run/mounted"
+    mkdir -p /run/mounted
+    timeout 30 mount.nfs -v -o "vers=3,nolock,proto=$protocol" "$host:/run/served" /run/mounted > "$work/written" 2>&1
+    sed 's/^/    /' "$work/written"
+    [ "$(grep -cE "$found" "$work/written")" = 2 ]
+    judge $? "mount.nfs finds both ports of $host by $protocol"
+    ! grep -q 'mount(2): No such device' "$work/written" || { skip "the kernel has no NFS"; return; }
+    cmp -s /run/served/greeting /run/mounted/greeting
+    judge $? "a mount of $host by $protocol"
+    umount /run/mounted
+}
+
+# A whole mount of NFS version 3 in user space: each port is looked up.
+mount_from() {
+    local host=$1 place=nfs://$1/run/served
+    command -v showmount > /dev/null && wants "showmount -e" '/run/served' showmount -e "$host"
     command -v nfs-ls > /dev/null || { skip "nfs-ls is not installed (package libnfs-utils)"; return; }
+    rm -f /run/served/copy
     wants "nfs-ls" 'greeting' nfs-ls "$place?version=3"
     wants "nfs-cat" 'hello' nfs-cat "$place/greeting?version=3"
     wants "nfs-cp" 'copied' nfs-cp "$here/crates.txt" "$place/copy?version=3"
@@ -239,6 +312,7 @@ run_all() {
     start_daemon "$work/daemon" "${words[@]}" || exit 1
     cat "$work/daemon"
     run_rpcinfo
+    compare_own_rows
     dump_over_loopback6
     judge $? "a DUMP of version 4 over TCP [::1]"
     run_libtirpc
@@ -253,6 +327,7 @@ run_all() {
 }
 
 prepare
+[ ! -x "$rpcinfo" ] || ask_debians
 run_all "/etc/netconfig as it is"
 if [ -e /etc/netconfig ]; then
     # The file of the local socket was left behind: the next start mends it.

@@ -244,6 +244,26 @@ run_with_little_memory() {
     judge $? "an input that does not fit in memory"
 }
 
+# What is kept of an output has room for its own length, not for the greatest of its kind. The memory of the process is
+# limited to 100,000 KiB, twice what this takes: an input of 2,000,000 bytes, with outputs of 13,500,000.
+run_many_short_outputs() {
+    [ -z "$has_checks" ] || { echo 'not run: many short outputs in little memory'; return; }
+    {
+        echo 'open 0 127.0.0.1:900'
+        head -n 3 tests/rows/forward_by_callit.events
+        yes $'pending 1\nunsent' | head -n 235200
+    } > "$work/events"
+    {
+        echo 'open 1'
+        head -n 2 tests/rows/forward_by_callit.expected
+        yes "pending -"$'\n'"$(sed -n 3p tests/rows/forward_by_callit.expected)" | head -n 235200
+    } > "$work/wanted"
+    (ulimit -v 100000 && exec "$program" replay < "$work/events" > "$work/stdout" 2> "$work/stderr")
+    got=$?
+    as_wanted "$work/wanted" /dev/null 0
+    judge $? "many short outputs in little memory"
+}
+
 # ---- the daemon, and help
 
 # The daemon says where it listens, and ends after its turns.
@@ -272,7 +292,7 @@ run_all_listeners() {
 # A daemon that records is asked, over TCP and UDP; its record, of all that it was asked, agrees with a replay.
 run_record() {
     local file=$work/record daemon check
-    "$program" serve --port 20112 --turns 30 --record "$file" > "$work/stdout" 2> "$work/stderr" &
+    "$program" serve --port 20112 --turns 60 --record "$file" > "$work/stdout" 2> "$work/stderr" &
     daemon=$!
     until grep -q listening "$work/stdout" || ! kill -0 "$daemon" 2> /dev/null; do
         sleep 0.1
@@ -401,7 +421,7 @@ run_daemon_elsewhere() {
 # Clients from elsewhere can make nothing of 0.0.0.0.
 run_daemon_without_announce() {
     echo 'rpcbind: listening on 0.0.0.0 port 20112' > "$work/wanted"
-    echo 'rpcbind: no --announce: clients from elsewhere will be told 0.0.0.0' > "$work/wanted-stderr"
+    echo 'rpcbind: no --announce: clients over UDP will be told 0.0.0.0' > "$work/wanted-stderr"
     run /dev/null serve --bind 0.0.0.0 --port 20112 --turns 1
     as_wanted "$work/wanted" "$work/wanted-stderr" 0
     judge $? "a daemon at 0.0.0.0 that announces nothing else"
@@ -794,6 +814,7 @@ if [ -x "$program" ]; then
     run_full_device
     run_input_that_cannot_be_read
     run_with_little_memory
+    run_many_short_outputs
     run_three_turns
     run_all_listeners
     run_record

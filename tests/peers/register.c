@@ -69,12 +69,12 @@ static void over_version_4(const char *netid)
     freenetconfigent(transport);
 }
 
-/* Rows of IPv6 are listed; look-ups go by tcp and udp. */
 static void over_version_4_with_ipv6(const char *netid)
 {
     struct netconfig *transport = getnetconfigent(netid);
     struct sockaddr_in6 there = {.sin6_family = AF_INET6, .sin6_port = htons(PORT), .sin6_addr = IN6ADDR_LOOPBACK_INIT};
-    struct netbuf address = {sizeof there, sizeof there, &there};
+    struct sockaddr_in6 found;
+    struct netbuf address = {sizeof there, sizeof there, &there}, answer = {sizeof found, 0, &found};
     if (transport == NULL) {
         printf("version 4: no netid %s in /etc/netconfig, skipped\n", netid);
         return;
@@ -82,8 +82,12 @@ static void over_version_4_with_ipv6(const char *netid)
     printf("version 4 on %s\n", netid);
     wants("version 4: registers", rpcb_set(PROGRAM, VERSION, transport, &address));
     wants("version 4: refuses it again", !rpcb_set(PROGRAM, VERSION, transport, &address));
+    memset(&found, 0, sizeof found);
+    wants("version 4: is found", rpcb_getaddr(PROGRAM, VERSION, transport, &answer, "::1")
+        && found.sin6_port == htons(PORT) && IN6_IS_ADDR_LOOPBACK(&found.sin6_addr));
     wants("version 4: is listed", is_listed(netid));
     wants("version 4: unregisters", rpcb_unset(PROGRAM, VERSION, transport));
+    wants("version 4: is not found any more", !rpcb_getaddr(PROGRAM, VERSION, transport, &answer, "::1"));
     wants("version 4: is not listed any more", !is_listed(netid));
     freenetconfigent(transport);
 }

@@ -174,7 +174,7 @@ fails_with() {
 
 agrees() {
     local words
-    mapfile -t words < <(sed -n '1s/^# rpcbind //p' "$1" | tr ' ' '\n')
+    eval "words=($(sed -n '1s/^# rpcbind //p' "$1"))" # a path stands there in quotes, and has none
     rpcbind-proved "${words[@]}" < "$1"
 }
 

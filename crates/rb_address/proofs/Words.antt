@@ -138,25 +138,25 @@ plain_of limit n few small =
     let fits : n < 2 ^ 64 = omega (arith, few, small) in
     rw (no_padding n fits) (decimal_of limit (decimal_text n) n (decimal_nonempty n fits, digits_decimal own n fits) (digits_value-decimal own n fits) small)
 
-decimal_without : (at n : ℕ) → n < 2 ^ 64 → (48 ≤ at → at ≤ 57 → ⊥) → IsWithout at (decimal_text n)
+pub decimal_without : (at n : ℕ) → n < 2 ^ 64 → (48 ≤ at → at ≤ 57 → ⊥) → IsWithout at (decimal_text n)
 decimal_without at n fits other = numeral_without at (decimal_text n) (digits_decimal own n fits) other
 
 -- ---- peers
 
-abbrev dotted : ℕ → ℕ → ℕ → ℕ → List ℕ
+abbrev pub dotted : ℕ → ℕ → ℕ → ℕ → List ℕ
 dotted a b c d = decimal_text a ++ 46 ∷ (decimal_text b ++ 46 ∷ (decimal_text c ++ 46 ∷ decimal_text d))
 
-record IsHost (h text : List ℕ) : Type 0 where
-  a : ℕ
-  b : ℕ
-  c : ℕ
-  d : ℕ
-  a_fits : a < 256
-  b_fits : b < 256
-  c_fits : c < 256
-  d_fits : d < 256
-  host_is : a ∷ b ∷ c ∷ d ∷ [] ≡ h
-  text_is : text ≡ dotted a b c d
+pub record IsDotted (h text : List ℕ) : Type 0 where
+  pub a : ℕ
+  pub b : ℕ
+  pub c : ℕ
+  pub d : ℕ
+  pub a_fits : a < 256
+  pub b_fits : b < 256
+  pub c_fits : c < 256
+  pub d_fits : d < 256
+  pub host_is : a ∷ b ∷ c ∷ d ∷ [] ≡ h
+  pub text_is : text ≡ dotted a b c d
 
 few_256 : 256 ≤ 2 ^ 64
 few_256 = omega arith
@@ -164,14 +164,14 @@ few_256 = omega arith
 few_65536 : 65536 ≤ 2 ^ 64
 few_65536 = omega arith
 
-wide : (n : ℕ) → n < 256 → n < 2 ^ 64
+pub wide : (n : ℕ) → n < 256 → n < 2 ^ 64
 wide n h = omega (arith, h)
 
 joined : (text w1 rest1 w2 rest2 w3 w4 : List ℕ) (a b c d : ℕ) → text ≡ w1 ++ 46 ∷ rest1 → rest1 ≡ w2 ++ 46 ∷ rest2 → rest2 ≡ w3 ++ 46 ∷ w4
     → w1 ≡ decimal_text a → w2 ≡ decimal_text b → w3 ≡ decimal_text c → w4 ≡ decimal_text d → text ≡ dotted a b c d
 joined text w1 rest1 w2 rest2 w3 w4 a b c d cut1 cut2 cut3 a_is b_is c_is d_is = rw (cut1, cut2, cut3, a_is, b_is, c_is, d_is) refl
 
-host_is : (text h : List ℕ) → ipv4_host text ≡ Some h → IsHost h text
+pub host_is : (text h : List ℕ) → ipv4_host text ≡ Some h → IsDotted h text
 unfolding ipv4_host
 host_is text h is =
     let (first, cut1, rest1) = bound (cut 46 text) _ h is in
@@ -201,7 +201,7 @@ host_is text h is =
       text_is = joined text first.0 first.1 second.0 second.1 third.0 third.1 a b c d whole behind last a_is b_is c_is d_is;
     }
 
-host_of : (a b c d : ℕ) → a < 256 → b < 256 → c < 256 → d < 256 → ipv4_host (dotted a b c d) ≡ Some (a ∷ b ∷ c ∷ d ∷ [])
+pub host_of : (a b c d : ℕ) → a < 256 → b < 256 → c < 256 → d < 256 → ipv4_host (dotted a b c d) ≡ Some (a ∷ b ∷ c ∷ d ∷ [])
 unfolding ipv4_host
 host_of a b c d sa sb sc sd =
     let cut1 = cut_at 46 (decimal_text a) (decimal_text b ++ 46 ∷ (decimal_text c ++ 46 ∷ decimal_text d)) (decimal_without 46 a (wide a sa) (λ l h. omega arith)) in
@@ -212,12 +212,12 @@ host_of a b c d sa sb sc sd =
 regroup : (a b c d port : List ℕ) → (a ++ 46 ∷ (b ++ 46 ∷ (c ++ 46 ∷ d))) ++ 58 ∷ port ≡ (a ++ codes "." ++ b ++ codes "." ++ c ++ codes "." ++ d) ++ codes ":" ++ port
 regroup a b c d port = simp append_assoc
 
-four_small : (a b c d : ℕ) → a < 256 → b < 256 → c < 256 → d < 256 → All (λ h. h < 256) (a ∷ b ∷ c ∷ d ∷ [])
+pub four_small : (a b c d : ℕ) → a < 256 → b < 256 → c < 256 → d < 256 → All (λ h. h < 256) (a ∷ b ∷ c ∷ d ∷ [])
 four_small a b c d sa sb sc sd =
     let P : ℕ → Type 0 = λ n. n < 256 in
     All-cons P a (b ∷ c ∷ d ∷ []) sa (All-cons P b (c ∷ d ∷ []) sb (All-cons P c (d ∷ []) sc (All-cons P d [] sd (All-nil P))))
 
-made_of : (text octets : List ℕ) (port : ℕ) → IsHost octets text → port < 65536 → SpellsPeer (record { host = V4 octets; port = port }) (text ++ 58 ∷ decimal_text port)
+made_of : (text octets : List ℕ) (port : ℕ) → IsDotted octets text → port < 65536 → SpellsPeer (record { host = V4 octets; port = port }) (text ++ 58 ∷ decimal_text port)
 made_of text octets port is fits =
     let P : List ℕ → Type 0 = λ h. SpellsPeer (record { host = V4 h; port = port }) (text ++ 58 ∷ decimal_text port) in
     let made : SpellsPeer (record { host = V4 (is.a ∷ is.b ∷ is.c ∷ is.d ∷ []); port = port }) (text ++ 58 ∷ decimal_text port) = record {
@@ -277,10 +277,10 @@ behind_at : (at : ℕ) (rest : List ℕ) → behind at (at ∷ rest) ≡ Some re
 behind_at at rest = rw (eq-eqb at at refl) refl
 
 -- what is read in brackets
-record IsPrinted (octets text : List ℕ) : Type 0 where
-  fits : IsBytes 16 octets
-  plain : is_mapped octets ≡ false
-  text_is : ipv6_host_text octets ≡ text
+pub record IsPrinted (octets text : List ℕ) : Type 0 where
+  pub fits : IsBytes 16 octets
+  pub plain : is_mapped octets ≡ false
+  pub text_is : ipv6_host_text octets ≡ text
 
 printed_if : (text octets x : List ℕ) → cond (bytes_eq (ipv6_host_text octets) text && not (is_mapped octets)) (Some octets) None ≡ Some x
     → (octets ≡ x) × (ipv6_host_text octets ≡ text) × (is_mapped octets ≡ false)
@@ -289,7 +289,7 @@ printed_if text octets x h =
     let parts = and_parts _ _ found.0 in
     (found.1, (bytes_eq-Decides (ipv6_host_text octets) text).0 parts.0, not-true _ parts.1)
 
-printed_is : (text octets : List ℕ) → printed_ipv6 text ≡ Some octets → IsPrinted octets text
+pub printed_is : (text octets : List ℕ) → printed_ipv6 text ≡ Some octets → IsPrinted octets text
 unfolding printed_ipv6
 printed_is text x h =
     let (octets, read, rest) = bound (ipv6_host text) _ x h in
@@ -298,7 +298,7 @@ printed_is text x h =
     let spelled : SpellsHost octets text = host_spells text octets none read in
     subst (λ (o : List ℕ). IsPrinted o text) same (record { fits = spelled_host_fits octets text spelled; plain = plain; text_is = text_is })
 
-printed_of : (octets : List ℕ) → IsBytes 16 octets → is_mapped octets ≡ false → printed_ipv6 (ipv6_host_text octets) ≡ Some octets
+pub printed_of : (octets : List ℕ) → IsBytes 16 octets → is_mapped octets ≡ false → printed_ipv6 (ipv6_host_text octets) ≡ Some octets
 unfolding printed_ipv6
 printed_of octets fits plain =
     let read : ipv6_host (ipv6_host_text octets) ≡ Some octets = spelled_host (ipv6_host_text octets) octets (printed_host_spells octets fits) in

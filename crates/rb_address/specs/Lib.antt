@@ -1,3 +1,5 @@
+pub mod CallerTexts
+pub mod Callers
 pub mod Hosts
 pub mod Netids
 pub mod Networks

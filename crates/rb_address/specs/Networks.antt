@@ -56,6 +56,12 @@ network_at host length =
 abbrev pub host_of : List ℕ → Option Host
 host_of text = option_or (option_map V4 (ipv4_host text)) (option_map V6 (ipv6_host text))
 
+-- the same, but none of IPv4 in IPv6's form
+unfoldable pub plain_host_of : List ℕ → Option Host
+plain_host_of text = do
+  host ← host_of text
+  if is_same_host (plain_host host) host then Some host else None
+
 abbrev pub if_ok : Result Network NetworkFault → Option Network
 if_ok (Ok network) = Some network
 if_ok (Err fault) = None

@@ -23,7 +23,12 @@ peer_of (sockets.V6 from) = peer_at (V6 (ipv6_octets (v6_ip from))) (v6_port fro
 abbrev pub IsPeer : Peer → Type 0
 IsPeer p = IsHost p.host × (p.port < 2 ^ 16)
 
--- h1.h2.h3.h4 in decimal, or the groups of an IPv6 host in brackets, as RFC 5952 section 4 prints them
+-- h1.h2.h3.h4 in decimal, or the groups of an IPv6 host, as RFC 5952 section 4 prints them
+abbrev pub bare_host_text : Host → List ℕ
+bare_host_text (V4 octets) = ipv4_text octets
+bare_host_text (V6 octets) = ipv6_host_text octets
+
+-- the same, the groups in brackets
 abbrev pub host_text : Host → List ℕ
 host_text (V4 octets) = ipv4_text octets
 host_text (V6 octets) = codes "[" ++ ipv6_host_text octets ++ codes "]"

@@ -1,6 +1,11 @@
 //! Hosts of IPv4 and IPv6.
 ghost use Rattle.std.specs.Prelude.{◌≡◌, ◌++◌, drop};
 ghost use Rattle.rb_address.specs.Hosts.{family_of, is_loopback, is_any, is_mapped, mapped_front, plain_host, mapped_host};
+ghost use Rattle.rb_address.specs.Networks.{plain_host_of};
+
+use crate::network::plain_host_of;
+use std::fmt;
+use std::net::Ipv6Addr;
 
 /// A family of addresses.
 #[derive(Clone, Copy, Debug, PartialEq, Eq)]
@@ -26,6 +31,14 @@ const MAPPED: [u8; 12] = [0, 0, 0, 0, 0, 0, 0, 0, 0, 0, 0xff, 0xff];
 const LOOPBACK6: [u8; 16] = [0, 0, 0, 0, 0, 0, 0, 0, 0, 0, 0, 0, 0, 0, 0, 1];
 
 impl Host {
+    /// The host that has this text: `192.0.2.1`, without leading zeros, or an IPv6 host in any spelling, without
+    /// brackets. None of IPv4 in IPv6's form, as which no peer counts.
+    pub fn read(text: &[u8]) -> Option<Host>
+        ensures { result ≡ plain_host_of text.now }
+    {
+        plain_host_of(text)
+    }
+
     /// The family that it is of.
     pub fn family(self) -> Family
         ensures { result ≡ family_of self }
@@ -76,6 +89,28 @@ impl Host {
         match self {
             Host::V4(octets) => Host::V6(mapped_octets(octets)),
             Host::V6(_) => self,
+        }
+    }
+}
+
+/// `h1.h2.h3.h4`, or the groups of an IPv6 host as RFC 5952 section 4 prints them.
+impl fmt::Display for Host {
+    ghost use Rattle.std.specs.Prelude.{Some};
+    ghost use Rattle.rb_address.specs.Peers.{bare_host_text};
+
+    ghost output = { λ h. Some (bare_host_text h) };
+
+    #[tactic(auto, unfolding(rb_uaddr::specs::Uaddr::ipv6_host_text))]
+    fn fmt<W: fmt::Write>(&self, f: &mut fmt::Formatter<W>) -> fmt::Result {
+        match *self {
+            Host::V4(octets) => {
+                let [a, b, c, d] = octets;
+                write!(f, "{a}.{b}.{c}.{d}")
+            }
+            Host::V6(octets) => {
+                let groups = Ipv6Addr::from_octets(octets).hex_groups();
+                write!(f, "{groups}")
+            }
         }
     }
 }

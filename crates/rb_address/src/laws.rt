@@ -2,7 +2,8 @@
 ghost use Rattle.rb_address.specs.Hosts.{PlainIsHost, PlainStays, MappedIsPlain};
 ghost use Rattle.rb_address.specs.Netids.{NamesAreExact, NetidsAreExact, ProtocolsAreExact};
 ghost use Rattle.rb_address.specs.Reading.{PeersAreSpelled};
-ghost use Rattle.rb_address.specs.Worked.{HostsOfThisHost, PeersPrinted, PeersRead, OtherTextsRefused, NetworksRead, OtherNetworksRefused};
+ghost use Rattle.rb_address.specs.CallerTexts.{CallersAreSpelled};
+ghost use Rattle.rb_address.specs.Worked.{HostsOfThisHost, PeersPrinted, PeersRead, OtherTextsRefused, CallersPrinted, CallersRead, OtherCallersRefused, HostsRead, NetworksRead, OtherNetworksRefused};
 
 /// IPv4 in IPv6's form counts as IPv4, and no other host changes.
 pub fn host_laws()
@@ -23,12 +24,21 @@ pub fn peer_laws()
     ensures peers_are_spelled { PeersAreSpelled }
 {}
 
+/// A text is read as a caller exactly where it is what is printed of the caller.
+pub fn caller_laws()
+    ensures callers_are_spelled { CallersAreSpelled }
+{}
+
 /// Worked examples of the definitions.
 pub fn worked_examples()
     ensures hosts_of_this_host { HostsOfThisHost }
     ensures peers_printed { PeersPrinted }
     ensures peers_read { PeersRead }
     ensures other_texts_refused { OtherTextsRefused }
+    ensures callers_printed { CallersPrinted }
+    ensures callers_read { CallersRead }
+    ensures other_callers_refused { OtherCallersRefused }
+    ensures hosts_read { HostsRead }
     ensures networks_read { NetworksRead }
     ensures other_networks_refused { OtherNetworksRefused }
 {}

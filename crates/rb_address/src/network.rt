@@ -1,7 +1,7 @@
 //! Networks: the hosts that begin with the same bits.
 ghost use Rattle.std.specs.Prelude.{◌≡◌, ◌≤◌, length};
 ghost use Rattle.rb_address.specs.Hosts.{bit_count};
-ghost use Rattle.rb_address.specs.Networks.{is_same_octet, is_octet_clear, is_same_front, is_clear_behind, is_clear, network_at, network_of, host_of};
+ghost use Rattle.rb_address.specs.Networks.{is_same_octet, is_octet_clear, is_same_front, is_clear_behind, is_clear, network_at, network_of, host_of, plain_host_of};
 
 use crate::host::{Host, is_mapped};
 use crate::reading::{cut, ipv4_host, plain_number};
@@ -135,6 +135,19 @@ fn host_of(text: &[u8]) -> Option<Host>
     match ipv4_host(text) {
         Some(octets) => Some(Host::V4(octets)),
         None => Some(Host::V6(ipv6_host(text)?)),
+    }
+}
+
+/// The same, but none of IPv4 in IPv6's form.
+#[tactic(auto, unfolding(crate::specs::Networks::plain_host_of))]
+pub(crate) fn plain_host_of(text: &[u8]) -> Option<Host>
+    ensures { result ≡ plain_host_of text.now }
+{
+    let host = host_of(text)?;
+    if host.plain() == host {
+        Some(host)
+    } else {
+        None
     }
 }
 

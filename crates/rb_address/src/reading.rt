@@ -1,11 +1,13 @@
-//! Texts of peers, read.
+//! Texts of peers and callers, read.
 ghost use Rattle.std.specs.Prelude.{◌≡◌, ◌==◌, ◌+◌, ◌*◌, ◌<◌, ◌^◌, IfSome};
 ghost use Rattle.std.specs.List.{position};
 ghost use Rattle.std.specs.Option.{SomeIff};
 ghost use Rattle.rb_address.specs.Reading.{cut, cut_of, behind, behind_of, number_below, plain_number, ipv4_host, printed_ipv6, ipv4_peer, ipv6_peer, peer};
+ghost use Rattle.rb_address.specs.CallerTexts.{source, printed_host, asked, trust, claimant, who};
 
 use crate::host::{Host, is_mapped};
 use crate::peer::Peer;
+use crate::who::{Owner, Source, Trust, Who};
 use rb_uaddr::{ipv6_host, ipv6_host_text};
 
 /// Where a byte stands first.
@@ -135,4 +137,83 @@ pub(crate) fn peer(text: &[u8]) -> Option<Peer>
     ensures { result ≡ peer text.now }
 {
     ipv4_peer(text).or_else(|| ipv6_peer(text))
+}
+
+/// Where a call comes from: `local`, or a peer.
+#[tactic(auto, unfolding(crate::specs::CallerTexts::source))]
+fn source(text: &[u8]) -> Option<Source>
+    ensures { result ≡ source text.now }
+{
+    if text == b"local".as_slice() {
+        return Some(Source::Local);
+    }
+    Some(Source::Inet(peer(text)?))
+}
+
+/// A host of either family, in the one form that is printed.
+#[tactic(auto, unfolding(crate::specs::CallerTexts::printed_host))]
+fn printed_host(text: &[u8]) -> Option<Host>
+    ensures { result ≡ printed_host text.now }
+{
+    match ipv4_host(text) {
+        Some(octets) => Some(Host::V4(octets)),
+        None => Some(Host::V6(printed_ipv6(text)?)),
+    }
+}
+
+/// The host that was asked. 0.0.0.0, which says that it is not known, is not written.
+#[tactic(auto, unfolding(crate::specs::CallerTexts::asked))]
+fn asked(text: &[u8]) -> Option<Host>
+    ensures { result ≡ asked text.now }
+{
+    let host = printed_host(text)?;
+    if host == Host::V4([0; 4]) {
+        None
+    } else {
+        Some(host)
+    }
+}
+
+/// Whose word there is for a caller: `unknown`, `stranger` or a uid.
+#[tactic(auto, unfolding(crate::specs::CallerTexts::trust))]
+fn trust(text: &[u8]) -> Option<Trust>
+    ensures { result ≡ trust text.now }
+{
+    if text == b"unknown".as_slice() {
+        return Some(Trust::Local(Owner::Unknown));
+    }
+    if text == b"stranger".as_slice() {
+        return Some(Trust::Stranger);
+    }
+    let uid = plain_number(text, 0x1_0000_0000)?;
+    Some(Trust::Local(Owner::Uid(uid as u32)))
+}
+
+/// A caller of whom nothing is known but what it says: a source, and behind `>` the host that was asked.
+#[tactic(auto, unfolding(crate::specs::CallerTexts::claimant))]
+fn claimant(text: &[u8]) -> Option<Who>
+    ensures { result ≡ claimant text.now }
+{
+    let (source, asked) = match cut(text, b'>') {
+        Some((from, host)) => (source(from)?, asked(host)?),
+        None => (source(text)?, Host::V4([0; 4])),
+    };
+    Some(Who {
+        source,
+        asked,
+        trust: Trust::Claims,
+    })
+}
+
+/// The caller that has this text: exactly where it is what is printed of the caller.
+#[tactic(auto, unfolding(crate::specs::CallerTexts::who))]
+pub(crate) fn who(text: &[u8]) -> Option<Who>
+    ensures { result ≡ who text.now }
+{
+    let Some((front, known)) = cut(text, b'/') else {
+        return claimant(text);
+    };
+    let caller = claimant(front)?;
+    let trust = trust(known)?;
+    Some(Who { trust, ..caller })
 }

@@ -16,7 +16,7 @@ use std::io::Write;
 
 const NUMBER: &str = "a number of 64 bits";
 
-const ADDRESS: &str = "an IPv4 address as 192.0.2.1";
+const ADDRESS: &str = "an address as 192.0.2.1 or 2001:db8::1";
 
 const NETWORK: &str = "a network as 192.0.2.0/24, with no bit set behind its length,";
 
@@ -144,12 +144,13 @@ fn words_of<'a>(alloc: Global, matches: &ArgMatches<'a>) -> Result<Words<'a>, Un
 /// What is served.
 fn service_of<'a>(alloc: Global, matches: &ArgMatches<'a>) -> Result<Service<'a>, Unread<'a>> {
     let texts = ServeTexts {
-        announce: matches.get_str("announce"),
+        announce: matches.get_strs("announce").unwrap_or(&[]),
         bind: matches.get_strs("bind").unwrap_or(&[]),
         from: matches.get_strs("from").unwrap_or(&[]),
         loopback6: matches.get_flag("loopback6"),
         local: matches.get_str("local"),
         local_mode: text_of(matches, "local-mode"),
+        believe_claims: matches.get_flag("believe-claims"),
         port: text_of(matches, "port"),
         conns: text_of(matches, "conns"),
         rows: text_of(matches, "rows"),
@@ -168,7 +169,8 @@ fn service_of<'a>(alloc: Global, matches: &ArgMatches<'a>) -> Result<Service<'a>
 /// What a replay begins with.
 fn beginning_of<'a>(matches: &ArgMatches<'a>) -> Result<Beginning, BadValue<'a>> {
     let texts = ReplayTexts {
-        announce: text_of(matches, "announce"),
+        announce: matches.get_strs("announce").unwrap_or(&[]),
+        local: matches.get_str("local"),
         conns: text_of(matches, "conns"),
         rows: text_of(matches, "rows"),
         forwards: text_of(matches, "forwards"),
@@ -186,10 +188,13 @@ fn beginning_of<'a>(matches: &ArgMatches<'a>) -> Result<Beginning, BadValue<'a>>
 /// What is wrong with the value of an option.
 fn bad_value<'a>(bad: Valued, matches: &ArgMatches<'a>) -> BadValue<'a> {
     let (option, wanted) = match bad {
-        Valued::Announce => ("announce", ADDRESS),
+        Valued::Announce(place) => return bad_announced(place, matches),
         Valued::Bind(place) => return bad_host(place, matches),
         Valued::From(place) => return bad_network(place, matches),
-        Valued::Local => ("local", "a path of at most 107 bytes"),
+        Valued::Local => (
+            "local",
+            "a path of at most 107 bytes, without quotes and control characters,",
+        ),
         Valued::LocalMode => ("local-mode", "a mode from 0 to 777 in octal digits"),
         Valued::Conns => ("conns", NUMBER),
         Valued::Rows => ("rows", NUMBER),
@@ -204,6 +209,20 @@ fn bad_value<'a>(bad: Valued, matches: &ArgMatches<'a>) -> BadValue<'a> {
         option,
         value: text_of(matches, option),
         wanted,
+    }
+}
+
+/// What is wrong with the value of `--announce` at a place: it is no address, or the second of a family.
+fn bad_announced<'a>(place: usize, matches: &ArgMatches<'a>) -> BadValue<'a> {
+    let values = matches.get_strs("announce").unwrap_or(&[]);
+    BadValue {
+        option: "announce",
+        value: values.get(place).copied().unwrap_or(""),
+        wanted: if place == 0 {
+            ADDRESS
+        } else {
+            "no more than one address of each family"
+        },
     }
 }
 

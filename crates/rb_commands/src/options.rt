@@ -28,7 +28,7 @@ fn serve<'a>(alloc: Global) -> Result<Command<'a>, AllocError> {
         alloc,
         "bind",
         "HOST",
-        "IPv4 address to listen on over TCP and UDP; may be given up to 16 times",
+        "Address to listen on over TCP and UDP, 0.0.0.0 for all of IPv4, :: for all; may be given up to 16 times",
     )
     .action(ArgAction::Append)
     .default_value(serve_default(Valued::Bind(0)));
@@ -39,7 +39,7 @@ fn serve<'a>(alloc: Global) -> Result<Command<'a>, AllocError> {
         .arg(from(alloc))?
         .arg(announce(
             alloc,
-            "IPv4 address that answers show for 0.0.0.0; callers from it are local [default: the first --bind]",
+            "Address that answers show for 0.0.0.0 or :: where none was asked, once for each family [default: the first --bind]",
         ))?;
     let command = besides(alloc, command)?;
     let command = recorded(alloc, command)?;
@@ -75,7 +75,13 @@ fn from<'a>(alloc: Global) -> Arg<'a> {
 fn besides<'a>(alloc: Global, command: Command<'a>) -> Result<Command<'a>, AllocError> {
     let loopback6 = Arg::new(alloc, "loopback6")
         .long("loopback6")
-        .help("Listen on [::1] over TCP too")
+        .help("Listen on ::1 too, as with --bind ::1")
+        .action(ArgAction::SetTrue);
+    let believe_claims = Arg::new(alloc, "believe-claims")
+        .long("believe-claims")
+        .help(
+            "Believe credentials of callers from the loopback, the announced addresses and the local socket",
+        )
         .action(ArgAction::SetTrue);
     command
         .arg(option(
@@ -88,10 +94,11 @@ fn besides<'a>(alloc: Global, command: Command<'a>) -> Result<Command<'a>, Alloc
             alloc,
             "local-mode",
             "MODE",
-            "Mode of the local socket's file, in octal digits",
+            "Mode of the local socket's file, in octal digits; its callers are root where that lets in root alone",
         )
         .default_value(serve_default(Valued::LocalMode)))?
-        .arg(loopback6)
+        .arg(loopback6)?
+        .arg(believe_claims)
 }
 
 /// Where `serve` records its events.
@@ -118,9 +125,15 @@ fn replay<'a>(alloc: Global) -> Result<Command<'a>, AllocError> {
         .about("Runs event lines of standard input, without sockets, and prints what each gives")
         .arg(announce(
             alloc,
-            "IPv4 address that answers show for 0.0.0.0; callers from it are local",
+            "Address that answers show for 0.0.0.0 or :: where none was asked; each family of which one is given is served",
         )
-        .default_value("192.0.2.1"))?;
+        .default_value("192.0.2.1"))?
+        .arg(option(
+            alloc,
+            "local",
+            "PATH",
+            "Path of the local socket that answers show",
+        ))?;
     let steps = Arg::new(alloc, "steps")
         .long("steps")
         .help("Tell in a last line how many counted steps the run took, and how many it may")
@@ -146,7 +159,7 @@ fn replay<'a>(alloc: Global) -> Result<Command<'a>, AllocError> {
 }
 
 fn announce<'a>(alloc: Global, help: &'a str) -> Arg<'a> {
-    option(alloc, "announce", "HOST", help)
+    option(alloc, "announce", "HOST", help).action(ArgAction::Append)
 }
 
 /// The options that both commands have. The defaults are those of `--port`, `--conns`, `--rows` and `--forwards`.
@@ -167,7 +180,13 @@ fn limited<'a>(
             "Most TCP connections at a time, 1 to 256",
         )
         .default_value(conns))?
-        .arg(option(alloc, "rows", "N", "Most rows, 8 to 4096").default_value(rows))?
+        .arg(option(
+            alloc,
+            "rows",
+            "N",
+            "Most rows, to 4096; at least two more than those of the portmapper",
+        )
+        .default_value(rows))?
         .arg(option(
             alloc,
             "forwards",

@@ -1,13 +1,15 @@
 //! What `serve` is started with, and what it says of its start and of its end.
 ghost use Rattle.std.specs.Prelude.{◌≡◌, IfErr};
+ghost use Rattle.rb_sockets.specs.Settings.{listener_of};
 ghost use Rattle.rb_commands.specs.Faults.{TellsFault};
 
+use rb_address::Host;
 use rb_lines::{Ending, Fault, Service, explain, explain_run};
-use rb_policy::{RecordAction, RecordState, announced_address, is_no_address, record_action};
+use rb_policy::{RecordAction, RecordState, binds_loopback6, is_no_address, record_action};
+use rb_proto::Announced;
 use rb_sockets::{DaemonFault, LocalSocket, Settings, Shortage, SocketFault, Step, open_files};
 use std::fs::{Files, OpenOptions};
 use std::io::{ErrorKind, Write};
-use std::net::Ipv4Addr;
 use std::os::unix::fs::OpenOptionsExt;
 use std::{fs, io};
 
@@ -16,11 +18,7 @@ const RECORD_MODE: u32 = 0o600;
 
 /// The settings of the daemon for a service.
 pub fn settings_of<'a>(service: &'a Service<'a>) -> Settings<'a> {
-    let first = service
-        .hosts
-        .first()
-        .copied()
-        .unwrap_or(Ipv4Addr::LOCALHOST);
+    let Announced { inet, inet6 } = service.announce;
     let local = match service.local {
         Some(path) => Some(LocalSocket {
             path,
@@ -33,7 +31,9 @@ pub fn settings_of<'a>(service: &'a Service<'a>) -> Settings<'a> {
         networks: service.networks.as_slice(),
         loopback6: service.loopback6,
         local,
-        announce: announced_address(service.announce, first),
+        are_claims_believed: service.believe_claims,
+        announce: inet,
+        announce6: inet6,
         port: service.port,
         limits: service.limits,
         open_files: open_files(),
@@ -44,8 +44,8 @@ pub fn settings_of<'a>(service: &'a Service<'a>) -> Settings<'a> {
     }
 }
 
-/// Says on standard output where the daemon listens, and before that on `faults` where clients from elsewhere will be
-/// told no address, and where there is a shortage of descriptors. Where standard output failed it is said, and the error
+/// Says on standard output where the daemon listens, and before that on `faults` where clients over UDP will be told no
+/// address, and where there is a shortage of descriptors. Where standard output failed it is said, and the error
 /// is the exit status.
 pub fn say_start<R: Print, E: Write>(
     rt: &R,
@@ -57,15 +57,25 @@ pub fn say_start<R: Print, E: Write>(
     ensures { IfErr result (λ status. status ≡ 1) }
 {
     say_shortage(shortage, faults);
-    if service.announce.is_none() && is_no_address(settings.announce) {
-        let _ = writeln!(
-            faults,
-            "rpcbind: no --announce: clients from elsewhere will be told 0.0.0.0"
-        );
-    }
+    say_announced(settings, faults);
     match say_where(rt, settings) {
         Ok(()) => Ok(()),
         Err(_) => Err(explain(Fault::WriteFailed, faults).status),
+    }
+}
+
+/// For each family whether clients over UDP will be told no address of it, since none is given.
+fn say_announced<E: Write>(settings: &Settings<'_>, faults: &mut E) {
+    let Announced { inet, inet6 } = settings.announced();
+    let inet = inet.map(Host::V4);
+    let inet6 = inet6.map(Host::V6);
+    for host in [inet, inet6].into_iter().flatten() {
+        if is_no_address(host) {
+            let _ = writeln!(
+                faults,
+                "rpcbind: no --announce: clients over UDP will be told {host}"
+            );
+        }
     }
 }
 
@@ -93,7 +103,7 @@ fn say_where(rt: &impl Print, settings: &Settings<'_>) -> io::Result<()> {
     for host in settings.hosts {
         println!(rt; "rpcbind: listening on {host} port {port}")?;
     }
-    if settings.loopback6 {
+    if binds_loopback6(settings.hosts, settings.loopback6) {
         println!(rt; "rpcbind: listening on ::1 port {port}")?;
     }
     if let Some(local) = &settings.local {
@@ -164,11 +174,17 @@ pub fn explain_fault<E: Write>(
 ) -> Ending
     ensures status { result.status ≡ 1 }
     ensures told { TellsFault
-        settings.now.limits E.contents faults.old faults.new result fault.now }
+        settings.now.limits (listener_of settings.now)
+        E.contents faults.old faults.new result fault.now }
 {
     match fault {
         DaemonFault::Memory(_) => explain(Fault::NoMemory, faults),
-        DaemonFault::Limits => explain_run(Fault::BadLimits, &settings.limits, faults),
+        DaemonFault::Limits => explain_run(
+            Fault::BadLimits,
+            &settings.limits,
+            &settings.listener(),
+            faults,
+        ),
         DaemonFault::Socket(failed) => {
             let is_step_told = write_step(failed, settings, faults).is_ok();
             let ending = explain(Fault::SocketFailed, faults);

@@ -47,7 +47,7 @@ module _ (registry : Registry) (clock : ℕ) (table : Table) where
         let l = locate (StandsForConnection registry) (is_wanted_slot (wanted.Due clock)) (is_wanted (wanted.Due clock)) (wanted_alike registry (wanted.Due clock)) table.slots c.all k slot d z.all h v in
         let same = due-changed clock lose c.all l.value (apart registry table.last_number (values_of table.slots) c.all z.all n) l.found in
         rw l.found (record {
-          all = rw same (l.changed new lose (rw becomes (record { number = l.related.number; peer = l.related.peer; since = l.related.since; phase = tt })));
+          all = rw same (l.changed new lose (rw becomes (record { number = l.related.number; who = l.related.who; since = l.related.since; phase = tt })));
           next = z.next;
         });
   }

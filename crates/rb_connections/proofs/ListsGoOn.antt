@@ -72,7 +72,7 @@ module _ (old new : Registry) (goes : GoesOn old new) where
   all_stand (slot ∷ slots) (c ∷ all) low t z =
       let l = first_low slot slots low in
       let told : CanContinueStage old slot.buffer.bytes slot.stage = All-head (CanContinueSlot old) slot slots t in (
-        record { number = z.0.number; peer = z.0.peer; since = z.0.since; phase = phase_stands slot.stage slot.buffer slot.window c.phase l.0 told z.0.phase },
+        record { number = z.0.number; who = z.0.who; since = z.0.since; phase = phase_stands slot.stage slot.buffer slot.window c.phase l.0 told z.0.phase },
         all_stand slots all l.1 (All-tail (CanContinueSlot old) slot slots t) z.1,
       )
 

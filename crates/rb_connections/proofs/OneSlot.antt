@@ -4,7 +4,7 @@ use Rattle.std.proofs.Common.{◌≡◌, ℕ, ◌+◌, ◌-◌, ◌<◌, ◌≤�
 use Rattle.std.proofs.lemmas.Bool.{lt-ltb, le-ltb}
 use Rattle.std.proofs.lemmas.Grind.{common_steps}
 use Rattle.rb_xdr.specs.Kept.{Kept}
-use Rattle.rb_address.specs.declared.peer.Peer.{Peer}
+use Rattle.rb_address.specs.declared.who.Who.{Who}
 use Rattle.rb_rpc.specs.Records.{first_record, data_of, BeginsWithRecord}
 use Rattle.rb_rpc.specs.Verdict.{verdict}
 use Rattle.rb_rpc.specs.declared.call.Verdict.{Verdict}
@@ -103,9 +103,9 @@ has_ended fed piece m r said is ended = grind arith
 pub counts_to : (fed piece : List ℕ) (n : ℕ) (m : Option ℕ) (r : Fed) → r ≡ fed_until fed piece m → m ≡ Some n → r.count ≡ n - length fed
 counts_to fed piece n m r is some = ap (λ (f : Fed). f.count) (is ∙ ap (fed_until fed piece) some)
 
-pub ended_then : (fed piece : List ℕ) (c : Connection) (count n : ℕ) (peer : Peer) (said : Verdict) → first_record (fed ++ piece) ≡ Some n → count ≡ n - length fed → peer ≡ c.peer
-    → said ≡ verdict (data_of (take n (fed ++ piece))) → record { count = count; ended = Some (record { peer = peer; verdict = said }) } ≡ received_of piece c (taking_on fed piece)
-ended_then fed piece c count n peer said is counts from says = rw (is, counts, from, says) refl
+pub ended_then : (fed piece : List ℕ) (c : Connection) (count n : ℕ) (who : Who) (said : Verdict) → first_record (fed ++ piece) ≡ Some n → count ≡ n - length fed → who ≡ c.who
+    → said ≡ verdict (data_of (take n (fed ++ piece))) → record { count = count; ended = Some (record { who = who; verdict = said }) } ≡ received_of piece c (taking_on fed piece)
+ended_then fed piece c count n who said is counts from says = rw (is, counts, from, says) refl
 
 pub since_of_idle : (clock since : ℕ) (phase : Phase) → phase ≡ Idle → since_when_fed clock since phase ≡ clock
 since_of_idle clock since phase is = rw is refl
@@ -136,7 +136,7 @@ module _ (registry : Registry) (old new : Slot) (clock n more : ℕ) (giving_is 
     (stage : old.stage ≡ stages.Owing giving_is)
     (counted : (o : Owed) → IsGiving registry giving_is old.buffer.bytes old.window o → more ≡ min n (length (pending_of o)))
     (some : 0 < more)
-    (number : new.number ≡ old.number) (peer : new.peer ≡ old.peer) (since : new.since ≡ clock)
+    (number : new.number ≡ old.number) (who : new.who ≡ old.who) (since : new.since ≡ clock)
     (goes_on : (o : Owed) → IsGiving registry giving_is old.buffer.bytes old.window o → StandsForPhase registry new.stage new.buffer new.window (phase_when_given more (Owing o))) where
   pub some_given : Acts (StandsForConnection registry) (give clock n) old new tt
   unfolding give with_given

@@ -95,6 +95,6 @@ module _ (registry : Registry) (rest : Rest) (old new : Slot) (s : SlotShowsNext
   pub slot_lists_on : CanContinueSlot registry new
   slot_lists_on = subst (λ (t : Slot). CanContinueSlot registry t) (sym s.is) (goes_on_shown registry old.buffer.bytes rest old.window new.window s.giving s.shows)
 
-  pub slot_begins : (clock : ℕ) (c : Connection) (reply : List ℕ) (began : Option ℕ) → old.number ≡ c.number → old.peer ≡ c.peer → old.since ≡ clock → old.window.cap ≡ longest_fragment
+  pub slot_begins : (clock : ℕ) (c : Connection) (reply : List ℕ) (began : Option ℕ) → old.number ≡ c.number → old.who ≡ c.who → old.since ≡ clock → old.window.cap ≡ longest_fragment
       → rest_in registry old.buffer.bytes rest ≡ reply → stamp_of_rest rest ≡ began → StandsForConnection registry new (record c { phase = Owing (owed_of reply began 0); since = clock })
-  slot_begins clock c reply began number peer since cap whole stamp = grind (arith, begins registry)
+  slot_begins clock c reply began number who since cap whole stamp = grind (arith, begins registry)

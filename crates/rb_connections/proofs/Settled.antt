@@ -80,7 +80,7 @@ module _ (registry : Registry) (slot : Slot) (piece content : List ℕ) (idle : 
       let p = idle_phase registry slot.stage slot.buffer slot.window c.phase idle h.phase in
       some_where_fed c.phase [] piece (ap fed_in p.0) some_piece ∙ taken_whole content piece begins
 
-  pub acts_whole : (clock : ℕ) → Acts (StandsForConnection registry) (take_piece clock piece) slot (record slot { since = clock }) (received_whole slot.peer content)
+  pub acts_whole : (clock : ℕ) → Acts (StandsForConnection registry) (take_piece clock piece) slot (record slot { since = clock }) (received_whole slot.who content)
   acts_whole clock = grind (arith, common_steps, feeding_acts, idle_phase, takes_whole)
 
   pub keeps_whole : (before : List ℕ) → Shows (StandsForConnection registry) (arguments_taken before piece) slot (kept_of content)
@@ -118,9 +118,9 @@ module _ (id clock k : ℕ) (table : Table) (old new : Slot) (distinct : HasDist
   is_marked = kept ∙ ap (λ (m : ℕ). record old { since = m }) since
 
   pub takes_whole_on : (registry : Registry) (piece content : List ℕ) → BeginsWithRecord content piece
-      → Acts (StandsForConnections registry) (on_live id (take_piece clock piece)) table with_new (Ok (received_whole old.peer content))
+      → Acts (StandsForConnections registry) (on_live id (take_piece clock piece)) table with_new (Ok (received_whole old.who content))
   takes_whole_on registry piece content begins =
-      rw is_marked (live_acts registry id (take_piece clock piece) table k old (record old { since = clock }) (received_whole old.peer content) distinct found there (acts_whole registry old piece content idle begins clock))
+      rw is_marked (live_acts registry id (take_piece clock piece) table k old (record old { since = clock }) (received_whole old.who content) distinct found there (acts_whole registry old piece content idle begins clock))
 
   pub keeps_whole_on : (registry : Registry) (before piece content : List ℕ) → BeginsWithRecord content piece → Shows (StandsForConnections registry) (arguments_on id before piece) table (kept_of content)
   keeps_whole_on registry before piece content begins =

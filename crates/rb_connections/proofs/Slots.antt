@@ -14,7 +14,7 @@ use Rattle.rb_xdr.proofs.PoolLemmas.{All-with_value, distinct-with, length-with}
 use Rattle.rb_rpc.specs.Marks.{StandsForFed}
 use Rattle.rb_rpc.specs.Records.{data_of}
 use Rattle.rb_rpc.specs.Verdict.{verdict}
-use Rattle.rb_address.specs.declared.peer.Peer.{Peer}
+use Rattle.rb_address.specs.declared.who.Who.{Who}
 use Rattle.rb_feed.specs.Feeds.{StandsForCall, arguments_of}
 use Rattle.rb_model.specs.declared.types.CoreFault.TheVariants.{Full, Spent, Gone}
 use Rattle.rb_model.specs.Calls.{longest_kept, kept_of}
@@ -273,19 +273,19 @@ reads_nothing reader kept m h e c = record { marks_are = m; data_is = record { h
 pub as_many : (registry : Registry) (es : List (ℕ × Slot)) (all : List Connection) → AllZip (StandsForConnection registry) (values_of es) all → length all ≡ length es
 as_many registry es all z = sym (same_length_of (StandsForConnection registry) (values_of es) all z) ∙ length-values_of es
 
-module _ (registry : Registry) (conns : ℕ) (peer : Peer) (clock : ℕ) (table : Table) where
-  pub full_acts : conns ≤ length table.slots → Acts (StandsForConnections registry) (open_in_table conns peer clock) table table (Err Full)
+module _ (registry : Registry) (conns : ℕ) (who : Who) (clock : ℕ) (table : Table) where
+  pub full_acts : conns ≤ length table.slots → Acts (StandsForConnections registry) (open_in_table conns who clock) table table (Err Full)
   unfolding open_in_table number_for
   full_acts full = grind (arith, common_steps, as_many, nat_tests)
 
-  pub spent_acts : length table.slots < conns → table.last_number ≡ greatest_number → Acts (StandsForConnections registry) (open_in_table conns peer clock) table table (Err Spent)
+  pub spent_acts : length table.slots < conns → table.last_number ≡ greatest_number → Acts (StandsForConnections registry) (open_in_table conns who clock) table table (Err Spent)
   unfolding open_in_table number_for
   spent_acts room spent = grind (arith, common_steps, as_many, nat_tests)
 
   pub opened_acts : (slot : Slot) (new : Table) → length table.slots < conns → table.last_number < greatest_number
       → values_of new.slots ≡ values_of table.slots ++ slot ∷ [] → new.last_number ≡ table.last_number + 1
-      → StandsForConnection registry slot (record { number = table.last_number + 1; peer = peer; phase = Idle; since = clock })
-      → Acts (StandsForConnections registry) (open_in_table conns peer clock) table new (Ok (table.last_number + 1))
+      → StandsForConnection registry slot (record { number = table.last_number + 1; who = who; phase = Idle; since = clock })
+      → Acts (StandsForConnections registry) (open_in_table conns who clock) table new (Ok (table.last_number + 1))
   unfolding open_in_table number_for
   opened_acts slot new room left more given stands = grind (arith, common_steps, one_more_each, as_many, nat_tests, le-ltb)
 

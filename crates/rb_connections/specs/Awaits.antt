@@ -3,7 +3,7 @@
 use Rattle.std.specs.Prelude.{◌≡◌, ℕ, ◌==◌, nat_lt, Bool, true, false, not, ◌&&◌, ◌||◌, if◌then◌else◌, length, Option, Some, None, IfSome, Result, IfOk}
 use Rattle.std.specs.List.{list_any}
 use Rattle.std.specs.Map.{values_of}
-use Rattle.rb_address.specs.declared.peer.Peer.{Peer}
+use Rattle.rb_address.specs.declared.who.Who.{Who}
 use Rattle.rb_model.specs.declared.types.CoreFault.{CoreFault}
 use Rattle.rb_connections.specs.declared.slot.Slot.{Slot}
 use Rattle.rb_connections.specs.declared.slot.Stage.{Stage}
@@ -35,8 +35,8 @@ abbrev pub is_idle_slot : ℕ → Slot → Bool
 is_idle_slot id slot = slot.number == id && is_idle_stage slot.stage
 
 -- who sends a record that comes whole on it
-abbrev pub sender_on : ℕ → Slot → Option Peer
-sender_on id slot = if is_idle_slot id slot then Some slot.peer else None
+abbrev pub sender_on : ℕ → Slot → Option Who
+sender_on id slot = if is_idle_slot id slot then Some slot.who else None
 
 unfoldable pub has_idle : ℕ → Table → Bool
 has_idle id table = list_any (is_idle_slot id) (values_of table.slots)

@@ -7,7 +7,7 @@ use Rattle.std.specs.Map.{values_of}
 use Rattle.rb_xdr.specs.Kept.{Kept}
 use Rattle.rb_xdr.specs.Pool.{Pool, HasDistinctKeys}
 use Rattle.rb_rpc.specs.Verdict.{verdict}
-use Rattle.rb_address.specs.declared.peer.Peer.{Peer}
+use Rattle.rb_address.specs.declared.who.Who.{Who}
 use Rattle.rb_model.specs.declared.types.CoreFault.{CoreFault}
 use Rattle.rb_model.specs.State.{Phase, Connection, Connections}
 use Rattle.rb_model.specs.Calls.{kept_of}
@@ -71,24 +71,24 @@ SlotShows show slot result = (registry : Registry) → Shows (StandsForConnectio
 -- bytes `fed` of a record.
 pub record IsBeforePiece (slot : Slot) (reader : Reader) (clock : ℕ) (c : Connection) (fed : List ℕ) : Type 0 where
   pub number : slot.number ≡ c.number
-  pub peer : slot.peer ≡ c.peer
+  pub who : slot.who ≡ c.who
   pub since : slot.since ≡ since_when_fed clock c.since c.phase
   pub reads : IsReading reader slot.buffer fed
   pub window : slot.window.bytes ≡ []
 
--- the verdict on a record with this data, and the peer that sent it
-abbrev pub ended_record : Peer → List ℕ → EndedRecord
-ended_record peer content = record { peer = peer; verdict = verdict content }
+-- the verdict on a record with this data, and who sent it
+abbrev pub ended_record : Who → List ℕ → EndedRecord
+ended_record who content = record { who = who; verdict = verdict content }
 
 -- what a connection that takes a piece returns of it
 abbrev pub received_of : List ℕ → Connection → Taking → Received
 received_of piece c TakesNone = record { count = 0; ended = None }
 received_of piece c (GoesOn fed) = record { count = length piece; ended = None }
-received_of piece c (Ends n content) = record { count = n; ended = Some (ended_record c.peer content) }
+received_of piece c (Ends n content) = record { count = n; ended = Some (ended_record c.who content) }
 
 -- what a connection returns of a record that is one fragment with this data
-abbrev pub received_whole : Peer → List ℕ → Received
-received_whole peer content = record { count = 4 + length content; ended = Some (ended_record peer content) }
+abbrev pub received_whole : Who → List ℕ → Received
+received_whole who content = record { count = 4 + length content; ended = Some (ended_record who content) }
 
 -- the arguments that the core has after it: those that are kept of the record that ended, or what it had before
 abbrev pub arguments_after : List ℕ → Taking → List ℕ
@@ -172,7 +172,7 @@ kept_in whole = kept_of whole.content.now
 
 -- it was taken on the live connection of the number,
 abbrev pub TakesWhole : ℕ → ℕ → List ℕ → WholeRecord → Table → Table → Type 0
-TakesWhole id clock piece whole old new = TableTakes id clock piece old new (received_whole whole.peer whole.content.now)
+TakesWhole id clock piece whole old new = TableTakes id clock piece old new (received_whole whole.who whole.content.now)
 
 -- and the core has its arguments after it
 abbrev pub KeepsWhole : ℕ → List ℕ → WholeRecord → Table → Type 0

@@ -82,7 +82,7 @@ StandsForPhase registry stage buffer window phase = ⊥
 
 pub record StandsForConnection (registry : Registry) (slot : Slot) (c : Connection) : Type 0 where
   pub number : slot.number ≡ c.number
-  pub peer : slot.peer ≡ c.peer
+  pub who : slot.who ≡ c.who
   pub since : slot.since ≡ c.since
   pub phase : StandsForPhase registry slot.stage slot.buffer slot.window c.phase
 

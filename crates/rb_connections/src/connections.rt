@@ -13,7 +13,7 @@ ghost use Rattle.rb_model.specs.Costs.{evict_cost};
 
 use crate::hints::Hints;
 use crate::slot::{Buffers, CONNECTION_CHARGE, Received, Slot, Stage, Wanted, WholeRecord};
-use rb_address::Peer;
+use rb_address::Who;
 use rb_forward::soonest_in;
 use rb_model::{CoreFault, LONGEST_KEPT, LONGEST_REPLY, Served, Standing};
 use rb_registry::Registry;
@@ -262,9 +262,9 @@ impl Connections {
 
     /// Opens a connection, and gives its number: `Full` where there are as many as there may be, lost ones among
     /// them, else `Spent` where no number is left.
-    pub fn open(&mut self, clock: u64, peer: Peer, meter: &mut Meter) -> Result<u64, CoreFault>
+    pub fn open(&mut self, clock: u64, who: Who, meter: &mut Meter) -> Result<u64, CoreFault>
         requires { meter.old.tie ≡ self.old.tie }
-        ensures acts { TableActs (open_in_table self.old.conns peer clock) self.old self.new result }
+        ensures acts { TableActs (open_in_table self.old.conns who clock) self.old self.new result }
         ensures goes_on { GoOn self.old self.new }
         ensures refused { OnErr result (self.new ≡ self.old) }
         ensures cost { PaysAtMost meter.old meter.new 4 }
@@ -280,7 +280,7 @@ impl Connections {
         self.held += CONNECTION_CHARGE;
         let slot = Slot {
             number: self.last_number,
-            peer,
+            who,
             stage: Stage::Idle,
             since: clock,
             buffer,
@@ -333,8 +333,8 @@ impl Connections {
     {
         let content = one_fragment(piece)?;
         let slot = self.slots.get_mut(self.hints.key(Wanted::Live(id)), meter)?;
-        let peer = slot.take_whole(id, clock)?;
-        Some(WholeRecord { peer, content })
+        let who = slot.take_whole(id, clock)?;
+        Some(WholeRecord { who, content })
     }
 
     /// Takes bytes that arrive on the live connection of the number, up to the end of a record, and returns the

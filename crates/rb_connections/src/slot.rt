@@ -5,7 +5,7 @@ ghost use Rattle.rb_xdr.specs.Meter.{Pays, PaysAtMost};
 use crate::deadlines::time_in;
 use crate::giving::{Giving, Rest, show_next};
 use crate::reading::{Fed, Reader};
-use rb_address::{Host, Peer};
+use rb_address::{Host, Source, Trust, Who};
 use rb_model::{Outcome, Served, Standing};
 use rb_proto::ListReply;
 use rb_registry::Registry;
@@ -60,7 +60,7 @@ impl Wanted {
 /// The verdict on a record, and who sent it.
 #[derive(Clone, Copy, Debug, PartialEq, Eq)]
 pub struct EndedRecord {
-    pub peer: Peer,
+    pub who: Who,
     pub verdict: Verdict,
 }
 
@@ -75,7 +75,7 @@ pub struct Received {
 /// A record that is one fragment and came whole: who sent it, and its data.
 #[derive(Clone, Copy, Debug, PartialEq, Eq)]
 pub struct WholeRecord<'a> {
-    pub peer: Peer,
+    pub who: Who,
     pub content: &'a [u8],
 }
 
@@ -83,7 +83,7 @@ pub struct WholeRecord<'a> {
 #[derive(Drop)]
 pub struct Slot {
     pub number: u64,
-    pub peer: Peer,
+    pub who: Who,
     pub stage: Stage,
     /// The moment of its last progress, from which its deadline counts.
     pub since: u64,
@@ -106,13 +106,13 @@ pub struct Buffers {
 fn layout(slot: &Slot, spare: &Buffers) {
     let Slot {
         number,
-        peer,
+        who,
         stage,
         since,
         buffer,
         window,
     } = slot;
-    let _: (u64, Peer, u64) = (*number, *peer, *since);
+    let _: (u64, Who, u64) = (*number, *who, *since);
     match *stage {
         Stage::Idle | Stage::Awaiting | Stage::Lost => {}
         Stage::Reading(reader) => {
@@ -127,6 +127,15 @@ fn layout(slot: &Slot, spare: &Buffers) {
     let Buffers { buffer, window } = spare;
     let _: &Kept = buffer;
     let _: &Kept = window;
+}
+
+/// Who is on a slot that no connection had yet.
+fn nobody() -> Who {
+    Who {
+        source: Source::Local,
+        asked: Host::V4([0; 4]),
+        trust: Trust::Stranger,
+    }
 }
 
 fn nothing() -> Received
@@ -144,7 +153,7 @@ impl Slot {
         let meter = &mut Meter::new();
         Ok(Slot {
             number: 0,
-            peer: Peer::new(Host::V4([0; 4]), 0),
+            who: nobody(),
             stage: Stage::Idle,
             since: 0,
             buffer: Kept::new(alloc, 0, meter)?,
@@ -264,21 +273,21 @@ impl Slot {
         self.since = clock;
         arguments.clear(meter);
         mem::swap(&mut self.buffer, arguments);
-        let peer = self.peer;
+        let who = self.who;
         Received {
             count,
-            ended: Some(EndedRecord { peer, verdict }),
+            ended: Some(EndedRecord { who, verdict }),
         }
     }
 
     /// Notes that a record came whole at this moment, and returns its sender. The connection stays Idle until it is
     /// settled. `None` where it is not the connection of this number, or not Idle; then nothing changed.
-    pub fn take_whole(&mut self, id: u64, clock: u64) -> Option<Peer>
-        ensures idle { IfSome result (λ peer. self.old.stage ≡ Stage.Idle) }
-        ensures number { IfSome result (λ peer. self.old.number ≡ id) }
-        ensures since { IfSome result (λ peer. self.new.since ≡ clock) }
+    pub fn take_whole(&mut self, id: u64, clock: u64) -> Option<Who>
+        ensures idle { IfSome result (λ who. self.old.stage ≡ Stage.Idle) }
+        ensures number { IfSome result (λ who. self.old.number ≡ id) }
+        ensures since { IfSome result (λ who. self.new.since ≡ clock) }
         ensures kept { self.new ≡ record self.old { since = self.new.since } }
-        ensures peer { IfSome result (λ peer. peer ≡ self.old.peer) }
+        ensures who { IfSome result (λ who. who ≡ self.old.who) }
         ensures sender { result ≡ sender_on id self.old }
         ensures stays { IfNone result (self.new ≡ self.old) }
     {
@@ -286,7 +295,7 @@ impl Slot {
             return None;
         }
         self.since = clock;
-        Some(self.peer)
+        Some(self.who)
     }
 
     /// Takes the bytes of the piece up to the end of a record, or all, and returns the verdict on a record that

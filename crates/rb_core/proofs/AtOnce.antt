@@ -5,7 +5,7 @@ use Rattle.std.proofs.lemmas.Bool.{and_parts, le-ltb, lt-ltb, cases_lt, cond-fal
 use Rattle.std.proofs.lemmas.List.{take_all, length-take}
 use Rattle.rb_xdr.specs.Kept.{Kept}
 use Rattle.rb_rpc.specs.Records.{fragment_size, marked_reply}
-use Rattle.rb_address.specs.declared.peer.Peer.{Peer}
+use Rattle.rb_address.specs.declared.who.Who.{Who}
 use Rattle.rb_rpc.specs.declared.caller.Caller.TheVariants.{Tcp}
 use Rattle.rb_proto.specs.declared.books.Books.{Books}
 use Rattle.rb_model.specs.declared.message.Message.{Message}
@@ -155,27 +155,27 @@ counts_settled room id clock Forwarded c lives = rw (find-changed id (settle clo
 counts_settled room id clock Silent c lives = rw (find-changed id (settle clock Silent) (keeps_live id clock Silent refl) c.all lives.connection lives.there) refl
 
 -- A message from a connection is answered, and so many bytes of the reply are given.
-pub answer_counts : (room : ℕ) (old : Held) (id : ℕ) (peer : Peer) (message : Message) (arguments : List ℕ) (roomy : Table) (books : Books) (given : Outcome)
-    → Served (context_of old (Tcp id peer)) old message arguments roomy books given → has_idle id roomy ≡ true → (s : State) → StandsFor old s
-    → count_when_answered room id (settle_on id (serve_message s (Tcp id peer) message arguments)) ≡ count_of room given
-answer_counts room old id peer message arguments roomy books given served idle s h =
-    let says = serve_gives old (Tcp id peer) message arguments roomy books given served s h in
-    let conns : Connections = evict (crowd_in s (Tcp id peer) message) s.connections in
-    let lives = idle_is_live books.registry id roomy conns (serve_connections old (Tcp id peer) message arguments roomy books given served s h) idle in
+pub answer_counts : (room : ℕ) (old : Held) (id : ℕ) (who : Who) (message : Message) (arguments : List ℕ) (roomy : Table) (books : Books) (given : Outcome)
+    → Served (context_of old (Tcp id who)) old message arguments roomy books given → has_idle id roomy ≡ true → (s : State) → StandsFor old s
+    → count_when_answered room id (settle_on id (serve_message s (Tcp id who) message arguments)) ≡ count_of room given
+answer_counts room old id who message arguments roomy books given served idle s h =
+    let says = serve_gives old (Tcp id who) message arguments roomy books given served s h in
+    let conns : Connections = evict (crowd_in s (Tcp id who) message) s.connections in
+    let lives = idle_is_live books.registry id roomy conns (serve_connections old (Tcp id who) message arguments roomy books given served s h) idle in
     subst (λ (o : Outcome). cond (is_no_call o) 0 (at_once_on room (live_connection id (changed_at id (settle s.clock o) conns).all)) ≡ count_of room given) says
     (counts_settled room id s.clock given conns lives)
 
 -- A message from a connection is answered, and these bytes of the reply are given.
-pub answer_giving : (old : Held) (id : ℕ) (peer : Peer) (message : Message) (arguments : List ℕ) (roomy : Table) (books : Books) (given left : Outcome) (bytes : List ℕ) (table : Table)
-    → Served (context_of old (Tcp id peer)) old message arguments roomy books given → StaysTable roomy table → Leaves given left bytes → has_idle id roomy ≡ true
+pub answer_giving : (old : Held) (id : ℕ) (who : Who) (message : Message) (arguments : List ℕ) (roomy : Table) (books : Books) (given left : Outcome) (bytes : List ℕ) (table : Table)
+    → Served (context_of old (Tcp id who)) old message arguments roomy books given → StaysTable roomy table → Leaves given left bytes → has_idle id roomy ≡ true
     → ((c : Connections) → StandsForConnections books.registry roomy c → StandsForConnections books.registry table (changed_at id (settle old.clock left) c))
-    → Acts StandsFor (λ s. answer_and_give id (length bytes) (settle_on id (serve_message s (Tcp id peer) message arguments))) old (record old { connections = table; books = books }) (is_no_call given, bytes)
+    → Acts StandsFor (λ s. answer_and_give id (length bytes) (settle_on id (serve_message s (Tcp id who) message arguments))) old (record old { connections = table; books = books }) (is_no_call given, bytes)
 unfolding pending
-answer_giving old id peer message arguments roomy books given left bytes table served stays leave idle settles = record {
+answer_giving old id who message arguments roomy books given left bytes table served stays leave idle settles = record {
   gives = λ s h.
-      let says = serve_gives old (Tcp id peer) message arguments roomy books given served s h in
-      let among = serve_connections old (Tcp id peer) message arguments roomy books given served s h in
-      let conns : Connections = evict (crowd_in s (Tcp id peer) message) s.connections in
+      let says = serve_gives old (Tcp id who) message arguments roomy books given served s h in
+      let among = serve_connections old (Tcp id who) message arguments roomy books given served s h in
+      let conns : Connections = evict (crowd_in s (Tcp id who) message) s.connections in
       let lives = idle_is_live books.registry id roomy conns among idle in
       both _ _ _ _ (ap is_no_call says)
       (subst (λ (o : Outcome). bytes ≡ take (length bytes) (pending_bytes (pending_at id (changed_at id (settle s.clock o) conns)))) says (in_front id given left bytes leave s.clock conns lives));
@@ -185,15 +185,15 @@ answer_giving old id peer message arguments roomy books given left bytes table s
     conns = stays.conns ∙ served.stays.conns ∙ h.conns;
     within = stays.within (served.stays.within h.within);
     connections =
-        let conns : Connections = evict (crowd_in s (Tcp id peer) message) s.connections in
-        subst (λ (o : Outcome). StandsForConnections books.registry table (changed_at id (with_given s.clock (length bytes)) (changed_at id (settle s.clock o) conns))) (serve_gives old (Tcp id peer) message arguments roomy books given served s h)
+        let conns : Connections = evict (crowd_in s (Tcp id who) message) s.connections in
+        subst (λ (o : Outcome). StandsForConnections books.registry table (changed_at id (with_given s.clock (length bytes)) (changed_at id (settle s.clock o) conns))) (serve_gives old (Tcp id who) message arguments roomy books given served s h)
         (subst (λ (n : ℕ). StandsForConnections books.registry table (changed_at id (with_given n (length bytes)) (changed_at id (settle n given) conns))) h.clock
         (subst (λ (c : Connections). StandsForConnections books.registry table c) (given_then id given left bytes leave old.clock conns)
-        (settles conns (serve_connections old (Tcp id peer) message arguments roomy books given served s h))));
+        (settles conns (serve_connections old (Tcp id who) message arguments roomy books given served s h))));
     limit = served.frame.limit ∙ h.limit;
     forwards = served.frame.cap ∙ h.forwards;
     first_xid = served.frame.first_xid ∙ h.first_xid;
-    ledger = serve_stands old (Tcp id peer) message arguments roomy books given served s h;
+    ledger = serve_stands old (Tcp id who) message arguments roomy books given served s h;
     reply = h.reply;
     short = h.short;
     arguments = h.arguments;

@@ -4,7 +4,7 @@ use Rattle.std.proofs.Common.{◌≡◌, ◌≤◌, ℕ, ◌+◌, ◌*◌, max, 
 use Rattle.std.proofs.lemmas.List.{length-take}
 use Rattle.rb_xdr.specs.Meter.{Meter, PaysAtMost}
 use Rattle.rb_xdr.specs.Ordered.{looks}
-use Rattle.rb_address.specs.declared.peer.Peer.{Peer}
+use Rattle.rb_address.specs.declared.who.Who.{Who}
 use Rattle.rb_rpc.specs.Records.{first_record}
 use Rattle.rb_feed.specs.Feeds.{arguments_of}
 use Rattle.rb_registry.specs.Registry.{slots_of}
@@ -103,13 +103,13 @@ module _ (core : Held) (a b : Meter) where
       let limit : t.setting.limits.rows ≡ core.setting.limits.rows = ap (λ (x : Setting). x.limits.rows) (same ∙ sym h.setting) in
       omega (arith, limit, rows_held new t k)
 
-  pub datagram_within : (new : Held) (now : ℕ) (peer : Peer) (content : List ℕ) (given : Outcome) → Acts StandsFor (λ s. datagram s now peer content) core new given
+  pub datagram_within : (new : Held) (now : ℕ) (who : Who) (content : List ℕ) (given : Outcome) → Acts StandsFor (λ s. datagram s now who content) core new given
       → PaysForDatagram core new content a b → StaysWithinSteps core (length content) 0 a b
   unfolding step longest_reply longest_kept buffer_size longest_args
-  datagram_within new now peer content given acts pays = record {
+  datagram_within new now who content given acts pays = record {
     within = λ s h reached.
-        let shows = datagram_shown core new (λ t. datagram t now peer content) given acts s h in
-        let left = rows_left new s _ h shows.1 (step-follows s (Datagram now peer content)).setting in
+        let shows = datagram_shown core new (λ t. datagram t now who content) given acts s h in
+        let left = rows_left new s _ h shows.1 (step-follows s (Datagram now who content)).setting in
         let most = message_most (asks_for_rows (message_of content)) (sizes_of core new) (length content) (length new.reply) in
         at_most a b (datagram_cost (sizes_for (message_of content) (sizes_of core new)) (length content) (length new.reply)) _
         (omega (arith, few_connections s h reached, few_rows s h, few_looks s h, left, shows.1.short, most)) pays;

@@ -1,19 +1,22 @@
 -- What a core holds that stands for a state that a run reaches is within the bound.
-use Rattle.std.specs.Prelude.{All, count_by}
+use Rattle.std.specs.Prelude.{All, IfSome, count_by}
 use Rattle.std.specs.List.{AllZip}
 use Rattle.std.specs.Map.{values_of}
-use Rattle.std.proofs.Common.{◌≡◌, ℕ, ◌+◌, ◌*◌, ◌^◌, ◌≤◌, ◌<◌, Bool, true, false, cond, not, get_or, Some, List, [], ◌∷◌, length, map, refl, ap, sym, subst, arith}
+use Rattle.std.proofs.Common.{◌≡◌, ℕ, ◌+◌, ◌*◌, ◌^◌, ◌≤◌, ◌<◌, Bool, true, false, cond, not, get_or, Option, Some, None, List, [], ◌∷◌, ◌++◌, length, map, refl, ap, sym, subst, arith}
 use Rattle.std.proofs.Math.Nat.{mul-le-mul_right}
 use Rattle.std.proofs.lemmas.List.{length-append, length-take}
 use Rattle.std.proofs.lemmas.List.Sums.{sum_by-le, sum_by-cons}
-use Rattle.std.proofs.lemmas.List.Elements.{All-nil, All-cons, All-head, All-tail, All-append, All-filter, All-map}
+use Rattle.std.proofs.lemmas.List.Elements.{All-nil, All-cons, All-head, All-tail, All-append, All-filter, All-map, All-replicate}
 use Rattle.rb_xdr.specs.Kept.{Kept}
 use Rattle.rb_rpc.specs.Records.{data_of}
 use Rattle.rb_rpc.specs.CallBytes.{call_bytes}
 use Rattle.rb_feed.specs.Feeds.{arguments_of}
-use Rattle.rb_uaddr.specs.declared.address.Uaddr.TheVariants.{V4}
-use Rattle.rb_uaddr.specs.Uaddr.{any_host, text_of}
-use Rattle.rb_uaddr.proofs.ShortTexts.{own_short}
+use Rattle.rb_uaddr.specs.declared.address.Uaddr.TheVariants.{V4, V6}
+use Rattle.rb_uaddr.specs.Uaddr.{any_host, any_host6, text_of}
+use Rattle.rb_uaddr.proofs.GrammarLaws.{printed_is_read}
+use Rattle.rb_uaddr.proofs.ShortTexts.{own_short, read_short}
+use Rattle.rb_address.specs.declared.netid.Netid.{Netid}
+use Rattle.rb_address.specs.declared.netid.Netid.TheVariants as netids
 use Rattle.rb_registry.specs.declared.row.Row.{Row}
 use Rattle.rb_registry.specs.declared.slot.Slot.{Slot as RowSlot}
 use Rattle.rb_registry.specs.Rows.{Change}
@@ -26,7 +29,7 @@ use Rattle.rb_forward.specs.StandsFor.{Table as Entries, StandsForForwards, slot
 use Rattle.rb_forward.proofs.Heads.{length-head}
 use Rattle.rb_forward.proofs.Stands.{held_alike}
 use Rattle.rb_proto.specs.declared.listener.Listener.{Listener}
-use Rattle.rb_proto.specs.Callers.{own_rows}
+use Rattle.rb_proto.specs.Callers.{own_row, own_pair, own_three, own_inet6, own_inet, own_local, own_rows}
 use Rattle.rb_model.specs.Calls.{longest_reply, longest_kept, kept_of}
 use Rattle.rb_model.specs.Connections.{longest_fragment}
 use Rattle.rb_model.specs.State.{Phase, Connection}
@@ -40,7 +43,7 @@ use Rattle.rb_connections.specs.declared.slot.Stage.{Stage}
 use Rattle.rb_connections.specs.declared.slot.Stage.TheVariants as stages
 use Rattle.rb_connections.specs.StandsFor.{buffer_size, StandsForPhase, StandsForConnection, charge, held_in, IsWithin}
 use Rattle.rb_core.specs.StandsFor.{Held}
-use Rattle.rb_core.specs.HeldBytes.{takes_bytes, HoldsArguments, unheld_share, HeldBytesAreBounded, NeverPasses}
+use Rattle.rb_core.specs.HeldBytes.{takes_bytes, HoldsArguments, unheld_share, IsListener, HeldBytesAreBounded, NeverPasses}
 
 -- ---- connections
 
@@ -105,17 +108,41 @@ by_short count [] s = All-nil HasShortRow
 by_short count (Added row ∷ later) s = All-cons HasShortRow _ (slots_by (count + 1) later) (All-head IsShortChange (Added row) later s) (by_short (count + 1) later (All-tail IsShortChange (Added row) later s))
 by_short count (Removed prog vers which owner ∷ later) s = by_short (count + 1) later (All-tail IsShortChange (Removed prog vers which owner) later s)
 
-six_short : (a b c d e f : Row) → IsShortRow a → IsShortRow b → IsShortRow c → IsShortRow d → IsShortRow e → IsShortRow f → All IsShortRow (a ∷ b ∷ c ∷ d ∷ e ∷ f ∷ [])
-six_short a b c d e f sa sb sc sd se sf =
-    All-cons IsShortRow a (b ∷ c ∷ d ∷ e ∷ f ∷ []) sa (All-cons IsShortRow b (c ∷ d ∷ e ∷ f ∷ []) sb (All-cons IsShortRow c (d ∷ e ∷ f ∷ []) sc
-    (All-cons IsShortRow d (e ∷ f ∷ []) sd (All-cons IsShortRow e (f ∷ []) se (All-cons IsShortRow f [] sf (All-nil IsShortRow))))))
+pair_short : (netid : Netid) (addr : List ℕ) → length addr ≤ 128 → All IsShortRow (own_pair netid addr)
+pair_short netid addr few = All-cons IsShortRow (own_row netid addr 4) (own_row netid addr 3 ∷ []) few (All-cons IsShortRow (own_row netid addr 3) [] few (All-nil IsShortRow))
 
-own_are_short : (listener : Listener) → listener.port < 2 ^ 16 → All IsShortRow (own_rows listener)
+three_short : (netid : Netid) (addr : List ℕ) → length addr ≤ 128 → All IsShortRow (own_three netid addr)
+three_short netid addr few =
+    All-cons IsShortRow (own_row netid addr 4) (own_row netid addr 3 ∷ own_row netid addr 2 ∷ []) few
+    (All-cons IsShortRow (own_row netid addr 3) (own_row netid addr 2 ∷ []) few (All-cons IsShortRow (own_row netid addr 2) [] few (All-nil IsShortRow)))
+
+inet6_short : (port : ℕ) (announced : Option (List ℕ)) → port < 2 ^ 16 → All IsShortRow (own_inet6 port announced)
+inet6_short port None fits = All-nil IsShortRow
+inet6_short port (Some announced) fits =
+    let addr : List ℕ = text_of (V6 any_host6 port) in
+    let short = read_short addr (V6 any_host6 port) (printed_is_read (V6 any_host6 port) (record { count = refl; small = All-replicate (λ b. b < 256) 16 0 (omega arith) }, fits)) in
+    let few : length addr ≤ 128 = omega (arith, short) in
+    All-append IsShortRow (own_pair netids.Tcp6 addr) (own_pair netids.Udp6 addr) (pair_short netids.Tcp6 addr few) (pair_short netids.Udp6 addr few)
+
+inet_short : (port : ℕ) (announced : Option (List ℕ)) → port < 2 ^ 16 → All IsShortRow (own_inet port announced)
+inet_short port None fits = All-nil IsShortRow
+inet_short port (Some announced) fits =
+    let addr : List ℕ = text_of (V4 any_host port) in
+    let short = own_short port fits in
+    let few : length addr ≤ 128 = omega (arith, short) in
+    All-append IsShortRow (own_three netids.Tcp addr) (own_three netids.Udp addr) (three_short netids.Tcp addr few) (three_short netids.Udp addr few)
+
+local_short : (path : Option (List ℕ)) → IfSome path (λ text. length text ≤ 128) → All IsShortRow (own_local path)
+local_short None few = All-nil IsShortRow
+local_short (Some path) few = pair_short netids.Local path few
+
+own_are_short : (listener : Listener) → IsListener listener → All IsShortRow (own_rows listener)
 unfolding own_rows
-own_are_short listener fits =
-    let short = own_short listener.port fits in
-    let s : length (text_of (V4 any_host listener.port)) ≤ 128 = omega (arith, short) in
-    six_short _ _ _ _ _ _ s s s s s s
+own_are_short listener is =
+    let port : ℕ = listener.port in
+    let inet : All IsShortRow (own_inet6 port listener.announced.inet6 ++ own_inet port listener.announced.inet) =
+    All-append IsShortRow (own_inet6 port listener.announced.inet6) (own_inet port listener.announced.inet) (inet6_short port listener.announced.inet6 is.port) (inet_short port listener.announced.inet is.port) in
+    All-append IsShortRow (own_inet6 port listener.announced.inet6 ++ own_inet port listener.announced.inet) (own_local listener.local) inet (local_short listener.local is.path)
 
 rows_within : (kept : Registry) (own : List Row) (changes : List Change) → StandsForChanges kept own changes → All IsShortRow own → All IsShortChange changes
     → held_of_rows (rows_of kept) ≤ kept.limit * (32 + 128)
@@ -153,10 +180,10 @@ calls_within table f most stands short few =
 -- ---- all of it
 
 pub held_bytes_are_bounded : HeldBytesAreBounded
-held_bytes_are_bounded core s h reached port =
+held_bytes_are_bounded core s h reached listener =
     let kept = reached-kept s reached in
     let rows = reached-short s reached in
-    let own : All IsShortRow s.ledger.own = subst (All IsShortRow) (sym rows.0) (own_are_short s.setting.listener port) in
+    let own : All IsShortRow s.ledger.own = subst (All IsShortRow) (sym rows.0) (own_are_short s.setting.listener listener) in
     let connections = connections_within core.books.registry (values_of core.connections.slots) s.connections.all h.connections.all h.within in
     let room = mul-le-mul_right share (reached-room s reached) in
     let in_rows : held_of_rows (rows_of core.books.registry) ≤ s.setting.limits.rows * (32 + 128) =
@@ -169,4 +196,4 @@ held_bytes_are_bounded core s h reached port =
     }
 
 pub never_passes : (core : Held) → NeverPasses core
-never_passes core = record { within = λ s stands reached port. let whole = (held_bytes_are_bounded core s stands reached port).whole in omega (arith, whole) }
+never_passes core = record { within = λ s stands reached listener. let whole = (held_bytes_are_bounded core s stands reached listener).whole in omega (arith, whole) }

@@ -112,7 +112,7 @@ module _ (sizes : Sizes) (piece : List ℕ) where
       by_taking TakesNone e k = absurd (nobody x (sym (ap (λ (r : Received). r.ended) e) ∙ some))
       by_taking (GoesOn fed) e k = absurd (nobody x (sym (ap (λ (r : Received). r.ended) e) ∙ some))
       by_taking (Ends n content) e k =
-          let ended : ended_record c.peer content ≡ x = one _ _ (sym (ap (λ (r : Received). r.ended) e) ∙ some) in
+          let ended : ended_record c.who content ≡ x = one _ _ (sym (ap (λ (r : Received). r.ended) e) ∙ some) in
           let says : message_with x.verdict args ≡ message_of content = rw (← ended, k) (kept_says content).says in
           rw (says, e, k) (omega arith)
 

@@ -4,6 +4,7 @@ use Rattle.std.specs.Option.{option_map_or}
 use Rattle.std.proofs.Common.{◌≡◌, ◌≤◌, ℕ, Bool, true, false, cond, List, [], ◌∷◌, map, Option, Some, None, Result, Ok, Err, length, eqb, refl, sym, ap, subst, ◌∙◌, max, arith}
 use Rattle.std.proofs.lemmas.Bool.{and_parts}
 use Rattle.rb_address.specs.declared.peer.Peer.{Peer}
+use Rattle.rb_address.specs.declared.who.Who.{Who}
 use Rattle.rb_rpc.specs.declared.caller.Caller.{Caller}
 use Rattle.rb_rpc.specs.declared.caller.Caller.TheVariants.{Tcp, Udp}
 use Rattle.rb_rpc.specs.declared.call.Verdict.{Verdict}
@@ -107,23 +108,23 @@ pub acts_from : {A : Type 0} (act : State → A × State) (view now new : Held) 
 acts_from act view now new x is acts = subst (λ (held : Held). Acts StandsFor act held new x) is acts
 
 module _ (old : Held) (now clock : ℕ) (is : clock ≡ max old.clock now) (table : Table) where
-  open_at : (peer : Peer) (r : Result ℕ CoreFault) → Acts (StandsForConnections old.books.registry) (open_in_table old.connections.conns peer clock) old.connections table r
-      → (s : State) → StandsFor old s → Acts (StandsForConnections old.books.registry) (open_in_table s.setting.limits.conns peer (max s.clock now)) old.connections table r
-  open_at peer r acts s h = rw (← h.conns, ← h.clock, ← is) acts
+  open_at : (who : Who) (r : Result ℕ CoreFault) → Acts (StandsForConnections old.books.registry) (open_in_table old.connections.conns who clock) old.connections table r
+      → (s : State) → StandsFor old s → Acts (StandsForConnections old.books.registry) (open_in_table s.setting.limits.conns who (max s.clock now)) old.connections table r
+  open_at who r acts s h = rw (← h.conns, ← h.clock, ← is) acts
 
   give_at : (id n : ℕ) (r : Result (Unit {0}) CoreFault) → Acts (StandsForConnections old.books.registry) (on_live id (give clock n)) old.connections table r
       → (s : State) → StandsFor old s → Acts (StandsForConnections old.books.registry) (on_live id (give (max s.clock now) n)) old.connections table r
   give_at id n r acts s h = rw (← h.clock, ← is) acts
 
-  pub open_done : (peer : Peer) (x : ℕ) → StaysTable old.connections table → Acts (StandsForConnections old.books.registry) (open_in_table old.connections.conns peer clock) old.connections table (Ok x)
-      → Acts StandsFor (λ s. open_connection s now peer) old (record old { clock = clock; connections = table }) (Ok x)
+  pub open_done : (who : Who) (x : ℕ) → StaysTable old.connections table → Acts (StandsForConnections old.books.registry) (open_in_table old.connections.conns who clock) old.connections table (Ok x)
+      → Acts StandsFor (λ s. open_connection s now who) old (record old { clock = clock; connections = table }) (Ok x)
   unfolding open_connection
-  open_done peer x stays acts = moved_acts old now clock (λ s. open_in_table s.setting.limits.conns peer (max s.clock now)) table x is stays (open_at peer (Ok x) acts)
+  open_done who x stays acts = moved_acts old now clock (λ s. open_in_table s.setting.limits.conns who (max s.clock now)) table x is stays (open_at who (Ok x) acts)
 
-  pub open_refused : (peer : Peer) (f : CoreFault) → Acts (StandsForConnections old.books.registry) (open_in_table old.connections.conns peer clock) old.connections table (Err f)
-      → Acts StandsFor (λ s. open_connection s now peer) old old (Err f)
+  pub open_refused : (who : Who) (f : CoreFault) → Acts (StandsForConnections old.books.registry) (open_in_table old.connections.conns who clock) old.connections table (Err f)
+      → Acts StandsFor (λ s. open_connection s now who) old old (Err f)
   unfolding open_connection
-  open_refused peer f acts = refused_acts old now clock (λ s. open_in_table s.setting.limits.conns peer (max s.clock now)) table f (open_at peer (Err f) acts)
+  open_refused who f acts = refused_acts old now clock (λ s. open_in_table s.setting.limits.conns who (max s.clock now)) table f (open_at who (Err f) acts)
 
   pub gave_done : (id n : ℕ) (u : Unit {0}) → StaysTable old.connections table → Acts (StandsForConnections old.books.registry) (on_live id (give clock n)) old.connections table (Ok u)
       → Acts StandsFor (λ s. gave s now id n) old (record old { clock = clock; connections = table }) (Ok u)
@@ -210,7 +211,7 @@ module _ (old : Held) (caller : Caller) (message : Message) (arguments : List �
       (served.acts.connections s.connections s.ledger h.connections h.ledger)
 
 -- a datagram is answered
-module _ (old : Held) (now clock : ℕ) (peer : Peer) (content : List ℕ) (table : Table) (books : Books) (reply : List ℕ) (tie : ℕ) (is : clock ≡ max old.clock now) (few : length reply ≤ longest_reply) where
+module _ (old : Held) (now clock : ℕ) (who : Who) (content : List ℕ) (table : Table) (books : Books) (reply : List ℕ) (tie : ℕ) (is : clock ≡ max old.clock now) (few : length reply ≤ longest_reply) where
   moment : (s : State) → StandsFor old s → StandsFor (record old { clock = clock }) (at_moment now s)
   moment s h = record {
     setting = h.setting;
@@ -231,10 +232,10 @@ module _ (old : Held) (now clock : ℕ) (peer : Peer) (content : List ℕ) (tabl
   new_held = record old { clock = clock; connections = table; books = books; reply = reply; tie = tie }
 
   abbrev roomy : State → State
-  roomy s = with_room (context_in (at_moment now s) (Udp peer)) (message_of content) (at_moment now s)
+  roomy s = with_room (context_in (at_moment now s) (Udp who)) (message_of content) (at_moment now s)
 
   abbrev answered : State → Outcome × Ledger
-  answered s = outcome (context_in (at_moment now s) (Udp peer)) (message_of content) (arguments_of content) s.ledger
+  answered s = outcome (context_in (at_moment now s) (Udp who)) (message_of content) (arguments_of content) s.ledger
 
   told_state : (given : Outcome) → SameFrame old.books books → StaysTable old.connections table → reply ≡ reply_in given → (s : State) → StandsFor old s
       → StandsForConnections books.registry table (roomy s).connections → (o : Outcome × Ledger) → given ≡ o.0 → StandsForLedger books o.1
@@ -257,8 +258,8 @@ module _ (old : Held) (now clock : ℕ) (peer : Peer) (content : List ℕ) (tabl
     },
   )
 
-  pub datagram_acts : (given : Outcome) → Served (context_of (record old { clock = clock }) (Udp peer)) (record old { clock = clock }) (message_of content) (arguments_of content) table books given → reply ≡ reply_in given
-      → Acts StandsFor (λ s. datagram s now peer content) old new_held given
+  pub datagram_acts : (given : Outcome) → Served (context_of (record old { clock = clock }) (Udp who)) (record old { clock = clock }) (message_of content) (arguments_of content) table books given → reply ≡ reply_in given
+      → Acts StandsFor (λ s. datagram s now who content) old new_held given
   unfolding datagram serve
   datagram_acts given served holds = record { gives = λ s h. (goes s h).0; stands = λ s h. (goes s h).1 }
     where
@@ -266,10 +267,10 @@ module _ (old : Held) (now clock : ℕ) (peer : Peer) (content : List ℕ) (tabl
       goes s h =
           let before : Held = record old { clock = clock } in
           told_state given served.frame served.stays holds s h
-          (serve_connections before (Udp peer) (message_of content) (arguments_of content) table books given served (at_moment now s) (moment s h))
+          (serve_connections before (Udp who) (message_of content) (arguments_of content) table books given served (at_moment now s) (moment s h))
           (answered s)
-          (serve_gives before (Udp peer) (message_of content) (arguments_of content) table books given served (at_moment now s) (moment s h))
-          (serve_stands before (Udp peer) (message_of content) (arguments_of content) table books given served (at_moment now s) (moment s h))
+          (serve_gives before (Udp who) (message_of content) (arguments_of content) table books given served (at_moment now s) (moment s h))
+          (serve_stands before (Udp who) (message_of content) (arguments_of content) table books given served (at_moment now s) (moment s h))
 
 -- ---- a piece of bytes
 
@@ -328,16 +329,16 @@ found_passes test (x ∷ all) c e = by_test (test x) refl (found_passes test all
     by_test false t further = further (rw t at e)
 
 -- A message is answered alike where the connection, which has no list, was Idle meanwhile.
-answering_alike : (clock id : ℕ) (peer : Peer) (message : Message) (arguments : List ℕ) (s : State) (c : Connection) → live_connection id s.connections.all ≡ Some c → stamp_in c.phase ≡ None
-    → settle_on id (serve_message (record s { connections = changed_at id (idle clock) s.connections }) (Tcp id peer) message arguments) ≡ settle_on id (serve_message s (Tcp id peer) message arguments)
+answering_alike : (clock id : ℕ) (who : Who) (message : Message) (arguments : List ℕ) (s : State) (c : Connection) → live_connection id s.connections.all ≡ Some c → stamp_in c.phase ≡ None
+    → settle_on id (serve_message (record s { connections = changed_at id (idle clock) s.connections }) (Tcp id who) message arguments) ≡ settle_on id (serve_message s (Tcp id who) message arguments)
 unfolding live_connection
-answering_alike clock id peer message arguments s c there none = by_outcome (outcome (context_in s (Tcp id peer)) message arguments s.ledger)
+answering_alike clock id who message arguments s c there none = by_outcome (outcome (context_in s (Tcp id who)) message arguments s.ledger)
   where
     live : is_live id (idle clock c) ≡ true
     live = idle_is_live clock id c (found_passes (is_live id) s.connections.all c there)
 
-    same_crowd : removals_in_the_way (context_in s (Tcp id peer)) message (change_first (is_live id) (idle clock) s.connections.all) s.ledger ≡ removals_in_the_way (context_in s (Tcp id peer)) message s.connections.all s.ledger
-    same_crowd = crowding_alike (context_in s (Tcp id peer)) message _ _ s.ledger (begins_changed id (idle clock) s.connections.all c there none refl)
+    same_crowd : removals_in_the_way (context_in s (Tcp id who)) message (change_first (is_live id) (idle clock) s.connections.all) s.ledger ≡ removals_in_the_way (context_in s (Tcp id who)) message s.connections.all s.ledger
+    same_crowd = crowding_alike (context_in s (Tcp id who)) message _ _ s.ledger (begins_changed id (idle clock) s.connections.all c there none refl)
 
     twice : (given : Outcome) (changes other : List ℕ) → other ≡ changes → change_first (is_live id) (settle s.clock given) (map (evict_early other) (change_first (is_live id) (idle clock) s.connections.all))
         ≡ change_first (is_live id) (settle s.clock given) (map (evict_early changes) s.connections.all)
@@ -346,17 +347,17 @@ answering_alike clock id peer message arguments s c there none = by_outcome (out
         ∙ evicted_changed id (idle clock) (settle s.clock given) changes s.connections.all c there none refl live (settled_over s.clock given clock c)
 
     by_outcome : (o : Outcome × Ledger)
-        → settle_on id (with_ledger (with_room (context_in s (Tcp id peer)) message (record s { connections = changed_at id (idle clock) s.connections })) o)
-        ≡ settle_on id (with_ledger (with_room (context_in s (Tcp id peer)) message s) o)
+        → settle_on id (with_ledger (with_room (context_in s (Tcp id who)) message (record s { connections = changed_at id (idle clock) s.connections })) o)
+        ≡ settle_on id (with_ledger (with_room (context_in s (Tcp id who)) message s) o)
     by_outcome o = ap (λ (xs : List Connection). (is_no_call o.0, record s { ledger = o.1; connections = record s.connections { all = xs } })) (twice o.0 _ _ same_crowd)
 
 -- So is a record, by its verdict and what is kept of its arguments.
 ended_alike : (clock id : ℕ) (ended : EndedRecord) (arguments content : List ℕ) (s : State) (c : Connection) → live_connection id s.connections.all ≡ Some c → stamp_in c.phase ≡ None → ended.verdict ≡ verdict content → arguments ≡ kept_of content
-    → serve_ended id ended arguments (record s { connections = changed_at id (idle clock) s.connections }) ≡ serve_record s id ended.peer content
+    → serve_ended id ended arguments (record s { connections = changed_at id (idle clock) s.connections }) ≡ serve_record s id ended.who content
 unfolding serve_record serve
 ended_alike clock id ended arguments content s c there none says kept =
-    let caller : Caller = Tcp id ended.peer in
-    answering_alike clock id ended.peer (message_with ended.verdict arguments) arguments s c there none
+    let caller : Caller = Tcp id ended.who in
+    answering_alike clock id ended.who (message_with ended.verdict arguments) arguments s c there none
     ∙ ap (λ (v : Verdict). settle_on id (serve_message s caller (message_with v arguments) arguments)) says
     ∙ ap (λ (xs : List ℕ). settle_on id (serve_message s caller (message_with (verdict content) xs) xs)) kept
     ∙ ap (λ (m : Message). settle_on id (serve_message s caller m (kept_of content))) (kept_says content).says
@@ -478,8 +479,8 @@ module _ (old : Held) (now clock id : ℕ) (piece : List ℕ) (is : clock ≡ ma
           let same = fed_to s f.connection (GoesOn fed) (keep_reading (max s.clock now) fed) f.there t (ap (λ (k : ℕ). keep_reading k fed f.connection) (is ∙ ap (λ (k : ℕ). max k now) h.clock)) in
           record { gives = rw (bytes_by s f.connection (GoesOn fed) f.there t) (rw n refl); stands = rw (bytes_by s f.connection (GoesOn fed) f.there t) (table_with s h arguments none (changed_at id (keep_reading (max s.clock now) fed) s.connections) (subst (StandsForConnections old.books.registry table) same f.stands)) }
       by_taking s h f (Ends n content) t =
-          let gives : quiet count ≡ ended n (record { peer = f.connection.peer; verdict = verdict content }) = rw t at f.gives in
-          absurd (nobody (record { peer = f.connection.peer; verdict = verdict content }) (sym (ap (λ (r : Received). r.ended) gives)))
+          let gives : quiet count ≡ ended n (record { who = f.connection.who; verdict = verdict content }) = rw t at f.gives in
+          absurd (nobody (record { who = f.connection.who; verdict = verdict content }) (sym (ap (λ (r : Received). r.ended) gives)))
 
       goes : (s : State) → StandsFor old s → Quiet s count
       goes s h = let f = fed_by (quiet count) acts s h in by_taking s h f (taking_of f.connection.phase piece) refl
@@ -507,8 +508,8 @@ module _ (old : Held) (now clock id : ℕ) (piece : List ℕ) (is : clock ≡ ma
           rw (bytes_by s f.connection (GoesOn fed) f.there t)
           (rw f.there (rw (find_changed_live id (keep_reading (max s.clock now) fed) (reading_is_live (max s.clock now) id fed) s.connections.all f.connection f.there) (either (is_owing f.connection.phase || false))))
       by_taking f (Ends n content) t =
-          let gives : quiet count ≡ ended n (record { peer = f.connection.peer; verdict = verdict content }) = rw t at f.gives in
-          absurd (nobody (record { peer = f.connection.peer; verdict = verdict content }) (sym (ap (λ (r : Received). r.ended) gives)))
+          let gives : quiet count ≡ ended n (record { who = f.connection.who; verdict = verdict content }) = rw t at f.gives in
+          absurd (nobody (record { who = f.connection.who; verdict = verdict content }) (sym (ap (λ (r : Received). r.ended) gives)))
 
   -- where one ended: the state meanwhile, and what it said is answered from there
   pub record RecordEnded (count : ℕ) (said : EndedRecord) (s : State) : Type 0 where
@@ -528,12 +529,12 @@ module _ (old : Held) (now clock id : ℕ) (piece : List ℕ) (is : clock ≡ ma
       by_taking f TakesNone t = let gives : ended count said ≡ quiet 0 = rw t at f.gives in absurd (nobody said (ap (λ (r : Received). r.ended) gives))
       by_taking f (GoesOn fed) t = let gives : ended count said ≡ quiet (length piece) = rw t at f.gives in absurd (nobody said (ap (λ (r : Received). r.ended) gives))
       by_taking f (Ends n content) t =
-          let gives : ended count said ≡ ended n (record { peer = f.connection.peer; verdict = verdict content }) = rw t at f.gives in
+          let gives : ended count said ≡ ended n (record { who = f.connection.who; verdict = verdict content }) = rw t at f.gives in
           let k : count ≡ n = ap (λ (r : Received). r.count) gives in
-          let who : said ≡ record { peer = f.connection.peer; verdict = verdict content } = some_is {X = EndedRecord} (λ x. true) _ _ (ap (λ (r : Received). r.ended) gives) in
+          let ended_is : said ≡ record { who = f.connection.who; verdict = verdict content } = some_is {X = EndedRecord} (λ x. true) _ _ (ap (λ (r : Received). r.ended) gives) in
           let same = fed_to s f.connection (Ends n content) (idle clock) f.there t refl in
-          let alike = ended_alike clock id said arguments content (at_moment now s) f.connection f.there (takes_no_list f.connection.phase piece n content t) (ap (λ (x : EndedRecord). x.verdict) who) (held_after s f.connection (Ends n content) h f.there t) in
-          let from = ap (λ (x : EndedRecord). x.peer) who in
+          let alike = ended_alike clock id said arguments content (at_moment now s) f.connection f.there (takes_no_list f.connection.phase piece n content t) (ap (λ (x : EndedRecord). x.verdict) ended_is) (held_after s f.connection (Ends n content) h f.there t) in
+          let from = ap (λ (x : EndedRecord). x.who) ended_is in
           record {
             meanwhile = record (at_moment now s) { connections = changed_at id (idle clock) s.connections };
             stands = table_with s h [] refl (changed_at id (idle clock) s.connections) (subst (StandsForConnections old.books.registry table) same f.stands);
@@ -543,7 +544,7 @@ module _ (old : Held) (now clock id : ℕ) (piece : List ℕ) (is : clock ≡ ma
             owes_none = takes_owing_none f.connection.phase piece n content t;
             goes =
                 bytes_by s f.connection (Ends n content) f.there t
-                ∙ ap (λ (r : Bool × State). taken_of (with_count n r)) (ap (λ (p : Peer). serve_record (at_moment now s) id p content) (sym from) ∙ sym alike)
+                ∙ ap (λ (r : Bool × State). taken_of (with_count n r)) (ap (λ (w : Who). serve_record (at_moment now s) id w content) (sym from) ∙ sym alike)
                 ∙ ap (λ (m : ℕ). taken_of (with_count m (serve_ended id said arguments (record (at_moment now s) { connections = changed_at id (idle clock) s.connections })))) (sym k);
           }
 

@@ -53,7 +53,7 @@ pub record IsCore (setting : Setting) (connections : Table) (books : Books) (rep
 -- what a call from a caller sees
 abbrev pub context_of : Held → Caller → Context
 context_of held caller = record {
-  listener = held.setting.listener;
+  announced = held.setting.listener.announced;
   limit = held.setting.limits.rows;
   forwards = held.setting.limits.forwards;
   clock = held.clock;
@@ -86,7 +86,7 @@ HasArguments id piece table before after result = IfOk result (λ got. AreArgume
 -- a record with this verdict and these arguments is answered, and its connection goes on
 abbrev pub serve_ended : ℕ → EndedRecord → List ℕ → State → Bool × State
 serve_ended id ended arguments s =
-    settle_on id (serve_message s (Tcp id ended.peer) (message_with ended.verdict arguments) arguments)
+    settle_on id (serve_message s (Tcp id ended.who) (message_with ended.verdict arguments) arguments)
 
 -- what is held, once the arguments are taken out
 abbrev pub without_arguments : Held → Held

@@ -1,11 +1,12 @@
 -- The bytes that a core holds, and that they never pass their bound.
-use Rattle.std.specs.Prelude.{ℕ, ◌+◌, ◌*◌, length, ◌≡◌, ◌<◌, ◌≤◌, ◌^◌, Bool, true, count_by, is_some}
+use Rattle.std.specs.Prelude.{ℕ, ◌+◌, ◌*◌, length, ◌≡◌, ◌<◌, ◌≤◌, ◌^◌, Bool, true, count_by, is_some, IfSome}
 use Rattle.std.specs.Map.{values_of}
 use Rattle.std.specs.List.{AllZip}
 use Rattle.rb_registry.specs.Registry.{slots_of as rows_of}
 use Rattle.rb_registry.specs.Slots.{held_in as held_of_rows}
 use Rattle.rb_stats.specs.Stats.{key_count}
 use Rattle.rb_forward.specs.StandsFor.{slots_of as calls_of, held_in as held_of_calls}
+use Rattle.rb_proto.specs.declared.listener.Listener.{Listener}
 use Rattle.rb_model.specs.State.{Connection, State}
 use Rattle.rb_model.specs.Connections.{fed_in}
 use Rattle.rb_model.specs.Calls.{longest_kept}
@@ -43,12 +44,17 @@ pub record IsBounded (core : Held) (s : State) : Type 0 where
   pub each : AllZip HoldsArguments (values_of core.connections.slots) s.connections.all
   pub whole : held core + unheld_share * count_by takes_bytes s.connections.all ≤ bytes_bound s.setting.limits
 
--- Whatever a core holds that stands for a state that a run reaches, with a listener on a port of 16 bits.
+-- A listener has a port of 16 bits, and the path of its local socket, where it has one, has at most 128 bytes.
+pub record IsListener (listener : Listener) : Type 0 where
+  pub port : listener.port < 2 ^ 16
+  pub path : IfSome listener.local (λ path. length path ≤ 128)
+
+-- Whatever a core holds that stands for a state that a run reaches.
 abbrev pub HeldBytesAreBounded : Type 0
 HeldBytesAreBounded =
-    (core : Held) (s : State) → StandsFor core s → IsReached s → s.setting.listener.port < 2 ^ 16 → IsBounded core s
+    (core : Held) (s : State) → StandsFor core s → IsReached s → IsListener s.setting.listener → IsBounded core s
 
 -- Whatever such state a core stands for, it holds no more than the bound.
 pub record NeverPasses (core : Held) : Type 0 where
-  pub within : (s : State) → StandsFor core s → IsReached s → s.setting.listener.port < 2 ^ 16
+  pub within : (s : State) → StandsFor core s → IsReached s → IsListener s.setting.listener
       → held core ≤ bytes_bound s.setting.limits

@@ -60,9 +60,9 @@ pub fn take_piece<'a>(
 {
     if let Some(whole) = connections.take_whole(id, piece, clock, meter) {
         let verdict = read_call(whole.content);
-        let peer = whole.peer;
+        let who = whole.who;
         let count = FRAGMENT_HEADER + whole.content.len();
-        let ended = Some(EndedRecord { peer, verdict });
+        let ended = Some(EndedRecord { who, verdict });
         return Ok(Piece {
             received: Received { count, ended },
             arguments: Some(kept_arguments(verdict, whole.content)),

@@ -1,16 +1,17 @@
 //! The core: what it holds, and its calls.
-ghost use Rattle.std.specs.Prelude.{◌≡◌, ◌≤◌, IsTrue};
+ghost use Rattle.std.specs.Prelude.{◌≡◌, ◌≤◌, length, IsTrue};
+ghost use Rattle.rb_proto.specs.Callers.{own_rows};
 ghost use Rattle.rb_model.specs.State.{are_good};
 ghost use Rattle.rb_model.specs.Bounds.{bytes_bound};
 
 use crate::calls::{Piece, give_at_once, lend_arguments, serve_verdict, take_piece};
-use rb_address::Peer;
+use rb_address::{Peer, Who};
 use rb_connections::{BUFFER_SIZE, CONNECTION_CHARGE, Connections, EndedRecord, Received};
 use rb_forward::{ENTRY_CHARGE, Ended, FwdId, LONGEST_FORWARDED_CALL, Unsent, sooner};
 use rb_model::{
     CoreFault, Exchanged, Expired, LONGEST_REPLY, Limits, Outcome, Served, Standing, Taken, Told,
 };
-use rb_proto::{Books, Context, Listener};
+use rb_proto::{Books, Context, Listener, own_row_count};
 use rb_rpc::{Caller, LONGEST_FRAGMENT, read_call};
 use rb_serving::{arguments_behind, put_end};
 use rb_xdr::{Kept, Meter};
@@ -63,8 +64,9 @@ fn layout(core: &Core) {
         arguments,
         steps_before,
     } = core;
-    let _: (Limits, Listener) = (*limits, *listener);
+    let _: Limits = *limits;
     let _: (u32, u64, u64, u128) = (*first_xid, *clock, *reply_len, *steps_before);
+    let _: &Listener = listener;
     let _: &Connections = connections;
     let _: &Books = books;
     let _: &Kept = reply;
@@ -99,7 +101,7 @@ impl Drop for Core {
     fn drop(self) {
         let Core {
             limits: _,
-            listener: _,
+            listener,
             first_xid: _,
             clock: _,
             connections,
@@ -110,6 +112,7 @@ impl Drop for Core {
             arguments,
             steps_before: _,
         } = self;
+        drop(listener);
         drop(connections);
         drop(books);
         drop(reply);
@@ -135,16 +138,16 @@ fn bytes_bound(limits: &Limits) -> u64
     conns + rows + forwards + MOST_KEYS * 48 + LONGEST_REPLY as u64
 }
 
-fn are_good(limits: &Limits) -> bool
-    ensures value { result ≡ are_good limits.now }
+fn are_good(limits: &Limits, listener: &Listener) -> bool
+    ensures value { result ≡ are_good limits.now listener.now }
     ensures conns { IsTrue result → limits.now.conns ≤ 256 }
-    ensures rows { IsTrue result → 6 ≤ limits.now.rows }
+    ensures rows { IsTrue result → length (own_rows listener.now) ≤ limits.now.rows }
     ensures few_rows { IsTrue result → limits.now.rows ≤ 4096 }
     ensures forwards { IsTrue result → limits.now.forwards ≤ 64 }
 {
     1 <= limits.conns
         && limits.conns <= 256
-        && 8 <= limits.rows
+        && own_row_count(listener) + 2 <= limits.rows
         && limits.rows <= 4096
         && limits.forwards <= 64
 }
@@ -153,6 +156,7 @@ impl Core {
     ghost use Rattle.std.specs.Prelude.{◌≡◌, ◌+◌, ◌*◌, ◌≤◌, ◌↔◌, [], true, false, length, take, IsTrue, IfOk, IfErr, IfSome, IsErrOf, OnErr, not};
     ghost use Rattle.std.specs.Borrow.{sem};
     ghost use Rattle.rb_xdr.specs.Meter.{Pays, PaysAtMost};
+    ghost use Rattle.rb_proto.specs.Callers.{own_rows};
     ghost use Rattle.rb_model.specs.State.{are_good, opening};
     ghost use Rattle.rb_model.specs.Calls.{longest_reply};
     ghost use Rattle.rb_model.specs.Connections.{longest_fragment};
@@ -181,7 +185,8 @@ impl Core {
 
     /// Makes a core with the daemon's own rows alone, at the moment `now` (milliseconds since the start of 1970). It
     /// takes all its memory here. `first_xid` is the xid of the first call that it forwards. `BadLimits` where a limit is
-    /// out of its range, else `NoMemory` where an allocation is refused.
+    /// out of its range, or the rows have no room for the own ones and two more; else `NoMemory` where an allocation is
+    /// refused.
     #[tactic(auto, unfolding(rb_model::specs::Calls::longest_reply, rb_model::specs::Calls::longest_kept, rb_connections::specs::StandsFor::buffer_size))]
     pub fn new(
         alloc: Global,
@@ -195,12 +200,13 @@ impl Core {
             (λ core. StandsFor core (opening limits listener first_xid now)) }
         ensures tie { IfOk result (λ core. core.tie ≡ meter.old.tie) }
         ensures begun { IfOk result (λ core. core.steps_before ≡ count_shown meter.new) }
-        ensures bad { IsErrOf result CoreFault.BadLimits ↔ IsTrue (not (are_good limits)) }
+        ensures bad { IsErrOf result CoreFault.BadLimits ↔ IsTrue (not (are_good limits listener)) }
         ensures memory { IfErr result
-            (λ fault. IsTrue (are_good limits) → fault ≡ CoreFault.NoMemory) }
-        ensures cost { PaysAtMost meter.old meter.new (66 + 3 * limits.conns + 2 * limits.forwards) }
+            (λ fault. IsTrue (are_good limits listener) → fault ≡ CoreFault.NoMemory) }
+        ensures cost { PaysAtMost meter.old meter.new
+            (18 * length (own_rows listener) + 3 * limits.conns + 2 * limits.forwards) }
     {
-        if !are_good(&limits) {
+        if !are_good(&limits, &listener) {
             return Err(CoreFault::BadLimits);
         }
         let forwards = limits.forwards as u32;
@@ -239,7 +245,7 @@ impl Core {
         ensures { result ≡ context_of self.now caller }
     {
         Context {
-            listener: self.listener,
+            announced: self.listener.announced,
             limit: self.limits.rows,
             forwards: self.limits.forwards as u32,
             clock: self.clock,
@@ -247,13 +253,13 @@ impl Core {
         }
     }
 
-    /// Answers a datagram from `peer` at the moment `now` (RFC 5531 section 9, RFC 1833 sections 2.2 and 3.2). At
+    /// Answers a datagram from `who` at the moment `now` (RFC 5531 section 9, RFC 1833 sections 2.2 and 3.2). At
     /// `Reply` the reply is lent by `udp_reply`, of at most 9,000 bytes. At `Forwarded` the call is forwarded, and its
     /// reply comes with `forward_reply` or `expire`. At `NoCall` and `Silent` there is none.
     #[tactic(auto, using(crate::proofs::HeldBytes::never_passes))]
-    pub fn datagram(&mut self, now: u64, peer: Peer, content: &[u8], meter: &mut Meter) -> Outcome
+    pub fn datagram(&mut self, now: u64, who: Who, content: &[u8], meter: &mut Meter) -> Outcome
         requires { meter.old.tie ≡ self.old.tie }
-        ensures acts { ActsWithReply (λ s. datagram s now peer content.now) self.old self.new result }
+        ensures acts { ActsWithReply (λ s. datagram s now who content.now) self.old self.new result }
         ensures tie { self.new.tie ≡ self.old.tie }
         ensures begun { self.new.steps_before ≡ count_shown meter.old }
         ensures held { NeverPasses self.new }
@@ -264,7 +270,7 @@ impl Core {
     {
         self.steps_before = meter.count();
         self.clock = self.clock.max(now);
-        let context = self.context(Caller::Udp(peer));
+        let context = self.context(Caller::Udp(who));
         self.reply.clear(meter);
         let verdict = read_call(content);
         let arguments = arguments_behind(verdict, content);
@@ -299,13 +305,13 @@ impl Core {
         self.reply.lend(0..len, meter)
     }
 
-    /// Opens a connection from `peer` at the moment `now`, and returns its number; the first is 1, and none recurs.
+    /// Opens a connection from `who` at the moment `now`, and returns its number; the first is 1, and none recurs.
     /// `Full` where there are as many connections as there may be, Lost ones among them, else `Spent` where no number is
     /// left.
     #[tactic(auto, using(crate::proofs::HeldBytes::never_passes, crate::proofs::CallBounds::open_within))]
-    pub fn open(&mut self, now: u64, peer: Peer, meter: &mut Meter) -> Result<u64, CoreFault>
+    pub fn open(&mut self, now: u64, who: Who, meter: &mut Meter) -> Result<u64, CoreFault>
         requires { meter.old.tie ≡ self.old.tie }
-        ensures acts { Acts StandsFor (λ s. open_connection s now peer)
+        ensures acts { Acts StandsFor (λ s. open_connection s now who)
             self.old self.new result }
         ensures refused { OnErr result (OnlyBegins self.old self.new) }
         ensures tie { self.new.tie ≡ self.old.tie }
@@ -316,7 +322,7 @@ impl Core {
     {
         self.steps_before = meter.count();
         let clock = self.clock.max(now);
-        let number = self.connections.open(clock, peer, meter)?;
+        let number = self.connections.open(clock, who, meter)?;
         self.clock = clock;
         Ok(number)
     }
@@ -438,7 +444,7 @@ impl Core {
         ensures cost { PaysToAnswer ended.verdict
             self.old self.new arguments.entry room.old result.1 meter.old meter.new }
     {
-        let context = self.context(Caller::Tcp(id, ended.peer));
+        let context = self.context(Caller::Tcp(id, ended.who));
         let arguments = lend_arguments(arguments, &self.arguments, meter);
         let served = serve_verdict(
             &mut self.connections,
@@ -712,11 +718,11 @@ impl Core {
                 );
                 Told::TcpReady(id)
             }
-            Caller::Udp(peer) => {
+            Caller::Udp(who) => {
                 let outcome = put_end(ended, message, &mut self.reply, meter);
                 self.reply_len = self.reply.len(meter) as u64;
                 match outcome {
-                    Outcome::Reply => Told::Datagram(peer),
+                    Outcome::Reply => Told::Datagram(who),
                     Outcome::NoCall | Outcome::Forwarded | Outcome::Silent => Told::Silent,
                 }
             }

@@ -10,7 +10,7 @@ mod laws;
 
 pub use events::{Core, MOST_KEYS};
 pub use laws::{held_bytes_are_bounded, worked_held};
-pub use rb_address::Peer;
+pub use rb_address::{Peer, Who};
 pub use rb_forward::{FwdId, Unsent};
 pub use rb_model::{CoreFault, Exchanged, Expired, Limits, Outcome, Standing, Taken, Told};
 pub use rb_proto::Listener;

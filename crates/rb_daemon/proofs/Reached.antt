@@ -4,6 +4,7 @@ use Rattle.std.proofs.Common.{◌≡◌, ◌≤◌, ℕ, Bool, true, false, cond
 use Rattle.std.proofs.Math.Logic.{∥∥₁_elim}
 use Rattle.std.proofs.lemmas.Bool.{le-ltb}
 use Rattle.rb_address.specs.declared.peer.Peer.{Peer}
+use Rattle.rb_address.specs.declared.who.Who.{Who}
 use Rattle.rb_forward.specs.Forwards.{Unsent as UnsentCall}
 use Rattle.rb_proto.specs.declared.listener.Listener.{Listener}
 use Rattle.rb_model.specs.declared.types.CoreFault.{CoreFault}
@@ -107,15 +108,15 @@ written_served core before later n (Err error) written same =
 
 -- ---- one event
 
-pub open_records : (old new : Held) (now : ℕ) (peer : Peer) (r : Result ℕ CoreFault) (before later : Tape) → Acts StandsFor (λ s. open_connection s now peer) old new r → Records (entry_text (Open now peer) (output_or_refusal Opened r) ∷ []) before later → (s : State) → StandsFor old s → Records (run_entries s (Open now peer ∷ [])) before later
+pub open_records : (old new : Held) (now : ℕ) (who : Who) (r : Result ℕ CoreFault) (before later : Tape) → Acts StandsFor (λ s. open_connection s now who) old new r → Records (entry_text (Open now who) (output_or_refusal Opened r) ∷ []) before later → (s : State) → StandsFor old s → Records (run_entries s (Open now who ∷ [])) before later
 unfolding step
-open_records old new now peer r before later acts records s h =
-    one_recorded s (Open now peer) (output_or_refusal Opened r) before later (ap (output_or_refusal Opened) (acts.gives s h) ∙ output_given Opened (open_connection s now peer)) records
+open_records old new now who r before later acts records s h =
+    one_recorded s (Open now who) (output_or_refusal Opened r) before later (ap (output_or_refusal Opened) (acts.gives s h) ∙ output_given Opened (open_connection s now who)) records
 
-pub open_served : (old new : Held) (now : ℕ) (peer : Peer) (r : Result ℕ CoreFault) (before later : Tape) → Acts StandsFor (λ s. open_connection s now peer) old new r → Records (entry_text (Open now peer) (output_or_refusal Opened r) ∷ []) before later → ∥ IsServed old before ∥₁ → ∥ IsServed new later ∥₁
+pub open_served : (old new : Held) (now : ℕ) (who : Who) (r : Result ℕ CoreFault) (before later : Tape) → Acts StandsFor (λ s. open_connection s now who) old new r → Records (entry_text (Open now who) (output_or_refusal Opened r) ∷ []) before later → ∥ IsServed old before ∥₁ → ∥ IsServed new later ∥₁
 unfolding step
-open_served old new now peer r before later acts records =
-    served_on old new before later (λ s. Open now peer ∷ []) (λ s h. subst (StandsFor new) (sym (output_state Opened (open_connection s now peer))) (acts.stands s h)) (open_records old new now peer r before later acts records)
+open_served old new now who r before later acts records =
+    served_on old new before later (λ s. Open now who ∷ []) (λ s h. subst (StandsFor new) (sym (output_state Opened (open_connection s now who))) (acts.stands s h)) (open_records old new now who r before later acts records)
 
 pub closed_records : (old new : Held) (id : ℕ) (r : Result (Unit {0}) CoreFault) (before later : Tape) → Acts StandsFor (λ s. close_connection s id) old new r → Records (entry_text (Closed id) (output_or_refusal show_done r) ∷ []) before later → (s : State) → StandsFor old s → Records (run_entries s (Closed id ∷ [])) before later
 unfolding step
@@ -155,27 +156,27 @@ answer_is outcome_kinds.Reply reply (x, s) is = rw (← is) refl
 answer_is outcome_kinds.Forwarded reply (x, s) is = rw (← is) refl
 answer_is outcome_kinds.Silent reply (x, s) is = rw (← is) refl
 
-pub datagram_records : (old new : Held) (now : ℕ) (peer : Peer) (content : List ℕ) (given : outcome.Outcome) (before later : Tape) → ActsWithReply (λ s. datagram s now peer content) old new given → Records (entry_text (Datagram now peer content) (answer_shown given new.reply) ∷ []) before later → (s : State) → StandsFor old s → Records (run_entries s (Datagram now peer content ∷ [])) before later
+pub datagram_records : (old new : Held) (now : ℕ) (who : Who) (content : List ℕ) (given : outcome.Outcome) (before later : Tape) → ActsWithReply (λ s. datagram s now who content) old new given → Records (entry_text (Datagram now who content) (answer_shown given new.reply) ∷ []) before later → (s : State) → StandsFor old s → Records (run_entries s (Datagram now who content ∷ [])) before later
 unfolding step
-datagram_records old new now peer content given before later acts records s h =
-    one_recorded s (Datagram now peer content) (answer_shown given new.reply) before later (answer_is given new.reply (datagram s now peer content) (acts.gives s h)) records
+datagram_records old new now who content given before later acts records s h =
+    one_recorded s (Datagram now who content) (answer_shown given new.reply) before later (answer_is given new.reply (datagram s now who content) (acts.gives s h)) records
 
 -- with a look at the reply behind it
-pub datagram_served : (old new after_look : Held) (n now : ℕ) (peer : Peer) (content : List ℕ) (given : outcome.Outcome) (before later : Tape) → after_look ≡ with_steps_before new n → ActsWithReply (λ s. datagram s now peer content) old new given → Records (entry_text (Datagram now peer content) (answer_shown given new.reply) ∷ []) before later → ∥ IsServed old before ∥₁ → ∥ IsServed after_look later ∥₁
+pub datagram_served : (old new after_look : Held) (n now : ℕ) (who : Who) (content : List ℕ) (given : outcome.Outcome) (before later : Tape) → after_look ≡ with_steps_before new n → ActsWithReply (λ s. datagram s now who content) old new given → Records (entry_text (Datagram now who content) (answer_shown given new.reply) ∷ []) before later → ∥ IsServed old before ∥₁ → ∥ IsServed after_look later ∥₁
 unfolding step
-datagram_served old new after_look n now peer content given before later is acts records =
-    served_on old after_look before later (λ s. Datagram now peer content ∷ [])
-    (λ s h. stands_begun new after_look n is _ (subst (StandsFor new) (sym (outcome_state (datagram s now peer content))) (acts.stands s h)))
-    (datagram_records old new now peer content given before later acts records)
+datagram_served old new after_look n now who content given before later is acts records =
+    served_on old after_look before later (λ s. Datagram now who content ∷ [])
+    (λ s h. stands_begun new after_look n is _ (subst (StandsFor new) (sym (outcome_state (datagram s now who content))) (acts.stands s h)))
+    (datagram_records old new now who content given before later acts records)
 
 -- so of one that is no call, or is not answered
-pub silent_records : (old new : Held) (now : ℕ) (peer : Peer) (content : List ℕ) (given : outcome.Outcome) (before later : Tape) → (given ≡ outcome_kinds.NoCall) ⊎ (given ≡ outcome_kinds.Silent) → ActsWithReply (λ s. datagram s now peer content) old new given → Records (entry_text (Datagram now peer content) Silent ∷ []) before later → (s : State) → StandsFor old s → Records (run_entries s (Datagram now peer content ∷ [])) before later
-silent_records old new now peer content given before later is acts records =
-    datagram_records old new now peer content given before later acts (subst (λ (x : Output). Records (entry_text (Datagram now peer content) x ∷ []) before later) (answer_silent given new.reply is) records)
+pub silent_records : (old new : Held) (now : ℕ) (who : Who) (content : List ℕ) (given : outcome.Outcome) (before later : Tape) → (given ≡ outcome_kinds.NoCall) ⊎ (given ≡ outcome_kinds.Silent) → ActsWithReply (λ s. datagram s now who content) old new given → Records (entry_text (Datagram now who content) Silent ∷ []) before later → (s : State) → StandsFor old s → Records (run_entries s (Datagram now who content ∷ [])) before later
+silent_records old new now who content given before later is acts records =
+    datagram_records old new now who content given before later acts (subst (λ (x : Output). Records (entry_text (Datagram now who content) x ∷ []) before later) (answer_silent given new.reply is) records)
 
-pub silent_served : (old new : Held) (now : ℕ) (peer : Peer) (content : List ℕ) (given : outcome.Outcome) (before later : Tape) → (given ≡ outcome_kinds.NoCall) ⊎ (given ≡ outcome_kinds.Silent) → ActsWithReply (λ s. datagram s now peer content) old new given → Records (entry_text (Datagram now peer content) Silent ∷ []) before later → ∥ IsServed old before ∥₁ → ∥ IsServed new later ∥₁
-silent_served old new now peer content given before later is acts records =
-    datagram_served old new new new.steps_before now peer content given before later refl acts (subst (λ (x : Output). Records (entry_text (Datagram now peer content) x ∷ []) before later) (answer_silent given new.reply is) records)
+pub silent_served : (old new : Held) (now : ℕ) (who : Who) (content : List ℕ) (given : outcome.Outcome) (before later : Tape) → (given ≡ outcome_kinds.NoCall) ⊎ (given ≡ outcome_kinds.Silent) → ActsWithReply (λ s. datagram s now who content) old new given → Records (entry_text (Datagram now who content) Silent ∷ []) before later → ∥ IsServed old before ∥₁ → ∥ IsServed new later ∥₁
+silent_served old new now who content given before later is acts records =
+    datagram_served old new new new.steps_before now who content given before later refl acts (subst (λ (x : Output). Records (entry_text (Datagram now who content) x ∷ []) before later) (answer_silent given new.reply is) records)
 
 -- ---- the end of a forwarded call
 

@@ -2,6 +2,7 @@
 use Rattle.std.specs.Prelude.{◌≡◌, ◌≤◌, ⊤, ℕ, Bool, true, false, List, [], length, take, Option, Some, None, Result, Ok, Err}
 use Rattle.std.specs.Io.KnownBytes.{Appends, Keeps}
 use Rattle.rb_address.specs.declared.peer.Peer.{Peer}
+use Rattle.rb_address.specs.declared.who.Who.{Who}
 use Rattle.rb_forward.specs.Forwards.{Unsent}
 use Rattle.rb_model.specs.declared.types.CoreFault.{CoreFault}
 use Rattle.rb_model.specs.State.{State}
@@ -54,16 +55,16 @@ is_forwarded SilentCall = false
 abbrev pub forwarded_after : Outcome × State → Bool × State
 forwarded_after (outcome, s) = (is_forwarded outcome, s)
 
--- a datagram came from a peer
-abbrev pub answer_datagram : Peer → List ℕ → State → ℕ → Bool × State
-answer_datagram peer content s now = forwarded_after (datagram s now peer content)
+-- a datagram came from a caller
+abbrev pub answer_datagram : Who → List ℕ → State → ℕ → Bool × State
+answer_datagram who content s now = forwarded_after (datagram s now who content)
 
 -- ---- forwarded calls
 
 -- the connection that goes on
 abbrev pub ready_of : Told → Option ℕ
 ready_of (TcpReady id) = Some id
-ready_of (Datagram peer) = None
+ready_of (Datagram who) = None
 ready_of Silent = None
 
 abbrev pub ready_after : Option Told × State → Option ℕ × State

@@ -1,11 +1,11 @@
 //! The daemon and its turns.
 ghost use Rattle.std.specs.Prelude.{◌≡◌, ◌↔◌, IsTrue, IsErrOf, IfOk, OnOk, not};
 ghost use Rattle.rb_model.specs.State.{are_good};
+ghost use Rattle.rb_sockets.specs.Settings.{listener_of};
 
 use crate::engine::Engine;
 use crate::serving::Serving;
 use mio::{Events, Poll};
-use rb_address::Host;
 use rb_core::{CoreFault, Limits, Listener};
 use rb_policy::{Moments, place_count, wait_of};
 use rb_sockets::{BindFault, DaemonFault, Settings, Shortage, SocketFault, Sockets, Step};
@@ -32,9 +32,9 @@ pub struct Daemon<'a, R: Clock> {
 }
 
 impl<'a, R: Clock> Daemon<'a, R> {
-    /// A daemon that listens where the settings say: over TCP and UDP on each of their addresses, and besides on
-    /// [::1] over TCP and on a local socket where they are asked for. `Limits` where a limit is out of its range,
-    /// else `Memory` or `Socket`, whichever occurs first.
+    /// A daemon that listens where the settings say: over TCP and UDP on each of their hosts, and besides on ::1 and on a
+    /// local socket where they are asked for. `Limits` where a limit is out of its range, or the rows have no room for
+    /// the own ones and two more; else `Memory` or `Socket`, whichever occurs first.
     pub fn new<H: Files + Net>(
         alloc: Global,
         host: &H,
@@ -42,14 +42,12 @@ impl<'a, R: Clock> Daemon<'a, R> {
         settings: &Settings<'_>,
     ) -> Result<Daemon<'a, R>, DaemonFault>
         ensures bad { IsErrOf result DaemonFault.Limits
-            ↔ IsTrue (not (are_good settings.now.limits)) }
-        ensures good { OnOk result (IsTrue (are_good settings.now.limits)) }
+            ↔ IsTrue (not (are_good settings.now.limits (listener_of settings.now))) }
+        ensures good { OnOk result
+            (IsTrue (are_good settings.now.limits (listener_of settings.now))) }
     {
         let limits = settings.limits;
-        let listener = Listener {
-            host: settings.announce.octets(),
-            port: settings.port,
-        };
+        let listener = settings.listener();
         let (engine, moments) = engine_of(
             alloc,
             limits,
@@ -70,8 +68,7 @@ impl<'a, R: Clock> Daemon<'a, R> {
         let (places, shortage) = places_of(settings, &sockets);
         let events = Events::with_capacity(alloc, EVENTS).map_err(DaemonFault::Memory)?;
         let most_due = limits.conns.saturating_add(limits.forwards);
-        let announced = Host::V4(listener.host);
-        let made = Serving::new(alloc, engine, sockets, places, most_due, announced);
+        let made = Serving::new(alloc, engine, sockets, places, most_due);
         let mut serving = made.map_err(DaemonFault::Memory)?;
         if let Err(error) = serving.register(poll.registry()) {
             return Err(DaemonFault::Socket(Step::Prepare.failed(error)));
@@ -94,9 +91,10 @@ impl<'a, R: Clock> Daemon<'a, R> {
     /// Waits for events once, at most `wait_ms` milliseconds, and not at all where something is left from the last
     /// turn, and serves all that it showed, in this order: datagrams, what comes back for forwarded calls,
     /// connections, those that are owed bytes last, and what is due, unless the turn is behind: then the next one does
-    /// not wait. It closes Lost connections, and accepts connections as far as there are free places. After a fault,
+    /// not wait. It closes Lost connections, and accepts connections as far as there are free places. Those from this host
+    /// over TCP it opens by what the kernel's tables, which are files of `host`, show of them. After a fault,
     /// `Socket` of the wait or the clock, what was handed to the core stands, and the daemon can do no more.
-    pub fn turn(&mut self, wait_ms: u64) -> Result<(), DaemonFault> {
+    pub fn turn<H: Files>(&mut self, host: &H, wait_ms: u64) -> Result<(), DaemonFault> {
         self.wait(wait_ms)?;
         let before = self.moments.last();
         let now = self.moment()?;
@@ -115,6 +113,7 @@ impl<'a, R: Clock> Daemon<'a, R> {
             .expire(now.saturating_sub(before), shown, EVENTS);
         self.serving.close_lost();
         self.serving.accept_all(self.poll.registry());
+        self.serving.open_held(host, self.poll.registry());
         Ok(())
     }
 
@@ -132,6 +131,7 @@ impl<'a, R: Clock> Daemon<'a, R> {
     /// Waits until something is ready, or for so many milliseconds at most. What came while a wait that showed nothing
     /// went on is looked for once more, since a signal ends a wait and is told as one that showed nothing.
     fn wait(&mut self, longest: u64) -> Result<(), DaemonFault> {
+        let longest = self.serving.longest_wait(longest);
         let wait = wait_of(self.serving.is_something_left(), longest);
         self.look(wait)?;
         let shown = self.events.iter().count();
@@ -178,13 +178,17 @@ impl<'a, R: Clock> Daemon<'a, R> {
     }
 }
 
+/// A descriptor is for one of the kernel's tables of connections, while that is read.
+const TABLE: u64 = 1;
+
 /// How many places there are for connections, and the shortage, where they are fewer than the settings ask for.
 fn places_of(settings: &Settings<'_>, sockets: &Sockets) -> (usize, Option<Shortage>) {
     let asked = settings.limits.conns;
     let limit = settings.open_files;
     let others = sockets
         .count_descriptors()
-        .saturating_add(u64::from(settings.record > 0));
+        .saturating_add(u64::from(settings.record > 0))
+        .saturating_add(TABLE);
     let places = place_count(asked, limit, others);
     if places == asked {
         return (places, None);
@@ -226,8 +230,8 @@ fn engine_of(
     record_limit: usize,
     first: io::Result<Times>,
 ) -> Result<(Engine, Moments), DaemonFault>
-    ensures bad { IsErrOf result DaemonFault.Limits ↔ IsTrue (not (are_good limits)) }
-    ensures good { OnOk result (IsTrue (are_good limits)) }
+    ensures bad { IsErrOf result DaemonFault.Limits ↔ IsTrue (not (are_good limits listener)) }
+    ensures good { OnOk result (IsTrue (are_good limits listener)) }
     ensures record { IfOk result (λ made. made.0.tape.limit ≡ record_limit) }
 {
     let (wall, monotonic) = match &first {

@@ -1,14 +1,16 @@
 //! Where events go to the core: in the order in which they happen, each by one function.
-ghost use Rattle.std.specs.Prelude.{◌≡◌, [], ◌∷◌};
+ghost use Rattle.std.specs.Prelude.{◌≡◌, [], ◌∷◌, IfOk, IfErr};
 ghost use Rattle.rb_core.specs.Events.{OnlyBegins};
-ghost use Rattle.rb_record.specs.Tapes.{Records};
+ghost use Rattle.rb_record.specs.Entries.{options_of};
+ghost use Rattle.rb_record.specs.Tapes.{Records, empty_tape};
 ghost use Rattle.rb_daemon.specs.Recording.{end_entry};
 ghost use Rattle.rb_daemon.specs.Served.{IsServed, ready_of};
 
 use crate::showing::{count_given, record_exchange, record_unsent, show_done, show_opened};
-use rb_core::{Core, CoreFault, Exchanged, Expired, Limits, Listener, Outcome, Peer, Told};
+use rb_address::{Peer, Who};
+use rb_core::{Core, CoreFault, Exchanged, Expired, Limits, Listener, Outcome, Told};
 use rb_record::{Happening, Shown, Start, Tape};
-use rb_sockets::{CallSocket, CallSockets, ForwardSocket};
+use rb_sockets::{CallSocket, CallSockets, ForwardSockets};
 use rb_xdr::Meter;
 use std::alloc::Global;
 use std::io;
@@ -52,7 +54,7 @@ pub(crate) enum Due {
 }
 
 /// Records the end of a forwarded call, and tells it: a caller over UDP gets the last reply from the socket that it
-/// called. The answer is the connection that goes on.
+/// asked. The answer is the connection that goes on.
 fn tell(
     core: &mut Core,
     meter: &mut Meter,
@@ -72,10 +74,10 @@ fn tell(
             tape.record(event, &Shown::Ready(id));
             Some(id)
         }
-        Told::Datagram(peer) => {
+        Told::Datagram(who) => {
             let reply = core.udp_reply(meter);
-            calls.reply_where_asked(reply, peer);
-            tape.record(event, &Shown::RepliedTo(peer, reply));
+            calls.reply_where_asked(reply, who);
+            tape.record(event, &Shown::RepliedTo(who, reply));
             None
         }
         Told::Silent => {
@@ -83,6 +85,18 @@ fn tell(
             None
         }
     }
+}
+
+/// A tape of up to `limit` bytes of a run that begins so. `NoMemory` where an allocation is refused.
+fn begin_tape(alloc: Global, limit: usize, start: &Start<'_>) -> Result<Tape, CoreFault>
+    ensures begun { IfOk result (Records (options_of start.now ∷ []) (empty_tape limit)) }
+    ensures fault { IfErr result (λ fault. fault ≡ CoreFault.NoMemory) }
+{
+    let Ok(mut tape) = Tape::new(alloc, limit) else {
+        return Err(CoreFault::NoMemory);
+    };
+    tape.begin(start);
+    Ok(tape)
 }
 
 impl Engine {
@@ -111,20 +125,19 @@ impl Engine {
     ) -> Result<Engine, CoreFault>
         ensures made { IfOk result (IsNewEngine moment limits listener) }
         ensures record { IfOk result (λ engine. engine.tape.limit ≡ record_limit) }
-        ensures bad { IsErrOf result CoreFault.BadLimits ↔ IsTrue (not (are_good limits)) }
+        ensures bad { IsErrOf result CoreFault.BadLimits ↔ IsTrue (not (are_good limits listener)) }
     {
         let mut meter = Meter::new();
         let first_xid = (moment % 0x1_0000_0000) as u32;
-        let core = Core::new(alloc, limits, listener, first_xid, moment, &mut meter)?;
-        let Ok(mut tape) = Tape::new(alloc, record_limit) else {
-            return Err(CoreFault::NoMemory);
-        };
-        tape.begin(&Start {
+        let start = Start {
             limits,
-            listener,
+            listener: &listener,
             first_xid,
             moment,
-        });
+        };
+        let begun = begin_tape(alloc, record_limit, &start);
+        let core = Core::new(alloc, limits, listener, first_xid, moment, &mut meter)?;
+        let tape = begun?;
         Ok(Engine {
             core,
             meter,
@@ -156,14 +169,14 @@ impl Engine {
     }
 
     /// A connection was accepted. `Full` where all places of the core are taken, `Spent` where its numbers are.
-    pub(crate) fn open(&mut self, peer: Peer) -> Result<u64, CoreFault>
-        ensures acts { ActsNow (λ s now. open_connection s now peer) self.old self.new result }
-        ensures recorded { RecordsEvents (λ s now. Open now peer ∷ []) self.old self.new }
+    pub(crate) fn open(&mut self, who: Who) -> Result<u64, CoreFault>
+        ensures acts { ActsNow (λ s now. open_connection s now who) self.old self.new result }
+        ensures recorded { RecordsEvents (λ s now. Open now who ∷ []) self.old self.new }
         ensures moment { self.new.moment ≡ self.old.moment }
     {
-        let opened = self.core.open(self.moment, peer, &mut self.meter);
+        let opened = self.core.open(self.moment, who, &mut self.meter);
         self.tape
-            .record(&Happening::Open(self.moment, peer), &show_opened(opened));
+            .record(&Happening::Open(self.moment, who), &show_opened(opened));
         opened
     }
 
@@ -251,20 +264,20 @@ impl Engine {
 
     /// Answers a datagram over the socket on which it came. A reply that the socket does not take is lost. Returns
     /// whether the call is forwarded, and so is to be sent.
-    pub(crate) fn answer(&mut self, peer: Peer, content: &[u8], socket: &CallSocket) -> bool
-        ensures acts { ActsNow (answer_datagram peer content.now) self.old self.new result }
+    pub(crate) fn answer(&mut self, who: Who, content: &[u8], socket: &CallSocket) -> bool
+        ensures acts { ActsNow (answer_datagram who content.now) self.old self.new result }
         ensures recorded { RecordsEvents
-            (λ s now. Datagram now peer content.now ∷ []) self.old self.new }
+            (λ s now. Datagram now who content.now ∷ []) self.old self.new }
         ensures moment { self.new.moment ≡ self.old.moment }
     {
-        let event = Happening::Datagram(self.moment, peer, content);
+        let event = Happening::Datagram(self.moment, who, content);
         match self
             .core
-            .datagram(self.moment, peer, content, &mut self.meter)
+            .datagram(self.moment, who, content, &mut self.meter)
         {
             Outcome::Reply => {
                 let reply = self.core.udp_reply(&mut self.meter);
-                socket.reply(reply, peer);
+                socket.reply(reply, who);
                 self.tape.record(&event, &Shown::Replied(reply));
                 false
             }
@@ -341,9 +354,9 @@ impl Engine {
         }
     }
 
-    /// Sends the first forwarded call that is to be sent. It counts as sent though the socket does not take it.
+    /// Sends the first forwarded call that is to be sent. It counts as sent though no socket takes it.
     /// Returns whether there was one.
-    pub(crate) fn send_forward(&mut self, socket: &ForwardSocket) -> bool
+    pub(crate) fn send_forward(&mut self, forwards: &ForwardSockets) -> bool
         ensures acts { ActsNow send_forward self.old self.new result }
         ensures recorded { RecordsEvents (λ s now. send_events s) self.old self.new }
         ensures moment { self.new.moment ≡ self.old.moment }
@@ -354,7 +367,7 @@ impl Engine {
         };
         let id = unsent.id;
         record_unsent(&mut self.tape, id.number, unsent.target, unsent.call);
-        socket.call(unsent.call, unsent.target);
+        forwards.call(unsent.call, unsent.target);
         let done = self.core.sent(id, &mut self.meter);
         self.tape
             .record(&Happening::Sent(id.number), &show_done(done));

@@ -5,15 +5,16 @@ use crate::engine::{Due, Engine};
 use crate::steps::{Progress, serve};
 use mio::Registry;
 use mio::event::Event;
-use rb_address::{Host, Peer};
+use rb_address::{Family, Peer, Who};
 use rb_forward::PATIENCE;
 use rb_links::{Places, Turn};
 use rb_policy::{
     Admission, Again, Deadlines, Next, Round, SOCKET_CALLS, after_accept, after_all_calls,
-    after_receive, is_behind, origin_of, outcome_of, serves_another,
+    after_receive, is_behind, may_read, origin_of, outcome_of, serves_another, wait_for_reading,
 };
-use rb_sockets::{Shown, SocketFault, Sockets, Step, Stream};
+use rb_sockets::{Shown, SocketFault, Sockets, Step, Stream, Table, Visitor};
 use std::alloc::{AllocError, Global};
+use std::fs::Files;
 use std::io;
 use std::io::Write;
 
@@ -31,9 +32,11 @@ pub(crate) struct Serving {
     places: Places,
     /// As many things can be due at one moment: connections and forwarded calls.
     most_due: usize,
-    /// The host that is announced: who comes from it is of this host.
-    announced: Host,
     datagram: Vec<u8>,
+    /// The kernel's tables of connections, which show whose those from this host are.
+    table: Table,
+    /// The moment at which they were last read, in milliseconds, if they were.
+    last_reading: Option<u64>,
     turn: Turn,
     deadlines: Deadlines,
     /// The fault of a listener that is yet to be told.
@@ -50,17 +53,18 @@ impl Serving {
         sockets: Sockets,
         places: usize,
         most_due: usize,
-        announced: Host,
     ) -> Result<Serving, AllocError> {
         let mut datagram = Vec::with_capacity(alloc, LONGEST_DATAGRAM)?;
         datagram.resize(LONGEST_DATAGRAM, 0)?;
+        let table = Table::new(alloc, !sockets.are_claims_believed)?;
         Ok(Serving {
             engine,
             sockets,
             places: Places::new(alloc, places)?,
             most_due,
-            announced,
             datagram,
+            table,
+            last_reading: None,
             turn: Turn {
                 number: 0,
                 moment: 0,
@@ -84,6 +88,16 @@ impl Serving {
     /// Whether the next turn has something to serve at once.
     pub(crate) fn is_something_left(&self) -> bool {
         self.places.are_left() || self.sockets.is_something_left() || self.deadlines.are_put_off()
+    }
+
+    /// How long the next turn waits at most that would else wait so long, in milliseconds: where connections wait to be
+    /// opened, until the kernel's tables may be read again.
+    pub(crate) fn longest_wait(&self, longest: u64) -> u64 {
+        if self.places.are_held() {
+            wait_for_reading(self.turn.moment, self.last_reading, longest)
+        } else {
+            longest
+        }
     }
 
     /// Whether something has a deadline: a connection, or a call that is forwarded.
@@ -149,7 +163,7 @@ impl Serving {
         match serve(
             link,
             &mut self.engine,
-            &self.sockets.forwards.socket,
+            &self.sockets.forwards,
             &mut self.places.long_outbox,
             self.turn,
             may_end,
@@ -212,32 +226,44 @@ impl Serving {
 
     /// Answers the datagram of the first `len` bytes, which came on the socket of this number. A call that is
     /// forwarded is sent at once.
-    fn answer(&mut self, i: usize, len: usize, from: Option<Peer>)
+    fn answer(&mut self, i: usize, len: usize, from: Option<Who>)
         requires { len ≤ length self.old.datagram.items }
     {
-        let (Some(peer), Some(calls)) = (from, self.sockets.calls.all.get(i)) else {
+        let (Some(who), Some(calls)) = (from, self.sockets.calls.all.get(i)) else {
             return;
         };
         let content = &self.datagram[..len];
-        if self.engine.answer(peer, content, &calls.socket) {
+        if self.engine.answer(who, content, &calls.socket) {
             self.awaited_until = self.turn.moment.saturating_add(PATIENCE);
-            self.sockets.calls.note(peer, i);
-            self.engine.send_forward(&self.sockets.forwards.socket);
+            self.engine.send_forward(&self.sockets.forwards);
         }
     }
 
     /// Takes what comes back for forwarded calls.
     pub(crate) fn take_forward_replies(&mut self) {
-        if self.sockets.forwards.is_ready() {
-            let again = self.take_forward_replies_now();
-            self.sockets.forwards.leave(again);
+        self.take_forward_replies_from(Family::Inet);
+        self.take_forward_replies_from(Family::Inet6);
+    }
+
+    /// Takes what comes back from targets of a family, where that is to be served.
+    fn take_forward_replies_from(&mut self, family: Family) {
+        let forwards = self.sockets.forwards.of(family);
+        if !forwards.is_some_and(|forwards| forwards.is_ready()) {
+            return;
+        }
+        let again = self.take_forward_replies_now(family);
+        if let Some(forwards) = self.sockets.forwards.of_mut(family) {
+            forwards.leave(again);
         }
     }
 
-    fn take_forward_replies_now(&mut self) -> Again {
+    fn take_forward_replies_now(&mut self, family: Family) -> Again {
         let mut got_some = false;
         for _ in 0..DATAGRAMS {
-            match self.sockets.forwards.socket.receive(&mut self.datagram) {
+            let Some(forwards) = self.sockets.forwards.of(family) else {
+                break;
+            };
+            match forwards.socket.receive(&mut self.datagram) {
                 Ok((len, from)) => {
                     got_some = true;
                     self.take_forward_reply(len, from);
@@ -377,13 +403,13 @@ impl Serving {
         self.fault.take()
     }
 
-    /// Opens a connection, in a free place or in that of one that is given up for it. One that has no peer, or that
-    /// the core does not take, is closed at once.
-    fn open(&mut self, registry: &Registry, stream: Stream, from: Option<Peer>) {
-        let Some(peer) = from else {
+    /// Gives a connection a free place, or that of one that is given up for it, and opens it, unless the kernel's tables are
+    /// to show first whose it is. One that is nobody's is closed at once.
+    fn open(&mut self, registry: &Registry, stream: Stream, from: Option<Visitor>) {
+        let Some(visitor) = from else {
             return;
         };
-        let origin = origin_of(peer, self.announced);
+        let origin = origin_of(visitor.source());
         let key = match self.places.admit(&origin, self.turn.moment) {
             Admission::Take(key) => key,
             Admission::GiveUp(key) => {
@@ -392,12 +418,47 @@ impl Serving {
             }
             Admission::Close => return,
         };
-        let Ok(id) = self.engine.open(peer) else {
+        self.places.give(key, stream, origin, self.turn.moment);
+        match visitor {
+            Visitor::Known(who) => self.open_at(registry, key, who),
+            Visitor::Unknown(ends) => self.places.hold(key, ends),
+        }
+    }
+
+    /// Opens the connection at a place. One that the core does not take, or whose events can't be shown, is closed.
+    fn open_at(&mut self, registry: &Registry, key: usize, who: Who) {
+        let Ok(id) = self.engine.open(who) else {
+            self.close(key);
             return;
         };
-        let moment = self.turn.moment;
-        if !self.places.give(registry, key, id, stream, origin, moment) {
+        if !self.places.open(registry, key, id) {
             self.engine.closed(id);
+            self.close(key);
+        }
+    }
+
+    /// Opens the connections from this host that wait for it, by what the kernel's tables show now, if they may be read in
+    /// this turn: one reading serves all of them.
+    pub(crate) fn open_held<R: Files>(&mut self, rt: &R, registry: &Registry) {
+        if !self.places.are_held() || !may_read(self.turn.moment, self.last_reading) {
+            return;
+        }
+        self.last_reading = Some(self.turn.moment);
+        self.look_in(rt, Family::Inet);
+        self.look_in(rt, Family::Inet6);
+        self.places.end_looking();
+        for key in 0..self.places.count() {
+            if let Some(who) = self.places.shown(key) {
+                self.open_at(registry, key, who);
+            }
+        }
+    }
+
+    /// Reads the table of a family, where it is to be looked at for one that waits.
+    fn look_in<R: Files>(&mut self, rt: &R, table: Family) {
+        if self.places.looks_in(table) {
+            let text = self.table.read(rt, table);
+            self.places.look_in(table, text);
         }
     }
 }

@@ -7,7 +7,8 @@ ghost use Rattle.rb_record.specs.Printing.{shown_output};
 ghost use Rattle.rb_record.specs.Tapes.{Records};
 ghost use Rattle.rb_daemon.specs.Recording.{output_or_refusal, given_entries, exchange_entries, taken_output, unsent_entry};
 
-use rb_core::{CoreFault, Exchanged, Peer};
+use rb_address::Peer;
+use rb_core::{CoreFault, Exchanged};
 use rb_record::{Happening, Shown, ShownCall, Tape};
 
 /// The number of a connection that was opened, or the refusal.

@@ -5,7 +5,7 @@ use crate::outbox::exchange;
 use rb_core::Exchanged;
 use rb_links::{LONG_ROOM, Link, Outbox, READ_AHEAD, Turn};
 use rb_policy::{Next, SOCKET_CALLS};
-use rb_sockets::ForwardSocket;
+use rb_sockets::ForwardSockets;
 
 /// The most exchanges with the core in one step: each but the last takes or gives a byte at least.
 const EXCHANGES: usize = READ_AHEAD + LONG_ROOM;
@@ -27,7 +27,7 @@ pub(crate) enum Progress {
 pub(crate) fn serve(
     link: &mut Link,
     engine: &mut Engine,
-    forwards: &ForwardSocket,
+    forwards: &ForwardSockets,
     long_outbox: &mut Outbox,
     turn: Turn,
     may_end: bool,
@@ -43,7 +43,7 @@ pub(crate) fn serve(
 fn serve_calls(
     link: &mut Link,
     engine: &mut Engine,
-    forwards: &ForwardSocket,
+    forwards: &ForwardSockets,
     may_end: bool,
 ) -> Progress {
     for calls in 0..=SOCKET_CALLS {
@@ -65,7 +65,7 @@ fn serve_calls(
 
 /// Exchanges bytes with the core, and makes at most one socket call. Replies are taken over only where the socket has
 /// taken all that were before.
-fn step(link: &mut Link, engine: &mut Engine, forwards: &ForwardSocket, may_end: bool) -> Next {
+fn step(link: &mut Link, engine: &mut Engine, forwards: &ForwardSockets, may_end: bool) -> Next {
     if link.outbox.is_empty() && !make_exchanges(link, engine, forwards) {
         let _ = link.write();
         return Next::Close;
@@ -75,7 +75,7 @@ fn step(link: &mut Link, engine: &mut Engine, forwards: &ForwardSocket, may_end:
 
 /// Hands in what was read, record by record, and takes over the replies, until nothing more is taken and none is
 /// pending, or the outbox has no room. Returns whether the connection goes on.
-fn make_exchanges(link: &mut Link, engine: &mut Engine, forwards: &ForwardSocket) -> bool {
+fn make_exchanges(link: &mut Link, engine: &mut Engine, forwards: &ForwardSockets) -> bool {
     for _ in 0..EXCHANGES {
         let Some(taken) = hand_in(link, engine, forwards) else {
             return false;
@@ -96,11 +96,11 @@ fn make_exchanges(link: &mut Link, engine: &mut Engine, forwards: &ForwardSocket
 /// Hands in the bytes that were read and not yet taken, up to the end of a record, and says how many were taken, or
 /// `None` where the connection is over. A short reply is in the outbox at once, and then the core owes none. A call that
 /// is forwarded is sent at once: no other one is unsent, since each was sent when it came.
-fn hand_in(link: &mut Link, engine: &mut Engine, forwards: &ForwardSocket) -> Option<usize> {
+fn hand_in(link: &mut Link, engine: &mut Engine, forwards: &ForwardSockets) -> Option<usize> {
     if link.inbox.is_empty() {
         return Some(0);
     }
-    let id = link.id();
+    let id = link.id()?;
     let Exchanged { taken, given, .. } = exchange(
         engine,
         id,
@@ -120,7 +120,10 @@ fn take_over(link: &mut Link, engine: &mut Engine) -> Given {
     if !link.may_owe() {
         return Given::Nothing;
     }
-    let given = engine.give(link.id(), &mut link.outbox);
+    let Some(id) = link.id() else {
+        return Given::Over;
+    };
+    let given = engine.give(id, &mut link.outbox);
     match given {
         Given::Bytes(_) => link.note_fragment(),
         Given::Nothing => link.note_paid(),

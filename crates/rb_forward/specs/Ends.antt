@@ -49,8 +49,8 @@ DeadlinesEnd =
     (clock : ℕ) (f : Forwards) → EndsFirst (λ e. e.deadline ≤ clock) Failed f (due clock f).0 (due clock f).1
 
 abbrev pub IsOf : ℕ → Caller → Type 0
-IsOf id (Tcp number peer) = number ≡ id
-IsOf id (Udp peer) = ⊥
+IsOf id (Tcp number who) = number ≡ id
+IsOf id (Udp who) = ⊥
 
 abbrev pub ClosingsEnd : Type 0
 ClosingsEnd =

@@ -93,8 +93,8 @@ abbrev pub is_due : ℕ → Entry → Bool
 is_due clock e = nat_le e.deadline clock
 
 abbrev pub is_connection : ℕ → Caller → Bool
-is_connection id (Tcp number peer) = number == id
-is_connection id (Udp peer) = false
+is_connection id (Tcp number who) = number == id
+is_connection id (Udp who) = false
 
 abbrev pub is_of_connection : ℕ → Entry → Bool
 is_of_connection id e = is_connection id e.forward.caller

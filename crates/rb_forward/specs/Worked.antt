@@ -3,6 +3,9 @@ use Rattle.std.specs.Prelude.{◌≡◌, ℕ, ◌-◌, ◌^◌, true, false, Lis
 use Rattle.rb_xdr.specs.Xdr.{words}
 use Rattle.rb_address.specs.declared.host.Host.TheVariants.{V4}
 use Rattle.rb_address.specs.declared.peer.Peer.{Peer}
+use Rattle.rb_address.specs.declared.who.Who.{Who}
+use Rattle.rb_address.specs.declared.who.Source.TheVariants.{Inet}
+use Rattle.rb_address.specs.declared.who.Trust.TheVariants.{Claims}
 use Rattle.rb_rpc.specs.declared.caller.Caller.{Caller}
 use Rattle.rb_rpc.specs.declared.caller.Caller.TheVariants.{Tcp, Udp}
 use Rattle.rb_rpc.specs.declared.reply.ReplyStatus.TheVariants as replies
@@ -18,6 +21,10 @@ at_host host port = record { host = V4 host; port = port }
 
 abbrev pub loopback : List ℕ
 loopback = 127 ∷ 0 ∷ 0 ∷ 1 ∷ []
+
+-- a caller at a port of this machine
+abbrev pub who_at : ℕ → Who
+who_at port = record { source = Inet (at_host loopback port); asked = V4 loopback; trust = Claims }
 
 abbrev pub target : Peer
 target = at_host loopback 2049
@@ -36,7 +43,7 @@ indirect caller = record {
 }
 
 abbrev pub by_datagram : Caller
-by_datagram = Udp (at_host loopback 900)
+by_datagram = Udp (who_at 900)
 
 -- it comes at moment 1000, without arguments, and is sent
 abbrev pub one_unsent : Caller → Forwards
@@ -140,7 +147,7 @@ LongerResultsFail = Ends Failed (said_by_target (success 1000 ++ replicate 8804 
 -- the caller of connection 3 goes away
 abbrev pub CallerGoesAway : Type 0
 CallerGoesAway =
-    let caller = Tcp 3 (at_host loopback 900) in
+    let caller = Tcp 3 (who_at 900) in
     Stays (one_unsent caller) (drop_caller 4 (one_unsent caller))
     × (drop_caller 3 (one_unsent caller) ≡ (Some (record { forward = indirect caller; outcome = Dropped }), none_left))
 

@@ -9,7 +9,7 @@ ghost use Rattle.rb_forward.specs.Costs.{find_cost};
 ghost use Rattle.rb_forward.specs.Table.{is_wanted_slot, wanted_slot};
 
 use crate::types::Forward;
-use rb_address::{Host, Peer};
+use rb_address::{Host, Peer, Source, Trust, Who};
 use rb_rpc::{Caller, Kind};
 use rb_xdr::{Kept, Meter, NoMemory, Pool};
 use std::alloc::Global;
@@ -62,8 +62,13 @@ impl Slot {
     /// What is written to a place before any entry has it: its buffer has no memory.
     pub fn blank(alloc: Global) -> Result<Slot, NoMemory> {
         let nobody = Peer::new(Host::V4([0; 4]), 0);
+        let who = Who {
+            source: Source::Inet(nobody),
+            asked: Host::V4([0; 4]),
+            trust: Trust::Stranger,
+        };
         let forward = Forward {
-            caller: Caller::Udp(nobody),
+            caller: Caller::Udp(who),
             xid: 0,
             kind: Kind::Indirect,
             target: nobody,

@@ -27,9 +27,9 @@ use Rattle.rb_proto.specs.declared.answers.Answer.{Answer}
 use Rattle.rb_proto.specs.declared.call.Call.{Call}
 use Rattle.rb_proto.specs.declared.answers.Value.TheVariants as values
 use Rattle.rb_proto.specs.declared.context.Context.{Context}
-use Rattle.rb_proto.specs.Ledger.{Ledger, version_of, with_call_noted}
+use Rattle.rb_proto.specs.Ledger.{Ledger, rows_in, version_of, with_call_noted}
 use Rattle.rb_proto.specs.Results.{result_bytes}
-use Rattle.rb_proto.specs.Answers.{comes_from_here, can_be_set, accepts_row, set_row, accepts_removal, removal_of, unset_rows, change_if, getport, getaddr, getversaddr, answer_to, answer, tell_done}
+use Rattle.rb_proto.specs.Answers.{comes_from_here, can_be_set, has_share, accepts_row, set_row, accepts_removal, removal_of, unset_rows, change_if, getport, getaddr, getversaddr, answer_to, answer, tell_done}
 use Rattle.rb_model.specs.declared.message.Message.{Message}
 use Rattle.rb_model.specs.declared.message.Message.TheVariants as says
 use Rattle.rb_model.specs.Calls.{Outcome, Outcome as outcomes, message_of, outcome, success, fitting_reply, longest_reply, reply_with}
@@ -98,12 +98,12 @@ set-fits context head xid None l = done-fits context xid None l (false, l) (same
 set-fits context head xid (Some row) l =
     done-fits context xid (Some (Added row)) l (set_row context head (Some row) l) (change-appends (Added row) (WasSet (version_of head.vers)) l (accepts_row context l row))
 
-unset-fits : (context : Context) (head : CallHead) (xid prog vers : ℕ) (o : Option Which) (l : Ledger) → Fits context xid (option_map (removal_of head prog vers) o) l (tell_done values.Bool (unset_rows context head prog vers o l))
+unset-fits : (context : Context) (head : CallHead) (xid prog vers : ℕ) (o : Option Which) (l : Ledger) → Fits context xid (option_map (removal_of context head prog vers) o) l (tell_done values.Bool (unset_rows context head prog vers o l))
 unfolding unset_rows
 unset-fits context head xid prog vers None l = done-fits context xid None l (false, l) (same l l refl false)
 unset-fits context head xid prog vers (Some which) l =
-    done-fits context xid (Some (removal_of head prog vers which)) l (unset_rows context head prog vers (Some which) l)
-    (change-appends (removal_of head prog vers which) (WasUnset (version_of head.vers)) l (accepts_removal context l (removal_of head prog vers which)))
+    done-fits context xid (Some (removal_of context head prog vers which)) l (unset_rows context head prog vers (Some which) l)
+    (change-appends (removal_of context head prog vers which) (WasUnset (version_of head.vers)) l (accepts_removal context l (removal_of context head prog vers which)))
 
 other-fits : (context : Context) (xid : ℕ) (l : Ledger) (given : Answer × Ledger) → given.1.changes ≡ l.changes → Fits context xid None l given
 other-fits context xid l given e = record { appends = same l given.1 e (is_told_true xid (reply_with context xid given).0) }
@@ -116,7 +116,7 @@ forward-same : (context : Context) (xid : ℕ) (kind : Kind) (remote : RemoteCal
 unfolding forward_call
 forward-same context xid kind remote arguments l = grind arith
 
-answer-fits : (context : Context) (head : CallHead) (request : Request) (arguments : List ℕ) (l : Ledger) → Fits context head.xid (change_asked head request) l (answer_to context head request arguments l)
+answer-fits : (context : Context) (head : CallHead) (request : Request) (arguments : List ℕ) (l : Ledger) → Fits context head.xid (change_asked context.caller head request) l (answer_to context head request arguments l)
 unfolding getaddr getversaddr
 answer-fits context head (requests.Mapping mappings.Set m) arguments l = set-fits context head head.xid _ l
 answer-fits context head (requests.Mapping mappings.Unset m) arguments l = unset-fits context head head.xid m.prog m.vers (Some _) l
@@ -132,7 +132,7 @@ answer-fits context head (requests.Taddr2uaddr netbuf) arguments l = other-fits 
 answer-fits context head (requests.Forward kind remote) arguments l = other-fits context head.xid l _ (forward-same context head.xid kind remote arguments l)
 
 pub outcome-appends : (context : Context) (message : Message) (arguments : List ℕ) (l : Ledger)
-    → Appends l (change_told (outcome context message arguments l).0 message) (outcome context message arguments l).1
+    → Appends l (change_told context.caller (outcome context message arguments l).0 message) (outcome context message arguments l).1
 unfolding outcome answer with_call_noted
 outcome-appends context says.NoCall arguments l = sym (append-nil l.changes)
 outcome-appends context (says.Refused head) arguments l = sym (append-nil l.changes)
@@ -149,7 +149,7 @@ message-appends s (Some m) = outcome-appends (context_in (at_moment m.now s) m.c
 -- what no message brings leaves them
 left-appends : (s : State) (event : Event) → Appends s.ledger (change_by s event) (ledger_left s event)
 unfolding target_replied fell_due caller_dropped call_sent
-left-appends s (Open now peer) = sym (append-nil s.ledger.changes)
+left-appends s (Open now who) = sym (append-nil s.ledger.changes)
 left-appends s (Bytes now id piece) = message-appends s (record_on now id piece (live_connection id s.connections.all))
 left-appends s (Pending id) = sym (append-nil s.ledger.changes)
 left-appends s (Gave now id n) = sym (append-nil s.ledger.changes)
@@ -159,7 +159,7 @@ left-appends s (Closed id) = by_test (is_there id s.connections)
     by_test true = sym (append-nil s.ledger.changes)
     by_test false = sym (append-nil s.ledger.changes)
 left-appends s NextLost = sym (append-nil s.ledger.changes)
-left-appends s (Datagram now peer content) = message-appends s (Some (record { now = now; caller = Udp peer; content = content }))
+left-appends s (Datagram now who content) = message-appends s (Some (record { now = now; caller = Udp who; content = content }))
 left-appends s Unsent = sym (append-nil s.ledger.changes)
 left-appends s (Sent number) = by_test (can_be_sent number s.ledger.forwards)
   where
@@ -184,7 +184,7 @@ after-appends s (event ∷ events) =
 pub changes_are_those_accepted : ChangesAreThoseAccepted
 changes_are_those_accepted limits listener first_xid now events = after-appends (opening limits listener first_xid now) events
 
--- The answer to a call that asks for the change: it is TRUE alone where its caller is on this machine, and the change may be made.
+-- The answer to a call that asks for the change: it is TRUE alone where its caller may register, and the change may be made.
 record Decided (context : Context) (xid : ℕ) (change : Change) (said : Outcome) : Type 0 where
   accepted : Bool
   says : said ≡ outcomes.Reply (success xid (boolean accepted)) None
@@ -198,22 +198,27 @@ set-decided context head xid None l change is = absurd cc
 set-decided context head xid (Some row) l change is = record {
   accepted = accepts_row context l row;
   says = refl;
-  here = λ e. (and_parts (comes_from_here context) (can_be_set row) (and_parts (comes_from_here context && can_be_set row) _ e).0).0;
-  may = λ e. subst MayBeMade (same_Some (Added row) change is) (and_parts (comes_from_here context) (can_be_set row) (and_parts (comes_from_here context && can_be_set row) _ e).0).1;
+  here = λ e. (settable e).0;
+  may = λ e. subst MayBeMade (same_Some (Added row) change is) (settable e).1;
 }
+  where
+    settable : accepts_row context l row ≡ true → (comes_from_here context ≡ true) × (can_be_set row ≡ true)
+    settable e =
+        let shared = (and_parts (comes_from_here context && can_be_set row && has_share context (rows_in l)) _ e).0 in
+        and_parts (comes_from_here context) (can_be_set row) (and_parts (comes_from_here context && can_be_set row) _ shared).0
 
-unset-decided : (context : Context) (head : CallHead) (xid prog vers : ℕ) (o : Option Which) (l : Ledger) (change : Change) → option_map (removal_of head prog vers) o ≡ Some change
+unset-decided : (context : Context) (head : CallHead) (xid prog vers : ℕ) (o : Option Which) (l : Ledger) (change : Change) → option_map (removal_of context head prog vers) o ≡ Some change
     → Decided context xid change (reply_with context xid (tell_done values.Bool (unset_rows context head prog vers o l))).0
 unfolding unset_rows accepts_removal result_bytes
 unset-decided context head xid prog vers None l change is = absurd cc
 unset-decided context head xid prog vers (Some which) l change is = record {
-  accepted = accepts_removal context l (removal_of head prog vers which);
+  accepted = accepts_removal context l (removal_of context head prog vers which);
   says = refl;
   here = λ e. (and_parts (comes_from_here context) _ e).0;
-  may = λ e. subst MayBeMade (same_Some (removal_of head prog vers which) change is) tt;
+  may = λ e. subst MayBeMade (same_Some (removal_of context head prog vers which) change is) tt;
 }
 
-answer-decided : (context : Context) (head : CallHead) (request : Request) (arguments : List ℕ) (l : Ledger) (change : Change) → change_asked head request ≡ Some change
+answer-decided : (context : Context) (head : CallHead) (request : Request) (arguments : List ℕ) (l : Ledger) (change : Change) → change_asked context.caller head request ≡ Some change
     → Decided context head.xid change (reply_with context head.xid (answer_to context head request arguments l)).0
 answer-decided context head (requests.Mapping mappings.Set m) arguments l change e = set-decided context head head.xid _ l change e
 answer-decided context head (requests.Mapping mappings.Unset m) arguments l change e = unset-decided context head head.xid m.prog m.vers (Some _) l change e
@@ -228,13 +233,13 @@ answer-decided context head (requests.Uaddr2taddr text) arguments l change e = a
 answer-decided context head (requests.Taddr2uaddr netbuf) arguments l change e = absurd cc
 answer-decided context head (requests.Forward kind remote) arguments l change e = absurd cc
 
-asked-decided : (context : Context) (message : Message) (call : Call) (arguments : List ℕ) (l : Ledger) (change : Change) → message ≡ says.Asked call → change_asked call.head call.request ≡ Some change
+asked-decided : (context : Context) (message : Message) (call : Call) (arguments : List ℕ) (l : Ledger) (change : Change) → message ≡ says.Asked call → change_asked context.caller call.head call.request ≡ Some change
     → Decided context call.head.xid change (outcome context message arguments l).0
 unfolding outcome answer
 asked-decided context message call arguments l change is e =
     rw is (answer-decided context call.head call.request arguments (with_call_noted call.head l) change e)
 
-said-decided : (s : State) (m : Brought) (call : Call) (change : Change) → message_of m.content ≡ says.Asked call → change_asked call.head call.request ≡ Some change
+said-decided : (s : State) (m : Brought) (call : Call) (change : Change) → message_of m.content ≡ says.Asked call → change_asked m.caller call.head call.request ≡ Some change
     → Decided (context_in (at_moment m.now s) m.caller) call.head.xid change (said_to s m)
 unfolding serve
 said-decided s m call change is e = asked-decided (context_in (at_moment m.now s) m.caller) (message_of m.content) call (arguments_of m.content) s.ledger change is e
@@ -243,9 +248,9 @@ said-decided s m call change is e = asked-decided (context_in (at_moment m.now s
 each-appends : (s : State) (event : Event) (change : Change) → Asks s event change → change_by s event ≡ change ∷ []
 each-appends s event change a =
     ap (change_from s) a.brings
-    ∙ ap (λ (said : Outcome). change_told said (message_of a.message.content)) a.told
-    ∙ ap (change_told (told_true a.call.head.xid)) a.says
-    ∙ ap (λ (b : Bool). change_where b (change_asked a.call.head a.call.request)) (told-true a.call.head.xid true)
+    ∙ ap (λ (said : Outcome). change_told a.message.caller said (message_of a.message.content)) a.told
+    ∙ ap (change_told a.message.caller (told_true a.call.head.xid)) a.says
+    ∙ ap (λ (b : Bool). change_where b (change_asked a.message.caller a.call.head a.call.request)) (told-true a.call.head.xid true)
     ∙ ap (change_where true) a.asks
 
 -- ---- the caller gets the answer
@@ -265,8 +270,8 @@ shown-replied reply (said, t) is = rw is refl
 module _ (s : State) (reply : List ℕ) where
   -- the state has the reply for the caller
   abbrev Has : Caller → Output × State → Type 0
-  Has (Udp peer) r = r.0 ≡ Replied reply
-  Has (Tcp id peer) r = Owes r.1 id reply
+  Has (Udp who) r = r.0 ≡ Replied reply
+  Has (Tcp id who) r = Owes r.1 id reply
 
   settled-owes : (now id : ℕ) (c : Connection) (changes : List ℕ) (t : State) (said : Outcome) → live_connection id s.connections.all ≡ Some c → stamp_in c.phase ≡ None → t.connections ≡ evict changes s.connections
       → said ≡ outcomes.Reply reply None → Owes (on_connection id (settle now said) t) id reply
@@ -278,37 +283,37 @@ module _ (s : State) (reply : List ℕ) where
     phase = refl;
   })
 
-  record-has : (now id n : ℕ) (c : Connection) (content : List ℕ) → live_connection id s.connections.all ≡ Some c → stamp_in c.phase ≡ None → said_to s (record { now = now; caller = Tcp id c.peer; content = content }) ≡ outcomes.Reply reply None
-      → Has (Tcp id c.peer) (output_or show_taken (Ok (with_count n (serve_record (at_moment now s) id c.peer content)).0, (with_count n (serve_record (at_moment now s) id c.peer content)).1))
+  record-has : (now id n : ℕ) (c : Connection) (content : List ℕ) → live_connection id s.connections.all ≡ Some c → stamp_in c.phase ≡ None → said_to s (record { now = now; caller = Tcp id c.who; content = content }) ≡ outcomes.Reply reply None
+      → Has (Tcp id c.who) (output_or show_taken (Ok (with_count n (serve_record (at_moment now s) id c.who content)).0, (with_count n (serve_record (at_moment now s) id c.who content)).1))
   unfolding serve_record serve
   record-has now id n c content there none is =
-      settled-owes (max s.clock now) id c _ (serve (at_moment now s) (Tcp id c.peer) content).1 (said_to s (record { now = now; caller = Tcp id c.peer; content = content })) there none refl is
+      settled-owes (max s.clock now) id c _ (serve (at_moment now s) (Tcp id c.who) content).1 (said_to s (record { now = now; caller = Tcp id c.who; content = content })) there none refl is
 
   bytes-have : (now id : ℕ) (piece : List ℕ) (m : Brought) (o : Option Connection) → live_connection id s.connections.all ≡ o → record_on now id piece o ≡ Some m → said_to s m ≡ outcomes.Reply reply None
       → Has m.caller (output_or show_taken (bytes_to s now id piece o))
   bytes-have now id piece m None there brings is = absurd cc
   bytes-have now id piece m (Some c) there brings is = by_taking (taking_of c.phase piece) refl brings
     where
-      by_taking : (t : Taking) → taking_of c.phase piece ≡ t → record_in now id c.peer t ≡ Some m → Has m.caller (output_or show_taken (Ok (when_taken (at_moment now s) id piece c t).0, (when_taken (at_moment now s) id piece c t).1))
+      by_taking : (t : Taking) → taking_of c.phase piece ≡ t → record_in now id c.who t ≡ Some m → Has m.caller (output_or show_taken (Ok (when_taken (at_moment now s) id piece c t).0, (when_taken (at_moment now s) id piece c t).1))
       by_taking TakesNone e brings = absurd cc
       by_taking (GoesOn fed) e brings = absurd cc
       by_taking (Ends n content) e brings =
-          let same : record { now = now; caller = Tcp id c.peer; content = content } ≡ m = same_Some (record { now = now; caller = Tcp id c.peer; content = content }) m brings in
+          let same : record { now = now; caller = Tcp id c.who; content = content } ≡ m = same_Some (record { now = now; caller = Tcp id c.who; content = content }) m brings in
           subst (λ (x : Brought). said_to s x ≡ outcomes.Reply reply None → Has x.caller (output_or show_taken (Ok (when_taken (at_moment now s) id piece c (Ends n content)).0, (when_taken (at_moment now s) id piece c (Ends n content)).1)))
           same (record-has now id n c content there (ends-no-list c.phase piece n content e)) is
 
 gets-reply : (s : State) (event : Event) (m : Brought) (reply : List ℕ) → brought_by s event ≡ Some m → said_to s m ≡ outcomes.Reply reply None → GetsReply s event m.caller reply
 unfolding step datagram bytes
-gets-reply s (Datagram now peer content) m reply brings is =
-    let arrived : Brought = record { now = now; caller = Udp peer; content = content } in
-    subst (λ (x : Brought). said_to s x ≡ outcomes.Reply reply None → GetsReply s (Datagram now peer content) x.caller reply) (same_Some arrived m brings)
-    (shown-replied reply (serve (at_moment now s) (Udp peer) content)) is
+gets-reply s (Datagram now who content) m reply brings is =
+    let arrived : Brought = record { now = now; caller = Udp who; content = content } in
+    subst (λ (x : Brought). said_to s x ≡ outcomes.Reply reply None → GetsReply s (Datagram now who content) x.caller reply) (same_Some arrived m brings)
+    (shown-replied reply (serve (at_moment now s) (Udp who) content)) is
 gets-reply s (Bytes now id piece) m reply brings is = by_caller m.caller (bytes-have s reply now id piece m (live_connection id s.connections.all) refl brings is)
   where
     by_caller : (caller : Caller) → Has s reply caller (step s (Bytes now id piece)) → GetsReply s (Bytes now id piece) caller reply
-    by_caller (Tcp number peer) h = h
-    by_caller (Udp peer) h = h
-gets-reply s (Open now peer) m reply brings is = absurd cc
+    by_caller (Tcp number who) h = h
+    by_caller (Udp who) h = h
+gets-reply s (Open now who) m reply brings is = absurd cc
 gets-reply s (Pending id) m reply brings is = absurd cc
 gets-reply s (Gave now id n) m reply brings is = absurd cc
 gets-reply s (Closed id) m reply brings is = absurd cc
@@ -327,13 +332,13 @@ at-most-once s event = by_brought (brought_by s event) refl
     is_same : change_by s event ≡ [] → ChangesAtMostOnce s event
     is_same e = Same (step-appends s event ∙ ap (λ (more : List Change). s.ledger.changes ++ more) e ∙ append-nil s.ledger.changes)
 
-    by_answer : (m : Brought) (call : Call) (change : Change) → brought_by s event ≡ Some m → message_of m.content ≡ says.Asked call → change_asked call.head call.request ≡ Some change
+    by_answer : (m : Brought) (call : Call) (change : Change) → brought_by s event ≡ Some m → message_of m.content ≡ says.Asked call → change_asked m.caller call.head call.request ≡ Some change
         → (d : Decided (context_in (at_moment m.now s) m.caller) call.head.xid change (said_to s m)) (b : Bool) → d.accepted ≡ b → ChangesAtMostOnce s event
     by_answer m call change brings is asks d true e =
         let asked : Asks s event change = record { message = m; call = call; brings = brings; says = is; asks = asks; told = d.says ∙ ap (λ (b : Bool). outcomes.Reply (success call.head.xid (boolean b)) None) e } in
         OneMore change (record {
           asked = asked;
-          here = d.here e;
+          registers = d.here e;
           may = d.may e;
           gets = gets-reply s event m (success call.head.xid (boolean true)) brings asked.told;
           appends = step-appends s event ∙ ap (λ (more : List Change). s.ledger.changes ++ more) (each-appends s event change asked);
@@ -341,22 +346,22 @@ at-most-once s event = by_brought (brought_by s event) refl
     by_answer m call change brings is asks d false e =
         is_same (
         ap (change_from s) brings
-        ∙ ap (change_told (said_to s m)) is
-        ∙ ap (λ (said : Outcome). change_where (is_told_true call.head.xid said) (change_asked call.head call.request)) (d.says ∙ ap (λ (b : Bool). outcomes.Reply (success call.head.xid (boolean b)) None) e)
-        ∙ ap (λ (b : Bool). change_where b (change_asked call.head call.request)) (told-true call.head.xid false)
+        ∙ ap (change_told m.caller (said_to s m)) is
+        ∙ ap (λ (said : Outcome). change_where (is_told_true call.head.xid said) (change_asked m.caller call.head call.request)) (d.says ∙ ap (λ (b : Bool). outcomes.Reply (success call.head.xid (boolean b)) None) e)
+        ∙ ap (λ (b : Bool). change_where b (change_asked m.caller call.head call.request)) (told-true call.head.xid false)
         ∙ ap (change_where false) asks)
 
-    by_change : (m : Brought) (call : Call) → brought_by s event ≡ Some m → message_of m.content ≡ says.Asked call → (o : Option Change) → change_asked call.head call.request ≡ o → ChangesAtMostOnce s event
+    by_change : (m : Brought) (call : Call) → brought_by s event ≡ Some m → message_of m.content ≡ says.Asked call → (o : Option Change) → change_asked m.caller call.head call.request ≡ o → ChangesAtMostOnce s event
     by_change m call brings is None e =
-        is_same (ap (change_from s) brings ∙ ap (change_told (said_to s m)) is ∙ ap (change_where (is_told_true call.head.xid (said_to s m))) e)
+        is_same (ap (change_from s) brings ∙ ap (change_told m.caller (said_to s m)) is ∙ ap (change_where (is_told_true call.head.xid (said_to s m))) e)
     by_change m call brings is (Some change) e =
         let d = said-decided s m call change is e in by_answer m call change brings is e d d.accepted refl
 
     by_message : (m : Brought) → brought_by s event ≡ Some m → (message : Message) → message_of m.content ≡ message → ChangesAtMostOnce s event
-    by_message m brings says.NoCall is = is_same (ap (change_from s) brings ∙ ap (change_told (said_to s m)) is)
-    by_message m brings (says.Refused head) is = is_same (ap (change_from s) brings ∙ ap (change_told (said_to s m)) is)
-    by_message m brings (says.Garbage head) is = is_same (ap (change_from s) brings ∙ ap (change_told (said_to s m)) is)
-    by_message m brings (says.Asked call) is = by_change m call brings is (change_asked call.head call.request) refl
+    by_message m brings says.NoCall is = is_same (ap (change_from s) brings ∙ ap (change_told m.caller (said_to s m)) is)
+    by_message m brings (says.Refused head) is = is_same (ap (change_from s) brings ∙ ap (change_told m.caller (said_to s m)) is)
+    by_message m brings (says.Garbage head) is = is_same (ap (change_from s) brings ∙ ap (change_told m.caller (said_to s m)) is)
+    by_message m brings (says.Asked call) is = by_change m call brings is (change_asked m.caller call.head call.request) refl
 
     by_brought : (o : Option Brought) → brought_by s event ≡ o → ChangesAtMostOnce s event
     by_brought None e = is_same (ap (change_from s) e)

@@ -8,7 +8,7 @@ use Rattle.std.proofs.lemmas.Grind.{common_steps}
 use Rattle.rb_rpc.specs.Records.{first_record, data_of}
 use Rattle.rb_rpc.specs.declared.caller.Caller.{Caller}
 use Rattle.rb_rpc.specs.declared.caller.Caller.TheVariants.{Tcp, Udp}
-use Rattle.rb_address.specs.declared.peer.Peer.{Peer}
+use Rattle.rb_address.specs.declared.who.Who.{Who}
 use Rattle.rb_feed.specs.Feeds.{arguments_of}
 use Rattle.rb_forward.specs.declared.types.Outcome.TheVariants.{Failed}
 use Rattle.rb_forward.specs.Forwards.{Entry, Forwards, is_due as entry_is_due, ended_by, without_first}
@@ -151,7 +151,7 @@ said-none s at id c record_bytes is = no-call-says _ (message_of (data_of record
 
 none-said : (s : State) (at id : ℕ) (c : Connection) (record_bytes : List ℕ) → message_of (data_of record_bytes) ≡ says.NoCall → said_in s at id c record_bytes ≡ NoCall
 unfolding serve outcome
-none-said s at id c record_bytes is = ap (λ (m : Message). (serve_message (at_moment at s) (Tcp id c.peer) m (arguments_of (data_of record_bytes))).0) is
+none-said s at id c record_bytes is = ap (λ (m : Message). (serve_message (at_moment at s) (Tcp id c.who) m (arguments_of (data_of record_bytes))).0) is
 
 pub final-call : (said : Outcome) → IsFinal said → is_no_call said ≡ false
 final-call said f = grind arith
@@ -252,16 +252,16 @@ module _ (s : State) (sound : IsSound s) (id : ℕ) (c : Connection) (there : fi
       (same ∙ ap (λ (j : ℕ). changed_at j (keep_reading (max s.clock at) (fed ++ piece)) s.connections) (eqb-true k id e))
 
   ends-at : (at k : ℕ) (piece : List ℕ) (d : Connection) (fed : List ℕ) (n : ℕ) (now : Connections) → live_connection k s.connections.all ≡ Some d → fed_in d.phase ≡ Some fed → first_record (fed ++ piece) ≡ Some n
-      → now ≡ changed_at k (settle (max s.clock at) (said_in s at k d (take n (fed ++ piece)))) (evict (crowd_at s at (Tcp k d.peer) (data_of (take n (fed ++ piece)))) s.connections)
+      → now ≡ changed_at k (settle (max s.clock at) (said_in s at k d (take n (fed ++ piece)))) (evict (crowd_at s at (Tcp k d.who) (data_of (take n (fed ++ piece)))) s.connections)
       → (b : Bool) → eqb k id ≡ b → Fate s id c (Bytes at k piece) now
   ends-at at k piece d fed n now here feeds some same false e =
-      gives-way-to (Bytes at k piece) at k (Tcp k d.peer) (data_of (take n (fed ++ piece)))
+      gives-way-to (Bytes at k piece) at k (Tcp k d.who) (data_of (take n (fed ++ piece)))
       (refl, record { connection = d; live = here; fed = fed; takes = feeds; n = n; ends = some; caller_is = refl; content_is = refl })
       (settle (max s.clock at) (said_in s at k d (take n (fed ++ piece)))) (settled-keeps (max s.clock at) (said_in s at k d (take n (fed ++ piece)))).number e now same
   ends-at at k piece d fed n now here feeds some same true e =
       let number : k ≡ id = eqb-true k id e in
       let one : d ≡ c = same-one k d here number in
-      let crowd : List ℕ = crowd_at s at (Tcp k d.peer) (data_of (take n (fed ++ piece))) in
+      let crowd : List ℕ = crowd_at s at (Tcp k d.who) (data_of (take n (fed ++ piece))) in
       subst (λ (j : ℕ). Fate s id c (Bytes at j piece) now) (sym number)
       (ends-here at piece fed crowd n now (ap (λ (x : Connection). fed_in x.phase) (sym one) ∙ feeds) some (said_in s at id c (take n (fed ++ piece))) refl
       (same ∙ ap (λ (j : ℕ). changed_at j (settle (max s.clock at) (said_in s at j d (take n (fed ++ piece)))) (evict crowd s.connections)) number
@@ -302,11 +302,11 @@ module _ (s : State) (sound : IsSound s) (id : ℕ) (c : Connection) (there : fi
   fate : (event : Event) (output : Output) (now : Connections) → Happening s event output now → Fate s id c event now
   unfolding without_number
   fate event output now (Stays q same) = Lives c (ap (λ (x : Connections). find (is_live id) x.all) same ∙ there)
-  fate event output now (Evicts at peer content is q same) =
-      subst (λ (ev : Event). Fate s id c ev now) (sym is) (gives-way (Datagram at peer content) at (Udp peer) content (refl, refl, refl) now same)
-  fate event output now (Opens at peer is out same) =
+  fate event output now (Evicts at who content is q same) =
+      subst (λ (ev : Event). Fate s id c ev now) (sym is) (gives-way (Datagram at who content) at (Udp who) content (refl, refl, refl) now same)
+  fate event output now (Opens at who is out same) =
       Lives c (ap (λ (x : Connections). find (is_live id) x.all) same
-      ∙ find-before (is_live id) s.connections.all c (record { number = s.connections.next; peer = peer; phase = Idle; since = max s.clock at }) there)
+      ∙ find-before (is_live id) s.connections.all c (record { number = s.connections.next; who = who; phase = Idle; since = max s.clock at }) there)
   fate event output now (Reads at k piece d fed is here feeds none out same) = reads-at at k piece fed now same (eqb k id) refl event
   fate event output now (Ends at k piece d fed n is here feeds some out same) =
       subst (λ (ev : Event). Fate s id c ev now) (sym is) (ends-at at k piece d fed n now here feeds some same (eqb k id) refl)
@@ -352,7 +352,7 @@ module _ (s : State) (reached : IsReached s) (id : ℕ) (c : Connection) (there 
       let bytes_are : take m (other ++ piece) ≡ take n (fed ++ piece) = ap (λ (k : ℕ). take k (other ++ piece)) count ∙ ap (λ (xs : List ℕ). take n (xs ++ piece)) same in
       let said : said_in s now id d (take m (other ++ piece)) ≡ NoCall =
       ap (λ (xs : List ℕ). said_in s now id d xs) bytes_are ∙ none-said s now id d (take n (fed ++ piece)) no_call in
-      let crowd : List ℕ = crowd_at s now (Tcp id d.peer) (data_of (take m (other ++ piece))) in
+      let crowd : List ℕ = crowd_at s now (Tcp id d.who) (data_of (take m (other ++ piece))) in
       ap (λ (x : Result Taken CoreFault × State). lost_in id (output_or show_taken x).1.connections.all) is
       ∙ ap (λ (o : Outcome). lost_in id (change_first (is_live id) (settle (max s.clock now) o) (map (evict_early crowd) s.connections.all))) said
       ∙ (now-lost id (settle (max s.clock now) NoCall) (losing (max s.clock now)) (map (evict_early crowd) s.connections.all) c (plain_lives id crowd s.connections.all c found (fed-no-list c.phase fed takes))).0
@@ -404,9 +404,9 @@ module _ (s : State) (reached : IsReached s) (id : ℕ) (c : Connection) (there 
   shown-leaves : (r : Outcome × State) → (show_outcome (with_reply r)).1.connections ≡ r.1.connections
   shown-leaves r = grind arith
 
-  after-datagram : (at : ℕ) (peer : Peer) (content : List ℕ) → (step s (Datagram at peer content)).1.connections ≡ evict (crowd_at s at (Udp peer) content) s.connections
+  after-datagram : (at : ℕ) (who : Who) (content : List ℕ) → (step s (Datagram at who content)).1.connections ≡ evict (crowd_at s at (Udp who) content) s.connections
   unfolding step datagram serve
-  after-datagram at peer content = shown-leaves (serve (at_moment at s) (Udp peer) content)
+  after-datagram at who content = shown-leaves (serve (at_moment at s) (Udp who) content)
 
   listing-elsewhere : (k n : ℕ) (d : Connection) (fed : List ℕ) → live_connection k s.connections.all ≡ Some d → fed_in d.phase ≡ Some fed → stamp_in c.phase ≡ Some n → (b : Bool) → eqb k id ≡ b → eqb k id ≡ false
   listing-elsewhere k n d fed here feeds lists b e = grind arith
@@ -426,7 +426,7 @@ module _ (s : State) (reached : IsReached s) (id : ℕ) (c : Connection) (there 
       let same : other ≡ e.fed = some-is other e.fed (sym feeds ∙ ap (λ (x : Connection). fed_in x.phase) who ∙ e.takes) in
       let count : m ≡ e.n = some-is m e.n (sym some ∙ ap (λ (xs : List ℕ). first_record (xs ++ piece)) same ∙ e.ends) in
       let bytes_are : take m (other ++ piece) ≡ take e.n (e.fed ++ piece) = ap (λ (k : ℕ). take k (other ++ piece)) count ∙ ap (λ (xs : List ℕ). take e.n (xs ++ piece)) same in
-      let crowd : crowd_at s at (Tcp k d.peer) (data_of (take m (other ++ piece))) ≡ crowd_at s at caller content = cc in
+      let crowd : crowd_at s at (Tcp k d.who) (data_of (take m (other ++ piece))) ≡ crowd_at s at caller content = cc in
       let apart : eqb k id ≡ false = listing-elsewhere k n d other here feeds lists (eqb k id) refl in
       ap (λ (x : Result Taken CoreFault × State). lost_in id (output_or show_taken x).1.connections.all) is
       ∙ ap (λ (xs : List ℕ). lost_in id (change_first (is_live k) (settle (max s.clock at) (said_in s at k d (take m (other ++ piece)))) (map (evict_early xs) s.connections.all))) crowd
@@ -440,10 +440,10 @@ module _ (s : State) (reached : IsReached s) (id : ℕ) (c : Connection) (there 
 
   room-at : (event : Event) (at n : ℕ) (caller : Caller) (content : List ℕ) → Brings s event at caller content → stamp_in c.phase ≡ Some n
       → list_any (is_lost_one id) (map (evict_early (crowd_at s at caller content)) s.connections.all) ≡ true → lost_in id (step s event).1.connections.all ≡ true
-  room-at (Datagram now peer content) at n caller bytes brings lists goes = grind (arith, common_steps, after-datagram, lost-by-bytes)
+  room-at (Datagram now who content) at n caller bytes brings lists goes = grind (arith, common_steps, after-datagram, lost-by-bytes)
   room-at (Bytes now k piece) at n caller content brings lists goes =
       subst (λ (j : ℕ). lost_in id (step s (Bytes j k piece)).1.connections.all ≡ true) brings.0 (lost-by-bytes at k n piece caller content brings.1 lists goes)
-  room-at (Open at peer) now n caller content brings lists goes = absurd brings
+  room-at (Open at who) now n caller content brings lists goes = absurd brings
   room-at (Pending k) now n caller content brings lists goes = absurd brings
   room-at (Gave at k m) now n caller content brings lists goes = absurd brings
   room-at (Closed k) now n caller content brings lists goes = absurd brings

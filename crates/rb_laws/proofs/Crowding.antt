@@ -52,4 +52,4 @@ accepted_within context rows count row e = grind (arith, common_steps, place_wit
 -- a row that is accepted has room among the live ones
 pub row_within : (context : Context) (call : Call) (rows : List Row) (count : ℕ) → adds_row context call rows count ≡ true → length rows < context.limit
 unfolding adds_row
-row_within context call rows count is = accepted_within context rows count (row_to_set call) is
+row_within context call rows count is = accepted_within context rows count (row_to_set context call) is

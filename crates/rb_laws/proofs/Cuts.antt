@@ -4,7 +4,7 @@ use Rattle.std.proofs.Common.{◌≡◌, ℕ, ◌<◌, max, Bool, true, false, c
 use Rattle.std.proofs.lemmas.List.{length-append}
 use Rattle.std.proofs.lemmas.Bool.{and_parts, eqb-true}
 use Rattle.std.proofs.lemmas.Grind.{common_steps}
-use Rattle.rb_address.specs.declared.peer.Peer.{Peer}
+use Rattle.rb_address.specs.declared.who.Who.{Who}
 use Rattle.rb_rpc.specs.Records.{first_record}
 use Rattle.rb_rpc.proofs.RecordCuts.{ends_later}
 use Rattle.rb_model.specs.declared.types.CoreFault.{CoreFault}
@@ -39,11 +39,11 @@ changed-twice id f g h feeds same [] = grind arith
 changed-twice id f g h feeds same (d ∷ all) = grind (arith, changed-twice id f g h feeds same all)
 
 -- a message is answered as it was, with the change of a connection that has no list
-answering-along : (id : ℕ) (f : Connection → Connection) (s : State) (peer : Peer) (content : List ℕ) (c : Connection) → find (is_live id) s.connections.all ≡ Some c → stamp_in c.phase ≡ None → stamp_in (f c).phase ≡ None
+answering-along : (id : ℕ) (f : Connection → Connection) (s : State) (who : Who) (content : List ℕ) (c : Connection) → find (is_live id) s.connections.all ≡ Some c → stamp_in c.phase ≡ None → stamp_in (f c).phase ≡ None
     → is_live id (f c) ≡ true → ((clock : ℕ) (said : Outcome) → settle clock said (f c) ≡ settle clock said c)
-    → serve_record (on_connection id f s) id peer content ≡ serve_record s id peer content
+    → serve_record (on_connection id f s) id who content ≡ serve_record s id who content
 unfolding serve_record serve
-answering-along id f s peer content c there none still live same = grind (arith, common_steps, crowding_alike, begins_changed, evicted_changed)
+answering-along id f s who content c there none still live same = grind (arith, common_steps, crowding_alike, begins_changed, evicted_changed)
 
 -- a connection that is fed has none
 pub fed-no-list : (p : Phase) (fed : List ℕ) → fed_in p ≡ Some fed → stamp_in p ≡ None
@@ -124,9 +124,9 @@ phase-on : (clock : ℕ) (front : List ℕ) (c : Connection) → fed_in (keep_re
 unfolding keep_reading
 phase-on clock front c = refl
 
-peer-on : (clock : ℕ) (front : List ℕ) (c : Connection) → (keep_reading clock front c).peer ≡ c.peer
+who-on : (clock : ℕ) (front : List ℕ) (c : Connection) → (keep_reading clock front c).who ≡ c.who
 unfolding keep_reading
-peer-on clock front c = refl
+who-on clock front c = refl
 
 -- one moment more is none
 moment-on : (s : State) (now id : ℕ) (front : List ℕ) → at_moment now (fed_on (at_moment now s) id front) ≡ fed_on (at_moment now s) id front
@@ -137,13 +137,13 @@ record Same (one : Result Taken CoreFault × State) (before : ℕ) (rest : Resul
   taken : one.0 ≡ one_after_another (Ok (record { count = before; closed = false })) rest.0
   state : one.1 ≡ rest.1
 
-along-fed : (t : State) (id : ℕ) (front : List ℕ) (peer : Peer) (whole : List ℕ) (c : Connection) → live_connection id t.connections.all ≡ Some c → stamp_in c.phase ≡ None → serve_record (fed_on t id front) id peer whole ≡ serve_record t id peer whole
+along-fed : (t : State) (id : ℕ) (front : List ℕ) (who : Who) (whole : List ℕ) (c : Connection) → live_connection id t.connections.all ≡ Some c → stamp_in c.phase ≡ None → serve_record (fed_on t id front) id who whole ≡ serve_record t id who whole
 unfolding live_connection
-along-fed t id front peer whole c here none = grind (arith, common_steps, reading-no-list, settled-fed, answering-along id, reading-feeds id, find-holds (is_live id))
+along-fed t id front who whole c here none = grind (arith, common_steps, reading-no-list, settled-fed, answering-along id, reading-feeds id, find-holds (is_live id))
 
 fed-cut : (t : State) (id : ℕ) (c : Connection) (fed first second : List ℕ) (m : Option ℕ) → live_connection id t.connections.all ≡ Some c → fed_in c.phase ≡ Some fed → ((n : ℕ) → m ≡ Some n → length (fed ++ first) < n)
     → Same (fed_to t id c fed (first ++ second) m) (length first) (fed_to (fed_on t id (fed ++ first)) id (keep_reading t.clock (fed ++ first) c) (fed ++ first) second m)
-fed-cut t id c fed first second m here feeds longer = grind (arith, common_steps, append_assoc, length-append, changed-twice, reading-feeds, read-on, along-fed, fed-no-list, peer-on)
+fed-cut t id c fed first second m here feeds longer = grind (arith, common_steps, append_assoc, length-append, changed-twice, reading-feeds, read-on, along-fed, fed-no-list, who-on)
 
 by_phase : (s : State) (now id : ℕ) (first second : List ℕ) (c : Connection) → live_connection id s.connections.all ≡ Some c → (fed : Option (List ℕ)) → fed_in c.phase ≡ fed → IfSome fed (λ xs. first_record (xs ++ first) ≡ None) → SameInOnePiece s now id first second
 by_phase s now id first second c there None phase none =

@@ -4,7 +4,7 @@ use Rattle.rb_rpc.specs.declared.call.CallHead.{CallHead}
 use Rattle.rb_rpc.specs.declared.caller.Caller.{Caller}
 use Rattle.rb_rpc.specs.declared.reply.ReplyStatus.{ReplyStatus}
 use Rattle.rb_rpc.specs.declared.reply.ReplyStatus.TheVariants as replies
-use Rattle.rb_address.specs.declared.peer.Peer.{Peer}
+use Rattle.rb_uaddr.specs.declared.address.Uaddr.{Uaddr}
 use Rattle.rb_feed.specs.Feeds.{arguments_of}
 use Rattle.rb_registry.specs.declared.row.Row.{Row}
 use Rattle.rb_registry.specs.declared.row.Which.{Which}
@@ -24,7 +24,7 @@ use Rattle.rb_arguments.specs.declared.request.Request.TheVariants as requests
 use Rattle.rb_proto.specs.Ledger.{Ledger, rows_in, with_call_noted}
 use Rattle.rb_proto.specs.Results.{result_bytes, shown_of}
 use Rattle.rb_arguments.specs.Remote.{args_of}
-use Rattle.rb_proto.specs.Forwarding.{refusal, peer_to_forward, forward_of, refuse, forward_to, forward_call}
+use Rattle.rb_proto.specs.Forwarding.{refusal, address_asked, forward_of, refuse, forward_to, forward_call}
 use Rattle.rb_proto.specs.Answers.{set_row, unset_rows, getport, getaddr, getversaddr, answer_to, answer}
 use Rattle.rb_model.specs.declared.message.Message.{Message}
 use Rattle.rb_model.specs.declared.message.Message.TheVariants as says
@@ -70,16 +70,16 @@ Enters context l r = Entering context l.forwards r.1.forwards (answers_later r.0
 
 forward-enters : (context : Context) (xid : ℕ) (kind : Kind) (remote : RemoteCall) (arguments : List ℕ) (l : Ledger) → Enters context l (forward_call context xid kind remote arguments l)
 unfolding forward_call forward_of
-forward-enters context xid kind remote arguments l = by_peer (peer_to_forward remote.prog remote.vers (rows_in l))
+forward-enters context xid kind remote arguments l = by_address (address_asked context remote (rows_in l))
   where
-    by_room : (peer : Peer) (b : Bool) → can_start context.forwards l.forwards ≡ b → Enters context l
-        (cond b (answers.Forwarded, record l { forwards = with_next_entry context.clock (forward_of context xid kind remote peer) (args_of remote arguments) l.forwards }) (refuse context kind remote replies.SystemErr l))
-    by_room peer true e = Begins refl (forward_of context xid kind remote peer) (args_of remote arguments) refl e refl
-    by_room peer false e = Same (refused-now kind replies.SystemErr) refl
+    by_room : (registered : Uaddr) (b : Bool) → can_start context.forwards l.forwards ≡ b → Enters context l
+        (cond b (answers.Forwarded, record l { forwards = with_next_entry context.clock (forward_of context xid kind remote registered) (args_of remote arguments) l.forwards }) (refuse context kind remote replies.SystemErr l))
+    by_room registered true e = Begins refl (forward_of context xid kind remote registered) (args_of remote arguments) refl e refl
+    by_room registered false e = Same (refused-now kind replies.SystemErr) refl
 
-    by_peer : (o : Option Peer) → Enters context l (forward_to context xid kind remote (args_of remote arguments) o l)
-    by_peer None = Same (refused-now kind replies.ProgUnavail) refl
-    by_peer (Some peer) = by_room peer (can_start context.forwards l.forwards) refl
+    by_address : (o : Option Uaddr) → Enters context l (forward_to context xid kind remote (args_of remote arguments) o l)
+    by_address None = Same (refused-now kind replies.ProgUnavail) refl
+    by_address (Some registered) = by_room registered (can_start context.forwards l.forwards) refl
 
 answer-enters : (context : Context) (head : CallHead) (request : Request) (arguments : List ℕ) (l : Ledger) → Enters context l (answer_to context head request arguments l)
 unfolding getaddr getversaddr

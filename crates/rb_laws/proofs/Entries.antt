@@ -6,6 +6,7 @@ use Rattle.std.proofs.lemmas.List.Sums.{sum_by_push}
 use Rattle.std.proofs.lemmas.Bool.{eqb-true, eq-eqb}
 use Rattle.std.proofs.lemmas.Grind.{common_steps}
 use Rattle.rb_address.specs.declared.peer.Peer.{Peer}
+use Rattle.rb_address.specs.declared.who.Who.{Who}
 use Rattle.rb_rpc.specs.declared.caller.Caller.{Caller}
 use Rattle.rb_rpc.specs.declared.caller.Caller.TheVariants.{Tcp, Udp}
 use Rattle.rb_rpc.specs.Records.{data_of}
@@ -203,9 +204,9 @@ of-other k id caller of apart = grind arith
 
 module _ (old : Forwards) (cs : Connections) (sound : SoundIn cs) (h : AwaitIn old cs) where
   -- a record on a live connection is answered
-  ended-awaits : (clock k : ℕ) (c : Connection) (peer : Peer) (context : Context) (said : Outcome) (new : Forwards) → live_connection k cs.all ≡ Some c → is_awaiting c.phase ≡ false → context.caller ≡ Tcp k peer
+  ended-awaits : (clock k : ℕ) (c : Connection) (who : Who) (context : Context) (said : Outcome) (new : Forwards) → live_connection k cs.all ≡ Some c → is_awaiting c.phase ≡ false → context.caller ≡ Tcp k who
       → Entering context old new (is_forwarded said) → AwaitIn new (changed_at k (settle clock said) cs)
-  ended-awaits clock k c peer context said new there plain from p = grind (arith, common_steps, settled-awaits, eqb-true, pushed)
+  ended-awaits clock k c who context said new there plain from p = grind (arith, common_steps, settled-awaits, eqb-true, pushed)
 
 module _ (s : State) (sound : IsSound s) (h : Await s) where
   abbrev Keeps : Output × State → Type 0
@@ -222,8 +223,8 @@ module _ (s : State) (sound : IsSound s) (h : Await s) where
   unfolding live_connection
   still-there changes k c there no_list = plain_lives k changes s.connections.all c there no_list
 
-  open-awaits : (at : ℕ) (peer : Peer) (r : Result ℕ CoreFault) → Keeps (output_or Opened (unless_refused at s (opening_as peer (max s.clock at) s.connections r)))
-  open-awaits at peer r = grind (arith, common_steps, opened-awaits)
+  open-awaits : (at : ℕ) (who : Who) (r : Result ℕ CoreFault) → Keeps (output_or Opened (unless_refused at s (opening_as who (max s.clock at) s.connections r)))
+  open-awaits at who r = grind (arith, common_steps, opened-awaits)
 
   bytes-await : (at k : ℕ) (piece : List ℕ) (r : Result Taken CoreFault × State) → Arriving s at k piece r → Keeps (output_or show_taken r)
   unfolding keep_reading serve
@@ -236,9 +237,9 @@ module _ (s : State) (sound : IsSound s) (h : Await s) where
       answered-awaits : (at k : ℕ) (c : Connection) (record_bytes : List ℕ) → live_connection k s.connections.all ≡ Some c → stamp_in c.phase ≡ None → is_awaiting c.phase ≡ false
           → Await (on_connection k (settle (max s.clock at) (said_in s at k c record_bytes)) (answered_in s at k c record_bytes))
       answered-awaits at k c record_bytes there no_list plain =
-          let changes : List ℕ = crowd_at s at (Tcp k c.peer) (data_of record_bytes) in
-          ended-awaits s.ledger.forwards (evict changes s.connections) (room-sound changes) (room-awaits changes) (max s.clock at) k c c.peer (context_in (at_moment at s) (Tcp k c.peer)) (said_in s at k c record_bytes) _
-          (still-there changes k c there no_list) plain refl (serve-enters (at_moment at s) (Tcp k c.peer) _)
+          let changes : List ℕ = crowd_at s at (Tcp k c.who) (data_of record_bytes) in
+          ended-awaits s.ledger.forwards (evict changes s.connections) (room-sound changes) (room-awaits changes) (max s.clock at) k c c.who (context_in (at_moment at s) (Tcp k c.who)) (said_in s at k c record_bytes) _
+          (still-there changes k c there no_list) plain refl (serve-enters (at_moment at s) (Tcp k c.who) _)
 
   gave-awaits : (at k n : ℕ) (o : Option Connection) → live_connection k s.connections.all ≡ o
       → Keeps (cond (is_too_much n (pending_on o)) (TooMuch, s) (output_or show_done (unless_refused at s (on_found k (give (max s.clock at) n) s.connections o))))
@@ -293,8 +294,8 @@ module _ (s : State) (sound : IsSound s) (h : Await s) where
       by_number : (id : ℕ) (b : Bool) → eqb k id ≡ b → cond b 0 (present id s.ledger.forwards) ≡ awaits id (without k s.connections.all)
       by_number id bb n = grind (arith, common_steps, closed-other, eqb-true, closed-gone)
 
-  datagram-awaits : (context : Context) (peer : Peer) (changes : List ℕ) (t : State) (said : Outcome) → t.connections ≡ evict changes s.connections → context.caller ≡ Udp peer → Entering context s.ledger.forwards t.ledger.forwards (is_forwarded said) → Keeps (show_outcome (with_reply (said, t)))
-  datagram-awaits context peer changes t said same from enters = grind (arith, common_steps, room-awaits, pushed)
+  datagram-awaits : (context : Context) (who : Who) (changes : List ℕ) (t : State) (said : Outcome) → t.connections ≡ evict changes s.connections → context.caller ≡ Udp who → Entering context s.ledger.forwards t.ledger.forwards (is_forwarded said) → Keeps (show_outcome (with_reply (said, t)))
+  datagram-awaits context who changes t said same from enters = grind (arith, common_steps, room-awaits, pushed)
 
   sent-await : (number : ℕ) (b : Bool) → Keeps (output_or show_done (cond b (Ok tt, record s { ledger = call_sent number s.ledger }) (Err Gone, s)))
   unfolding call_sent sent
@@ -314,12 +315,12 @@ module _ (s : State) (sound : IsSound s) (h : Await s) where
       counts x e id = sum-without test (one_at id) s.ledger.forwards.all x e ∙ ap (λ (f : Forwards). one_at id x + present id f) (sym left)
 
       by_caller : (x : Entry) → find test s.ledger.forwards.all ≡ Some x → (caller : Caller) → x.forward.caller ≡ caller → Await (tell caller (outcome_at_end message ended) (record (at_fresh_moment at s) { ledger = l })).1
-      by_caller x e (Udp peer) from = λ id.
+      by_caller x e (Udp who) from = λ id.
           let none : one_at id x ≡ 0 = ap (λ (c : Caller). if_one (is_connection id c)) from in
           let count = counts x e id in
           let is = h id in
           omega (arith, none, count, is)
-      by_caller x e (Tcp k peer) from = told (live_connection k s.connections.all) refl
+      by_caller x e (Tcp k who) from = told (live_connection k s.connections.all) refl
         where
           one : (id : ℕ) → one_at id x ≡ if_one (eqb k id)
           one id = ap (λ (c : Caller). if_one (is_connection id c)) from
@@ -384,17 +385,17 @@ module _ (s : State) (sound : IsSound s) (h : Await s) where
 
   pub step-awaits : (event : Event) → Await (step s event).1
   unfolding step open_connection open_in_table pending gave close_connection close_in_table datagram sent_call forward_reply serve
-  step-awaits (Open at peer) = open-awaits at peer (number_for s.setting.limits.conns s.connections)
+  step-awaits (Open at who) = open-awaits at who (number_for s.setting.limits.conns s.connections)
   step-awaits (Bytes at id piece) = bytes-await at id piece (bytes s at id piece) (arriving s at id piece)
   step-awaits (Pending id) = shown-pending (pending s id)
   step-awaits (Gave at id n) = gave-awaits at id n (live_connection id s.connections.all) refl
   step-awaits (Closed id) = closed-await id (is_there id s.connections) refl
   step-awaits NextLost = h
-  step-awaits (Datagram at peer content) =
-      datagram-awaits (context_in (at_moment at s) (Udp peer)) peer (crowd_at s at (Udp peer) content) (serve (at_moment at s) (Udp peer) content).1 (serve (at_moment at s) (Udp peer) content).0 (same at peer content) refl (serve-enters (at_moment at s) (Udp peer) content)
+  step-awaits (Datagram at who content) =
+      datagram-awaits (context_in (at_moment at s) (Udp who)) who (crowd_at s at (Udp who) content) (serve (at_moment at s) (Udp who) content).1 (serve (at_moment at s) (Udp who) content).0 (same at who content) refl (serve-enters (at_moment at s) (Udp who) content)
     where
-      same : (at : ℕ) (peer : Peer) (content : List ℕ) → (serve (at_moment at s) (Udp peer) content).1.connections ≡ evict (crowd_at s at (Udp peer) content) s.connections
-      same at peer content = refl
+      same : (at : ℕ) (who : Who) (content : List ℕ) → (serve (at_moment at s) (Udp who) content).1.connections ≡ evict (crowd_at s at (Udp who) content) s.connections
+      same at who content = refl
   step-awaits Unsent = h
   step-awaits (Sent number) = sent-await number (can_be_sent number s.ledger.forwards)
   step-awaits (Forward at from message) = shown-end _ (forward-awaits at from message)

@@ -7,7 +7,7 @@ use Rattle.std.proofs.lemmas.Grind.{common_steps}
 use Rattle.rb_rpc.specs.declared.caller.Caller.{Caller}
 use Rattle.rb_rpc.specs.declared.caller.Caller.TheVariants.{Tcp, Udp}
 use Rattle.rb_rpc.specs.declared.call.CallHead.{CallHead}
-use Rattle.rb_address.specs.declared.peer.Peer.{Peer}
+use Rattle.rb_uaddr.specs.declared.address.Uaddr.{Uaddr}
 use Rattle.rb_rpc.specs.Verdict.{verdict}
 use Rattle.rb_feed.specs.Feeds.{arguments_of}
 use Rattle.rb_registry.specs.declared.row.Row.{Row}
@@ -27,7 +27,7 @@ use Rattle.rb_arguments.specs.declared.request.Request.TheVariants as requests
 use Rattle.rb_proto.specs.Ledger.{Ledger, rows_in, with_call_noted}
 use Rattle.rb_arguments.specs.Remote.{args_of, HasContent}
 use Rattle.rb_arguments.specs.Arguments.{HasArgs}
-use Rattle.rb_proto.specs.Forwarding.{peer_to_forward, forward_of, forward_to, forward_call, target_replied, fell_due, caller_dropped, call_sent}
+use Rattle.rb_proto.specs.Forwarding.{address_asked, forward_of, forward_to, forward_call, target_replied, fell_due, caller_dropped, call_sent}
 use Rattle.rb_proto.specs.Answers.{set_row, unset_rows, getport, getaddr, getversaddr, answer_to, answer}
 use Rattle.rb_model.specs.Grammar.{HasArgsIn}
 use Rattle.rb_model.specs.declared.message.Message.{Message}
@@ -73,17 +73,17 @@ args-short remote arguments has = let few = length-take (16 + remote.count - 16)
 
 forward-goes : (context : Context) (xid : ℕ) (kind : Kind) (remote : RemoteCall) (arguments : List ℕ) (l : Ledger) → HasContent remote arguments → Goes context.forwards l.forwards (forward_call context xid kind remote arguments l).1.forwards
 unfolding forward_call
-forward-goes context xid kind remote arguments l has = by_peer (peer_to_forward remote.prog remote.vers (rows_in l))
+forward-goes context xid kind remote arguments l has = by_address (address_asked context remote (rows_in l))
   where
     args : List ℕ
     args = args_of remote arguments
 
-    by_peer : (o : Option Peer) → Goes context.forwards l.forwards (forward_to context xid kind remote args o l).1.forwards
-    by_peer None = Same refl
-    by_peer (Some peer) = by_room (can_start context.forwards l.forwards) refl
+    by_address : (o : Option Uaddr) → Goes context.forwards l.forwards (forward_to context xid kind remote args o l).1.forwards
+    by_address None = Same refl
+    by_address (Some registered) = by_room (can_start context.forwards l.forwards) refl
       where
-        by_room : (b : Bool) → can_start context.forwards l.forwards ≡ b → Goes context.forwards l.forwards (forward_to context xid kind remote args (Some peer) l).1.forwards
-        by_room true e = rw e (Begins context.clock (forward_of context xid kind remote peer) args (args-short remote arguments has) e refl)
+        by_room : (b : Bool) → can_start context.forwards l.forwards ≡ b → Goes context.forwards l.forwards (forward_to context xid kind remote args (Some registered) l).1.forwards
+        by_room true e = rw e (Begins context.clock (forward_of context xid kind remote registered) args (args-short remote arguments has) e refl)
         by_room false e = rw e (Same refl)
 
 answer-goes : (context : Context) (head : CallHead) (request : Request) (arguments : List ℕ) (l : Ledger) → HasArgs request arguments → Goes context.forwards l.forwards (answer_to context head request arguments l).1.forwards
@@ -134,7 +134,7 @@ bytes-follow s now id piece (Some c) = by_taking (taking_of c.phase piece)
     by_taking TakesNone = record { setting = refl; goes = Same refl }
     by_taking (GoesOn fed) = record { setting = refl; goes = Same refl }
     by_taking (Ends n content) =
-        let f = serve-follows s now (Tcp id c.peer) content in
+        let f = serve-follows s now (Tcp id c.who) content in
         record { setting = f.setting; goes = f.goes }
 
 shown-follows : {A : Type 0} (s : State) (show : A → Output) (r : Result A CoreFault) (u : State) → Follows s u → Follows s (output_or show (r, u)).1
@@ -157,8 +157,8 @@ closed-follows s id (Ok u, c) = record { setting = refl; goes = Ends1 (is_of_con
 closed-follows s id (Err fault, c) = stays s
 
 tell-follows : (s u : State) (caller : Caller) (said : Outcome) → Follows s u → Follows s (tell caller said u).1
-tell-follows s u (Tcp id peer) said f = record { setting = f.setting; goes = f.goes }
-tell-follows s u (Udp peer) said f = record { setting = f.setting; goes = f.goes }
+tell-follows s u (Tcp id who) said f = record { setting = f.setting; goes = f.goes }
+tell-follows s u (Udp who) said f = record { setting = f.setting; goes = f.goes }
 
 told-follows : (message : List ℕ) (s u : State) (o : Option Ended) (ledger : Ledger) → u.setting ≡ s.setting → Goes s.setting.limits.forwards s.ledger.forwards ledger.forwards → Follows s (tell_end message u (o, ledger)).1
 told-follows message s u None ledger same goes = record { setting = same; goes = goes }
@@ -179,13 +179,13 @@ expired-follows s (None, u) f = by_found (expire_connection u) (record { setting
 
 pub step-follows : (s : State) (event : Event) → Follows s (step s event).1
 unfolding step open_connection bytes gave close_connection datagram sent_call forward_reply expire target_replied fell_due call_sent reply due
-step-follows s (Open now peer) = moved-follows s now Opened _
+step-follows s (Open now who) = moved-follows s now Opened _
 step-follows s (Bytes now id piece) = bytes-follow s now id piece (live_connection id s.connections.all)
 step-follows s (Pending id) = shown-follows s IsPending (pending s id) s (stays s)
 step-follows s (Gave now id n) = either s (is_too_much n (pending s id)) (TooMuch, s) (output_or show_done (gave s now id n)) (stays s) (moved-follows s now show_done _)
 step-follows s (Closed id) = closed-follows s id (close_in_table id s.connections)
 step-follows s NextLost = stays s
-step-follows s (Datagram now peer content) = outcome-follows s (serve (at_moment now s) (Udp peer) content) (serve-follows s now (Udp peer) content)
+step-follows s (Datagram now who content) = outcome-follows s (serve (at_moment now s) (Udp who) content) (serve-follows s now (Udp who) content)
 step-follows s Unsent = stays s
 step-follows s (Sent number) = by_there (can_be_sent number s.ledger.forwards)
   where

@@ -67,7 +67,7 @@ module _ (s : State) (now id : ℕ) (c : Connection) (reached : IsReached s) (th
   read-at fed b piece feeds none = fed-at s now id (b ∷ piece) c (Some fed) there feeds ∙ (rw none refl)
 
   same_connections : (record_bytes : List ℕ) (said : Outcome) → (on_connection id (settle (max s.clock now) said) (answered_in s now id c record_bytes)).connections
-      ≡ changed_at id (settle (max s.clock now) said) (evict (crowd_at s now (Tcp id c.peer) (data_of record_bytes)) s.connections)
+      ≡ changed_at id (settle (max s.clock now) said) (evict (crowd_at s now (Tcp id c.who) (data_of record_bytes)) s.connections)
   unfolding serve
   same_connections record_bytes said = refl
 
@@ -91,7 +91,7 @@ module _ (s : State) (now id : ℕ) (c : Connection) (reached : IsReached s) (th
         ends = subst (λ (k : ℕ). IsFirstRecord k all) (sym up) ((first_is_least all are n).0 some);
         answers = subst (λ (k : ℕ). IsAnswered (arrival (b ∷ piece)) (n - length fed) (said_in s now id c (take k all))) (sym up) (record {
           taken = ap (λ (r : Result Taken CoreFault × State). r.0) e;
-          settles = settles (b ∷ piece) _ (said_in s now id c (take n all)) (crowd_at s now (Tcp id c.peer) (data_of (take n all))) (fed-no-list c.phase fed feeds) (same_connections (take n all) (said_in s now id c (take n all))) (ap (λ (r : Result Taken CoreFault × State). r.1) e);
+          settles = settles (b ∷ piece) _ (said_in s now id c (take n all)) (crowd_at s now (Tcp id c.who) (data_of (take n all))) (fed-no-list c.phase fed feeds) (same_connections (take n all) (said_in s now id c (take n all))) (ap (λ (r : Result Taken CoreFault × State). r.1) e);
         });
       })
 

@@ -5,6 +5,7 @@ use Rattle.std.proofs.Common.{◌≡◌, ◌⊎◌, inl, inr, ◌≤◌, ℕ, �
 use Rattle.std.proofs.lemmas.Grind.{common_steps}
 use Rattle.std.proofs.lemmas.Bool.{ltb-false}
 use Rattle.rb_address.specs.declared.peer.Peer.{Peer}
+use Rattle.rb_address.specs.declared.who.Who.{Who}
 use Rattle.rb_rpc.specs.declared.caller.Caller.{Caller}
 use Rattle.rb_rpc.specs.declared.caller.Caller.TheVariants.{Tcp, Udp}
 use Rattle.rb_rpc.specs.Records.{first_record, data_of}
@@ -37,11 +38,11 @@ use Rattle.rb_laws.proofs.DueThings.Expiry.{EntryEnds, ConnectionEnds, NothingDu
 
 -- what the message in these bytes is answered with
 abbrev pub said_in : State → ℕ → ℕ → Connection → List ℕ → Outcome
-said_in s now id c record_bytes = (serve (at_moment now s) (Tcp id c.peer) (data_of record_bytes)).0
+said_in s now id c record_bytes = (serve (at_moment now s) (Tcp id c.who) (data_of record_bytes)).0
 
 -- the state after it
 abbrev pub answered_in : State → ℕ → ℕ → Connection → List ℕ → State
-answered_in s now id c record_bytes = (serve (at_moment now s) (Tcp id c.peer) (data_of record_bytes)).1
+answered_in s now id c record_bytes = (serve (at_moment now s) (Tcp id c.who) (data_of record_bytes)).1
 
 pub data Arriving (s : State) (now id : ℕ) (piece : List ℕ) (r : Result Taken CoreFault × State) : Type 0 where
   NotThere : live_connection id s.connections.all ≡ None → r ≡ (Err Gone, s) → Arriving s now id piece r
@@ -97,15 +98,15 @@ crowd_at s at caller content = removals_in_the_way (context_in (at_moment at s) 
 
 pub data Happening (s : State) (event : Event) (output : Output) (now : Connections) : Type 0 where
   Stays : IsQuiet s event output → now ≡ s.connections → Happening s event output now
-  Evicts : (at : ℕ) (peer : Peer) (content : List ℕ) → event ≡ Datagram at peer content → IsQuiet s event output → now ≡ evict (crowd_at s at (Udp peer) content) s.connections → Happening s event output now
-  Opens : (at : ℕ) (peer : Peer) → event ≡ Open at peer → output ≡ Opened s.connections.next → now ≡ with_new peer (max s.clock at) s.connections → Happening s event output now
+  Evicts : (at : ℕ) (who : Who) (content : List ℕ) → event ≡ Datagram at who content → IsQuiet s event output → now ≡ evict (crowd_at s at (Udp who) content) s.connections → Happening s event output now
+  Opens : (at : ℕ) (who : Who) → event ≡ Open at who → output ≡ Opened s.connections.next → now ≡ with_new who (max s.clock at) s.connections → Happening s event output now
   Reads : (at id : ℕ) (piece : List ℕ) (c : Connection) (fed : List ℕ) → event ≡ Bytes at id piece
       → live_connection id s.connections.all ≡ Some c → fed_in c.phase ≡ Some fed → first_record (fed ++ piece) ≡ None
       → output ≡ Took (length piece) → now ≡ changed_at id (keep_reading (max s.clock at) (fed ++ piece)) s.connections → Happening s event output now
   Ends : (at id : ℕ) (piece : List ℕ) (c : Connection) (fed : List ℕ) (n : ℕ) → event ≡ Bytes at id piece
       → live_connection id s.connections.all ≡ Some c → fed_in c.phase ≡ Some fed → first_record (fed ++ piece) ≡ Some n
       → output ≡ show_taken (record { count = n - length fed; closed = is_no_call (said_in s at id c (take n (fed ++ piece))) })
-      → now ≡ changed_at id (settle (max s.clock at) (said_in s at id c (take n (fed ++ piece)))) (evict (crowd_at s at (Tcp id c.peer) (data_of (take n (fed ++ piece)))) s.connections)
+      → now ≡ changed_at id (settle (max s.clock at) (said_in s at id c (take n (fed ++ piece)))) (evict (crowd_at s at (Tcp id c.who) (data_of (take n (fed ++ piece)))) s.connections)
       → Happening s event output now
   Gives : (at id n : ℕ) (c : Connection) → event ≡ Gave at id n → live_connection id s.connections.all ≡ Some c → n ≤ length (pending_in c.phase)
       → output ≡ Done → now ≡ changed_at id (λ x. (give (max s.clock at) n x).1) s.connections → Happening s event output now
@@ -151,10 +152,10 @@ module _ (s : State) where
   quiet : (event : Event) (output : Output) → number_given output ≡ None → count_in output ≡ 0 → ((id : ℕ) → given_by s id event output ≡ []) → IsQuiet s event output
   quiet event output a b c = record { no_number = a; no_count = b; none_given = c }
 
-  open-happens : (at : ℕ) (peer : Peer) (r : Result ℕ CoreFault) → number_for s.setting.limits.conns s.connections ≡ r
-      → Happens (Open at peer) (output_or Opened (unless_refused at s (opening_as peer (max s.clock at) s.connections r)))
-  open-happens at peer (Err fault) e = Stays (quiet (Open at peer) (Refused fault) refl refl (λ k. refl)) refl
-  open-happens at peer (Ok number) e = Opens at peer refl (ap Opened (number-is-next number e)) refl
+  open-happens : (at : ℕ) (who : Who) (r : Result ℕ CoreFault) → number_for s.setting.limits.conns s.connections ≡ r
+      → Happens (Open at who) (output_or Opened (unless_refused at s (opening_as who (max s.clock at) s.connections r)))
+  open-happens at who (Err fault) e = Stays (quiet (Open at who) (Refused fault) refl refl (λ k. refl)) refl
+  open-happens at who (Ok number) e = Opens at who refl (ap Opened (number-is-next number e)) refl
 
   bytes-happen : (at id : ℕ) (piece : List ℕ) (r : Result Taken CoreFault × State) → Arriving s at id piece r → Happens (Bytes at id piece) (output_or show_taken r)
   unfolding serve
@@ -181,11 +182,11 @@ module _ (s : State) where
   close-happens id true e = Closes id refl refl e refl
   close-happens id false e = Stays (quiet (Closed id) (Refused Gone) refl refl (λ k. refl)) refl
 
-  outcome-happens : (at : ℕ) (peer : Peer) (content : List ℕ) (r : Outcome × State) → r.1.connections ≡ evict (crowd_at s at (Udp peer) content) s.connections → Happens (Datagram at peer content) (show_outcome (with_reply r))
-  outcome-happens at peer content (outcomes.NoCall, t) same = Evicts at peer content refl (quiet (Datagram at peer content) Silent refl refl (λ k. refl)) same
-  outcome-happens at peer content (outcomes.Reply reply began, t) same = Evicts at peer content refl (quiet (Datagram at peer content) (Replied reply) refl refl (λ k. refl)) same
-  outcome-happens at peer content (outcomes.Forwarded, t) same = Evicts at peer content refl (quiet (Datagram at peer content) Forwarded refl refl (λ k. refl)) same
-  outcome-happens at peer content (outcomes.Silent, t) same = Evicts at peer content refl (quiet (Datagram at peer content) Silent refl refl (λ k. refl)) same
+  outcome-happens : (at : ℕ) (who : Who) (content : List ℕ) (r : Outcome × State) → r.1.connections ≡ evict (crowd_at s at (Udp who) content) s.connections → Happens (Datagram at who content) (show_outcome (with_reply r))
+  outcome-happens at who content (outcomes.NoCall, t) same = Evicts at who content refl (quiet (Datagram at who content) Silent refl refl (λ k. refl)) same
+  outcome-happens at who content (outcomes.Reply reply began, t) same = Evicts at who content refl (quiet (Datagram at who content) (Replied reply) refl refl (λ k. refl)) same
+  outcome-happens at who content (outcomes.Forwarded, t) same = Evicts at who content refl (quiet (Datagram at who content) Forwarded refl refl (λ k. refl)) same
+  outcome-happens at who content (outcomes.Silent, t) same = Evicts at who content refl (quiet (Datagram at who content) Silent refl refl (λ k. refl)) same
 
   served-connections : (at : ℕ) (caller : Caller) (content : List ℕ) → (serve (at_moment at s) caller content).1.connections ≡ evict (crowd_at s at caller content) s.connections
   unfolding serve
@@ -214,8 +215,8 @@ module _ (s : State) where
       after caller = let x : Told × State = tell caller (outcome_at_end message ended) (record (at_fresh_moment at s) { ledger = l }) in (Some x.0, x.1)
 
       by_caller : (caller : Caller) → ended.forward.caller ≡ caller → Happens event (show (after caller))
-      by_caller (Udp peer) e = Stays (shows.is_quiet _) (shows.leaves _)
-      by_caller (Tcp id peer) e =
+      by_caller (Udp who) e = Stays (shows.is_quiet _) (shows.leaves _)
+      by_caller (Tcp id who) e =
           let of : is_connection id ended.forward.caller ≡ true = ap (is_connection id) e ∙ eq-eqb id id refl in
           Tells at id (outcome_at_end message ended) is (shows.is_quiet _) (told-final message ended)
           (told id ∙ ap (λ (b : Bool). cond b (Some (outcome_at_end message ended)) None) of) (there ended refl id of) (shows.leaves _)
@@ -234,23 +235,23 @@ module _ (s : State) where
       after caller = tell caller (outcome_at_end [] (end_of e)) (record (at_fresh_moment at s) { ledger = ledger })
 
       by_caller : (caller : Caller) → e.forward.caller ≡ caller → Happens (Expire at) (show_expired (expired_as (Some (after caller).0, (after caller).1)))
-      by_caller (Udp peer) same = Stays (told-quiet (Expire at) (after (Udp peer)).1.reply (after (Udp peer)).0) refl
-      by_caller (Tcp id peer) same =
+      by_caller (Udp who) same = Stays (told-quiet (Expire at) (after (Udp who)).1.reply (after (Udp who)).0) refl
+      by_caller (Tcp id who) same =
           let of : is_connection id e.forward.caller ≡ true = ap (is_connection id) same ∙ eq-eqb id id refl in
-          Tells at id (outcome_at_end [] (end_of e)) refl (told-quiet (Expire at) (after (Tcp id peer)).1.reply (after (Tcp id peer)).0) (told-final [] (end_of e))
+          Tells at id (outcome_at_end [] (end_of e)) refl (told-quiet (Expire at) (after (Tcp id who)).1.reply (after (Tcp id who)).0) (told-final [] (end_of e))
           (due-told at id e found ∙ ap (λ (b : Bool). cond b (Some (outcome_at_end [] (end_of e))) None) of)
           (find-any (is_due (max s.clock at)) (is_of_connection id) s.ledger.forwards.all e found of) refl
 
   pub happening : (event : Event) → Happening s event (step s event).0 (step s event).1.connections
   unfolding step open_connection open_in_table pending gave close_connection close_in_table datagram sent_call forward_reply
-  happening (Open at peer) = open-happens at peer (number_for s.setting.limits.conns s.connections) refl
+  happening (Open at who) = open-happens at who (number_for s.setting.limits.conns s.connections) refl
   happening (Bytes at id piece) = bytes-happen at id piece (bytes s at id piece) (arriving s at id piece)
   happening (Pending id) = pending-happens id (pending s id)
   happening (Gave at id n) = gave-happens at id n (live_connection id s.connections.all) refl
   happening (Closed id) = close-happens id (is_there id s.connections) refl
   happening NextLost = Stays (quiet NextLost (LostIs (next_lost s)) refl refl (λ k. refl)) refl
-  happening (Datagram at peer content) =
-      outcome-happens at peer content (serve (at_moment at s) (Udp peer) content) (served-connections at (Udp peer) content)
+  happening (Datagram at who content) =
+      outcome-happens at who content (serve (at_moment at s) (Udp who) content) (served-connections at (Udp who) content)
   happening Unsent = Stays (quiet Unsent (UnsentIs (unsent_call s)) refl refl (λ k. refl)) refl
   happening (Sent number) = sent-happens number (can_be_sent number s.ledger.forwards)
   happening (Forward at from message) =
@@ -276,13 +277,13 @@ module _ (s : State) where
   unfolding step forward_reply expire
   tells (Forward at from message) id said told = told-to (Forward at from message) at message id said (target_replied s.setting.first_xid (max s.clock at) from message s.ledger) show_end refl (replied-there s (max s.clock at) from message) (λ x u. refl) told
   tells (Expire at) id said told = told-to (Expire at) at [] id said (fell_due (max s.clock at) s.ledger) (λ r. show_expired (expired_as r)) refl (due-there s (max s.clock at)) (λ x u. refl) told
-  tells (Open at peer) id said told = absurd cc
+  tells (Open at who) id said told = absurd cc
   tells (Bytes at k piece) id said told = absurd cc
   tells (Pending k) id said told = absurd cc
   tells (Gave at k n) id said told = absurd cc
   tells (Closed k) id said told = absurd cc
   tells NextLost id said told = absurd cc
-  tells (Datagram at peer content) id said told = absurd cc
+  tells (Datagram at who content) id said told = absurd cc
   tells Unsent id said told = absurd cc
   tells (Sent number) id said told = absurd cc
 

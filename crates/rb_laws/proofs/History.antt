@@ -2,7 +2,7 @@
 use Rattle.std.proofs.Common.{◌≡◌, ℕ, Bool, true, false, cond, Option, Some, None, List, [], ◌∷◌, ◌++◌, refl, sym, ap, subst, ◌∙◌, append-nil, append_assoc}
 use Rattle.rb_rpc.specs.declared.call.CallHead.{CallHead}
 use Rattle.rb_rpc.specs.declared.caller.Caller.TheVariants.{Udp}
-use Rattle.rb_address.specs.declared.peer.Peer.{Peer}
+use Rattle.rb_uaddr.specs.declared.address.Uaddr.{Uaddr}
 use Rattle.rb_rpc.specs.declared.caller.Kind.{Kind}
 use Rattle.rb_rpc.specs.declared.caller.Kind.TheVariants.{Callit2, Callit3, Bcast, Indirect}
 use Rattle.rb_feed.specs.Feeds.{arguments_of}
@@ -28,7 +28,7 @@ use Rattle.rb_proto.specs.Ledger.{Ledger, rows_in, version_of, with_call_noted}
 use Rattle.rb_address.specs.Netids.{transport_of_protocol}
 use Rattle.rb_proto.specs.Results.{result_bytes}
 use Rattle.rb_proto.specs.Answers.{accepts_row, set_row, accepts_removal, removal_of, unset_rows, change_if, port_on, getport, getaddr, getversaddr, answer_to, answer, tell_done}
-use Rattle.rb_proto.specs.Forwarding.{outcome_note, peer_to_forward, forward_to, forward_call, end_notes, target_replied, fell_due, caller_dropped, call_sent}
+use Rattle.rb_proto.specs.Forwarding.{outcome_note, address_asked, forward_to, forward_call, end_notes, target_replied, fell_due, caller_dropped, call_sent}
 use Rattle.rb_model.specs.declared.message.Message.{Message}
 use Rattle.rb_model.specs.declared.message.Message.TheVariants as says
 use Rattle.rb_model.specs.Calls.{message_of, outcome, reply_with}
@@ -68,13 +68,13 @@ unset-noted : (context : Context) (head : CallHead) (prog vers : ℕ) (o : Optio
 unfolding unset_rows
 unset-noted context head prog vers None l = sym (append-nil l.history)
 unset-noted context head prog vers (Some which) l =
-    change-noted (removal_of head prog vers which) (WasUnset (version_of head.vers)) l (accepts_removal context l (removal_of head prog vers which))
+    change-noted (removal_of context head prog vers which) (WasUnset (version_of head.vers)) l (accepts_removal context l (removal_of context head prog vers which))
 
 getport-noted : (head : CallHead) (m : Mapping) (l : Ledger) (o : Option Transport) → Notes l (getport_notes head m (rows_in l) o) (port_on head m o l).1
 getport-noted head m l None = sym (append-nil l.history)
 getport-noted head m l (Some transport) = refl
 
-forward-noted : (context : Context) (xid : ℕ) (kind : Kind) (remote : RemoteCall) (args : List ℕ) (o : Option Peer) (l : Ledger)
+forward-noted : (context : Context) (xid : ℕ) (kind : Kind) (remote : RemoteCall) (args : List ℕ) (o : Option Uaddr) (l : Ledger)
     → Notes l (failure_notes (reply_with context xid (forward_to context xid kind remote args o l)).0 (outcome_note kind context.caller remote.prog remote.vers remote.proc false)) (forward_to context xid kind remote args o l).1
 forward-noted context xid kind remote args None l = refused kind
   where
@@ -107,7 +107,7 @@ answer-noted context head (requests.Void procedure) arguments l = record { notes
 answer-noted context head (requests.Uaddr2taddr text) arguments l = record { notes = sym (append-nil l.history) }
 answer-noted context head (requests.Taddr2uaddr netbuf) arguments l = record { notes = sym (append-nil l.history) }
 answer-noted context head (requests.Forward kind remote) arguments l =
-    record { notes = forward-noted context head.xid kind remote (args_of remote arguments) (peer_to_forward remote.prog remote.vers (rows_in l)) l }
+    record { notes = forward-noted context head.xid kind remote (args_of remote arguments) (address_asked context remote (rows_in l)) l }
 
 outcome-noted : (context : Context) (message : Message) (arguments : List ℕ) (l : Ledger)
     → Notes l (notes_of context message (outcome context message arguments l).0 (rows_in l)) (outcome context message arguments l).1
@@ -129,7 +129,7 @@ message-noted s (Some m) =
 
 left-noted : (s : State) (event : Event) → Notes s.ledger (notes_by s event) (ledger_left s event)
 unfolding target_replied fell_due caller_dropped call_sent
-left-noted s (Open now peer) = sym (append-nil s.ledger.history)
+left-noted s (Open now who) = sym (append-nil s.ledger.history)
 left-noted s (Bytes now id piece) = message-noted s (record_on now id piece (live_connection id s.connections.all))
 left-noted s (Pending id) = sym (append-nil s.ledger.history)
 left-noted s (Gave now id n) = sym (append-nil s.ledger.history)
@@ -139,7 +139,7 @@ left-noted s (Closed id) = by_test (is_there id s.connections)
     by_test true = refl
     by_test false = sym (append-nil s.ledger.history)
 left-noted s NextLost = sym (append-nil s.ledger.history)
-left-noted s (Datagram now peer content) = message-noted s (Some (record { now = now; caller = Udp peer; content = content }))
+left-noted s (Datagram now who content) = message-noted s (Some (record { now = now; caller = Udp who; content = content }))
 left-noted s Unsent = sym (append-nil s.ledger.history)
 left-noted s (Sent number) = by_test (can_be_sent number s.ledger.forwards)
   where

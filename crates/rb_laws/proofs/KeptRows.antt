@@ -94,7 +94,7 @@ own-there test all_pass (row ∷ own) = rw (all_pass row) (ap suc (own-there tes
 abbrev pub total : List Connection → List Row → List Change → ℕ
 total all own changes = length (filter (counts all) (all_slots own changes))
 
-total-parts : (all : List Connection) (own : List Row) (changes : List Change) → total all own changes ≡ length own + length (filter (counts all) (slots_by 0 changes))
+pub total-parts : (all : List Connection) (own : List Row) (changes : List Change) → total all own changes ≡ length own + length (filter (counts all) (slots_by 0 changes))
 total-parts all own changes = grind (arith, common_steps, filter-append, length-append, own-there)
 
 pub total-is : (all : List Connection) (l : Ledger) → total all l.own l.changes ≡ length (rows_in l) + length (needed_removals all l)

@@ -1,18 +1,18 @@
 -- In each state that a run reaches, the live rows and the kept ones are together no more than there may be.
 use Rattle.std.specs.Prelude.{take, ⊤}
 use Rattle.std.specs.List.{list_any}
-use Rattle.std.proofs.Common.{◌≡◌, ◌≤◌, ◌<◌, ℕ, ◌+◌, max, Bool, true, false, cond, nat_lt, eqb, Option, Some, None, Result, Ok, Err, List, [], ◌∷◌, ◌++◌, length, map, refl, sym, ap, ◌∙◌, append-nil, arith}
+use Rattle.std.proofs.Common.{◌≡◌, ◌≤◌, ◌<◌, ℕ, ◌+◌, max, Bool, true, false, cond, nat_lt, eqb, Option, Some, None, Result, Ok, Err, List, [], ◌∷◌, ◌++◌, length, map, refl, sym, ap, subst, ◌∙◌, append-nil, arith}
 use Rattle.std.proofs.lemmas.Bool.{ltb-true, ltb-false}
 use Rattle.std.proofs.lemmas.Grind.{common_steps}
 use Rattle.rb_rpc.specs.declared.call.CallHead.{CallHead}
-use Rattle.rb_address.specs.declared.peer.Peer.{Peer}
+use Rattle.rb_address.specs.declared.who.Who.{Who}
 use Rattle.rb_rpc.specs.declared.caller.Caller.{Caller}
 use Rattle.rb_rpc.specs.declared.caller.Caller.TheVariants.{Tcp, Udp}
 use Rattle.rb_rpc.specs.Records.{data_of}
 use Rattle.rb_feed.specs.Feeds.{arguments_of}
 use Rattle.rb_registry.specs.declared.row.Row.{Row}
 use Rattle.rb_registry.specs.declared.row.Which.{Which}
-use Rattle.rb_registry.specs.declared.row.Owner.{Owner}
+use Rattle.rb_address.specs.declared.who.Owner.{Owner}
 use Rattle.rb_registry.specs.Rows.Change.{Added, Removed}
 use Rattle.rb_registry.specs.Rows.{Change}
 use Rattle.rb_stats.specs.Statistics.Note.{WasSet, WasUnset}
@@ -26,18 +26,20 @@ use Rattle.rb_arguments.specs.declared.procedure.RpcbProcedure.TheVariants as rp
 use Rattle.rb_arguments.specs.declared.remote.RemoteCall.{RemoteCall}
 use Rattle.rb_arguments.specs.declared.request.Request.{Request}
 use Rattle.rb_arguments.specs.declared.request.Request.TheVariants as requests
-use Rattle.rb_proto.specs.Answers.{accepts, accepts_row, accepts_removal, adds, adds_row, row_asked, row_to_set, removal_of, change_if, set_row, unset_rows, getport, getaddr, getversaddr, answer_to, answer}
-use Rattle.rb_proto.specs.Callers.{own_rows, owner_of}
+use Rattle.rb_proto.specs.Answers.{owner_in, accepts, accepts_row, accepts_removal, adds, adds_row, row_asked, row_to_set, removal_of, change_if, set_row, unset_rows, getport, getaddr, getversaddr, answer_to, answer}
+use Rattle.rb_proto.specs.Callers.{own_rows}
+use Rattle.rb_proto.specs.declared.listener.Listener.{Listener}
 use Rattle.rb_proto.specs.Forwarding.{forward_call, target_replied, fell_due, caller_dropped, call_sent}
 use Rattle.rb_proto.specs.Ledger.{Ledger, rows_in, version_of, with_call_noted}
 use Rattle.rb_model.specs.declared.message.Message.{Message}
 use Rattle.rb_model.specs.declared.message.Message.TheVariants as says
+use Rattle.rb_model.specs.declared.types.Limits.{Limits}
 use Rattle.rb_model.specs.declared.types.CoreFault.{CoreFault}
 use Rattle.rb_model.specs.declared.types.CoreFault.TheVariants.{Gone}
 use Rattle.rb_model.specs.declared.types.Told.{Told}
 use Rattle.rb_model.specs.Calls.{Outcome, message_of, outcome}
 use Rattle.rb_model.specs.Calls.Outcome.{NoCall, Reply, Forwarded, Silent}
-use Rattle.rb_model.specs.State.{State, Connection, Connections, at_moment}
+use Rattle.rb_model.specs.State.{Setting, State, opening, Connection, Connections, at_moment}
 use Rattle.rb_model.specs.Connections.{change_first, is_live, live_connection, with_given, give, keep_reading, settle, on_found, number_for, opening_as, open_in_table, is_there, without_number, close_in_table}
 use Rattle.rb_model.specs.Losses.{asks_room, list_stamps, removals_in_the_way, evict_early, is_needed_for, needed_removals, lose, removals_by, expire_first}
 use Rattle.rb_model.specs.Ending.{outcome_at_end, tell_end, at_fresh_moment, expire_connection, expired_as, forward_reply, expire}
@@ -50,7 +52,7 @@ use Rattle.rb_laws.proofs.Crowding.{none_evicted, not_crowded, crowded}
 use Rattle.rb_laws.proofs.EntriesKept.{after-setting}
 use Rattle.rb_laws.proofs.Happenings.{Arriving, arriving}
 use Rattle.rb_laws.proofs.Happenings.Arriving.{NotThere, NotTaken, ReadOn, Ended}
-use Rattle.rb_laws.proofs.KeptRows.{retained_by, KeepsLess, KeepsNoMore, same-kept, changed-kept, mapped-kept, filtered-kept, total, total-is, total-more, Least, least-of, none-keep, one-fewer}
+use Rattle.rb_laws.proofs.KeptRows.{retained_by, KeepsLess, KeepsNoMore, same-kept, changed-kept, mapped-kept, filtered-kept, total, total-parts, total-is, total-more, Least, least-of, none-keep, one-fewer}
 
 -- ---- what a call leaves behind
 
@@ -72,10 +74,10 @@ set-effect context head (Some row) l = by_test (accepts context (rows_in l) (len
 unset-effect : (context : Context) (head : CallHead) (prog vers : ℕ) (o : Option Which) (l : Ledger) → Effect false l (unset_rows context head prog vers o l).1
 unfolding unset_rows
 unset-effect context head prog vers None l = Same refl refl
-unset-effect context head prog vers (Some which) l = by_test (accepts_removal context l (removal_of head prog vers which))
+unset-effect context head prog vers (Some which) l = by_test (accepts_removal context l (removal_of context head prog vers which))
   where
-    by_test : (b : Bool) → Effect false l (change_if b (removal_of head prog vers which) (WasUnset (version_of head.vers)) l).1
-    by_test true = Unset prog vers which (owner_of head.cred) refl refl
+    by_test : (b : Bool) → Effect false l (change_if b (removal_of context head prog vers which) (WasUnset (version_of head.vers)) l).1
+    by_test true = Unset prog vers which (owner_in context head) refl refl
     by_test false = Same refl refl
 
 getport-effect : (head : CallHead) (m : Mapping) (l : Ledger) → Effect false l (getport head m l).1
@@ -87,7 +89,7 @@ unfolding forward_call
 forward-effect context xid kind remote arguments l = grind arith
 
 answer-effect : (context : Context) (head : CallHead) (request : Request) (arguments : List ℕ) (l : Ledger)
-    → Effect (adds context (rows_in l) (length l.changes) (row_asked head request)) l (answer_to context head request arguments l).1
+    → Effect (adds context (rows_in l) (length l.changes) (row_asked context head request)) l (answer_to context head request arguments l).1
 unfolding getaddr getversaddr
 answer-effect context head (requests.Mapping mappings.Set m) arguments l = set-effect context head _ l
 answer-effect context head (requests.Mapping mappings.Unset m) arguments l = unset-effect context head m.prog m.vers _ l
@@ -110,8 +112,8 @@ outcome-effect context (says.Garbage head) arguments l = Same refl refl
 outcome-effect context (says.Asked call) arguments l =
     by_effect (answer_to context call.head call.request arguments (with_call_noted call.head l)).1 (answer-effect context call.head call.request arguments (with_call_noted call.head l))
   where
-    by_effect : (new : Ledger) → Effect (adds context (rows_in l) (length l.changes) (row_asked call.head call.request)) (with_call_noted call.head l) new
-        → Effect (adds context (rows_in l) (length l.changes) (row_asked call.head call.request)) l new
+    by_effect : (new : Ledger) → Effect (adds context (rows_in l) (length l.changes) (row_asked context call.head call.request)) (with_call_noted call.head l) new
+        → Effect (adds context (rows_in l) (length l.changes) (row_asked context call.head call.request)) l new
     by_effect new (Same own same) = Same own same
     by_effect new (Set row asks own same) = Set row asks own same
     by_effect new (Unset prog vers which owner own same) = Unset prog vers which owner own same
@@ -245,14 +247,14 @@ module _ (s : State) (fits : Fits s) where
       rw is (one-fits s fits id (keep_reading (max s.clock now) (fed ++ piece)) (reading-keeps (length s.ledger.changes) (max s.clock now) (fed ++ piece)))
   bytes-fit now id piece r (Ended c fed n there feeds some is) =
       let content : List ℕ = data_of (take n (fed ++ piece)) in
-      let u : Outcome × State = serve (at_moment now s) (Tcp id c.peer) content in
-      rw is (one-fits u.1 (serve-fits now (Tcp id c.peer) content) id (settle (max s.clock now) u.0) (settled-keeps (length u.1.ledger.changes) (max s.clock now) u.0 (serve-stamped now (Tcp id c.peer) content)))
+      let u : Outcome × State = serve (at_moment now s) (Tcp id c.who) content in
+      rw is (one-fits u.1 (serve-fits now (Tcp id c.who) content) id (settle (max s.clock now) u.0) (settled-keeps (length u.1.ledger.changes) (max s.clock now) u.0 (serve-stamped now (Tcp id c.who) content)))
 
   gave-fits : (now id n : ℕ) (o : Option Connection) → Fits (output_or show_done (unless_refused now s (on_found id (give (max s.clock now) n) s.connections o))).1
   gave-fits now id n o = grind (arith, common_steps, one-fits, giving-keeps)
 
-  opened-fits : (now : ℕ) (peer : Peer) (r : Result ℕ CoreFault) → Fits (output_or Opened (unless_refused now s (opening_as peer (max s.clock now) s.connections r))).1
-  opened-fits now peer r = grind (arith, common_steps)
+  opened-fits : (now : ℕ) (who : Who) (r : Result ℕ CoreFault) → Fits (output_or Opened (unless_refused now s (opening_as who (max s.clock now) s.connections r))).1
+  opened-fits now who r = grind (arith, common_steps)
 
   closed-fits : (id : ℕ) (b : Bool) → Fits (output_or show_done (dropped_with s id (cond b (Ok tt, without_number id s.connections) (Err Gone, s.connections)))).1
   unfolding without_number caller_dropped
@@ -281,13 +283,13 @@ module _ (s : State) (fits : Fits s) where
 
   step-fits : (event : Event) → Fits (step s event).1
   unfolding step open_connection open_in_table gave close_connection close_in_table datagram sent_call forward_reply expire target_replied fell_due
-  step-fits (Open now peer) = opened-fits now peer (number_for s.setting.limits.conns s.connections)
+  step-fits (Open now who) = opened-fits now who (number_for s.setting.limits.conns s.connections)
   step-fits (Bytes now id piece) = bytes-fit now id piece (bytes s now id piece) (arriving s now id piece)
   step-fits (Pending id) = output-fits IsPending (pending s id) s fits
   step-fits (Gave now id n) = either-fits (is_too_much n (pending s id)) (TooMuch, s) (output_or show_done (gave s now id n)) fits (gave-fits now id n (live_connection id s.connections.all))
   step-fits (Closed id) = closed-fits id (is_there id s.connections)
   step-fits NextLost = fits
-  step-fits (Datagram now peer content) = outcome-fits (serve (at_moment now s) (Udp peer) content) (serve-fits now (Udp peer) content)
+  step-fits (Datagram now who content) = outcome-fits (serve (at_moment now s) (Udp who) content) (serve-fits now (Udp who) content)
   step-fits Unsent = fits
   step-fits (Sent number) = sent-fits number (can_be_sent number s.ledger.forwards)
   step-fits (Forward now from message) = end-fits _ (told-fits now message (target_replied s.setting.first_xid (max s.clock now) from message s.ledger) refl refl)
@@ -297,7 +299,12 @@ after-fits : (s : State) (events : List Event) → Fits s → Fits (after s even
 after-fits s [] fits = fits
 after-fits s (event ∷ events) fits = after-fits (step s event).1 events (step-fits s fits event)
 
--- The own rows are six.
-pub reached-fits : (s : State) → IsReached s → 6 ≤ s.setting.limits.rows → Fits s
-unfolding own_rows
-reached-fits s r few = grind (arith, common_steps, after-setting, after-fits)
+opening-fits : (limits : Limits) (listener : Listener) (first_xid now : ℕ) → length (own_rows listener) ≤ limits.rows → Fits (opening limits listener first_xid now)
+opening-fits limits listener first_xid now few = omega (arith, few, total-parts [] (own_rows listener) [])
+
+pub reached-fits : (s : State) → IsReached s → length (own_rows s.setting.listener) ≤ s.setting.limits.rows → Fits s
+reached-fits s r few =
+    let start : State = opening r.limits r.listener r.first_xid r.now in
+    let setting : s.setting ≡ start.setting = ap (λ (t : State). t.setting) r.is ∙ after-setting start r.events in
+    let few_own = subst (λ (x : Setting). length (own_rows x.listener) ≤ x.limits.rows) setting few in
+    subst Fits (sym r.is) (after-fits start r.events (opening-fits r.limits r.listener r.first_xid r.now few_own))

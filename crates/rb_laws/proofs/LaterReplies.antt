@@ -3,6 +3,7 @@ use Rattle.std.specs.Prelude.{find, option_map}
 use Rattle.std.proofs.Common.{◌≡◌, ℕ, max, Bool, true, Option, Some, List, [], ◌∷◌, ◌++◌, ap, ◌∙◌, arith}
 use Rattle.std.proofs.lemmas.Grind.{common_steps}
 use Rattle.rb_address.specs.declared.peer.Peer.{Peer}
+use Rattle.rb_address.specs.declared.who.Who.{Who}
 use Rattle.rb_rpc.specs.declared.caller.Caller.{Caller}
 use Rattle.rb_rpc.specs.declared.caller.Caller.TheVariants.{Udp}
 use Rattle.rb_forward.specs.declared.types.Outcome as target
@@ -36,32 +37,32 @@ module _ (s : State) (now : ℕ) (message : List ℕ) where
   ends show test outcome found =
       (show (tell_end message (at_fresh_moment now s) (noted_end (option_map (ended_by outcome) found, record s.ledger.forwards { all = without_first test s.ledger.forwards.all }) s.ledger))).0
 
-  shown : (l : Ledger) (said : Outcome) (peer : Peer) → (show_end (Some (tell (Udp peer) said (record (at_fresh_moment now s) { ledger = l })).0, (tell (Udp peer) said (record (at_fresh_moment now s) { ledger = l })).1)).0 ≡ later_output peer said
-  shown l said peer = grind arith
+  shown : (l : Ledger) (said : Outcome) (who : Who) → (show_end (Some (tell (Udp who) said (record (at_fresh_moment now s) { ledger = l })).0, (tell (Udp who) said (record (at_fresh_moment now s) { ledger = l })).1)).0 ≡ later_output who said
+  shown l said who = grind arith
 
-  shown-for : (l : Ledger) (said : Outcome) (caller : Caller) (peer : Peer) → caller ≡ Udp peer
-      → (show_end (Some (tell caller said (record (at_fresh_moment now s) { ledger = l })).0, (tell caller said (record (at_fresh_moment now s) { ledger = l })).1)).0 ≡ later_output peer said
-  shown-for l said caller peer udp = grind (arith, common_steps, shown l said peer)
+  shown-for : (l : Ledger) (said : Outcome) (caller : Caller) (who : Who) → caller ≡ Udp who
+      → (show_end (Some (tell caller said (record (at_fresh_moment now s) { ledger = l })).0, (tell caller said (record (at_fresh_moment now s) { ledger = l })).1)).0 ≡ later_output who said
+  shown-for l said caller who udp = grind (arith, common_steps, shown l said who)
 
-  ended-shown : (test : Entry → Bool) (outcome : target.Outcome) (found : Option Entry) (e : Entry) (peer : Peer) → found ≡ Some e → e.forward.caller ≡ Udp peer
-      → ends show_end test outcome found ≡ later_output peer (outcome_at_end message (ended_by outcome e))
-  ended-shown test outcome found e peer is udp = rw is (shown-for (noted_end (Some (ended_by outcome e), record s.ledger.forwards { all = without_first test s.ledger.forwards.all }) s.ledger).1 (outcome_at_end message (ended_by outcome e)) e.forward.caller peer udp)
+  ended-shown : (test : Entry → Bool) (outcome : target.Outcome) (found : Option Entry) (e : Entry) (who : Who) → found ≡ Some e → e.forward.caller ≡ Udp who
+      → ends show_end test outcome found ≡ later_output who (outcome_at_end message (ended_by outcome e))
+  ended-shown test outcome found e who is udp = rw is (shown-for (noted_end (Some (ended_by outcome e), record s.ledger.forwards { all = without_first test s.ledger.forwards.all }) s.ledger).1 (outcome_at_end message (ended_by outcome e)) e.forward.caller who udp)
 
 replies-told : (s : State) (now : ℕ) (from : Peer) (message : List ℕ)
     → TellsOverUdp (IsReplyTo s.setting.first_xid (max s.clock now) from message) (said_by message) s (Forward now from message)
 unfolding step forward_reply target_replied reply
-replies-told s now from message e rest peer first udp =
+replies-told s now from message e rest who first udp =
     let test : Entry → Bool = counts_for s.setting.first_xid (max s.clock now) from message in
-    ended-shown s now message test (outcome_of message) (find test s.ledger.forwards.all) e peer
+    ended-shown s now message test (outcome_of message) (find test s.ledger.forwards.all) e who
     (first-found (IsReplyTo s.setting.first_xid (max s.clock now) from message) test (reply_means s.setting.first_xid (max s.clock now) from message) (reply_tested s.setting.first_xid (max s.clock now) from message) s.ledger.forwards.all e rest first)
     udp
 
 deadlines-told : (s : State) (now : ℕ) → TellsOverUdp (EntryIsDue (max s.clock now)) said_at_deadline s (Expire now)
 unfolding step expire fell_due due
-deadlines-told s now e rest peer first udp =
+deadlines-told s now e rest who first udp =
     let test : Entry → Bool = is_due (max s.clock now) in
     let found = first-found (EntryIsDue (max s.clock now)) test (due_means (max s.clock now)) (due_tested (max s.clock now)) s.ledger.forwards.all e rest first in
-    rw found (shown-for s now [] (noted_end (Some (ended_by Failed e), record s.ledger.forwards { all = without_first test s.ledger.forwards.all }) s.ledger).1 (said_at_deadline e) e.forward.caller peer udp)
+    rw found (shown-for s now [] (noted_end (Some (ended_by Failed e), record s.ledger.forwards { all = without_first test s.ledger.forwards.all }) s.ledger).1 (said_at_deadline e) e.forward.caller who udp)
 
 pub udp_callers_are_told : (s : State) → UdpCallersAreTold s
 udp_callers_are_told s = record { replies = replies-told s; deadlines = deadlines-told s }

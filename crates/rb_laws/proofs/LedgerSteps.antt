@@ -29,7 +29,7 @@ ledger_from s (Some m) = (outcome (context_in (at_moment m.now s) m.caller) (mes
 
 -- a message is answered, a forwarded call ends or was sent, or nothing changes
 abbrev pub ledger_left : State → Event → Ledger
-ledger_left s (Datagram now peer content) = ledger_from s (Some (record { now = now; caller = Udp peer; content = content }))
+ledger_left s (Datagram now who content) = ledger_from s (Some (record { now = now; caller = Udp who; content = content }))
 ledger_left s (Bytes now id piece) = ledger_from s (record_on now id piece (live_connection id s.connections.all))
 ledger_left s (Forward now from message) = (target_replied s.setting.first_xid (max s.clock now) from message s.ledger).1
 ledger_left s (Expire now) = (fell_due (max s.clock now) s.ledger).1
@@ -51,7 +51,7 @@ unfolding serve_record serve
 bytes-ledger s now id piece None = refl
 bytes-ledger s now id piece (Some c) = by_taking (taking_of c.phase piece)
   where
-    by_taking : (t : Taking) → (when_taken (at_moment now s) id piece c t).1.ledger ≡ ledger_from s (record_in now id c.peer t)
+    by_taking : (t : Taking) → (when_taken (at_moment now s) id piece c t).1.ledger ≡ ledger_from s (record_in now id c.who t)
     by_taking TakesNone = refl
     by_taking (GoesOn fed) = refl
     by_taking (Ends n content) = refl
@@ -92,13 +92,13 @@ expired-ledger (None, t) = by_found (first_due t.clock t.connections)
 
 pub step-ledger : (s : State) (event : Event) → (step s event).1.ledger ≡ ledger_left s event
 unfolding step bytes open_connection gave close_connection close_in_table datagram serve sent_call forward_reply expire
-step-ledger s (Open now peer) = moved-ledger s now Opened _
+step-ledger s (Open now who) = moved-ledger s now Opened _
 step-ledger s (Bytes now id piece) = bytes-ledger s now id piece (live_connection id s.connections.all)
 step-ledger s (Pending id) = shown-ledger s IsPending (pending s id)
 step-ledger s (Gave now id n) = gave-ledger s (is_too_much n (pending s id)) (output_or show_done (gave s now id n)) (moved-ledger s now show_done _)
 step-ledger s (Closed id) = closed-ledger s id (is_there id s.connections)
 step-ledger s NextLost = refl
-step-ledger s (Datagram now peer content) = outcome-ledger (serve (at_moment now s) (Udp peer) content)
+step-ledger s (Datagram now who content) = outcome-ledger (serve (at_moment now s) (Udp who) content)
 step-ledger s Unsent = refl
 step-ledger s (Sent number) = sent-ledger s number (can_be_sent number s.ledger.forwards)
 step-ledger s (Forward now from message) =

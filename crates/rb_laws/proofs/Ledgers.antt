@@ -29,11 +29,11 @@ use Rattle.rb_arguments.specs.declared.procedure.MappingProcedure.TheVariants as
 use Rattle.rb_arguments.specs.declared.procedure.RpcbProcedure.TheVariants as rpcbs
 use Rattle.rb_arguments.specs.declared.request.Request.{Request}
 use Rattle.rb_arguments.specs.declared.request.Request.TheVariants as requests
-use Rattle.rb_proto.specs.Callers.{own_rows}
+use Rattle.rb_proto.specs.Callers.{own_inet6, own_inet, own_local, own_rows}
 use Rattle.rb_proto.specs.Ledger.{Ledger, rows_in, version_of, with_call_noted}
 use Rattle.rb_arguments.specs.declared.mapping.Mapping.{Mapping}
 use Rattle.rb_proto.specs.Netids.{is_address}
-use Rattle.rb_proto.specs.Answers.{comes_from_here, can_be_set, accepts_row, set_row, accepts_removal, removal_of, unset_rows, change_if, getport, getaddr, getversaddr, answer_to, answer}
+use Rattle.rb_proto.specs.Answers.{comes_from_here, can_be_set, has_share, accepts_row, set_row, accepts_removal, removal_of, unset_rows, change_if, getport, getaddr, getversaddr, answer_to, answer}
 use Rattle.rb_proto.proofs.Addresses.{address_short}
 use Rattle.rb_model.specs.declared.types.Told.{Told}
 use Rattle.rb_model.specs.declared.types.CoreFault.TheVariants.{Gone}
@@ -83,26 +83,20 @@ settable-short row e = address_short row.netid row.addr (both _ (is_address row.
 set-grows : (context : Context) (head : CallHead) (o : Option Row) (l : Ledger) → Grows context.limit l (set_row context head o l).1
 unfolding set_row accepts_row
 set-grows context head None l = Same refl refl
-set-grows context head (Some row) l = change-grows context.limit (Added row) (WasSet (version_of head.vers)) l (accepts_row context l row) (λ e. last (comes_from_here context) (can_be_set row) (has_place context.limit (rows_in l) (length l.changes) row) e)
-    (λ e. settable-short row (middle (comes_from_here context) (can_be_set row) (has_place context.limit (rows_in l) (length l.changes) row) e))
+set-grows context head (Some row) l = change-grows context.limit (Added row) (WasSet (version_of head.vers)) l (accepts_row context l row) (λ e. (both (comes_from_here context && can_be_set row && has_share context (rows_in l)) _ e).1)
+    (λ e. settable-short row (middle (comes_from_here context) (can_be_set row) (has_share context (rows_in l)) (both _ (has_place context.limit (rows_in l) (length l.changes) row) e).0))
   where
     middle : (a b c : Bool) → (a && b && c) ≡ true → b ≡ true
     middle true true c e = refl
     middle true false c e = absurd cc
     middle false b c e = absurd cc
 
-    last : (a b c : Bool) → (a && b && c) ≡ true → c ≡ true
-    last true true true e = refl
-    last true true false e = absurd cc
-    last true false c e = absurd cc
-    last false b c e = absurd cc
-
 unset-grows : (context : Context) (head : CallHead) (prog vers : ℕ) (o : Option Which) (l : Ledger) → Grows context.limit l (unset_rows context head prog vers o l).1
 unfolding unset_rows accepts_removal
 unset-grows context head prog vers None l = Same refl refl
 unset-grows context head prog vers (Some which) l =
-    change-grows context.limit (removal_of head prog vers which) (WasUnset (version_of head.vers)) l (accepts_removal context l (removal_of head prog vers which))
-    (λ e. (both (comes_from_here context) (removes_some (rows_in l) (length l.changes) (removal_of head prog vers which)) e).1) (λ e. tt)
+    change-grows context.limit (removal_of context head prog vers which) (WasUnset (version_of head.vers)) l (accepts_removal context l (removal_of context head prog vers which))
+    (λ e. (both (comes_from_here context) (removes_some (rows_in l) (length l.changes) (removal_of context head prog vers which)) e).1) (λ e. tt)
 
 getport-grows : (limit : ℕ) (head : CallHead) (m : Mapping) (l : Ledger) → Grows limit l (getport head m l).1
 unfolding getport
@@ -214,14 +208,14 @@ either s false x y left right = right
 
 step-follows : (s : State) (event : Event) → Follows s (step s event).1
 unfolding step open_connection gave close_connection datagram sent_call forward_reply expire
-step-follows s (Open now peer) = moved-follows s now Opened _
+step-follows s (Open now who) = moved-follows s now Opened _
 step-follows s (Bytes now id piece) = bytes-follow s now id piece (bytes s now id piece) (arriving s now id piece)
 step-follows s (Pending id) = shown-follows s IsPending (pending s id) s (stays s)
 step-follows s (Gave now id n) = either s (is_too_much n (pending s id)) (TooMuch, s) (output_or show_done (gave s now id n)) (stays s) (moved-follows s now show_done _)
 step-follows s (Closed id) = closed-follows s id (close_in_table id s.connections)
 step-follows s NextLost = stays s
-step-follows s (Datagram now peer content) =
-    outcome-follows s (serve (at_moment now s) (Udp peer) content) (serve-follows s now (Udp peer) content)
+step-follows s (Datagram now who content) =
+    outcome-follows s (serve (at_moment now s) (Udp who) content) (serve-follows s now (Udp who) content)
 step-follows s Unsent = stays s
 step-follows s (Sent number) = sent-follows s number (can_be_sent number s.ledger.forwards)
 step-follows s (Forward now from message) = grind (arith, common_steps, replied-ends, end-follows s, tell-follows s now message)
@@ -244,17 +238,33 @@ step-own s event = by_growth (step s event).1.ledger (step-follows s event).grow
 -- ---- what stays so
 
 -- the own rows
-are-own : (listener : Listener) → AreOwn (own_rows listener)
+pub are-own : (listener : Listener) → AreOwn (own_rows listener)
 unfolding own_rows
-are-own listener = refl
+are-own listener = by_parts listener.announced.inet6 listener.announced.inet listener.local
+  where
+    by_parts : (inet6 inet local : Option (List ℕ)) → AreOwn (own_inet6 listener.port inet6 ++ own_inet listener.port inet ++ own_local local)
+    by_parts None None None = refl
+    by_parts None None (Some path) = refl
+    by_parts None (Some host) None = refl
+    by_parts None (Some host) (Some path) = refl
+    by_parts (Some host6) None None = refl
+    by_parts (Some host6) None (Some path) = refl
+    by_parts (Some host6) (Some host) None = refl
+    by_parts (Some host6) (Some host) (Some path) = refl
 
-own-distinct : (listener : Listener) → are_distinct (own_rows listener) ≡ true
+pub own-distinct : (listener : Listener) → are_distinct (own_rows listener) ≡ true
 unfolding own_rows is_row is_on is_netid
-own-distinct listener = refl
-
-six-own : (listener : Listener) → length (own_rows listener) ≡ 6
-unfolding own_rows
-six-own listener = refl
+own-distinct listener = by_parts listener.announced.inet6 listener.announced.inet listener.local
+  where
+    by_parts : (inet6 inet local : Option (List ℕ)) → are_distinct (own_inet6 listener.port inet6 ++ own_inet listener.port inet ++ own_local local) ≡ true
+    by_parts None None None = refl
+    by_parts None None (Some path) = refl
+    by_parts None (Some host) None = refl
+    by_parts None (Some host) (Some path) = refl
+    by_parts (Some host6) None None = refl
+    by_parts (Some host6) None (Some path) = refl
+    by_parts (Some host6) (Some host) None = refl
+    by_parts (Some host6) (Some host) (Some path) = refl
 
 -- what holds of the ledger
 record KeepsLedger (limit : ℕ) (listener : Listener) (l : Ledger) : Type 0 where
@@ -280,8 +290,8 @@ after-keeps s (event ∷ events) k = after-keeps (step s event).1 events (step-k
 opening-keeps : (limits : Limits) (listener : Listener) (first_xid now : ℕ) → KeepsIn (opening limits listener first_xid now)
 opening-keeps limits listener first_xid now = grind arith
 
-eight : (limits : Limits) → are_good limits ≡ true → 6 ≤ limits.rows
-eight limits good = grind arith
+own-fit : (limits : Limits) (listener : Listener) → are_good limits listener ≡ true → length (own_rows listener) ≤ limits.rows
+own-fit limits listener good = grind arith
 
 reached-keeps : (s : State) → IsReached s → KeepsIn s
 reached-keeps s r = grind (arith, common_steps, after-keeps, opening-keeps)
@@ -291,4 +301,4 @@ pub reached-short : (s : State) → IsReached s → (s.ledger.own ≡ own_rows s
 reached-short s r = let k = reached-keeps s r in (k.own, k.short)
 
 pub ledgers_are_well_kept : LedgersAreWellKept
-ledgers_are_well_kept s r = grind (arith, common_steps, own-distinct, are-own, keys_are_distinct, six-own, live_rows_fit, eight, total-is, reached-keeps s r, reached-fits s r)
+ledgers_are_well_kept s r = grind (arith, common_steps, own-distinct, are-own, keys_are_distinct, live_rows_fit, own-fit, total-is, reached-keeps s r, reached-fits s r)

@@ -37,6 +37,7 @@ pub mod Waiting
 pub mod WholeRuns
 pub mod LedgerSteps
 pub mod Changes
+pub mod Callers
 pub mod History
 pub mod Restoring
 pub mod Spelling

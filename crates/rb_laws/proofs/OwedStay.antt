@@ -50,10 +50,10 @@ module _ (s : State) (waits : Await s) (event : Event) (id : ℕ) (c : Connectio
   by_case : (output : Output) (now : Connections) → gives_or_closes id event ≡ false → Happening s event output now → (live_connection id now.all ≡ Some c) ⊎ (lost_in id now.all ≡ true)
   unfolding live_connection keep_reading settle without_number
   by_case output now not_it (Stays q same) = inl (ap (λ (x : Connections). live_connection id x.all) same ∙ there)
-  by_case output now not_it (Evicts at peer content e q same) = in-the-way (crowd_at s at (Udp peer) content) now same
-  by_case output now not_it (Opens at peer e out same) =
+  by_case output now not_it (Evicts at who content e q same) = in-the-way (crowd_at s at (Udp who) content) now same
+  by_case output now not_it (Opens at who e out same) =
       inl (ap (λ (x : Connections). live_connection id x.all) same
-      ∙ find-before (is_live id) s.connections.all c (record { number = s.connections.next; peer = peer; phase = Idle; since = max s.clock at }) there)
+      ∙ find-before (is_live id) s.connections.all c (record { number = s.connections.next; who = who; phase = Idle; since = max s.clock at }) there)
   by_case output now not_it (Reads at k piece d fed e here feeds none out same) =
       inl (changed k (keep_reading (max s.clock at) (fed ++ piece)) now (λ x. refl) (other k d fed here feeds) same)
   by_case output now not_it (Ends at k piece d fed n e here feeds some out same) = grind (arith, common_steps, another-goes-on, other k d fed here feeds)

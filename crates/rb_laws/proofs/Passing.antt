@@ -45,7 +45,7 @@ goes-on s id more t e =
 
 -- the call in the bytes of a record
 abbrev pub call_of : State → ℕ → Connection → List ℕ → Exchange
-call_of s id c bytes = record { content = data_of bytes; said = (serve s (Tcp id c.peer) (data_of bytes)).0 }
+call_of s id c bytes = record { content = data_of bytes; said = (serve s (Tcp id c.who) (data_of bytes)).0 }
 
 -- a record ends
 pub ends : (s : State) (id : ℕ) (more : List ℕ) (t : Session) (n : ℕ) (c : Connection) → first_record (t.unfinished ++ more) ≡ Some n → live_connection id s.connections.all ≡ Some c

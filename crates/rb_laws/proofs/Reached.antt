@@ -95,10 +95,10 @@ SoundIn c = AreSound 0 c.next c.all
 pub happening-sound : (s : State) (event : Event) (output : Output) (now : Connections) → IsSound s → Happening s event output now → SoundIn now
 unfolding without_number
 happening-sound s event output now sound (Stays q same) = subst SoundIn (sym same) sound
-happening-sound s event output now sound (Evicts at peer content is q same) =
-    subst SoundIn (sym same) (mapped (evict_early (crowd_at s at (Udp peer) content)) (evicted-keeps _) 0 s.connections.next s.connections.all sound)
-happening-sound s event output now sound (Opens at peer is out same) =
-    subst SoundIn (sym same) (one_more 0 s.connections.next s.connections.all (record { number = s.connections.next; peer = peer; phase = Idle; since = max s.clock at }) refl tt sound)
+happening-sound s event output now sound (Evicts at who content is q same) =
+    subst SoundIn (sym same) (mapped (evict_early (crowd_at s at (Udp who) content)) (evicted-keeps _) 0 s.connections.next s.connections.all sound)
+happening-sound s event output now sound (Opens at who is out same) =
+    subst SoundIn (sym same) (one_more 0 s.connections.next s.connections.all (record { number = s.connections.next; who = who; phase = Idle; since = max s.clock at }) refl tt sound)
 happening-sound s event output now sound (Reads at id piece c fed is there feeds none out same) =
     subst SoundIn (sym same) (changed id _ (reading-keeps (max s.clock at) (fed ++ piece) none) 0 s.connections.next s.connections.all sound)
 happening-sound s event output now sound (Ends at id piece c fed n is there feeds some out same) = grind (arith, common_steps, settled-keeps, mapped, evicted-keeps, changed id)

@@ -2,6 +2,7 @@
 use Rattle.std.proofs.Common.{◌≤◌, ℕ, List, length, arith}
 use Rattle.std.proofs.lemmas.Grind.{common_steps}
 use Rattle.rb_address.specs.declared.peer.Peer.{Peer}
+use Rattle.rb_address.specs.declared.who.Who.{Who}
 use Rattle.rb_proto.specs.Ledger.{Ledger}
 use Rattle.rb_model.specs.State.{State}
 use Rattle.rb_model.specs.Ending.{at_fresh_moment, forward_reply, expire_connection, expire}
@@ -15,9 +16,9 @@ module _ (s : State) where
   unfolding step
   unsent-shown = grind arith
 
-  pub datagram-shown : (now : ℕ) (peer : Peer) (content : List ℕ) → let after : Output × State = step s (Datagram now peer content) in length after.1.reply ≤ bytes_out (Datagram now peer content) after.0
+  pub datagram-shown : (now : ℕ) (who : Who) (content : List ℕ) → let after : Output × State = step s (Datagram now who content) in length after.1.reply ≤ bytes_out (Datagram now who content) after.0
   unfolding step datagram
-  datagram-shown now peer content = grind arith
+  datagram-shown now who content = grind arith
 
   pub forward-shown : (now : ℕ) (from : Peer) (message : List ℕ) → let after : Output × State = step s (Forward now from message) in length after.1.reply ≤ bytes_out (Forward now from message) after.0
   unfolding step forward_reply

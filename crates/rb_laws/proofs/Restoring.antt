@@ -1,8 +1,9 @@
 -- The calls that set the rows of a state again bring them back.
-use Rattle.std.specs.Prelude.{All}
-use Rattle.std.specs.List.{AllByRecursion, list_any}
-use Rattle.std.proofs.Common.{◌≡◌, ℕ, zero, suc, ◌<◌, ◌≤◌, lit<, Bool, true, false, cond, Some, None, List, [], ◌∷◌, ◌++◌, length, map, get_or, refl, sym, ap, subst, ◌∙◌, append-nil, append_assoc, arith}
-use Rattle.std.proofs.lemmas.Bool.{and_parts}
+use Rattle.std.specs.Prelude.{All, nat_lt}
+use Rattle.std.specs.List.{AllByRecursion, list_any, list_all}
+use Rattle.std.proofs.Common.{◌≡◌, ℕ, zero, suc, ◌+◌, ◌==◌, ◌<◌, ◌≤◌, lit<, Bool, true, false, cond, not, ◌&&◌, Some, None, List, [], ◌∷◌, ◌++◌, length, map, get_or, refl, sym, ap, subst, ◌∙◌, append-nil, append_assoc, length-append, arith}
+use Rattle.std.proofs.lemmas.Bool.{and_parts, not-true, eqb-true}
+use Rattle.std.proofs.lemmas.List.Folds.{list_any-append}
 use Rattle.std.proofs.Math.Seq.{drop-append_seam}
 use Rattle.std.proofs.lemmas.List.Elements.{All-nil, All-head, All-tail, All-same, All-push, All-cons}
 use Rattle.rb_xdr.specs.Xdr.{IsContent, boolean}
@@ -14,12 +15,13 @@ use Rattle.rb_rpc.proofs.Calls.{written_again}
 use Rattle.rb_feed.specs.Feeds.{arguments_of}
 use Rattle.rb_address.specs.declared.netid.Netid.{Netid}
 use Rattle.rb_address.specs.declared.netid.Netid.TheVariants.{Tcp, Udp as UdpNetid, Tcp6, Udp6, Local}
-use Rattle.rb_registry.specs.declared.row.Owner.{Owner}
-use Rattle.rb_registry.specs.declared.row.Owner.TheVariants.{Unknown, Uid}
+use Rattle.rb_address.specs.declared.who.Owner.{Owner}
+use Rattle.rb_address.specs.declared.who.Owner.TheVariants.{Unknown, Uid}
 use Rattle.rb_registry.specs.declared.row.Row.{Row}
-use Rattle.rb_registry.specs.Rows.{Change, covers, left_by, live, has_place, are_distinct, is_row, is_on}
+use Rattle.rb_registry.specs.Registry.{AreOwn}
+use Rattle.rb_registry.specs.Rows.{Change, rpcb_prog, covers, left_by, live, has_place, are_distinct, is_of_key, is_row, is_on, is_change_left}
 use Rattle.rb_address.specs.Hosts.{is_loopback}
-use Rattle.rb_address.specs.Netids.{netid_text, is_netid, netid_named}
+use Rattle.rb_address.specs.Netids.{netid_text, netid_named}
 use Rattle.rb_registry.specs.Rows.Change.{Added, Removed}
 use Rattle.rb_registry.specs.Laws.{is_accepted, are_accepted}
 use Rattle.rb_registry.proofs.SetAgain.{all_left, rows_are_set_again}
@@ -31,11 +33,11 @@ use Rattle.rb_arguments.specs.Grammar.{Asks}
 use Rattle.rb_arguments.proofs.Requests.{asked_request}
 use Rattle.rb_proto.specs.declared.call.Call.{Call}
 use Rattle.rb_proto.specs.declared.context.Context.{Context}
-use Rattle.rb_proto.specs.Callers.{is_local, owner_of, own_rows}
+use Rattle.rb_proto.specs.Callers.{is_local, owner_named, own_rows}
 use Rattle.rb_proto.specs.Results.{result_bytes}
 use Rattle.rb_proto.specs.declared.listener.Listener.{Listener}
 use Rattle.rb_proto.specs.Ledger.{Ledger, rows_in, with_call_noted}
-use Rattle.rb_proto.specs.Answers.{comes_from_here, can_be_set, accepts_row, set_row, row_of_rpcb, answer}
+use Rattle.rb_proto.specs.Answers.{comes_from_here, owner_in, can_be_set, has_share, accepts_row, set_row, row_of_rpcb, answer}
 use Rattle.rb_model.specs.declared.message.Message.{Message}
 use Rattle.rb_model.specs.declared.message.Message.TheVariants as says
 use Rattle.rb_model.specs.declared.types.Limits.{Limits}
@@ -45,7 +47,7 @@ use Rattle.rb_model.specs.Step.{Event, context_in, serve, datagram, step, run, a
 use Rattle.rb_model.specs.ChangeLaws.{credential_for, MayBeMade, ChangesAtMostOnce, set_rows, RowsCanBeSet, IsSpelled, this_machine, set_head, rpcb_for, set_bytes, set_call, set_calls, SaysTrue, Sets, kept_calls, opened_again}
 use Rattle.rb_model.specs.ChangeLaws.ChangesAtMostOnce.{Same, OneMore}
 use Rattle.rb_laws.proofs.Grammar.{by_verdict_again}
-use Rattle.rb_laws.proofs.Ledgers.{settable-short, step-own, step-setting, ledgers_are_well_kept}
+use Rattle.rb_laws.proofs.Ledgers.{settable-short, step-own, step-setting, are-own, own-distinct, ledgers_are_well_kept}
 use Rattle.rb_laws.proofs.Changes.{shown-replied, at-most-once}
 use Rattle.rb_laws.proofs.LedgerSteps.{step-ledger}
 
@@ -102,27 +104,34 @@ named Tcp6 = refl
 named Udp6 = refl
 named Local = refl
 
-owned : (owner : Owner) → owner_of (credential_for owner) ≡ owner
+owned : (owner : Owner) → owner_named (credential_for owner) ≡ owner
 owned Unknown = refl
 owned (Uid uid) = refl
 
-row-again : (row : Row) → row_of_rpcb (owner_of (credential_for row.owner)) (rpcb_for row) ≡ Some row
+row-again : (context : Context) (row : Row) → context.caller ≡ Udp this_machine → row_of_rpcb (owner_in context (set_head row)) (rpcb_for row) ≡ Some row
 unfolding row_of_rpcb
-row-again row = rw (named row.netid, owned row.owner) refl
+row-again context row e = rw (e, named row.netid, owned row.owner) refl
 
 from-here : (context : Context) → context.caller ≡ Udp this_machine → comes_from_here context ≡ true
 unfolding comes_from_here is_local is_loopback
 from-here context e = rw e refl
 
+-- such a caller may set rows up to the limit
+shared : (context : Context) (rows : List Row) (count : ℕ) (row : Row) → context.caller ≡ Udp this_machine → has_place context.limit rows count row ≡ true → has_share context rows ≡ true
+unfolding has_share has_place
+shared context rows count row e place =
+    let free = (and_parts (not (list_any (is_of_key row) rows) && nat_lt (length rows) context.limit) (is_change_left count) place).0 in
+    rw e (and_parts (not (list_any (is_of_key row) rows)) (nat_lt (length rows) context.limit) free).1
+
 sets : (context : Context) (row : Row) (arguments : List ℕ) (l : Ledger) → context.caller ≡ Udp this_machine → can_be_set row ≡ true → has_place context.limit (rows_in l) (length l.changes) row ≡ true
     → (outcome context (says.Asked (call_for row)) arguments l).1.changes ≡ l.changes ++ Added row ∷ []
 unfolding outcome answer with_call_noted set_row accepts_row
-sets context row arguments l here may place = rw (row-again row, from-here context here, may, place) refl
+sets context row arguments l here may place = rw (row-again context row here, from-here context here, may, shared context (rows_in l) (length l.changes) row here place, place) refl
 
 told-true : (context : Context) (row : Row) (arguments : List ℕ) (l : Ledger) → context.caller ≡ Udp this_machine → can_be_set row ≡ true → has_place context.limit (rows_in l) (length l.changes) row ≡ true
     → (outcome context (says.Asked (call_for row)) arguments l).0 ≡ outcomes.Reply (success 0 (boolean true)) None
 unfolding outcome answer with_call_noted set_row accepts_row result_bytes
-told-true context row arguments l here may place = rw (row-again row, from-here context here, may, place) refl
+told-true context row arguments l here may place = rw (row-again context row here, from-here context here, may, shared context (rows_in l) (length l.changes) row here place, place) refl
 
 set-step : (t : State) (now : ℕ) (row : Row) → IsSpelled row → can_be_set row ≡ true → has_place t.setting.limits.rows (rows_in t.ledger) (length t.ledger.changes) row ≡ true
     → (step t (set_call now row)).1.ledger.changes ≡ t.ledger.changes ++ Added row ∷ []
@@ -202,49 +211,54 @@ rows_can_be_set s r =
 
 -- ---- from any opening
 
--- the keys of the own rows are the same for every listener
-same-keys : (one other : Listener) (rows : List Row) → are_distinct (own_rows one ++ rows) ≡ are_distinct (own_rows other ++ rows)
-unfolding own_rows is_row is_on is_netid
-same-keys one other rows = refl
+-- no row that can be set has the key of an own row
+none-own : (row : Row) (rows : List Row) → (row.prog == rpcb_prog) ≡ true → All (λ r. can_be_set r ≡ true) rows → list_any (is_of_key row) rows ≡ false
+unfolding can_be_set is_row is_on
+none-own row [] own may = refl
+none-own row (other ∷ rows) own may =
+    let another : (other.prog == rpcb_prog) ≡ false = not-true (other.prog == rpcb_prog) (and_parts (not (other.prog == rpcb_prog)) _ (All-head (λ r. can_be_set r ≡ true) other rows may)).0 in
+    rw (eqb-true row.prog rpcb_prog own, another, none-own row rows own (All-tail (λ r. can_be_set r ≡ true) other rows may)) refl
 
-same-length : (one other : Listener) (rows : List Row) → length (own_rows one ++ rows) ≡ length (own_rows other ++ rows)
-unfolding own_rows
-same-length one other rows = refl
+-- so beside the own rows of each listener they stay distinct
+distinct-beside : (own rows : List Row) → AreOwn own → are_distinct own ≡ true → All (λ r. can_be_set r ≡ true) rows → are_distinct rows ≡ true → are_distinct (own ++ rows) ≡ true
+distinct-beside [] rows are distinct may apart = apart
+distinct-beside (row ∷ own) rows are distinct may apart =
+    let here = and_parts (row.prog == rpcb_prog) (list_all (λ (r : Row). r.prog == rpcb_prog) own) are in
+    let parts = and_parts (not (list_any (is_of_key row) own)) (are_distinct own) distinct in
+    rw (list_any-append (is_of_key row) own rows, not-true (list_any (is_of_key row) own) parts.0, none-own row rows here.0 may) (distinct-beside own rows here.1 parts.1 may apart)
 
-good-limit : (limits : Limits) → are_good limits ≡ true → limits.rows ≤ 4096
-good-limit limits good = grind arith
+-- the rows behind others
+distinct-behind : (own rows : List Row) → are_distinct (own ++ rows) ≡ true → are_distinct rows ≡ true
+distinct-behind [] rows distinct = distinct
+distinct-behind (row ∷ own) rows distinct = distinct-behind own rows (and_parts (not (list_any (is_of_key row) (own ++ rows))) (are_distinct (own ++ rows)) distinct).1
+
+good-limit : (limits : Limits) (listener : Listener) → are_good limits listener ≡ true → limits.rows ≤ 4096
+good-limit limits listener good = grind arith
 
 -- the rows of a state, beside the own rows of another listener
-record Beside (s : State) (listener : Listener) : Type 0 where
-  distinct : are_distinct (own_rows listener ++ set_rows s) ≡ true
-  length_is : length (own_rows listener ++ set_rows s) ≡ length (rows_in s.ledger)
-
-beside : (s : State) → IsReached s → (listener : Listener) → Beside s listener
+beside : (s : State) → IsReached s → (listener : Listener) → are_distinct (own_rows listener ++ set_rows s) ≡ true
 beside s r listener =
     let k = ledgers_are_well_kept s r in
-    record {
-      distinct = same-keys listener s.setting.listener (set_rows s) ∙ ap (λ (own : List Row). are_distinct (own ++ set_rows s)) (sym k.own) ∙ k.distinct;
-      length_is = same-length listener s.setting.listener (set_rows s) ∙ ap (λ (own : List Row). length (own ++ set_rows s)) (sym k.own);
-    }
+    distinct-beside (own_rows listener) (set_rows s) (are-own listener) (own-distinct listener) (rows_can_be_set s r) (distinct-behind s.ledger.own (set_rows s) k.distinct)
 
-leaves-rows : (s : State) → IsReached s → All IsSpelled (set_rows s) → (limits : Limits) → are_good limits ≡ true → length (rows_in s.ledger) ≤ limits.rows → (listener : Listener) (first_xid opened now : ℕ)
+leaves-rows : (s : State) → IsReached s → All IsSpelled (set_rows s) → (limits : Limits) (listener : Listener) → are_good limits listener ≡ true → length (own_rows listener) + length (set_rows s) ≤ limits.rows → (first_xid opened now : ℕ)
     → Leaves (opening limits listener first_xid opened) (set_calls now (set_rows s)) (own_rows listener) (map Added (set_rows s))
-leaves-rows s r are limits good room listener first_xid opened now =
-    let b = beside s r listener in
-    let limit = good-limit limits good in
-    let again = rows_are_set_again limits.rows (own_rows listener) (set_rows s) b.distinct (omega (arith, room, b.length_is)) (omega (arith, limit)) in
+leaves-rows s r are limits listener good room first_xid opened now =
+    let limit = good-limit limits listener good in
+    let again = rows_are_set_again limits.rows (own_rows listener) (set_rows s) (beside s r listener) (omega (arith, room, length-append (own_rows listener) (set_rows s))) (omega (arith, limit)) in
     sets-all (opening limits listener first_xid opened) now (set_rows s) are (rows_can_be_set s r) again.0
 
-pub sets-again : (s : State) → IsReached s → All IsSpelled (set_rows s) → (limits : Limits) → are_good limits ≡ true → length (rows_in s.ledger) ≤ limits.rows → (listener : Listener) (first_xid opened now : ℕ)
+pub sets-again : (s : State) → IsReached s → All IsSpelled (set_rows s) → (limits : Limits) (listener : Listener) → are_good limits listener ≡ true → length (own_rows listener) + length (set_rows s) ≤ limits.rows → (first_xid opened now : ℕ)
     → Sets (opening limits listener first_xid opened) (set_calls now (set_rows s)) (set_rows s)
-sets-again s r are limits good room listener first_xid opened now =
-    let end = leaves-rows s r are limits good room listener first_xid opened now in
+sets-again s r are limits listener good room first_xid opened now =
+    let end = leaves-rows s r are limits listener good room first_xid opened now in
     record { told = end.told; are_set = ap left_by end.changes_are ∙ all_left (set_rows s) }
 
-pub restored : (s : State) → IsReached s → are_good s.setting.limits ≡ true → All IsSpelled (set_rows s) → rows_in (after (opened_again s) (kept_calls s)).ledger ≡ rows_in s.ledger
+pub restored : (s : State) → IsReached s → are_good s.setting.limits s.setting.listener ≡ true → All IsSpelled (set_rows s) → rows_in (after (opened_again s) (kept_calls s)).ledger ≡ rows_in s.ledger
 restored s r good are =
     let k = ledgers_are_well_kept s r in
-    let end = leaves-rows s r are s.setting.limits good (k.fit good) s.setting.listener s.setting.first_xid s.clock s.clock in
+    let room : length (own_rows s.setting.listener) + length (set_rows s) ≤ s.setting.limits.rows = omega (arith, k.fit good, length-append s.ledger.own (set_rows s), ap (λ (own : List Row). length own) k.own) in
+    let end = leaves-rows s r are s.setting.limits s.setting.listener good room s.setting.first_xid s.clock s.clock in
     ap (λ (own : List Row). live own (after (opened_again s) (kept_calls s)).ledger.changes) end.own_is
     ∙ ap (live (own_rows s.setting.listener)) end.changes_are
     ∙ ap (λ (rows : List Row). own_rows s.setting.listener ++ rows) (all_left (set_rows s))

@@ -3,7 +3,7 @@ use Rattle.std.specs.Prelude.{filter}
 use Rattle.std.proofs.Common.{◌≡◌, ℕ, ◌+◌, ◌≤◌, max, Bool, cond, Option, Result, Ok, Err, List, [], ◌∷◌, ◌++◌, length, arith}
 use Rattle.std.proofs.lemmas.List.{length-map}
 use Rattle.std.proofs.lemmas.Grind.{common_steps}
-use Rattle.rb_address.specs.declared.peer.Peer.{Peer}
+use Rattle.rb_address.specs.declared.who.Who.{Who}
 use Rattle.rb_rpc.specs.declared.caller.Caller.{Caller}
 use Rattle.rb_rpc.specs.declared.caller.Caller.TheVariants.{Udp}
 use Rattle.rb_forward.specs.declared.types.Ended.{Ended}
@@ -88,23 +88,23 @@ module _ (s : State) where
 abbrev HasRoom : State → Type 0
 HasRoom s = count s ≤ s.setting.limits.conns
 
-opened-room : (s : State) (now : ℕ) (peer : Peer) → HasRoom s → count (step s (Open now peer)).1 ≤ s.setting.limits.conns
+opened-room : (s : State) (now : ℕ) (who : Who) → HasRoom s → count (step s (Open now who)).1 ≤ s.setting.limits.conns
 unfolding step open_connection open_in_table number_for
-opened-room s now peer few = grind (arith, common_steps)
+opened-room s now who few = grind (arith, common_steps)
 
 within : (s : State) (n : ℕ) → HasRoom s → n ≤ count s → n ≤ s.setting.limits.conns
 within s n few less = omega (arith, few, less)
 
 step-few : (s : State) (event : Event) → HasRoom s → count (step s event).1 ≤ s.setting.limits.conns
 unfolding step bytes gave close_connection close_in_table datagram sent_call forward_reply
-step-few s (Open now peer) few = opened-room s now peer few
+step-few s (Open now who) few = opened-room s now who few
 step-few s (Bytes now id piece) few = within s _ few (bytes-few s now id piece (live_connection id s.connections.all))
 step-few s (Pending id) few = within s _ few (output-few s IsPending (pending s id) s (omega arith))
 step-few s (Gave now id n) few =
     within s _ few (either s (is_too_much n (pending s id)) (TooMuch, s) (output_or show_done (gave s now id n)) (omega arith) (gave-few s now id n (live_connection id s.connections.all)))
 step-few s (Closed id) few = within s _ few (closed-few s id (is_there id s.connections))
 step-few s NextLost few = few
-step-few s (Datagram now peer content) few = within s _ few (outcome-few s (serve (at_moment now s) (Udp peer) content) (serve-few s now (Udp peer) content))
+step-few s (Datagram now who content) few = within s _ few (outcome-few s (serve (at_moment now s) (Udp who) content) (serve-few s now (Udp who) content))
 step-few s Unsent few = few
 step-few s (Sent number) few = within s _ few (sent-few s number (can_be_sent number s.ledger.forwards))
 step-few s (ForwardCame now from message) few = grind (arith, common_steps, within s, end-few s (forward_reply s now from message), told-few s message (at_fresh_moment now s))

@@ -2,6 +2,7 @@
 use Rattle.std.specs.Prelude.{find, map, All}
 use Rattle.std.proofs.Common.{◌≡◌, ◌<◌, ◌≤◌, ℕ, ◌+◌, ◌-◌, max, Bool, true, false, cond, eqb, Option, Some, None, List, [], ◌∷◌, ◌++◌, length, take, drop, refl, sym, ap, subst, ◌∙◌, append_assoc, append-nil, arith}
 use Rattle.std.proofs.Math.Seq.{take-nil, take-append-add}
+use Rattle.std.proofs.lemmas.Option.{same_Some}
 use Rattle.std.proofs.lemmas.List.{take_all, take-append-drop, drop-append-le, length-take, map-append}
 use Rattle.std.proofs.lemmas.List.Elements.{All-nil}
 use Rattle.std.proofs.lemmas.Bool.{eqb-true, eq-eqb}
@@ -91,7 +92,7 @@ all-answered p fed t is fits = subst (λ (b : Bool). AreAnswered b t.calls) (fed
 -- the changed connection is the one that is found
 changed-fits : (id : ℕ) (f : Connection → Connection) (all : List Connection) (c : Connection) (t : Session)
     → IsFeeding id f → find (is_live id) all ≡ Some c → Fits (f c).phase t → FitsIn id (change_first (is_live id) f all) t
-changed-fits id f all c t feeds there fits = grind (arith, common_steps, find-changed)
+changed-fits id f all c t feeds there fits = λ d is. subst (λ (x : Connection). Fits x.phase t) (same_Some (f c) d (sym (find-changed id f feeds all c there) ∙ is)) fits
 
 reading-fits : (clock : ℕ) (all : List ℕ) (c : Connection) (t : Session) → t.unfinished ≡ all → t.given ≡ replies_to t.calls → All is_answered t.calls → Fits (keep_reading clock all c).phase t
 unfolding keep_reading
@@ -384,18 +385,18 @@ module _ (id : ℕ) (s : State) (t : Session) (h : Holds id s.connections t) whe
   by_case event output now goes (Stays q same) none =
       quiet event output now goes (ap (λ (n : ℕ). take n (piece_to id event)) q.no_count) (q.none_given id)
       (subst (λ (x : Connections). FitsIn id x.all t) (sym same) h.live)
-  by_case event output now goes (Evicts at peer content is q same) none =
+  by_case event output now goes (Evicts at who content is q same) none =
       quiet event output now goes (ap (λ (n : ℕ). take n (piece_to id event)) q.no_count) (q.none_given id)
-      (subst (λ (x : Connections). FitsIn id x.all t) (sym same) (evicted-fits id (crowd_at s at (Udp peer) content) s.connections.next s.connections.all t h.sound h.live))
-  by_case event output now goes (Opens at peer is out same) none =
+      (subst (λ (x : Connections). FitsIn id x.all t) (sym same) (evicted-fits id (crowd_at s at (Udp who) content) s.connections.next s.connections.all t h.sound h.live))
+  by_case event output now goes (Opens at who is out same) none =
       subst (λ (o : Output). Holds id now (with_event event o)) (sym out)
-      (quiet event (Opened s.connections.next) now goes refl refl (subst (λ (x : Connections). FitsIn id x.all t) (sym same) (opened-fits id s.connections (record { number = s.connections.next; peer = peer; phase = Idle; since = max s.clock at }) t h refl refl)))
+      (quiet event (Opened s.connections.next) now goes refl refl (subst (λ (x : Connections). FitsIn id x.all t) (sym same) (opened-fits id s.connections (record { number = s.connections.next; who = who; phase = Idle; since = max s.clock at }) t h refl refl)))
   by_case event output now goes (Reads at k piece c fed is there feeds unended out same) none =
       subst (λ (ev : Event). Holds id now (with_event ev output)) (sym is) (subst (λ (o : Output). Holds id now (with_event (Bytes at k piece) o)) (sym out)
       (reads-at at k piece c fed now goes there feeds unended same (eqb k id) refl))
   by_case event output now goes (Ends at k piece c fed n is there feeds some out same) none =
       subst (λ (ev : Event). Holds id now (with_event ev output)) (sym is) (subst (λ (o : Output). Holds id now (with_event (Bytes at k piece) o)) (sym out)
-      (ends-at (crowd_at s at (Tcp k c.peer) (data_of (take n (fed ++ piece)))) at k piece c fed n now goes there feeds some same (eqb k id) refl))
+      (ends-at (crowd_at s at (Tcp k c.who) (data_of (take n (fed ++ piece)))) at k piece c fed n now goes there feeds some same (eqb k id) refl))
   by_case event output now goes (Gives at k n c is there few out same) none =
       subst (λ (ev : Event). Holds id now (with_event ev output)) (sym is) (subst (λ (o : Output). Holds id now (with_event (Gave at k n) o)) (sym out)
       (gives-at at k n c now goes there few same (eqb k id) refl))

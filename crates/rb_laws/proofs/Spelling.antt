@@ -13,6 +13,7 @@ use Rattle.rb_xdr.proofs.Words.{AreBytes-take, AreBytes-drop}
 use Rattle.rb_rpc.specs.declared.call.CallHead.{CallHead}
 use Rattle.rb_rpc.specs.declared.call.Credential.{Credential}
 use Rattle.rb_rpc.specs.declared.call.Credential.TheVariants as credentials
+use Rattle.rb_rpc.specs.declared.caller.Caller.{Caller}
 use Rattle.rb_rpc.specs.declared.caller.Caller.TheVariants.{Udp}
 use Rattle.rb_rpc.specs.Records.{is_last, fragment_end, first_record, data_in, data_of}
 use Rattle.rb_rpc.specs.Grammar.{SaysCaller, IsCaller}
@@ -23,8 +24,10 @@ use Rattle.rb_uaddr.specs.declared.address.Uaddr.TheVariants.{V4}
 use Rattle.rb_uaddr.specs.Uaddr.{dot, port_bytes, any_host, text_of}
 use Rattle.rb_address.specs.declared.netid.Netid.{Netid}
 use Rattle.rb_address.specs.declared.netid.Transport.{Transport}
-use Rattle.rb_registry.specs.declared.row.Owner.{Owner}
-use Rattle.rb_registry.specs.declared.row.Owner.TheVariants.{Unknown, Uid}
+use Rattle.rb_address.specs.declared.who.Owner.{Owner}
+use Rattle.rb_address.specs.declared.who.Owner.TheVariants.{Unknown, Uid}
+use Rattle.rb_address.specs.declared.who.Trust.{Trust}
+use Rattle.rb_address.specs.declared.who.Trust.TheVariants as trusts
 use Rattle.rb_registry.specs.declared.row.Which.{Which}
 use Rattle.rb_registry.specs.declared.row.Row.{Row}
 use Rattle.rb_registry.specs.Rows.{Change}
@@ -40,9 +43,9 @@ use Rattle.rb_arguments.specs.Types.{IsMapping, IsRpcb, rpcb_spelling}
 use Rattle.rb_arguments.proofs.Readings.{rpcb_bounded}
 use Rattle.rb_arguments.specs.Grammar.{SpellsRequest}
 use Rattle.rb_proto.specs.declared.call.Call.{Call}
-use Rattle.rb_proto.specs.Callers.{owner_of}
+use Rattle.rb_proto.specs.Callers.{owner_named, owner_of, who_of}
 use Rattle.rb_proto.specs.Netids.{which_of}
-use Rattle.rb_proto.specs.Answers.{can_be_set, row_of_mapping, row_of_rpcb, removal_of}
+use Rattle.rb_proto.specs.Answers.{can_be_set, row_of_mapping, row_of_rpcb}
 use Rattle.rb_model.specs.declared.message.Message.TheVariants as says
 use Rattle.rb_model.specs.Calls.{Outcome, message_of}
 use Rattle.rb_model.specs.State.{State, Phase, Connection, Connections, opening}
@@ -52,7 +55,7 @@ use Rattle.rb_model.specs.Connections.Taking.{TakesNone, GoesOn, Ends as EndsAt}
 use Rattle.rb_model.specs.Losses.{lose, evict_early}
 use Rattle.rb_model.specs.Step.{Event, Output, step, after}
 use Rattle.rb_model.specs.Step.Event.{Open, Bytes, Pending, Gave, Closed, NextLost, Datagram, Unsent, Sent, Forward, Expire}
-use Rattle.rb_model.specs.ChangeLaws.{change_asked, credential_for, Brought, record_in, record_on, brought_by, ChangesAtMostOnce, set_rows, IsSpelled, BringsBytes, RowsAreSpelled, RowsCanBeSetAgain, KeptRowsAreRestored, set_head, rpcb_for, HasShortCall, KeptCallsAreShort}
+use Rattle.rb_model.specs.ChangeLaws.{change_for, change_asked, credential_for, Brought, record_in, record_on, brought_by, ChangesAtMostOnce, set_rows, IsSpelled, IsTrust, BringsBytes, RowsAreSpelled, RowsCanBeSetAgain, KeptRowsAreRestored, set_head, rpcb_for, HasShortCall, KeptCallsAreShort}
 use Rattle.rb_model.specs.ChangeLaws.ChangesAtMostOnce.{Same, OneMore}
 use Rattle.rb_laws.proofs.Happenings.{Happening, happening, crowd_at}
 use Rattle.rb_laws.proofs.Happenings.Happening.{Stays, Evicts, Opens, Reads, Ends, Gives, Closes, Tells, TimesOut}
@@ -93,9 +96,15 @@ abbrev IsSpelledChange : Change → Type 0
 IsSpelledChange (Added row) = IsSpelled row
 IsSpelledChange (Removed prog vers which owner) = ⊤
 
-caller-fits : (cred : Credential) (flavor : ℕ) (body : List ℕ) → SaysCaller cred flavor body → IsCaller (credential_for (owner_of cred))
+caller-fits : (cred : Credential) (flavor : ℕ) (body : List ℕ) → SaysCaller cred flavor body → IsCaller (credential_for (owner_named cred))
 caller-fits credentials.None flavor body says = tt
 caller-fits (credentials.Sys uid) flavor body says = subst IsNumber says.1.uid_is says.1.fit.uid
+
+-- as whom a caller registers
+owner-fits : (trust : Trust) (cred : Credential) → IsTrust trust → IsCaller (credential_for (owner_named cred)) → IsCaller (credential_for (owner_of trust cred))
+owner-fits trusts.Claims cred known named = named
+owner-fits (trusts.Local owner) cred known named = known
+owner-fits trusts.Stranger cred known named = named
 
 rpcb-row : (owner : Owner) (r : Rpcb) → IsRpcb r → IsCaller (credential_for owner) → (row : Row) → row_of_rpcb owner r ≡ Some row → IsSpelled row
 unfolding row_of_rpcb
@@ -129,28 +138,30 @@ from-row : (o : Option Row) → ((row : Row) → o ≡ Some row → IsSpelled ro
 from-row None h change e = absurd cc
 from-row (Some row) h change e = subst IsSpelledChange (same_Some (Added row) change e) (h row refl)
 
-removal-spelled : (head : CallHead) (prog vers : ℕ) (o : Option Which) (change : Change) → option_map (removal_of head prog vers) o ≡ Some change → IsSpelledChange change
-removal-spelled head prog vers None change e = absurd cc
-removal-spelled head prog vers (Some which) change e = subst IsSpelledChange (same_Some (removal_of head prog vers which) change e) tt
+removal-spelled : (owner : Owner) (prog vers : ℕ) (o : Option Which) (change : Change) → option_map (λ which. Removed prog vers which owner) o ≡ Some change → IsSpelledChange change
+removal-spelled owner prog vers None change e = absurd cc
+removal-spelled owner prog vers (Some which) change e = subst IsSpelledChange (same_Some (Removed prog vers which owner) change e) tt
 
-request-spelled : (head : CallHead) (request : Request) (bytes : List ℕ) → SpellsRequest request bytes → IsCaller (credential_for (owner_of head.cred)) → (change : Change) → change_asked head request ≡ Some change → IsSpelledChange change
-request-spelled head (requests.Mapping mappings.Set m) bytes is caller change e = from-row _ (mapping-row (owner_of head.cred) m is.fits caller) change e
-request-spelled head (requests.Mapping mappings.Unset m) bytes is caller change e = removal-spelled head m.prog m.vers (Some _) change e
-request-spelled head (requests.Mapping mappings.Getport m) bytes is caller change e = absurd cc
-request-spelled head (requests.Rpcb rpcbs.Set r) bytes is caller change e = from-row _ (rpcb-row (owner_of head.cred) r is.fits caller) change e
-request-spelled head (requests.Rpcb rpcbs.Unset r) bytes is caller change e = removal-spelled head r.prog r.vers (which_of r.netid) change e
-request-spelled head (requests.Rpcb rpcbs.Getaddr r) bytes is caller change e = absurd cc
-request-spelled head (requests.Rpcb rpcbs.Getversaddr r) bytes is caller change e = absurd cc
-request-spelled head (requests.Rpcb rpcbs.Getaddrlist r) bytes is caller change e = absurd cc
-request-spelled head (requests.Void procedure) bytes is caller change e = absurd cc
-request-spelled head (requests.Uaddr2taddr text) bytes is caller change e = absurd cc
-request-spelled head (requests.Taddr2uaddr netbuf) bytes is caller change e = absurd cc
-request-spelled head (requests.Forward kind remote) bytes is caller change e = absurd cc
+request-spelled : (owner : Owner) (request : Request) (bytes : List ℕ) → SpellsRequest request bytes → IsCaller (credential_for owner) → (change : Change) → change_for owner request ≡ Some change → IsSpelledChange change
+request-spelled owner (requests.Mapping mappings.Set m) bytes is caller change e = from-row _ (mapping-row owner m is.fits caller) change e
+request-spelled owner (requests.Mapping mappings.Unset m) bytes is caller change e = removal-spelled owner m.prog m.vers (Some _) change e
+request-spelled owner (requests.Mapping mappings.Getport m) bytes is caller change e = absurd cc
+request-spelled owner (requests.Rpcb rpcbs.Set r) bytes is caller change e = from-row _ (rpcb-row owner r is.fits caller) change e
+request-spelled owner (requests.Rpcb rpcbs.Unset r) bytes is caller change e = removal-spelled owner r.prog r.vers (which_of r.netid) change e
+request-spelled owner (requests.Rpcb rpcbs.Getaddr r) bytes is caller change e = absurd cc
+request-spelled owner (requests.Rpcb rpcbs.Getversaddr r) bytes is caller change e = absurd cc
+request-spelled owner (requests.Rpcb rpcbs.Getaddrlist r) bytes is caller change e = absurd cc
+request-spelled owner (requests.Void procedure) bytes is caller change e = absurd cc
+request-spelled owner (requests.Uaddr2taddr text) bytes is caller change e = absurd cc
+request-spelled owner (requests.Taddr2uaddr netbuf) bytes is caller change e = absurd cc
+request-spelled owner (requests.Forward kind remote) bytes is caller change e = absurd cc
 
-call-spelled : (content : List ℕ) → AreBytes content → (call : Call) → message_of content ≡ says.Asked call → (change : Change) → change_asked call.head call.request ≡ Some change → IsSpelledChange change
-call-spelled content are call is change e =
+call-spelled : (caller : Caller) (content : List ℕ) → IsTrust (who_of caller).trust → AreBytes content → (call : Call) → message_of content ≡ says.Asked call → (change : Change)
+    → change_asked caller call.head call.request ≡ Some change → IsSpelledChange change
+call-spelled caller content known are call is change e =
     let b = (asked_messages content are call).0 is in
-    request-spelled call.head call.request (drop b.place content) b.asks.1 (caller-fits call.head.cred b.head.flavor b.head.body b.head.caller) change e
+    let named = caller-fits call.head.cred b.head.flavor b.head.body b.head.caller in
+    request-spelled (owner_of (who_of caller).trust call.head.cred) call.request (drop b.place content) b.asks.1 (owner-fits (who_of caller).trust call.head.cred known named) change e
 
 -- ---- the bytes that were fed
 
@@ -161,12 +172,16 @@ IsFed (Owing o) = ⊤
 IsFed Awaiting = ⊤
 IsFed Lost = ⊤
 
+-- and the caller is known by a uid of 32 bits, if it is known
+abbrev IsHeld : Connection → Type 0
+IsHeld c = IsTrust c.who.trust × IsFed c.phase
+
 abbrev AreFed : List Connection → Type 0
 AreFed [] = ⊤
-AreFed (c ∷ all) = IsFed c.phase × AreFed all
+AreFed (c ∷ all) = IsHeld c × AreFed all
 
 abbrev KeepsFed : (Connection → Connection) → Type 0
-KeepsFed f = (c : Connection) → IsFed c.phase → IsFed (f c).phase
+KeepsFed f = (c : Connection) → IsHeld c → IsHeld (f c)
 
 changed-fed : (id : ℕ) (f : Connection → Connection) → KeepsFed f → (all : List Connection) → AreFed all → AreFed (change_first (is_live id) f all)
 changed-fed id f k [] a = tt
@@ -188,25 +203,25 @@ mapped-fed : (f : Connection → Connection) → KeepsFed f → (all : List Conn
 mapped-fed f k [] a = tt
 mapped-fed f k (c ∷ all) a = (k c a.0, mapped-fed f k all a.1)
 
-more-fed : (all : List Connection) (c : Connection) → IsFed c.phase → AreFed all → AreFed (all ++ c ∷ [])
+more-fed : (all : List Connection) (c : Connection) → IsHeld c → AreFed all → AreFed (all ++ c ∷ [])
 more-fed [] c is a = (is, tt)
 more-fed (d ∷ all) c is a = (a.0, more-fed all c is a.1)
 
-found-fed : (p : Connection → Bool) (all : List Connection) (c : Connection) → AreFed all → find p all ≡ Some c → IsFed c.phase
+found-fed : (p : Connection → Bool) (all : List Connection) (c : Connection) → AreFed all → find p all ≡ Some c → IsHeld c
 found-fed p [] c a is = absurd cc
 found-fed p (d ∷ all) c a is = by_test (p d) is (found-fed p all c a.1)
   where
-    by_test : (b : Bool) → cond b (Some d) (find p all) ≡ Some c → (find p all ≡ Some c → IsFed c.phase) → IsFed c.phase
-    by_test true e rest = subst (λ (x : Connection). IsFed x.phase) (same_Some d c e) a.0
+    by_test : (b : Bool) → cond b (Some d) (find p all) ≡ Some c → (find p all ≡ Some c → IsHeld c) → IsHeld c
+    by_test true e rest = subst IsHeld (same_Some d c e) a.0
     by_test false e rest = rest e
 
-live-fed : (id : ℕ) (all : List Connection) (c : Connection) → AreFed all → live_connection id all ≡ Some c → IsFed c.phase
+live-fed : (id : ℕ) (all : List Connection) (c : Connection) → AreFed all → live_connection id all ≡ Some c → IsHeld c
 unfolding live_connection
 live-fed id all c a is = found-fed (is_live id) all c a is
 
 reading-fed : (clock : ℕ) (fed : List ℕ) → AreBytes fed → KeepsFed (keep_reading clock fed)
 unfolding keep_reading
-reading-fed clock fed are c is = are
+reading-fed clock fed are c is = (is.0, are)
 
 settled-fed : (clock : ℕ) (said : Outcome) → KeepsFed (settle clock said)
 unfolding settle
@@ -241,13 +256,13 @@ FedIn s = AreFed s.connections.all
 happening-fed : (s : State) (event : Event) (output : Output) (now : Connections) → FedIn s → BringsBytes event → Happening s event output now → AreFed now.all
 unfolding without_number
 happening-fed s event output now a brings (Stays q same) = subst FedAmong (sym same) a
-happening-fed s event output now a brings (Evicts at peer content is q same) =
-    subst FedAmong (sym same) (mapped-fed (evict_early (crowd_at s at (Udp peer) content)) (evicted-fed _) s.connections.all a)
-happening-fed s event output now a brings (Opens at peer is out same) =
-    subst FedAmong (sym same) (more-fed s.connections.all (record { number = s.connections.next; peer = peer; phase = Idle; since = max s.clock at }) tt a)
+happening-fed s event output now a brings (Evicts at who content is q same) =
+    subst FedAmong (sym same) (mapped-fed (evict_early (crowd_at s at (Udp who) content)) (evicted-fed _) s.connections.all a)
+happening-fed s event output now a brings (Opens at who is out same) =
+    subst FedAmong (sym same) (more-fed s.connections.all (record { number = s.connections.next; who = who; phase = Idle; since = max s.clock at }) (subst BringsBytes is brings, tt) a)
 happening-fed s event output now a brings (Reads at id piece c fed is there feeds none out same) =
     let more : AreBytes piece = subst BringsBytes is brings in
-    let before : AreBytes fed = behind-fed c.phase fed (live-fed id s.connections.all c a there) feeds in
+    let before : AreBytes fed = behind-fed c.phase fed (live-fed id s.connections.all c a there).1 feeds in
     subst FedAmong (sym same) (changed-fed id _ (reading-fed (max s.clock at) (fed ++ piece) (AreBytes-append fed piece before more)) s.connections.all a)
 happening-fed s event output now a brings (Ends at id piece c fed n is there feeds some out same) =
     subst FedAmong (sym same) (changed-fed id _ (settled-fed _ _) _ (mapped-fed (evict_early _) (evicted-fed _) s.connections.all a))
@@ -256,7 +271,7 @@ happening-fed s event output now a brings (Gives at id n c is there few out same
 happening-fed s event output now a brings (Tells at id said is q final told there same) =
     subst FedAmong (sym same) (changed-fed id _ (settled-fed (max s.clock at) said) s.connections.all a)
 happening-fed s event output now a brings (TimesOut at c is q none found same) =
-    subst FedAmong (sym same) (changed-fed c.number lose (λ d e. tt) s.connections.all a)
+    subst FedAmong (sym same) (changed-fed c.number lose (λ d e. (e.0, tt)) s.connections.all a)
 happening-fed s event output now a brings (Closes id is out there same) =
     subst FedAmong (sym same) (filtered-fed (λ (c : Connection). not (eqb c.number id)) s.connections.all a)
 
@@ -291,21 +306,24 @@ taken-bytes (Some fed) are (byte ∷ piece) is n content e = by_record (first_re
         let same : data_of (take k (fed ++ byte ∷ piece)) ≡ content = cc in
         subst AreBytes same (record-bytes (take k (fed ++ byte ∷ piece)) (AreBytes-take k (fed ++ byte ∷ piece) (AreBytes-append fed (byte ∷ piece) (are fed refl) is)))
 
-brought-bytes : (s : State) (event : Event) (m : Brought) → FedIn s → BringsBytes event → brought_by s event ≡ Some m → AreBytes m.content
+abbrev IsOfBytes : Brought → Type 0
+IsOfBytes m = IsTrust (who_of m.caller).trust × AreBytes m.content
+
+brought-bytes : (s : State) (event : Event) (m : Brought) → FedIn s → BringsBytes event → brought_by s event ≡ Some m → IsOfBytes m
 unfolding taking_of
-brought-bytes s (Datagram now peer content) m a brings e = subst (λ (n : Brought). AreBytes n.content) (same_Some _ m e) brings
+brought-bytes s (Datagram now who content) m a brings e = subst IsOfBytes (same_Some _ m e) brings
 brought-bytes s (Bytes now id piece) m a brings e = by_live (live_connection id s.connections.all) refl e
   where
-    by_taking : (c : Connection) → IsFed c.phase → (t : Taking) → taking_behind (fed_in c.phase) piece ≡ t → record_in now id c.peer t ≡ Some m → AreBytes m.content
+    by_taking : (c : Connection) → IsHeld c → (t : Taking) → taking_behind (fed_in c.phase) piece ≡ t → record_in now id c.who t ≡ Some m → IsOfBytes m
     by_taking c fed TakesNone is e = absurd cc
     by_taking c fed (GoesOn more) is e = absurd cc
     by_taking c fed (EndsAt n content) is e =
-        subst (λ (x : Brought). AreBytes x.content) (same_Some _ m e) (taken-bytes (fed_in c.phase) (λ xs e. behind-fed c.phase xs fed e) piece brings n content is)
+        subst IsOfBytes (same_Some _ m e) (fed.0, taken-bytes (fed_in c.phase) (λ xs e. behind-fed c.phase xs fed.1 e) piece brings n content is)
 
-    by_live : (o : Option Connection) → live_connection id s.connections.all ≡ o → record_on now id piece o ≡ Some m → AreBytes m.content
+    by_live : (o : Option Connection) → live_connection id s.connections.all ≡ o → record_on now id piece o ≡ Some m → IsOfBytes m
     by_live None there e = absurd cc
     by_live (Some c) there e = by_taking c (live-fed id s.connections.all c a there) (taking_behind (fed_in c.phase) piece) refl e
-brought-bytes s (Open now peer) m a brings e = absurd cc
+brought-bytes s (Open now who) m a brings e = absurd cc
 brought-bytes s (Pending id) m a brings e = absurd cc
 brought-bytes s (Gave now id n) m a brings e = absurd cc
 brought-bytes s (Closed id) m a brings e = absurd cc
@@ -329,7 +347,8 @@ step-spelled s event a brings all = by_change (at-most-once s event)
         let asked = accepted.asked in
         All-same IsSpelledChange (step s event).1.ledger.changes (s.ledger.changes ++ change ∷ []) accepted.appends
         (All-push IsSpelledChange s.ledger.changes change all
-        (call-spelled asked.message.content (brought-bytes s event asked.message a brings asked.brings) asked.call asked.says change asked.asks))
+        (let is = brought-bytes s event asked.message a brings asked.brings in
+        call-spelled asked.message.caller asked.message.content is.0 is.1 asked.call asked.says change asked.asks))
 
 after-spelled : (s : State) (events : List Event) → FedIn s → All BringsBytes events → AreSpelled s → AreSpelled (after s events)
 after-spelled s [] a brings all = all
@@ -412,7 +431,7 @@ pub kept_calls_are_short : KeptCallsAreShort
 kept_calls_are_short s r = λ k d lt. short-call (get_or (set_rows s) k d) (rows_are_spelled s r k d lt) (rows_can_be_set s r.reached k d lt)
 
 pub rows_can_be_set_again : RowsCanBeSetAgain
-rows_can_be_set_again s r limits good room listener first_xid opened now = sets-again s r.reached (rows_are_spelled s r) limits good room listener first_xid opened now
+rows_can_be_set_again s r limits listener good room first_xid opened now = sets-again s r.reached (rows_are_spelled s r) limits listener good room first_xid opened now
 
 pub kept_rows_are_restored : KeptRowsAreRestored
 kept_rows_are_restored s r good = restored s r.reached good (rows_are_spelled s r)

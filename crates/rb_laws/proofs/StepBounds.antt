@@ -33,7 +33,7 @@ reached-step s r event =
     let is : (step s event).1 ≡ after start (r.events ++ event ∷ []) = ap (λ (t : State). (step t event).1) r.is ∙ sym (after-append start r.events (event ∷ [])) in
     record { limits = r.limits; listener = r.listener; first_xid = r.first_xid; now = r.now; events = r.events ++ event ∷ []; is = is }
 
-module _ (s : State) (reached : IsReached s) (good : are_good s.setting.limits ≡ true) where
+module _ (s : State) (reached : IsReached s) (good : are_good s.setting.limits s.setting.listener ≡ true) where
   pub conns_few : length s.connections.all ≤ s.setting.limits.conns
   conns_few = reached-room s reached
 

@@ -5,6 +5,7 @@ use Rattle.std.proofs.Common.{◌≡◌, ℕ, ◌+◌, ◌≤◌, max, Bool, con
 use Rattle.std.proofs.lemmas.List.Sums.{sum_by-cons}
 use Rattle.std.proofs.lemmas.Grind.{common_steps}
 use Rattle.rb_address.specs.declared.peer.Peer.{Peer}
+use Rattle.rb_address.specs.declared.who.Who.{Who}
 use Rattle.rb_rpc.specs.declared.caller.Caller.{Caller}
 use Rattle.rb_rpc.specs.declared.caller.Caller.TheVariants.{Udp}
 use Rattle.rb_forward.specs.declared.types.Ended.{Ended}
@@ -88,12 +89,12 @@ module _ (s : State) where
 
   -- the record of the live connection of a number ended, and is answered
   pub answering-waits : (now id : ℕ) (content : List ℕ) (c : Connection) → find (is_live id) s.connections.all ≡ Some c → stamp_in c.phase ≡ None
-      → waiting (serve_record (at_moment now s) id c.peer content).1 + args_of c ≤ waiting s
+      → waiting (serve_record (at_moment now s) id c.who content).1 + args_of c ≤ waiting s
   unfolding serve_record serve
   answering-waits now id content c there plain = grind (arith, common_steps, evicted-waiting, plain_lives, found-waiting, settled-none)
 
-  opened-waits : (now : ℕ) (peer : Peer) (r : Result ℕ CoreFault) → waiting (output_or Opened (unless_refused now s (opening_as peer (max s.clock now) s.connections r))).1 ≤ waiting s
-  opened-waits now peer r = grind (arith, common_steps)
+  opened-waits : (now : ℕ) (who : Who) (r : Result ℕ CoreFault) → waiting (output_or Opened (unless_refused now s (opening_as who (max s.clock now) s.connections r))).1 ≤ waiting s
+  opened-waits now who r = grind (arith, common_steps)
 
   output-waits : {A : Type 0} (show : A → Output) (r : Result A CoreFault) (u : State) → waiting u ≤ waiting s → waiting (output_or show (r, u)).1 ≤ waiting s
   output-waits show r u few = grind arith
@@ -132,9 +133,9 @@ module _ (s : State) where
   either : (b : Bool) (x y : Output × State) → waiting x.1 ≤ waiting s → waiting y.1 ≤ waiting s → waiting (cond b x y).1 ≤ waiting s
   either b x y left right = grind arith
 
-  pub open-waits : (now : ℕ) (peer : Peer) → waiting (step s (Open now peer)).1 ≤ waiting s
+  pub open-waits : (now : ℕ) (who : Who) → waiting (step s (Open now who)).1 ≤ waiting s
   unfolding step open_connection open_in_table
-  open-waits now peer = opened-waits now peer (number_for s.setting.limits.conns s.connections)
+  open-waits now who = opened-waits now who (number_for s.setting.limits.conns s.connections)
 
   pub give-waits : (now id n : ℕ) → waiting (step s (Gave now id n)).1 ≤ waiting s
   unfolding step gave
@@ -148,9 +149,9 @@ module _ (s : State) where
   unfolding step close_connection close_in_table
   close-waits id = closed-waits id (is_there id s.connections)
 
-  pub datagram-waits : (now : ℕ) (peer : Peer) (content : List ℕ) → waiting (step s (Datagram now peer content)).1 ≤ waiting s
+  pub datagram-waits : (now : ℕ) (who : Who) (content : List ℕ) → waiting (step s (Datagram now who content)).1 ≤ waiting s
   unfolding step datagram
-  datagram-waits now peer content = outcome-waits (serve (at_moment now s) (Udp peer) content) (serve-waits now (Udp peer) content)
+  datagram-waits now who content = outcome-waits (serve (at_moment now s) (Udp who) content) (serve-waits now (Udp who) content)
 
   pub send-waits : (number : ℕ) → waiting (step s (Sent number)).1 ≤ waiting s
   unfolding step sent_call

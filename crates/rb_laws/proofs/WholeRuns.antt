@@ -71,7 +71,7 @@ read_args clock fed c = refl
 counted : (n : ℕ) (r : Bool × State) → waiting (with_count n r).1 ≡ waiting r.1
 counted n (closed, u) = refl
 
-module _ (s : State) (reached : IsReached s) (good : are_good s.setting.limits ≡ true) where
+module _ (s : State) (reached : IsReached s) (good : are_good s.setting.limits s.setting.listener ≡ true) where
   few : length s.connections.all ≤ s.setting.limits.conns
   few = conns_few s reached good
 
@@ -106,13 +106,13 @@ module _ (s : State) (reached : IsReached s) (good : are_good s.setting.limits �
   event_paid : (event : Event) → event_cost s event + 2 * args_waiting (step s event).1.connections.all
       ≤ 2 * args_waiting s.connections.all + 16 * (bytes_in event (step s event).0 + bytes_out event (step s event).0) + event_allowance s.setting.limits
   unfolding step bytes longest_reply
-  event_paid (Open now peer) = let kept = open-waits s now peer in omega (arith, kept)
+  event_paid (Open now who) = let kept = open-waits s now who in omega (arith, kept)
   event_paid (Bytes now id piece) = let paid = piece_paid now id piece (live_connection id s.connections.all) refl in omega (arith, paid)
   event_paid (Pending id) = let kept = pending-waits s id in omega (arith, few, kept)
   event_paid (Gave now id n) = let kept = give-waits s now id n in omega (arith, few, kept)
   event_paid (Closed id) = let kept = close-waits s id in omega (arith, few, kept)
   event_paid NextLost = omega (arith, few)
-  event_paid (Datagram now peer content) = let kept = datagram-waits s now peer content in let shown = datagram-shown s now peer content in let most = datagram_most s reached good content (length content) (length (step s (Datagram now peer content)).1.reply) in omega (arith, few, few_looks, kept, shown, most)
+  event_paid (Datagram now who content) = let kept = datagram-waits s now who content in let shown = datagram-shown s now who content in let most = datagram_most s reached good content (length content) (length (step s (Datagram now who content)).1.reply) in omega (arith, few, few_looks, kept, shown, most)
   event_paid Unsent = let lent = unsent-shown s in omega (arith, lent)
   event_paid (Sent number) = let kept = send-waits s number in omega (arith, kept)
   event_paid (Forward now from message) = let kept = forward-waits s now from message in let shown = forward-shown s now from message in omega (arith, few, kept, shown)
@@ -127,7 +127,7 @@ events_are_paid_ahead s reached good event = grind (arith, common_steps, event_p
 
 -- ---- runs
 
-paid_ahead : (s : State) → IsReached s → are_good s.setting.limits ≡ true → (events : List Event)
+paid_ahead : (s : State) → IsReached s → are_good s.setting.limits s.setting.listener ≡ true → (events : List Event)
     → run_cost s events + 2 * waiting (after s events)
     ≤ 2 * waiting s + 16 * (total_in events (run s events) + total_out events (run s events)) + length events * event_allowance s.setting.limits
 paid_ahead s reached good [] = omega arith

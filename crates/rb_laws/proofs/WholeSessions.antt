@@ -64,8 +64,8 @@ module _ (id : ℕ) (s : State) (t : Session) (h : Holds id s.connections t) whe
 
   turn : (event : Event) (output : Output) (now : Connections) → Happening s event output now → taken_by id event output ≢ [] → AllGiven t
   turn event output now (Stays q same) some = absurd (some (ap (λ (n : ℕ). take n (piece_to id event)) q.no_count))
-  turn event output now (Evicts at peer content is q same) some = absurd (some (ap (λ (n : ℕ). take n (piece_to id event)) q.no_count))
-  turn event output now (Opens at peer is out same) some = none-by event output (ap (piece_to id) is) some
+  turn event output now (Evicts at who content is q same) some = absurd (some (ap (λ (n : ℕ). take n (piece_to id event)) q.no_count))
+  turn event output now (Opens at who is out same) some = none-by event output (ap (piece_to id) is) some
   turn event output now (Reads at k piece c fed is there feeds none out same) some =
       fed-given at k piece c fed output there feeds (subst (λ (ev : Event). taken_by id ev output ≢ []) is some) (eqb k id) refl
   turn event output now (Ends at k piece c fed n is there feeds ends out same) some =

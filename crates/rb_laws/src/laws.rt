@@ -3,6 +3,7 @@ ghost use Rattle.rb_model.specs.Grammar.{AskedMessagesAreOfTheGrammar, RefusedMe
 ghost use Rattle.rb_model.specs.State.{State};
 ghost use Rattle.rb_model.specs.Laws.{RunsAppend, StatesAppend, RefusedEventsChangeNothing, NumbersNeverRecur, CutsDoNotMatter, NextLostIsLeast, BytesAreTakenExactly, RepliesAreGivenWhole, OwedRepliesStay, LedgersAreWellKept};
 ghost use Rattle.rb_model.specs.ChangeLaws.{ChangesAreAccepted, ChangesAreThoseAccepted, RowsCanBeSet, RowsAreSpelled, KeptCallsAreShort, RowsCanBeSetAgain, KeptRowsAreRestored};
+ghost use Rattle.rb_model.specs.CallerLaws.{StrangersChangeNothing, LocalOwnersKeepTheirs};
 ghost use Rattle.rb_model.specs.HistoryLaws.{EventsAreNoted, HistoryIsOfItsEvents};
 ghost use Rattle.rb_model.specs.Closings.{ConnectionsCloseExactly};
 ghost use Rattle.rb_model.specs.ForwardLaws.{ConnectionsAwait, RepliesEndTheirOwn, DeadlinesEndOne, UdpCallersAreTold, EventsChangeAtMostOne, EntriesEndOnce};
@@ -144,11 +145,18 @@ pub fn whole_runs_are_bounded()
 {}
 
 /// From every state, an event leaves the accepted changes, or appends one: the SET or UNSET of a whole call that it brings,
-/// from a caller on this machine, which is answered TRUE. Each that is answered so is appended. In every run from an opening,
+/// from a caller that may register, which is answered TRUE. Each that is answered so is appended. In every run from an opening,
 /// the changes are those of its calls, in order.
 pub fn changes_are_accepted()
     ensures events { ChangesAreAccepted }
     ensures runs { ChangesAreThoseAccepted }
+{}
+
+/// From every state, a call of a stranger's leaves the accepted changes. In each state that a run reaches, a call of a caller
+/// that is known as an owner other than uid 0 leaves the rows of all other owners, whatever its credential says.
+pub fn callers_change_their_own()
+    ensures strangers { StrangersChangeNothing }
+    ensures owners { LocalOwnersKeepTheirs }
 {}
 
 /// From every state, an event appends to the history its notes and nothing else: a whole call that it brings counts as
@@ -160,9 +168,10 @@ pub fn calls_are_noted()
 {}
 
 /// In each state that a run reaches, each row that was set may be set: it is of another program than the portmapper, at an
-/// address of its netid. Where the run is of bytes, bytes can spell each, in a SET of at most 368 bytes. These SETs, from this
-/// machine and by the owners of the rows, are all answered TRUE in a run from any opening with room for them, and set just
-/// these rows, in their order. From the opening of the same setting, at good limits, the live rows are then the same.
+/// address of its netid. Where the run is of bytes and of uids of 32 bits, bytes can spell each, in a SET of at most 368 bytes.
+/// These SETs, from this machine and by the owners of the rows, are all answered TRUE in a run from any opening with room for
+/// them, and set just these rows, in their order. From the opening of the same setting, at good limits, the live rows are then
+/// the same.
 pub fn kept_rows_are_restored()
     ensures settable { RowsCanBeSet }
     ensures spelled { RowsAreSpelled }

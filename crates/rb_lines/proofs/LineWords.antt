@@ -9,16 +9,19 @@ use Rattle.std.proofs.lemmas.List.Elements.{All-nil, All-cons}
 use Rattle.std.proofs.lemmas.Option.{none-some, same_Some}
 use Rattle.std.proofs.lemmas.Slice.Eq.{bytes_eq-Decides}
 use Rattle.rb_address.specs.declared.peer.Peer.{Peer}
+use Rattle.rb_address.specs.declared.who.Who.{Who}
 use Rattle.rb_address.specs.Reading.{cut, number_below, peer, SpellsPeer}
+use Rattle.rb_address.specs.CallerTexts.{who, SpellsWho}
 use Rattle.rb_address.proofs.HostTexts.{IsWithout}
 use Rattle.rb_address.proofs.Words.{bound, cut_at, cut_is, numeral_without, peer_is, peer_of}
+use Rattle.rb_address.proofs.CallerWords.{peer_without, who_without, who_is, who_of}
 use Rattle.rb_model.specs.Step.{Event}
 use Rattle.rb_model.specs.Step.Event.{Datagram, Open, Bytes, Pending, Gave, Closed, NextLost, Unsent, Sent, Forward, Expire}
 use Rattle.rb_lines.specs.Fields.{hex_bytes}
-use Rattle.rb_lines.specs.Lines.{datagram_line, open_line, bytes_line, gave_line, event, lone_event, event_of_parts, Line, happens_or_bad, line}
+use Rattle.rb_lines.specs.Lines.{datagram_line, forward_line, open_line, bytes_line, gave_line, event, lone_event, event_of_parts, Line, happens_or_bad, line}
 use Rattle.rb_lines.specs.Lines.Line.{Skipped, Happens, Bad}
 use Rattle.rb_lines.specs.LineGrammar.{Spells, SpellsNumber, SpellsHex, IsSpaced, ◌␣◌, SpellsEvent, SaysNothing, EventsAreSpelled, SkippedSayNothing, BadSpellNothing}
-use Rattle.rb_lines.proofs.Words.{number_is, number_of, peer_without}
+use Rattle.rb_lines.proofs.Words.{number_is, number_of}
 use Rattle.rb_lines.proofs.HexWords.{hex_is, hex_of}
 
 -- ---- spaces
@@ -38,6 +41,9 @@ number_apart n text s = numeral_without 32 text s.digits.1 (λ l h. omega arith)
 peer_apart : (p : Peer) (text : List ℕ) → SpellsPeer p text → IsWithout 32 text
 peer_apart p text s = subst (IsWithout 32) (sym s.text_is) (peer_without 32 (omega arith) p s.is_peer)
 
+who_apart : (w : Who) (text : List ℕ) → SpellsWho w text → IsWithout 32 text
+who_apart w text s = subst (IsWithout 32) (sym s.text_is) (who_without 32 (omega arith) w s.is_who)
+
 -- ---- what follows the first word
 
 open_is : (text : List ℕ) (e : Event) → open_line text ≡ Some e → SpellsEvent e (codes "open" ++ 32 ∷ text)
@@ -45,21 +51,25 @@ unfolding open_line
 open_is text e h =
     let (parts, is_cut, rest1) = bound (cut 32 text) _ e h in
     let (now, is_now, rest2) = bound (number_below (2 ^ 64) parts.0) _ e rest1 in
-    let (from, is_from, rest3) = bound (peer parts.1) _ e rest2 in
-    let tail = spaced (SpellsNumber now) (SpellsPeer from) text parts.0 parts.1 is_cut (number_is parts.0 now is_now) (peer_is parts.1 from is_from) in
-    subst (λ (e : Event). SpellsEvent e (codes "open" ++ 32 ∷ text)) (same_Some _ _ rest3) (worded (codes "open") text (SpellsNumber now ␣ SpellsPeer from) tail)
+    let (from, is_from, rest3) = bound (who parts.1) _ e rest2 in
+    let tail = spaced (SpellsNumber now) (SpellsWho from) text parts.0 parts.1 is_cut (number_is parts.0 now is_now) (who_is parts.1 from is_from) in
+    subst (λ (e : Event). SpellsEvent e (codes "open" ++ 32 ∷ text)) (same_Some _ _ rest3) (worded (codes "open") text (SpellsNumber now ␣ SpellsWho from) tail)
 
--- a moment, a peer and bytes, of which an event is made
-record DatagramFields (make : ℕ → Peer → List ℕ → Event) (text : List ℕ) (e : Event) : Type 0 where
-  now : ℕ
-  from : Peer
-  bytes : List ℕ
-  spelled : (SpellsNumber now ␣ SpellsPeer from ␣ SpellsHex bytes) text
-  made : make now from bytes ≡ e
-
-datagram_fields : (make : ℕ → Peer → List ℕ → Event) (text : List ℕ) (e : Event) → datagram_line make text ≡ Some e → DatagramFields make text e
+datagram_is : (text : List ℕ) (e : Event) → datagram_line text ≡ Some e → SpellsEvent e (codes "datagram" ++ 32 ∷ text)
 unfolding datagram_line
-datagram_fields make text e h =
+datagram_is text e h =
+    let (first, cut1, rest1) = bound (cut 32 text) _ e h in
+    let (second, cut2, rest2) = bound (cut 32 first.1) _ e rest1 in
+    let (now, is_now, rest3) = bound (number_below (2 ^ 64) first.0) _ e rest2 in
+    let (from, is_from, rest4) = bound (who second.0) _ e rest3 in
+    let (bytes, is_bytes, rest5) = bound (hex_bytes second.1) _ e rest4 in
+    let last = spaced (SpellsWho from) (SpellsHex bytes) first.1 second.0 second.1 cut2 (who_is second.0 from is_from) (hex_is second.1 bytes is_bytes) in
+    let tail = spaced (SpellsNumber now) (SpellsWho from ␣ SpellsHex bytes) text first.0 first.1 cut1 (number_is first.0 now is_now) last in
+    subst (λ (e : Event). SpellsEvent e (codes "datagram" ++ 32 ∷ text)) (same_Some _ _ rest5) (worded (codes "datagram") text (SpellsNumber now ␣ SpellsWho from ␣ SpellsHex bytes) tail)
+
+forward_is : (text : List ℕ) (e : Event) → forward_line text ≡ Some e → SpellsEvent e (codes "forward" ++ 32 ∷ text)
+unfolding forward_line
+forward_is text e h =
     let (first, cut1, rest1) = bound (cut 32 text) _ e h in
     let (second, cut2, rest2) = bound (cut 32 first.1) _ e rest1 in
     let (now, is_now, rest3) = bound (number_below (2 ^ 64) first.0) _ e rest2 in
@@ -67,17 +77,7 @@ datagram_fields make text e h =
     let (bytes, is_bytes, rest5) = bound (hex_bytes second.1) _ e rest4 in
     let last = spaced (SpellsPeer from) (SpellsHex bytes) first.1 second.0 second.1 cut2 (peer_is second.0 from is_from) (hex_is second.1 bytes is_bytes) in
     let tail = spaced (SpellsNumber now) (SpellsPeer from ␣ SpellsHex bytes) text first.0 first.1 cut1 (number_is first.0 now is_now) last in
-    record { now = now; from = from; bytes = bytes; spelled = tail; made = same_Some _ _ rest5 }
-
-datagram_is : (text : List ℕ) (e : Event) → datagram_line Datagram text ≡ Some e → SpellsEvent e (codes "datagram" ++ 32 ∷ text)
-datagram_is text e h =
-    let f = datagram_fields Datagram text e h in
-    subst (λ (e : Event). SpellsEvent e (codes "datagram" ++ 32 ∷ text)) f.made (worded (codes "datagram") text (SpellsNumber f.now ␣ SpellsPeer f.from ␣ SpellsHex f.bytes) f.spelled)
-
-forward_is : (text : List ℕ) (e : Event) → datagram_line Forward text ≡ Some e → SpellsEvent e (codes "forward" ++ 32 ∷ text)
-forward_is text e h =
-    let f = datagram_fields Forward text e h in
-    subst (λ (e : Event). SpellsEvent e (codes "forward" ++ 32 ∷ text)) f.made (worded (codes "forward") text (SpellsNumber f.now ␣ SpellsPeer f.from ␣ SpellsHex f.bytes) f.spelled)
+    subst (λ (e : Event). SpellsEvent e (codes "forward" ++ 32 ∷ text)) (same_Some _ _ rest5) (worded (codes "forward") text (SpellsNumber now ␣ SpellsPeer from ␣ SpellsHex bytes) tail)
 
 bytes_is : (text : List ℕ) (e : Event) → bytes_line text ≡ Some e → SpellsEvent e (codes "bytes" ++ 32 ∷ text)
 unfolding bytes_line
@@ -140,14 +140,14 @@ pub event_is : (word text : List ℕ) (e : Event) → event word text ≡ Some e
 unfolding event
 event_is word text e h =
     let P : Type 0 = SpellsEvent e (word ++ 32 ∷ text) in
-    else_word (bytes_eq word (codes "datagram")) (datagram_line Datagram text) _ e P h (λ same is. named word text (codes "datagram") e same (datagram_is text e is)) (λ h1.
+    else_word (bytes_eq word (codes "datagram")) (datagram_line text) _ e P h (λ same is. named word text (codes "datagram") e same (datagram_is text e is)) (λ h1.
     else_word (bytes_eq word (codes "open")) (open_line text) _ e P h1 (λ same is. named word text (codes "open") e same (open_is text e is)) (λ h2.
     else_word (bytes_eq word (codes "bytes")) (bytes_line text) _ e P h2 (λ same is. named word text (codes "bytes") e same (bytes_is text e is)) (λ h3.
     else_word (bytes_eq word (codes "pending")) (option_map Pending (number_below (2 ^ 64) text)) _ e P h3 (λ same is. named word text (codes "pending") e same (pending_is text e is)) (λ h4.
     else_word (bytes_eq word (codes "gave")) (gave_line text) _ e P h4 (λ same is. named word text (codes "gave") e same (gave_is text e is)) (λ h5.
     else_word (bytes_eq word (codes "closed")) (option_map Closed (number_below (2 ^ 64) text)) _ e P h5 (λ same is. named word text (codes "closed") e same (closed_is text e is)) (λ h6.
     else_word (bytes_eq word (codes "sent")) (option_map Sent (number_below (2 ^ 64) text)) _ e P h6 (λ same is. named word text (codes "sent") e same (sent_is text e is)) (λ h7.
-    else_word (bytes_eq word (codes "forward")) (datagram_line Forward text) _ e P h7 (λ same is. named word text (codes "forward") e same (forward_is text e is)) (λ h8.
+    else_word (bytes_eq word (codes "forward")) (forward_line text) _ e P h7 (λ same is. named word text (codes "forward") e same (forward_is text e is)) (λ h8.
     else_word (bytes_eq word (codes "expire")) (option_map Expire (number_below (2 ^ 64) text)) None e P h8 (λ same is. named word text (codes "expire") e same (expire_is text e is)) (λ h9.
     absurd (none-some e h9))))))))))
 
@@ -190,14 +190,19 @@ said_word : (c : ℕ) (word back : List ℕ) (e : Event) → eqb c 35 ≡ false 
 said_word c word back e other apart is =
     said c (word ++ 32 ∷ back) (Some (c ∷ word, back)) other (cut_at 32 (c ∷ word) back (without_space (c ∷ word) apart)) ∙ ap happens_or_bad is
 
-open_reads : (text front back : List ℕ) (now : ℕ) (from : Peer) → cut 32 text ≡ Some (front, back) → number_below (2 ^ 64) front ≡ Some now → peer back ≡ Some from → open_line text ≡ Some (Open now from)
+open_reads : (text front back : List ℕ) (now : ℕ) (from : Who) → cut 32 text ≡ Some (front, back) → number_below (2 ^ 64) front ≡ Some now → who back ≡ Some from → open_line text ≡ Some (Open now from)
 unfolding open_line
 open_reads text front back now from is a b = rw (is, a, b) refl
 
-datagram_reads : (make : ℕ → Peer → List ℕ → Event) (text front rest middle back : List ℕ) (now : ℕ) (from : Peer) (bytes : List ℕ) → cut 32 text ≡ Some (front, rest) → cut 32 rest ≡ Some (middle, back)
-    → number_below (2 ^ 64) front ≡ Some now → peer middle ≡ Some from → hex_bytes back ≡ Some bytes → datagram_line make text ≡ Some (make now from bytes)
+datagram_reads : (text front rest middle back : List ℕ) (now : ℕ) (from : Who) (bytes : List ℕ) → cut 32 text ≡ Some (front, rest) → cut 32 rest ≡ Some (middle, back)
+    → number_below (2 ^ 64) front ≡ Some now → who middle ≡ Some from → hex_bytes back ≡ Some bytes → datagram_line text ≡ Some (Datagram now from bytes)
 unfolding datagram_line
-datagram_reads make text front rest middle back now from bytes cut1 cut2 a b c = rw (cut1, cut2, a, b, c) refl
+datagram_reads text front rest middle back now from bytes cut1 cut2 a b c = rw (cut1, cut2, a, b, c) refl
+
+forward_reads : (text front rest middle back : List ℕ) (now : ℕ) (from : Peer) (bytes : List ℕ) → cut 32 text ≡ Some (front, rest) → cut 32 rest ≡ Some (middle, back)
+    → number_below (2 ^ 64) front ≡ Some now → peer middle ≡ Some from → hex_bytes back ≡ Some bytes → forward_line text ≡ Some (Forward now from bytes)
+unfolding forward_line
+forward_reads text front rest middle back now from bytes cut1 cut2 a b c = rw (cut1, cut2, a, b, c) refl
 
 bytes_reads : (text front rest middle back : List ℕ) (now id : ℕ) (bytes : List ℕ) → cut 32 text ≡ Some (front, rest) → cut 32 rest ≡ Some (middle, back)
     → number_below (2 ^ 64) front ≡ Some now → number_below (2 ^ 64) middle ≡ Some id → hex_bytes back ≡ Some bytes → bytes_line text ≡ Some (Bytes now id bytes)
@@ -216,7 +221,7 @@ pub line_of : (text : List ℕ) (e : Event) → SpellsEvent e text → line text
 unfolding event line cut lone_event
 line_of text (Open now from) s =
     let t = s.behind in
-    let is = open_reads s.back t.front t.back now from (cut_spaced (SpellsNumber now) (SpellsPeer from) s.back t (number_apart now t.front t.in_front)) (number_of t.front now t.in_front) (peer_of t.back from t.behind) in
+    let is = open_reads s.back t.front t.back now from (cut_spaced (SpellsNumber now) (SpellsWho from) s.back t (number_apart now t.front t.in_front)) (number_of t.front now t.in_front) (who_of t.back from t.behind) in
     named_line (codes "open") text s.back (Open now from) s.front s.text_is s.in_front (said_word 111 (codes "pen") s.back (Open now from) refl refl is)
 line_of text (Bytes now id bytes) s =
     let t = s.behind in
@@ -240,8 +245,8 @@ line_of text NextLost s = ap line s
 line_of text (Datagram now from bytes) s =
     let t = s.behind in
     let u = t.behind in
-    let is = datagram_reads Datagram s.back t.front t.back u.front u.back now from bytes (cut_spaced (SpellsNumber now) (SpellsPeer from ␣ SpellsHex bytes) s.back t (number_apart now t.front t.in_front))
-    (cut_spaced (SpellsPeer from) (SpellsHex bytes) t.back u (peer_apart from u.front u.in_front)) (number_of t.front now t.in_front) (peer_of u.front from u.in_front) (hex_of u.back bytes u.behind) in
+    let is = datagram_reads s.back t.front t.back u.front u.back now from bytes (cut_spaced (SpellsNumber now) (SpellsWho from ␣ SpellsHex bytes) s.back t (number_apart now t.front t.in_front))
+    (cut_spaced (SpellsWho from) (SpellsHex bytes) t.back u (who_apart from u.front u.in_front)) (number_of t.front now t.in_front) (who_of u.front from u.in_front) (hex_of u.back bytes u.behind) in
     named_line (codes "datagram") text s.back (Datagram now from bytes) s.front s.text_is s.in_front (said_word 100 (codes "atagram") s.back (Datagram now from bytes) refl refl is)
 line_of text Unsent s = ap line s
 line_of text (Sent id) s =
@@ -250,7 +255,7 @@ line_of text (Sent id) s =
 line_of text (Forward now from bytes) s =
     let t = s.behind in
     let u = t.behind in
-    let is = datagram_reads Forward s.back t.front t.back u.front u.back now from bytes (cut_spaced (SpellsNumber now) (SpellsPeer from ␣ SpellsHex bytes) s.back t (number_apart now t.front t.in_front))
+    let is = forward_reads s.back t.front t.back u.front u.back now from bytes (cut_spaced (SpellsNumber now) (SpellsPeer from ␣ SpellsHex bytes) s.back t (number_apart now t.front t.in_front))
     (cut_spaced (SpellsPeer from) (SpellsHex bytes) t.back u (peer_apart from u.front u.in_front)) (number_of t.front now t.in_front) (peer_of u.front from u.in_front) (hex_of u.back bytes u.behind) in
     named_line (codes "forward") text s.back (Forward now from bytes) s.front s.text_is s.in_front (said_word 102 (codes "orward") s.back (Forward now from bytes) refl refl is)
 line_of text (Expire now) s =

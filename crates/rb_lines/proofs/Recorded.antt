@@ -1,18 +1,26 @@
 -- Lines that were recorded, read back.
-use Rattle.std.specs.List.{flat_map, concat, onto_first, AllByRecursion}
+use Rattle.std.specs.List.{flat_map, concat, onto_first, list_all, AllByRecursion}
+use Rattle.std.specs.Prelude.{IfSome}
 use Rattle.std.specs.Fmt.{decimal}
 use Rattle.std.specs.Char.{digit_value}
-use Rattle.std.proofs.Common.{◌≡◌, ◌<◌, ◌/◌, ◌%◌, ℕ, zero, suc, Bool, true, false, cond, eqb, codes, List, [], ◌∷◌, ◌++◌, map, slice_index, Option, Some, None, refl, sym, ap, subst, ◌∙◌, arith, inl, inr, ◌⊎◌, append_assoc, take}
+use Rattle.std.proofs.Common.{◌≡◌, ◌<◌, ◌≤◌, ◌/◌, ◌%◌, ℕ, zero, suc, Bool, true, false, cond, eqb, codes, List, [], ◌∷◌, ◌++◌, map, slice_index, Option, Some, None, refl, sym, ap, subst, ◌∙◌, arith, inl, inr, ◌⊎◌, append_assoc, take}
 use Rattle.std.proofs.lemmas.Fmt.{decimal_is_IsNumeral}
 use Rattle.std.proofs.lemmas.List.Elements.{All-append, All-cons, All-nil, All-head, All-tail}
 use Rattle.std.proofs.lemmas.List.Splits.{slice_split-cons_yes, slice_split-cons_no}
-use Rattle.rb_address.specs.declared.host.Host.TheVariants.{V4}
+use Rattle.std.proofs.lemmas.Bool.{and_parts, leb-true, ne_eqb}
+use Rattle.rb_address.specs.declared.host.Host.{Host}
+use Rattle.rb_address.specs.declared.host.Host.TheVariants.{V4, V6}
 use Rattle.rb_address.specs.declared.peer.Peer.{Peer}
+use Rattle.rb_address.specs.declared.who.Source.{Source}
+use Rattle.rb_address.specs.declared.who.Who.{Who}
 use Rattle.rb_address.specs.Hosts.{IsHost}
-use Rattle.rb_address.specs.Peers.{IsPeer, peer_text}
+use Rattle.rb_address.specs.Peers.{IsPeer, bare_host_text, peer_text}
+use Rattle.rb_address.specs.Callers.{IsSource, IsWho, source_text, who_text}
 use Rattle.rb_address.specs.Reading.{SpellsPeer}
+use Rattle.rb_address.specs.CallerTexts.{SpellsWho}
 use Rattle.rb_address.proofs.HostTexts.{IsWithout}
 use Rattle.rb_address.proofs.Words.{numeral_without}
+use Rattle.rb_address.proofs.CallerWords.{low_outside, bare_without, source_without, peer_without, who_without}
 use Rattle.rb_forward.specs.Forwards.{Unsent as UnsentCall}
 use Rattle.rb_proto.specs.declared.listener.Listener.{Listener}
 use Rattle.rb_model.specs.declared.types.Limits.{Limits}
@@ -22,17 +30,17 @@ use Rattle.rb_model.specs.State.{State, opening}
 use Rattle.rb_model.specs.Step.{Event, Output, step, run}
 use Rattle.rb_model.specs.Step.Event.{Datagram, Open, Bytes, Pending, Gave, Closed, NextLost, Unsent, Sent, Forward, Expire}
 use Rattle.rb_model.specs.Step.Output.{Opened, Refused, TooMuch, Took, TookAndClosed, IsPending, Done, LostIs, Replied, Forwarded, Silent, UnsentIs, Ignored, Nothing, ConnectionClosed, Ready, RepliedTo}
-use Rattle.rb_record.specs.Printing.{hex_text, refusal_text, bytes_line, peer_line, output_text}
-use Rattle.rb_record.specs.Entries.{event_text, entry_text, run_entries, run_text, limits_text, listener_text, options_text}
+use Rattle.rb_record.specs.Printing.{hex_text, refusal_text, bytes_line, peer_line, source_line, output_text}
+use Rattle.rb_record.specs.Entries.{event_text, entry_text, run_entries, run_text, limits_text, announce_text, inet_text, inet6_text, local_text, listener_text, options_text}
 use Rattle.rb_record.specs.Tapes.{last_line}
 use Rattle.rb_lines.specs.Lines.{line, lines_of}
 use Rattle.rb_lines.specs.Lines.Line.{Skipped, Happens}
 use Rattle.rb_lines.specs.LineLaws.{event_in, has_bad}
 use Rattle.rb_lines.specs.LineGrammar.{Spells, SpellsNumber, SpellsByte, SpellsBytes, SpellsHex, ◌␣◌, SpellsEvent}
 use Rattle.rb_lines.specs.OutputLines.{output_line_in, output_lines_in, output_lines}
-use Rattle.rb_lines.specs.RecordLaws.{Fits, AreBytes, HasLine, HasUnsentLine, HasLostLine, HasOutputLine, RecordsAreRead, EndedRecordsAreRead}
+use Rattle.rb_lines.specs.Options.{is_quotable, is_path}
+use Rattle.rb_lines.specs.RecordLaws.{Fits, AreBytes, HasLine, HasUnsentLine, HasLostLine, HasOutputLine, HasListenerText, RecordsAreRead, EndedRecordsAreRead}
 use Rattle.rb_lines.proofs.LineLaws.{reads_the_events}
-use Rattle.rb_lines.proofs.Words.{peer_without}
 use Rattle.rb_lines.proofs.LineWords.{line_of, skipped_say_nothing}
 use Rattle.hex.specs.Hex.{encode_with, encode_lower, lower_digits}
 use mathlib.Core.Bool.{true≢false}
@@ -92,6 +100,15 @@ peer_spelled p is = record { is_peer = is; text_is = refl }
 
 peer_apart : (p : Peer) → IsPeer p → IsWithout 10 (peer_text p)
 peer_apart p is = peer_without 10 (omega arith) p is
+
+who_spelled : (w : Who) → IsWho w → SpellsWho w (who_text w)
+who_spelled w is = record { is_who = is; text_is = refl }
+
+who_apart : (w : Who) → IsWho w → IsWithout 10 (who_text w)
+who_apart w is = who_without 10 (omega arith) w is
+
+source_apart : (s : Source) → IsSource s → IsWithout 10 (source_text s)
+source_apart s is = source_without 10 (low_outside 10 (omega arith)) s is
 
 -- ---- hexadecimal digits
 
@@ -221,10 +238,10 @@ expire_apart = behind 101 (codes "xpire") refl (behind 120 (codes "pire") refl (
 event_line : (e : Event) → HasLine e → IsEventLine e
 unfolding output_line_in
 event_line (Open now from) h = record {
-  body = codes "open" ++ 32 ∷ (decimal now ++ 32 ∷ peer_text from);
-  whole = ap (λ (t : List ℕ). codes "open " ++ t) (ended (decimal now) (peer_text from));
-  apart = apart_pair (codes "open") (decimal now ++ 32 ∷ peer_text from) open_apart (apart_pair (decimal now) (peer_text from) (number_apart now h.0) (peer_apart from h.1));
-  spelled = spaced (Spells (codes "open")) (SpellsNumber now ␣ SpellsPeer from) (codes "open") _ refl (spaced (SpellsNumber now) (SpellsPeer from) (decimal now) (peer_text from) (number_spelled now h.0) (peer_spelled from h.1));
+  body = codes "open" ++ 32 ∷ (decimal now ++ 32 ∷ who_text from);
+  whole = ap (λ (t : List ℕ). codes "open " ++ t) (ended (decimal now) (who_text from));
+  apart = apart_pair (codes "open") (decimal now ++ 32 ∷ who_text from) open_apart (apart_pair (decimal now) (who_text from) (number_apart now h.0) (who_apart from h.1));
+  spelled = spaced (Spells (codes "open")) (SpellsNumber now ␣ SpellsWho from) (codes "open") _ refl (spaced (SpellsNumber now) (SpellsWho from) (decimal now) (who_text from) (number_spelled now h.0) (who_spelled from h.1));
   quiet = refl;
 }
 event_line (Bytes now id bytes) h = record {
@@ -259,11 +276,11 @@ event_line (Closed id) h = record {
 }
 event_line NextLost h = record { body = codes "lost"; whole = refl; apart = lost_apart; spelled = refl; quiet = refl }
 event_line (Datagram now from bytes) h = record {
-  body = codes "datagram" ++ 32 ∷ (decimal now ++ 32 ∷ (peer_text from ++ 32 ∷ hex_text bytes));
-  whole = ap (λ (t : List ℕ). codes "datagram " ++ t) (ap (λ (t : List ℕ). decimal now ++ 32 ∷ t) (ended (peer_text from) (hex_text bytes)) ∙ ended (decimal now) (peer_text from ++ 32 ∷ hex_text bytes));
-  apart = apart_pair (codes "datagram") (decimal now ++ 32 ∷ (peer_text from ++ 32 ∷ hex_text bytes)) datagram_apart (apart_pair (decimal now) (peer_text from ++ 32 ∷ hex_text bytes) (number_apart now h.0) (apart_pair (peer_text from) (hex_text bytes) (peer_apart from h.1) (hex_apart bytes)));
-  spelled = spaced (Spells (codes "datagram")) (SpellsNumber now ␣ SpellsPeer from ␣ SpellsHex bytes) (codes "datagram") _ refl
-      (spaced (SpellsNumber now) (SpellsPeer from ␣ SpellsHex bytes) (decimal now) _ (number_spelled now h.0) (spaced (SpellsPeer from) (SpellsHex bytes) (peer_text from) (hex_text bytes) (peer_spelled from h.1) (hex_spelled bytes h.2)));
+  body = codes "datagram" ++ 32 ∷ (decimal now ++ 32 ∷ (who_text from ++ 32 ∷ hex_text bytes));
+  whole = ap (λ (t : List ℕ). codes "datagram " ++ t) (ap (λ (t : List ℕ). decimal now ++ 32 ∷ t) (ended (who_text from) (hex_text bytes)) ∙ ended (decimal now) (who_text from ++ 32 ∷ hex_text bytes));
+  apart = apart_pair (codes "datagram") (decimal now ++ 32 ∷ (who_text from ++ 32 ∷ hex_text bytes)) datagram_apart (apart_pair (decimal now) (who_text from ++ 32 ∷ hex_text bytes) (number_apart now h.0) (apart_pair (who_text from) (hex_text bytes) (who_apart from h.1) (hex_apart bytes)));
+  spelled = spaced (Spells (codes "datagram")) (SpellsNumber now ␣ SpellsWho from ␣ SpellsHex bytes) (codes "datagram") _ refl
+      (spaced (SpellsNumber now) (SpellsWho from ␣ SpellsHex bytes) (decimal now) _ (number_spelled now h.0) (spaced (SpellsWho from) (SpellsHex bytes) (who_text from) (hex_text bytes) (who_spelled from h.1) (hex_spelled bytes h.2)));
   quiet = refl;
 }
 event_line Unsent h = record { body = codes "unsent"; whole = refl; apart = unsent_apart; spelled = refl; quiet = refl }
@@ -384,6 +401,14 @@ to_line word p bytes apart is = record {
   apart = joined word (peer_text p ++ 32 ∷ hex_text bytes) apart (apart_pair (peer_text p) (hex_text bytes) (peer_apart p is) (hex_apart bytes));
 }
 
+-- a word, and bytes to where a call came from
+back_line : (word : List ℕ) (s : Source) (bytes : List ℕ) → IsWithout 10 word → IsSource s → IsLine (source_line word s bytes)
+back_line word s bytes apart is = record {
+  body = word ++ (source_text s ++ 32 ∷ hex_text bytes);
+  whole = ap (λ (t : List ℕ). word ++ t) (ended (source_text s) (hex_text bytes)) ∙ sym (append_assoc word (source_text s ++ 32 ∷ hex_text bytes) (10 ∷ []));
+  apart = joined word (source_text s ++ 32 ∷ hex_text bytes) apart (apart_pair (source_text s) (hex_text bytes) (source_apart s is) (hex_apart bytes));
+}
+
 -- a word, a number and another word
 number_line : (word : List ℕ) (n : ℕ) (last : List ℕ) → IsWithout 10 word → Fits n → IsWithout 10 last → IsLine (word ++ (decimal n ++ (last ++ 10 ∷ [])))
 number_line word n last apart fits behind = record {
@@ -426,7 +451,7 @@ output_line Ignored h = plain_line (codes "ignored") w_ignored
 output_line Nothing h = plain_line (codes "nothing") w_nothing
 output_line (ConnectionClosed id) h = number_line (codes "closed ") id [] w_closed h nothing
 output_line (Ready id) h = number_line (codes "ready ") id [] w_ready h nothing
-output_line (RepliedTo peer bytes) h = to_line (codes "datagram ") peer bytes w_datagram h
+output_line (RepliedTo who bytes) h = back_line (codes "datagram ") who.source bytes w_datagram h
 
 -- ---- what lines say
 
@@ -491,9 +516,6 @@ says_run s (e ∷ events) all given =
 
 -- ---- its options
 
-host_apart : (h : List ℕ) → IsHost (V4 h) → (i : ℕ) → i < 4 → IsWithout 10 (decimal (slice_index h i))
-host_apart h is i lt = number_apart (slice_index h i) (omega (arith, is.small i 0 (omega (arith, is.count, lt))))
-
 o_conns : IsWithout 10 (codes " --conns ")
 o_conns = apart (codes " --conns ") refl
 
@@ -506,8 +528,11 @@ o_forwards = apart (codes " --forwards ") refl
 o_announce : IsWithout 10 (codes " --announce ")
 o_announce = apart (codes " --announce ") refl
 
-o_dot : IsWithout 10 (codes ".")
-o_dot = apart (codes ".") refl
+o_local : IsWithout 10 (codes " --local '")
+o_local = apart (codes " --local '") refl
+
+o_quote : IsWithout 10 (codes "'")
+o_quote = apart (codes "'") refl
 
 o_port : IsWithout 10 (codes " --port ")
 o_port = apart (codes " --port ") refl
@@ -521,16 +546,38 @@ o_now = apart (codes " --now ") refl
 o_head : IsWithout 10 (codes "# rpcbind replay --check")
 o_head = apart (codes "# rpcbind replay --check") refl
 
-options_line : (limits : Limits) (listener : Listener) (first_xid now : ℕ) → Fits limits.conns → Fits limits.rows → Fits limits.forwards → IsPeer (record { host = V4 listener.host; port = listener.port }) → Fits first_xid → Fits now → IsLine (options_text limits listener first_xid now)
-options_line limits listener first_xid now conns rows forwards peer xid_fits now_fits =
-    let a = host_apart listener.host peer.0 0 (omega arith) in
-    let b = host_apart listener.host peer.0 1 (omega arith) in
-    let c = host_apart listener.host peer.0 2 (omega arith) in
-    let d = host_apart listener.host peer.0 3 (omega arith) in
-    let port = number_apart listener.port (omega (arith, peer.1)) in
+announce_apart : (h : Host) → IsHost h → IsWithout 10 (announce_text h)
+announce_apart h is = joined (codes " --announce ") (bare_host_text h) o_announce (bare_without 10 (low_outside 10 (omega arith)) h is)
+
+inet_apart : (a : Option (List ℕ)) → IfSome a (λ octets. IsHost (V4 octets)) → IsWithout 10 (inet_text a)
+inet_apart None is = nothing
+inet_apart (Some octets) is = announce_apart (V4 octets) is
+
+inet6_apart : (a : Option (List ℕ)) → IfSome a (λ octets. IsHost (V6 octets)) → IsWithout 10 (inet6_text a)
+inet6_apart None is = nothing
+inet6_apart (Some octets) is = announce_apart (V6 octets) is
+
+path_apart : (path : List ℕ) → list_all is_quotable path ≡ true → IsWithout 10 path
+path_apart [] are = nothing
+path_apart (b ∷ path) are =
+    let parts = and_parts _ _ are in
+    let large : 32 ≤ b = leb-true 32 b (and_parts _ _ parts.0).0 in
+    behind b path (ne_eqb b 10 (λ e. omega (arith, large, e))) (path_apart path parts.1)
+
+local_apart : (a : Option (List ℕ)) → IfSome a (λ path. is_path path ≡ true) → IsWithout 10 (local_text a)
+local_apart None is = nothing
+local_apart (Some path) is = joined (codes " --local '") (path ++ codes "'") o_local (joined path (codes "'") (path_apart path (and_parts _ _ is).1) o_quote)
+
+listener_apart : (listener : Listener) → HasListenerText listener → IsWithout 10 (listener_text listener)
+listener_apart listener is =
+    let port = joined (decimal listener.port) (local_text listener.local) (number_apart listener.port (omega (arith, is.port))) (local_apart listener.local is.path) in
+    joined (inet_text listener.announced.inet) _ (inet_apart listener.announced.inet is.inet)
+    (joined (inet6_text listener.announced.inet6) _ (inet6_apart listener.announced.inet6 is.inet6) (joined (codes " --port ") _ o_port port))
+
+options_line : (limits : Limits) (listener : Listener) (first_xid now : ℕ) → Fits limits.conns → Fits limits.rows → Fits limits.forwards → HasListenerText listener → Fits first_xid → Fits now → IsLine (options_text limits listener first_xid now)
+options_line limits listener first_xid now conns rows forwards is_listener xid_fits now_fits =
     let of_limits = joined (codes " --conns ") _ o_conns (joined (decimal limits.conns) _ (number_apart limits.conns conns) (joined (codes " --rows ") _ o_rows (joined (decimal limits.rows) _ (number_apart limits.rows rows) (joined (codes " --forwards ") _ o_forwards (number_apart limits.forwards forwards))))) in
-    let of_listener = joined (codes " --announce ") _ o_announce (joined (decimal (slice_index listener.host 0)) _ a (joined (codes ".") _ o_dot (joined (decimal (slice_index listener.host 1)) _ b (joined (codes ".") _ o_dot
-    (joined (decimal (slice_index listener.host 2)) _ c (joined (codes ".") _ o_dot (joined (decimal (slice_index listener.host 3)) _ d (joined (codes " --port ") _ o_port port)))))))) in
+    let of_listener = listener_apart listener is_listener in
     let tail = joined (codes " --xid ") (decimal first_xid ++ (codes " --now " ++ decimal now)) o_xid (joined (decimal first_xid) (codes " --now " ++ decimal now) (number_apart first_xid xid_fits) (joined (codes " --now ") (decimal now) o_now (number_apart now now_fits))) in
     record {
       body = codes "# rpcbind replay --check" ++ (limits_text limits ++ (listener_text listener ++ (codes " --xid " ++ (decimal first_xid ++ (codes " --now " ++ decimal now)))));
@@ -552,9 +599,9 @@ options_quiet rest = refl
 
 pub records_are_read : RecordsAreRead
 unfolding output_lines_in output_lines options_line
-records_are_read limits listener first_xid now events conns rows forwards peer xid_fits now_fits all given short =
+records_are_read limits listener first_xid now events conns rows forwards is_listener xid_fits now_fits all given short =
     let s : State = opening limits listener first_xid now in
-    let l : IsLine (options_text limits listener first_xid now) = options_line limits listener first_xid now conns rows forwards peer xid_fits now_fits in
+    let l : IsLine (options_text limits listener first_xid now) = options_line limits listener first_xid now conns rows forwards is_listener xid_fits now_fits in
     let text : List ℕ = options_text limits listener first_xid now ++ run_text s events in
     let says : Says (lines_of text) events (run s events) =
     subst (λ (ls : List (List ℕ)). Says ls events (run s events)) (sym (lines_behind (options_text limits listener first_xid now) (run_text s events) l))
@@ -603,11 +650,11 @@ last_says last (inr is) =
 
 pub ended_records_are_read : EndedRecordsAreRead
 unfolding output_lines_in output_lines options_line
-ended_records_are_read limits listener first_xid now events text k held count conns rows forwards peer xid_fits now_fits all given short =
+ended_records_are_read limits listener first_xid now events text k held count conns rows forwards is_listener xid_fits now_fits all given short =
     let s : State = opening limits listener first_xid now in
     let options : List ℕ = options_text limits listener first_xid now in
     let front : List ℕ = concat (take k (run_entries s events)) in
-    let l : IsLine options = options_line limits listener first_xid now conns rows forwards peer xid_fits now_fits in
+    let l : IsLine options = options_line limits listener first_xid now conns rows forwards is_listener xid_fits now_fits in
     let is : text ≡ options ++ (front ++ held.last) =
     held.is ∙ ap (λ (n : ℕ). concat (take n (options ∷ run_entries s events)) ++ held.last) count ∙ append_assoc options front held.last in
     let says : Says (lines_of text) (take k events) (run s (take k events)) =

@@ -2,6 +2,7 @@
 use Rattle.std.specs.Prelude.{◌≡◌, ℕ, ◌++◌, true, List, [], codes, Option, Some, None}
 use Rattle.std.specs.Fmt.{decimal}
 use Rattle.rb_model.specs.declared.types.Limits.{Limits}
+use Rattle.rb_proto.specs.declared.listener.Listener.{Listener}
 use Rattle.rb_record.specs.Printing.{Writes}
 use Rattle.rb_lines.specs.declared.lines.ReadFault.TheVariants as reading
 use Rattle.rb_lines.specs.declared.faults.Fault.{Fault}
@@ -46,13 +47,13 @@ limit_line None = []
 limit_line (Some bad) = codes "rpcbind: " ++ (limit_text bad ++ codes "\n")
 
 -- what stands in front of the line of a fault: of bad limits, the first that is out of its range
-abbrev pub lines_before : Limits → Fault → List ℕ
-lines_before limits BadLimits = limit_line (bad_limit limits)
-lines_before limits other = []
+abbrev pub lines_before : Limits → Listener → Fault → List ℕ
+lines_before limits listener BadLimits = limit_line (bad_limit limits listener)
+lines_before limits listener other = []
 
--- the lines of a fault of a run with these limits
-abbrev pub fault_lines : Limits → Fault → List ℕ
-fault_lines limits fault = lines_before limits fault ++ fault_line fault
+-- the lines of a fault of a run with these limits at this listener
+abbrev pub fault_lines : Limits → Listener → Fault → List ℕ
+fault_lines limits listener fault = lines_before limits listener fault ++ fault_line fault
 
 -- Where all that there is to tell was written, it is this.
 abbrev pub Says : {E : Type 0} → (E → Option (List ℕ)) → E → E → Ending → List ℕ → Type 0

@@ -1,8 +1,9 @@
--- What an event line is spelled from: words, with one space between each two. A peer is spelled as it is printed
--- (`SpellsPeer` of rb_address).
+-- What an event line is spelled from: words, with one space between each two. A caller and a peer are spelled as they are
+-- printed (`SpellsWho` and `SpellsPeer` of rb_address).
 use Rattle.std.specs.Prelude.{◌≡◌, ◌↔◌, ◌⊎◌, ℕ, ◌+◌, ◌*◌, ◌^◌, ◌<◌, List, [], ◌∷◌, ◌++◌, codes}
 use Rattle.std.specs.Char.{digit_value}
 use Rattle.std.specs.Str.Parse.{IsNumeral, digits_value}
+use Rattle.rb_address.specs.CallerTexts.{SpellsWho}
 use Rattle.rb_address.specs.Reading.{SpellsPeer}
 use Rattle.rb_model.specs.Step.{Event}
 use Rattle.rb_model.specs.Step.Event.{Datagram, Open, Bytes, Pending, Gave, Closed, NextLost, Unsent, Sent, Forward, Expire}
@@ -51,14 +52,14 @@ abbrev pub ◌␣◌ : (List ℕ → Type 0) → (List ℕ → Type 0) → List 
 Front ␣ Back = IsSpaced Front Back
 
 abbrev pub SpellsEvent : Event → List ℕ → Type 0
-SpellsEvent (Open now from) = Spells (codes "open") ␣ SpellsNumber now ␣ SpellsPeer from
+SpellsEvent (Open now from) = Spells (codes "open") ␣ SpellsNumber now ␣ SpellsWho from
 SpellsEvent (Bytes now id bytes) = Spells (codes "bytes") ␣ SpellsNumber now ␣ SpellsNumber id ␣ SpellsHex bytes
 SpellsEvent (Pending id) = Spells (codes "pending") ␣ SpellsNumber id
 SpellsEvent (Gave now id n) = Spells (codes "gave") ␣ SpellsNumber now ␣ SpellsNumber id ␣ SpellsNumber n
 SpellsEvent (Closed id) = Spells (codes "closed") ␣ SpellsNumber id
 SpellsEvent NextLost = Spells (codes "lost")
 SpellsEvent (Datagram now from bytes) =
-    Spells (codes "datagram") ␣ SpellsNumber now ␣ SpellsPeer from ␣ SpellsHex bytes
+    Spells (codes "datagram") ␣ SpellsNumber now ␣ SpellsWho from ␣ SpellsHex bytes
 SpellsEvent Unsent = Spells (codes "unsent")
 SpellsEvent (Sent id) = Spells (codes "sent") ␣ SpellsNumber id
 SpellsEvent (Forward now from bytes) =

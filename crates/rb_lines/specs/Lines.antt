@@ -3,35 +3,44 @@ use Rattle.std.specs.Prelude.{◌≡◌, ℕ, ◌+◌, ◌^◌, ◌==◌, nat_lt
 use Rattle.std.specs.List.{slice_split}
 use Rattle.std.specs.Option.{option_map}
 use Rattle.std.specs.Str.{bytes_eq}
-use Rattle.rb_address.specs.declared.peer.Peer.{Peer}
+use Rattle.rb_address.specs.CallerTexts.{who}
 use Rattle.rb_address.specs.Reading.{◌>>=◌, cut, number_below, peer}
 use Rattle.rb_model.specs.Step.{Event}
 use Rattle.rb_model.specs.Step.Event.{Open, Bytes, Pending, Gave, Closed, NextLost, Datagram, Unsent, Sent, Forward, Expire}
 use Rattle.rb_model.specs.declared.events.Event as event_type
 use Rattle.rb_model.specs.Plain.{event_of, events_of}
-use Rattle.rb_lines.specs.declared.lines.DatagramFields as fields_type
 use Rattle.rb_lines.specs.declared.lines.Line as line_type
 use Rattle.rb_lines.specs.declared.lines.Line.TheVariants as lines
 use Rattle.rb_lines.specs.declared.lines.ReadFault.{ReadFault}
 use Rattle.rb_lines.specs.declared.lines.ReadFault.TheVariants.{BadLine, TooLong, NoMemory}
 use Rattle.rb_lines.specs.Fields.{hex_bytes}
 
--- what follows the words `datagram` and `forward`: a moment, a peer and bytes, of which the event is made
-unfoldable pub datagram_line : (ℕ → Peer → List ℕ → Event) → List ℕ → Option Event
-datagram_line make text = do
+-- what follows the word `datagram`: a moment, a caller and bytes
+unfoldable pub datagram_line : List ℕ → Option Event
+datagram_line text = do
+  first ← cut 32 text
+  second ← cut 32 first.1
+  now ← number_below (2 ^ 64) first.0
+  from ← who second.0
+  bytes ← hex_bytes second.1
+  Some (Datagram now from bytes)
+
+-- what follows the word `forward`: a moment, a peer and bytes
+unfoldable pub forward_line : List ℕ → Option Event
+forward_line text = do
   first ← cut 32 text
   second ← cut 32 first.1
   now ← number_below (2 ^ 64) first.0
   from ← peer second.0
   bytes ← hex_bytes second.1
-  Some (make now from bytes)
+  Some (Forward now from bytes)
 
--- what follows the word `open`: a moment and a peer
+-- what follows the word `open`: a moment and a caller
 unfoldable pub open_line : List ℕ → Option Event
 open_line text = do
   parts ← cut 32 text
   now ← number_below (2 ^ 64) parts.0
-  from ← peer parts.1
+  from ← who parts.1
   Some (Open now from)
 
 -- what follows the word `bytes`: a moment, a connection's number and bytes
@@ -57,14 +66,14 @@ gave_line text = do
 -- the event of a line of more than one word: the first, and what stands behind the space after it
 unfoldable pub event : List ℕ → List ℕ → Option Event
 event word rest =
-    if bytes_eq word (codes "datagram") then datagram_line Datagram rest
+    if bytes_eq word (codes "datagram") then datagram_line rest
     else if bytes_eq word (codes "open") then open_line rest
     else if bytes_eq word (codes "bytes") then bytes_line rest
     else if bytes_eq word (codes "pending") then option_map Pending (number_below (2 ^ 64) rest)
     else if bytes_eq word (codes "gave") then gave_line rest
     else if bytes_eq word (codes "closed") then option_map Closed (number_below (2 ^ 64) rest)
     else if bytes_eq word (codes "sent") then option_map Sent (number_below (2 ^ 64) rest)
-    else if bytes_eq word (codes "forward") then datagram_line Forward rest
+    else if bytes_eq word (codes "forward") then forward_line rest
     else if bytes_eq word (codes "expire") then option_map Expire (number_below (2 ^ 64) rest)
     else None
 
@@ -124,12 +133,6 @@ abbrev pub line_of : line_type.Line → Line
 line_of lines.Skipped = Skipped
 line_of (lines.Happens event) = Happens (event_of event)
 line_of lines.Bad = Bad
-
--- The fields are those of which any such event is made.
-abbrev pub AreFieldsOf : List ℕ → Option fields_type.DatagramFields → Type 0
-AreFieldsOf text read =
-    (make : ℕ → Peer → List ℕ → Event)
-    → option_map (λ f. make f.now f.from f.bytes.items) read ≡ datagram_line make text
 
 -- What a function returned is what reading gives, unless memory ran out.
 abbrev pub Fails : ReadFault → Result (List Event) ReadFault → Type 0

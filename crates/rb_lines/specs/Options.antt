@@ -1,9 +1,15 @@
 -- What the values of the options of `replay` mean.
-use Rattle.std.specs.Prelude.{ℕ, ◌^◌, ◌==◌, if◌then◌else◌, List, Option, Some, None, Result, Ok, Err}
-use Rattle.rb_address.specs.Reading.{number_below, ipv4_host}
+use Rattle.std.specs.Prelude.{ℕ, ◌^◌, ◌==◌, nat_le, not, Bool, ◌&&◌, if◌then◌else◌, List, [], ◌∷◌, length, is_some, Option, Some, None, option_map, Result, Ok, Err}
+use Rattle.std.specs.List.{list_all}
+use Rattle.std.specs.Borrow.{Bor}
+use Rattle.rb_address.specs.declared.host.Host.{Host}
+use Rattle.rb_address.specs.declared.host.Host.TheVariants.{V4, V6}
+use Rattle.rb_address.specs.Networks.{plain_host_of}
+use Rattle.rb_address.specs.Reading.{number_below}
+use Rattle.rb_proto.specs.declared.listener.Announced.{Announced}
 use Rattle.rb_model.specs.declared.types.Limits.{Limits}
 use Rattle.rb_lines.specs.declared.options.Valued.{Valued}
-use Rattle.rb_lines.specs.declared.options.Valued.TheVariants.{Announce, Conns, Rows, Forwards, Port, Xid, Now}
+use Rattle.rb_lines.specs.declared.options.Valued.TheVariants.{Announce, Local, Conns, Rows, Forwards, Port, Xid, Now}
 use Rattle.rb_lines.specs.declared.options.ReplayTexts.{ReplayTexts}
 use Rattle.rb_lines.specs.declared.options.Beginning.{Beginning}
 
@@ -17,6 +23,53 @@ abbrev pub ◌>>=◌ : {A B : Type 0} → Result A Valued → (A → Result B Va
 abbrev pub value_of : {A : Type 0} → Valued → Option A → Result A Valued
 value_of option (Some x) = Ok x
 value_of option None = Err option
+
+-- ---- the announced hosts
+
+abbrev pub unannounced : Announced
+unannounced = record { inet = None; inet6 = None }
+
+-- with one more, of a family that has none yet
+abbrev pub with_host : Announced → Host → Option Announced
+with_host announced (V4 octets) = if is_some announced.inet then None else Some (record announced { inet = Some octets })
+with_host announced (V6 octets) = if is_some announced.inet6 then None else Some (record announced { inet6 = Some octets })
+
+-- with that at a place of `--announce`
+abbrev pub announce_at : ℕ → Announced → List ℕ → Result Announced Valued
+announce_at place announced text = do
+  host ← value_of (Announce place) (plain_host_of text)
+  value_of (Announce place) (with_host announced host)
+
+-- at most one of each family
+abbrev pub announced_of : List (Bor (List ℕ)) → Result Announced Valued
+announced_of [] = Ok unannounced
+announced_of (text ∷ []) = announce_at 0 unannounced text.now
+announced_of (first ∷ second ∷ []) = do
+  one ← announce_at 0 unannounced first.now
+  announce_at 1 one second.now
+announced_of (first ∷ second ∷ third ∷ more) = do
+  one ← announce_at 0 unannounced first.now
+  both ← announce_at 1 one second.now
+  Err (Announce 2)
+
+-- ---- the local socket
+
+-- no control character, and no quote: so that the path can stand in quotes in a line
+abbrev pub is_quotable : ℕ → Bool
+is_quotable b = nat_le 32 b && not (b == 39)
+
+-- a path of 1 to 107 such bytes
+abbrev pub is_path : List ℕ → Bool
+is_path text = not (length text == 0) && nat_le (length text) 107 && list_all is_quotable text
+
+abbrev pub read_local : Option (Bor (List ℕ)) → Result (Option (Bor (List ℕ))) Valued
+read_local None = Ok None
+read_local (Some text) = if is_path text.now then Ok (Some text) else Err Local
+
+abbrev pub local_address : Option (Bor (List ℕ)) → Result (Option (List ℕ)) Valued
+local_address text = read_local text >>= λ path. Ok (option_map (λ p. p.now) path)
+
+-- ---- numbers
 
 abbrev pub unless_zero : Option ℕ → Option ℕ
 unless_zero None = None
@@ -37,9 +90,10 @@ limits_of conns rows forwards = do
 -- what a replay begins with, or the first option whose value can't be read
 abbrev pub beginning_of : ReplayTexts → Result Beginning Valued
 beginning_of texts = do
-  announced ← value_of Announce (ipv4_host texts.announce.now)
+  announced ← announced_of texts.announce.now
+  path ← local_address texts.local
   limits ← limits_of texts.conns.now texts.rows.now texts.forwards.now
   listens ← value_of Port (port texts.port.now)
   xid ← value_of Xid (number_below (2 ^ 32) texts.xid.now)
   moment ← value_of Now (number_below (2 ^ 64) texts.moment.now)
-  Ok (record { limits = limits; listener = record { host = announced; port = listens }; first_xid = xid; moment = moment; steps = texts.steps })
+  Ok (record { limits = limits; listener = record { announced = announced; port = listens; local = path }; first_xid = xid; moment = moment; steps = texts.steps })

@@ -1,8 +1,10 @@
 -- What was recorded of a run is read back as its events, and what it says of outputs is what they gave.
-use Rattle.std.specs.Prelude.{◌≡◌, ◌≤◌, ◌<◌, ℕ, suc, ◌^◌, List, ◌∷◌, ◌++◌, length, take, Option, Some, None, Ok}
+use Rattle.std.specs.Prelude.{◌≡◌, ◌≤◌, ◌<◌, ℕ, suc, ◌^◌, true, List, ◌∷◌, ◌++◌, length, take, Option, Some, None, IfSome, Ok}
 use Rattle.std.specs.List.{AllByRecursion}
-use Rattle.rb_address.specs.declared.host.Host.TheVariants.{V4}
+use Rattle.rb_address.specs.declared.host.Host.TheVariants.{V4, V6}
+use Rattle.rb_address.specs.Hosts.{IsHost}
 use Rattle.rb_address.specs.Peers.{IsPeer}
+use Rattle.rb_address.specs.Callers.{IsSource, IsWho}
 use Rattle.rb_forward.specs.Forwards.{Unsent as UnsentCall}
 use Rattle.rb_proto.specs.declared.listener.Listener.{Listener}
 use Rattle.rb_model.specs.declared.types.Limits.{Limits}
@@ -13,9 +15,10 @@ use Rattle.rb_model.specs.Step.Output.{Opened, Took, TookAndClosed, LostIs, Unse
 use Rattle.rb_record.specs.Entries.{run_entries, run_text, options_text}
 use Rattle.rb_record.specs.Tapes.{HasFirst}
 use Rattle.rb_lines.specs.Lines.{longest_input, read}
+use Rattle.rb_lines.specs.Options.{is_path}
 use Rattle.rb_lines.specs.OutputLines.{output_lines_in, output_lines}
 
--- ---- what has a line: numbers of 64 bits, bytes, and peers
+-- ---- what has a line: numbers of 64 bits, bytes, callers and peers
 
 abbrev pub Fits : ℕ → Type 0
 Fits n = n < 2 ^ 64
@@ -24,13 +27,13 @@ abbrev pub AreBytes : List ℕ → Type 0
 AreBytes bytes = AllByRecursion (λ byte. byte < 256) bytes
 
 abbrev pub HasLine : Event → Type 0
-HasLine (Open now from) = Fits now × IsPeer from
+HasLine (Open now from) = Fits now × IsWho from
 HasLine (Bytes now id bytes) = Fits now × Fits id × AreBytes bytes
 HasLine (Pending id) = Fits id
 HasLine (Gave now id n) = Fits now × Fits id × Fits n
 HasLine (Closed id) = Fits id
 HasLine NextLost = Unit {0}
-HasLine (Datagram now from bytes) = Fits now × IsPeer from × AreBytes bytes
+HasLine (Datagram now from bytes) = Fits now × IsWho from × AreBytes bytes
 HasLine Unsent = Unit {0}
 HasLine (Sent number) = Fits number
 HasLine (Forward now from bytes) = Fits now × IsPeer from × AreBytes bytes
@@ -52,8 +55,15 @@ HasOutputLine (LostIs id) = HasLostLine id
 HasOutputLine (UnsentIs unsent) = HasUnsentLine unsent
 HasOutputLine (ConnectionClosed id) = Fits id
 HasOutputLine (Ready id) = Fits id
-HasOutputLine (RepliedTo peer bytes) = IsPeer peer
+HasOutputLine (RepliedTo who bytes) = IsSource who.source
 HasOutputLine other = Unit {0}
+
+-- its text can be read: hosts as their types have them, a port, and a path as `--local` takes it
+pub record HasListenerText (listener : Listener) : Type 0 where
+  pub inet : IfSome listener.announced.inet (λ octets. IsHost (V4 octets))
+  pub inet6 : IfSome listener.announced.inet6 (λ octets. IsHost (V6 octets))
+  pub port : listener.port < 2 ^ 16
+  pub path : IfSome listener.local (λ path. is_path path ≡ true)
 
 -- ---- the law
 
@@ -68,7 +78,7 @@ abbrev pub RecordsAreRead : Type 0
 RecordsAreRead =
     (limits : Limits) (listener : Listener) (first_xid now : ℕ) (events : List Event)
     → Fits limits.conns → Fits limits.rows → Fits limits.forwards
-    → IsPeer (record { host = V4 listener.host; port = listener.port }) → Fits first_xid → Fits now
+    → HasListenerText listener → Fits first_xid → Fits now
     → AllByRecursion HasLine events → AllByRecursion HasOutputLine (run (opening limits listener first_xid now) events)
     → length (options_text limits listener first_xid now ++ run_text (opening limits listener first_xid now) events) ≤ longest_input
     → ReadsAs (options_text limits listener first_xid now ++ run_text (opening limits listener first_xid now) events) events (run (opening limits listener first_xid now) events)
@@ -81,7 +91,7 @@ EndedRecordsAreRead =
     (held : HasFirst (options_text limits listener first_xid now ∷ run_entries (opening limits listener first_xid now) events) text)
     → held.count ≡ suc k
     → Fits limits.conns → Fits limits.rows → Fits limits.forwards
-    → IsPeer (record { host = V4 listener.host; port = listener.port }) → Fits first_xid → Fits now
+    → HasListenerText listener → Fits first_xid → Fits now
     → AllByRecursion HasLine events → AllByRecursion HasOutputLine (run (opening limits listener first_xid now) events)
     → length text ≤ longest_input
     → ReadsAs text (take k events) (run (opening limits listener first_xid now) (take k events))

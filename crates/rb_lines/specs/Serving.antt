@@ -4,10 +4,11 @@ use Rattle.std.specs.List.{list_all}
 use Rattle.std.specs.Char.{digit_value}
 use Rattle.std.specs.Str.Parse.{digits_value}
 use Rattle.std.specs.Borrow.{Bor}
-use Rattle.std.specs.declared.net.ipv4_addr.Ipv4Addr.{Ipv4Addr}
+use Rattle.rb_address.specs.declared.host.Host.{Host}
 use Rattle.rb_address.specs.declared.network.Network.{Network}
-use Rattle.rb_address.specs.Reading.{number_below, ipv4_host}
-use Rattle.rb_address.specs.Networks.{network_of}
+use Rattle.rb_address.specs.Reading.{number_below}
+use Rattle.rb_address.specs.Networks.{network_of, plain_host_of}
+use Rattle.rb_proto.specs.declared.listener.Announced.{Announced}
 use Rattle.rb_model.specs.declared.types.Limits.{Limits}
 use Rattle.rb_lines.specs.declared.options.Valued.{Valued}
 use Rattle.rb_lines.specs.declared.options.Valued.TheVariants.{Announce, Bind, From, Local, LocalMode, Port, Conns, Rows, Forwards, Xid, Now, Turns, RecordLimit}
@@ -16,34 +17,27 @@ use Rattle.rb_lines.specs.declared.serving.ServeFault.{ServeFault}
 use Rattle.rb_lines.specs.declared.serving.ServeFault.TheVariants.{BadValue, NoMemory}
 use Rattle.rb_lines.specs.declared.serving.Record.{Record}
 use Rattle.rb_lines.specs.declared.serving.Service as code
-use Rattle.rb_lines.specs.Options.{◌>>=◌, value_of, port, limits_of}
+use Rattle.rb_lines.specs.Options.{◌>>=◌, value_of, announced_of, read_local, port, limits_of}
 
 -- what stands for an option that is not given
 abbrev pub default_of : Valued → List ℕ
 default_of (Bind place) = codes "127.0.0.1"
-default_of LocalMode = codes "0666"
+default_of LocalMode = codes "0600"
 default_of Port = codes "111"
 default_of Conns = codes "64"
 default_of Rows = codes "1024"
 default_of Forwards = codes "0"
 default_of Turns = codes "0"
 default_of RecordLimit = codes "16000000"
-default_of Announce = []
+default_of (Announce place) = []
 default_of (From place) = []
 default_of Local = []
 default_of Xid = []
 default_of Now = []
 
-abbrev pub address : List ℕ → Option Ipv4Addr
-address text = option_map (λ octets. record { octets = octets }) (ipv4_host text)
-
-abbrev pub read_announce : Option (Bor (List ℕ)) → Result (Option Ipv4Addr) Valued
-read_announce None = Ok None
-read_announce (Some text) = value_of Announce (address text.now) >>= λ given. Ok (Some given)
-
 -- the address at a place of `--bind`, of which there are at most 16
-abbrev pub host_at : ℕ → List ℕ → Result Ipv4Addr Valued
-host_at place text = if nat_lt place 16 then value_of (Bind place) (address text) else Err (Bind place)
+abbrev pub host_at : ℕ → List ℕ → Result Host Valued
+host_at place text = if nat_lt place 16 then value_of (Bind place) (plain_host_of text) else Err (Bind place)
 
 -- the network at a place of `--from`, of which there are at most 16
 abbrev pub network_at : ℕ → List ℕ → Result Network Valued
@@ -57,19 +51,11 @@ values_from value_at place (text ∷ texts) = do
   others ← values_from value_at (place + 1) texts
   Ok (first ∷ others)
 
-abbrev pub hosts_from : ℕ → List (Bor (List ℕ)) → Result (List Ipv4Addr) Valued
+abbrev pub hosts_from : ℕ → List (Bor (List ℕ)) → Result (List Host) Valued
 hosts_from place texts = values_from host_at place texts
 
 abbrev pub networks_from : ℕ → List (Bor (List ℕ)) → Result (List Network) Valued
 networks_from place texts = values_from network_at place texts
-
--- a path of 1 to 107 bytes
-abbrev pub is_path : List ℕ → Bool
-is_path text = not (length text == 0) && nat_le (length text) 107
-
-abbrev pub read_local : Option (Bor (List ℕ)) → Result (Option (Bor (List ℕ))) Valued
-read_local None = Ok None
-read_local (Some text) = if is_path text.now then Ok (Some text) else Err Local
 
 abbrev pub is_octal : ℕ → Bool
 is_octal c = nat_lt (digit_value c) 8
@@ -90,19 +76,20 @@ record_limit text = if_between 1000 16777216 (number_below (2 ^ 64) text)
 
 -- the addresses and networks of the vectors, and the other fields
 pub record Service : Type 0 where
-  pub hosts : List Ipv4Addr
+  pub hosts : List Host
   pub networks : List Network
   pub loopback6 : Bool
   pub local : Option (Bor (List ℕ))
   pub local_mode : ℕ
-  pub announce : Option Ipv4Addr
+  pub believe_claims : Bool
+  pub announce : Announced
   pub port : ℕ
   pub limits : Limits
   pub turns : ℕ
   pub recorded : Option Record
 
 -- the same from `--local` on
-abbrev pub rest_of : Option Ipv4Addr → List Ipv4Addr → List Network → ServeTexts → Result Service Valued
+abbrev pub rest_of : Announced → List Host → List Network → ServeTexts → Result Service Valued
 rest_of given hosts networks texts = do
   path ← read_local texts.local
   bits ← value_of LocalMode (read_mode texts.local_mode.now)
@@ -116,6 +103,7 @@ rest_of given hosts networks texts = do
     loopback6 = texts.loopback6;
     local = path;
     local_mode = bits;
+    believe_claims = texts.believe_claims;
     announce = given;
     port = listens;
     limits = most;
@@ -126,7 +114,7 @@ rest_of given hosts networks texts = do
 -- what is served, or the first option whose value can't be read
 abbrev pub service_of : ServeTexts → Result Service Valued
 service_of texts = do
-  given ← read_announce texts.announce
+  given ← announced_of texts.announce.now
   hosts ← hosts_from 0 texts.bind.now
   networks ← networks_from 0 texts.from.now
   rest_of given hosts networks texts
@@ -140,6 +128,7 @@ service_view s = record {
   loopback6 = s.loopback6;
   local = s.local;
   local_mode = s.local_mode;
+  believe_claims = s.believe_claims;
   announce = s.announce;
   port = s.port;
   limits = s.limits;

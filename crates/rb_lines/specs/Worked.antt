@@ -4,11 +4,16 @@ use Rattle.std.specs.List.{flat_map}
 use Rattle.std.specs.Int.{w32, to_be_bytes}
 use Rattle.rb_address.specs.declared.host.Host.TheVariants.{V4, V6}
 use Rattle.rb_address.specs.declared.peer.Peer.{Peer}
+use Rattle.rb_address.specs.declared.who.Owner.TheVariants.{Unknown, Uid}
+use Rattle.rb_address.specs.declared.who.Source.TheVariants.{Inet, Local}
+use Rattle.rb_address.specs.declared.who.Trust.TheVariants as trusts
+use Rattle.rb_address.specs.declared.who.Who.{Who}
+use Rattle.rb_address.specs.Callers.{unknown_host}
 use Rattle.rb_address.specs.Reading.{number_below, peer}
 use Rattle.rb_model.specs.Step.Event.{Datagram, Open, Bytes, Pending, Gave, Closed, NextLost, Unsent, Sent, Forward, Expire}
 use Rattle.rb_model.specs.declared.types.CoreFault.TheVariants.{Full, Spent, Gone}
 use Rattle.rb_model.specs.Step.Output.{Replied, Silent, Opened, Refused, Took, TookAndClosed, IsPending, Done, TooMuch, LostIs, Forwarded, UnsentIs, Ignored, Nothing, Ready, RepliedTo}
-use Rattle.rb_record.specs.Entries.{event_text}
+use Rattle.rb_record.specs.Entries.{event_text, listener_text}
 use Rattle.rb_lines.specs.declared.lines.ReadFault.TheVariants.{BadLine}
 use Rattle.rb_lines.specs.Lines.{read}
 use Rattle.rb_lines.specs.Printing.{report_of}
@@ -21,12 +26,26 @@ words numbers = flat_map (to_be_bytes w32) numbers
 abbrev pub with_line_feed : List ℕ → List ℕ
 with_line_feed text = text ++ 10 ∷ []
 
-abbrev pub here : Peer
-here = record { host = V4 (127 ∷ 0 ∷ 0 ∷ 1 ∷ []); port = 900 }
+abbrev pub peer_here : Peer
+peer_here = record { host = V4 (127 ∷ 0 ∷ 0 ∷ 1 ∷ []); port = 900 }
 
 -- 2001:db8::1, of the documentation (RFC 3849)
-abbrev pub over_ipv6 : Peer
-over_ipv6 = record { host = V6 (32 ∷ 1 ∷ 13 ∷ 184 ∷ replicate 11 0 ++ 1 ∷ []); port = 900 }
+abbrev pub peer_over_ipv6 : Peer
+peer_over_ipv6 = record { host = V6 (32 ∷ 1 ∷ 13 ∷ 184 ∷ replicate 11 0 ++ 1 ∷ []); port = 900 }
+
+-- a caller at a peer, of which nothing else is known
+abbrev pub claimant_at : Peer → Who
+claimant_at peer = record { source = Inet peer; asked = unknown_host; trust = trusts.Claims }
+
+abbrev pub here : Who
+here = claimant_at peer_here
+
+abbrev pub over_ipv6 : Who
+over_ipv6 = claimant_at peer_over_ipv6
+
+-- root, on a local socket
+abbrev pub local_root : Who
+local_root = record { source = Local; asked = unknown_host; trust = trusts.Local (Uid 0) }
 
 -- A SET, the port of its row, and the same SET again, as three lines and as three events.
 abbrev pub StoredRunIsRead : Type 0
@@ -82,7 +101,7 @@ NumbersOfLines =
 
 abbrev pub PeersOfLines : Type 0
 PeersOfLines =
-    (peer (codes "127.0.0.1:900") ≡ Some here)
+    (peer (codes "127.0.0.1:900") ≡ Some peer_here)
     × (peer (codes "255.255.255.255:65535") ≡ Some (record { host = V4 (255 ∷ 255 ∷ 255 ∷ 255 ∷ []); port = 65535 }))
     × (peer (codes "0.0.0.0:0") ≡ Some (record { host = V4 (0 ∷ 0 ∷ 0 ∷ 0 ∷ []); port = 0 }))
     × (peer (codes "127.0.0.01:900") ≡ None)
@@ -127,7 +146,7 @@ ForwardsAreRead =
     (with_line_feed (codes "unsent") ++ with_line_feed (codes "sent 01") ++ with_line_feed (codes "forward 2000 127.0.0.1:900 000003e8")
     ++ with_line_feed (codes "forward 2000 127.0.0.1:900 -") ++ codes "expire 6000")
     ≡ Ok
-    (Unsent ∷ Sent 1 ∷ Forward 2000 here (0 ∷ 0 ∷ 3 ∷ 232 ∷ []) ∷ Forward 2000 here [] ∷ Expire 6000 ∷ []))
+    (Unsent ∷ Sent 1 ∷ Forward 2000 peer_here (0 ∷ 0 ∷ 3 ∷ 232 ∷ []) ∷ Forward 2000 peer_here [] ∷ Expire 6000 ∷ []))
     × (read (codes "unsent ") ≡ Err (BadLine 1))
     × (read (codes "sent") ≡ Err (BadLine 1))
     × (read (codes "sent 18446744073709551616") ≡ Err (BadLine 1))
@@ -138,11 +157,46 @@ abbrev pub ForwardsArePrinted : Type 0
 ForwardsArePrinted =
     report_of
     (Forwarded ∷ UnsentIs None
-    ∷ UnsentIs (Some (record { number = 1; target = here; call = 0 ∷ 0 ∷ 3 ∷ 232 ∷ [] }))
+    ∷ UnsentIs (Some (record { number = 1; target = peer_here; call = 0 ∷ 0 ∷ 3 ∷ 232 ∷ [] }))
     ∷ Ignored ∷ Nothing ∷ Ready 7 ∷ RepliedTo here (0 ∷ 0 ∷ 0 ∷ 15 ∷ []) ∷ [])
     ≡ with_line_feed (codes "forwarded") ++ with_line_feed (codes "unsent -") ++ with_line_feed (codes "unsent 1 127.0.0.1:900 000003e8")
     ++ with_line_feed (codes "ignored") ++ with_line_feed (codes "nothing") ++ with_line_feed (codes "ready 7")
     ++ with_line_feed (codes "datagram 127.0.0.1:900 0000000f")
+
+-- The lines of callers: which host was asked, and whose word there is for them. A target of a forwarded call is a peer
+-- alone.
+abbrev pub CallersAreRead : Type 0
+CallersAreRead =
+    (read
+    (with_line_feed (codes "open 5 127.0.0.1:900>192.0.2.9/stranger") ++ with_line_feed (codes "datagram 7 local/0 af")
+    ++ with_line_feed (codes "open 5 [2001:db8::1]:900>::1") ++ codes "datagram 8 127.0.0.1:900/unknown -")
+    ≡ Ok
+    (Open 5 (record here { asked = V4 (192 ∷ 0 ∷ 2 ∷ 9 ∷ []); trust = trusts.Stranger }) ∷ Datagram 7 local_root (175 ∷ [])
+    ∷ Open 5 (record over_ipv6 { asked = V6 (replicate 15 0 ++ 1 ∷ []) }) ∷ Datagram 8 (record here { trust = trusts.Local Unknown }) [] ∷ []))
+    × (read (codes "open 5 127.0.0.1:900>0.0.0.0") ≡ Err (BadLine 1))
+    × (read (codes "open 5 127.0.0.1:900>[::1]") ≡ Err (BadLine 1))
+    × (read (codes "open 5 127.0.0.1:900/01") ≡ Err (BadLine 1))
+    × (read (codes "open 5 127.0.0.1:900/0>192.0.2.9") ≡ Err (BadLine 1))
+    × (read (codes "open 5 local /0") ≡ Err (BadLine 1))
+    × (read (codes "forward 2000 local -") ≡ Err (BadLine 1))
+    × (read (codes "forward 2000 127.0.0.1:900>192.0.2.9 -") ≡ Err (BadLine 1))
+    × (read (codes "forward 2000 127.0.0.1:900/0 -") ≡ Err (BadLine 1))
+
+-- An output has where the call came from alone.
+abbrev pub CallersArePrinted : Type 0
+CallersArePrinted =
+    (event_text (Open 5 (record here { asked = V4 (192 ∷ 0 ∷ 2 ∷ 9 ∷ []); trust = trusts.Stranger })) ≡ with_line_feed (codes "open 5 127.0.0.1:900>192.0.2.9/stranger"))
+    × (event_text (Datagram 7 local_root (175 ∷ [])) ≡ with_line_feed (codes "datagram 7 local/0 af"))
+    × (report_of (RepliedTo local_root (0 ∷ 0 ∷ 0 ∷ 15 ∷ []) ∷ []) ≡ with_line_feed (codes "datagram local 0000000f"))
+    × (report_of (RepliedTo (record here { trust = trusts.Stranger }) (0 ∷ 0 ∷ 0 ∷ 15 ∷ []) ∷ []) ≡ with_line_feed (codes "datagram 127.0.0.1:900 0000000f"))
+
+-- The command in the first line of a record, of a daemon that serves both families and a local socket, and of one that
+-- serves IPv6 alone.
+abbrev pub OptionsArePrinted : Type 0
+OptionsArePrinted =
+    (listener_text (record { announced = record { inet = Some (192 ∷ 0 ∷ 2 ∷ 1 ∷ []); inet6 = Some (replicate 15 0 ++ 1 ∷ []) }; port = 111; local = Some (codes "/run/rpcbind.sock") })
+    ≡ codes " --announce 192.0.2.1 --announce ::1 --port 111 --local '/run/rpcbind.sock'")
+    × (listener_text (record { announced = record { inet = None; inet6 = Some (replicate 15 0 ++ 1 ∷ []) }; port = 111; local = None }) ≡ codes " --announce ::1 --port 111")
 
 -- The lines of peers of IPv6. Another spelling of the host, as one that is not shortened or has no brackets, makes a
 -- bad line.
@@ -151,7 +205,7 @@ Ipv6PeersAreRead =
     (read
     (with_line_feed (codes "open 5 [2001:db8::1]:900") ++ with_line_feed (codes "datagram 7 [2001:db8::1]:900 af")
     ++ codes "forward 2000 [2001:db8::1]:900 -")
-    ≡ Ok (Open 5 over_ipv6 ∷ Datagram 7 over_ipv6 (175 ∷ []) ∷ Forward 2000 over_ipv6 [] ∷ []))
+    ≡ Ok (Open 5 over_ipv6 ∷ Datagram 7 over_ipv6 (175 ∷ []) ∷ Forward 2000 peer_over_ipv6 [] ∷ []))
     × (read (codes "open 5 [2001:db8:0:0:0:0:0:1]:900") ≡ Err (BadLine 1))
     × (read (codes "open 5 [2001:DB8::1]:900") ≡ Err (BadLine 1))
     × (read (codes "open 5 2001:db8::1:900") ≡ Err (BadLine 1))

@@ -6,6 +6,7 @@ ghost use Rattle.rb_lines.specs.Faults.{status_of, Says, fault_line, limit_line,
 use crate::limits::{BadLimit, bad_limit};
 use crate::lines::ReadFault;
 use rb_model::Limits;
+use rb_proto::Listener;
 use std::io;
 use std::io::Write;
 
@@ -74,12 +75,17 @@ pub const DONE: Ending = Ending {
 
 /// Writes in front of bad limits the first that is out of its range.
 #[tactic(auto, using(crate::proofs::Written::nothing))]
-fn write_before<E: Write>(fault: Fault, limits: &Limits, faults: &mut E) -> io::Result<()>
+fn write_before<E: Write>(
+    fault: Fault,
+    limits: &Limits,
+    listener: &Listener,
+    faults: &mut E,
+) -> io::Result<()>
     ensures { OnOk result
-        (Writes E.contents faults.old faults.new (lines_before limits.now fault)) }
+        (Writes E.contents faults.old faults.new (lines_before limits.now listener.now fault)) }
 {
     match fault {
-        Fault::BadLimits => write_limit(bad_limit(limits), faults),
+        Fault::BadLimits => write_limit(bad_limit(limits, listener), faults),
         Fault::NotText
         | Fault::Lines(_)
         | Fault::NoMemory
@@ -102,21 +108,32 @@ fn write_limit<E: Write>(bad: Option<BadLimit>, faults: &mut E) -> io::Result<()
     }
 }
 
-fn write_fault_lines<E: Write>(fault: Fault, limits: &Limits, faults: &mut E) -> io::Result<()>
+fn write_fault_lines<E: Write>(
+    fault: Fault,
+    limits: &Limits,
+    listener: &Listener,
+    faults: &mut E,
+) -> io::Result<()>
     ensures { OnOk result
-        (Writes E.contents faults.old faults.new (fault_lines limits.now fault)) }
+        (Writes E.contents faults.old faults.new (fault_lines limits.now listener.now fault)) }
 {
-    write_before(fault, limits, faults)?;
+    write_before(fault, limits, listener, faults)?;
     write_fault(fault, faults)
 }
 
-/// Ends a run with these limits by a fault. In front of the line of bad limits stands one that names the first that
-/// is out of its range.
-pub fn explain_run<E: Write>(fault: Fault, limits: &Limits, faults: &mut E) -> Ending
+/// Ends a run with these limits at this listener by a fault. In front of the line of bad limits stands one that names
+/// the first that is out of its range.
+pub fn explain_run<E: Write>(
+    fault: Fault,
+    limits: &Limits,
+    listener: &Listener,
+    faults: &mut E,
+) -> Ending
     ensures status { result.status ≡ status_of fault }
-    ensures told { Says E.contents faults.old faults.new result (fault_lines limits.now fault) }
+    ensures told { Says E.contents faults.old faults.new result
+        (fault_lines limits.now listener.now fault) }
 {
-    let is_told = write_fault_lines(fault, limits, faults).is_ok();
+    let is_told = write_fault_lines(fault, limits, listener, faults).is_ok();
     Ending {
         status: fault.status(),
         is_told,

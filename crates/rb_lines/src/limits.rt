@@ -1,9 +1,10 @@
 //! Which limit is out of its range.
 ghost use Rattle.std.specs.Prelude.{◌≡◌, ◌↔◌, IsSome, IsTrue, not};
 ghost use Rattle.rb_model.specs.State.{are_good};
-ghost use Rattle.rb_lines.specs.Limits.{bad_limit};
+ghost use Rattle.rb_lines.specs.Limits.{least_rows, bad_limit};
 
 use rb_model::Limits;
+use rb_proto::{Listener, own_row_count};
 use std::fmt;
 use std::fmt::{Display, Formatter};
 
@@ -12,17 +13,26 @@ use std::fmt::{Display, Formatter};
 pub enum BadLimit {
     /// Connections: 1 to 256.
     Conns(usize),
-    /// Rows: 8 to 4096.
-    Rows(usize),
+    /// Rows, and the least that are wanted; the most are 4096.
+    Rows(usize, usize),
     /// Forwarded calls: 0 to 64.
     Forwards(usize),
 }
 
-/// The first limit that is out of its range, if one is: connections, then rows, then forwarded calls.
-pub fn bad_limit(limits: &Limits) -> Option<BadLimit>
-    ensures first { result ≡ bad_limit limits.now }
-    ensures bad { IsSome result ↔ IsTrue (not (are_good limits.now)) }
+/// The least rows: those of the portmapper itself, and two more.
+fn least_rows(listener: &Listener) -> usize
+    ensures { result ≡ least_rows listener.now }
 {
+    own_row_count(listener) + 2
+}
+
+/// The first limit that is out of its range, if one is: connections, then rows, then forwarded calls. At least as many
+/// rows are wanted as the listener has itself, and two more.
+pub fn bad_limit(limits: &Limits, listener: &Listener) -> Option<BadLimit>
+    ensures first { result ≡ bad_limit limits.now listener.now }
+    ensures bad { IsSome result ↔ IsTrue (not (are_good limits.now listener.now)) }
+{
+    let least = least_rows(listener);
     let Limits {
         conns,
         rows,
@@ -30,8 +40,8 @@ pub fn bad_limit(limits: &Limits) -> Option<BadLimit>
     } = *limits;
     if conns < 1 || conns > 256 {
         Some(BadLimit::Conns(conns))
-    } else if rows < 8 || rows > 4096 {
-        Some(BadLimit::Rows(rows))
+    } else if rows < least || rows > 4096 {
+        Some(BadLimit::Rows(rows, least))
     } else if forwards > 64 {
         Some(BadLimit::Forwards(forwards))
     } else {
@@ -49,7 +59,7 @@ impl Display for BadLimit {
     fn fmt<W: fmt::Write>(&self, f: &mut Formatter<W>) -> fmt::Result {
         match self {
             BadLimit::Conns(n) => write!(f, "--conns {n}: 1 to 256 is wanted"),
-            BadLimit::Rows(n) => write!(f, "--rows {n}: 8 to 4096 is wanted"),
+            BadLimit::Rows(n, least) => write!(f, "--rows {n}: {least} to 4096 is wanted"),
             BadLimit::Forwards(n) => write!(f, "--forwards {n}: 0 to 64 is wanted"),
         }
     }

@@ -2,10 +2,10 @@
 ghost use Rattle.std.specs.Prelude.{◌≡◌, ◌≤◌, IfOk, IfErr, OnOk};
 ghost use Rattle.std.specs.Option.{option_map};
 ghost use Rattle.rb_model.specs.Plain.{event_of, events_of};
-ghost use Rattle.rb_lines.specs.Lines.{AddsLine, AreFieldsOf, events_from, lines_of, IsLineFault, datagram_line, open_line, bytes_line, gave_line, event, lone_event, line, line_of, longest_input, GivesEvents, read};
+ghost use Rattle.rb_lines.specs.Lines.{AddsLine, events_from, lines_of, IsLineFault, datagram_line, forward_line, open_line, bytes_line, gave_line, event, lone_event, line, line_of, longest_input, GivesEvents, read};
 
 use crate::fields::hex_bytes;
-use rb_address::{Peer, cut, number_below};
+use rb_address::{Peer, Who, cut, number_below};
 use rb_model::Event;
 use rb_xdr::NoMemory;
 use std::alloc::Global;
@@ -42,18 +42,33 @@ enum Line {
     Bad,
 }
 
-/// What follows the words `datagram` and `forward`.
-#[derive(Drop)]
-struct DatagramFields {
-    now: u64,
-    from: Peer,
-    bytes: Vec<u8>,
+/// What follows the word `datagram`: a moment, a caller and bytes.
+#[tactic(auto, unfolding(crate::specs::Lines::datagram_line))]
+fn datagram_line(alloc: Global, text: &[u8]) -> Result<Option<Event>, NoMemory>
+    ensures { IfOk result (λ read. option_map event_of read ≡ datagram_line text.now) }
+{
+    let Some((now, rest)) = cut(text, b' ') else {
+        return Ok(None);
+    };
+    let Some((from, bytes)) = cut(rest, b' ') else {
+        return Ok(None);
+    };
+    let Some(now) = number_below(now) else {
+        return Ok(None);
+    };
+    let Some(from) = Who::read(from) else {
+        return Ok(None);
+    };
+    let Some(bytes) = hex_bytes(alloc, bytes)? else {
+        return Ok(None);
+    };
+    Ok(Some(Event::Datagram(now, from, bytes)))
 }
 
-/// A moment, a peer and bytes.
-#[tactic(auto, unfolding(crate::specs::Lines::datagram_line))]
-fn datagram_fields(alloc: Global, text: &[u8]) -> Result<Option<DatagramFields>, NoMemory>
-    ensures { IfOk result (AreFieldsOf text.now) }
+/// What follows the word `forward`: a moment, a peer and bytes.
+#[tactic(auto, unfolding(crate::specs::Lines::forward_line))]
+fn forward_line(alloc: Global, text: &[u8]) -> Result<Option<Event>, NoMemory>
+    ensures { IfOk result (λ read. option_map event_of read ≡ forward_line text.now) }
 {
     let Some((now, rest)) = cut(text, b' ') else {
         return Ok(None);
@@ -70,17 +85,17 @@ fn datagram_fields(alloc: Global, text: &[u8]) -> Result<Option<DatagramFields>,
     let Some(bytes) = hex_bytes(alloc, bytes)? else {
         return Ok(None);
     };
-    Ok(Some(DatagramFields { now, from, bytes }))
+    Ok(Some(Event::Forward(now, from, bytes)))
 }
 
-/// What follows the word `open`: a moment and a peer.
+/// What follows the word `open`: a moment and a caller.
 #[tactic(auto, unfolding(crate::specs::Lines::open_line))]
 fn open_line(text: &[u8]) -> Option<Event>
     ensures { option_map event_of result ≡ open_line text.now }
 {
     let (now, from) = cut(text, b' ')?;
     let now = number_below(now)?;
-    let from = Peer::read(from)?;
+    let from = Who::read(from)?;
     Some(Event::Open(now, from))
 }
 
@@ -126,7 +141,7 @@ fn read_event(alloc: Global, word: &[u8], rest: &[u8]) -> Result<Option<Event>, 
     ensures { IfOk result (λ read. option_map event_of read ≡ event word.now rest.now) }
 {
     if word == b"datagram".as_slice() {
-        return Ok(datagram_fields(alloc, rest)?.map(|f| Event::Datagram(f.now, f.from, f.bytes)));
+        return datagram_line(alloc, rest);
     }
     if word == b"open".as_slice() {
         return Ok(open_line(rest));
@@ -147,7 +162,7 @@ fn read_event(alloc: Global, word: &[u8], rest: &[u8]) -> Result<Option<Event>, 
         return Ok(number_below(rest).map(Event::Sent));
     }
     if word == b"forward".as_slice() {
-        return Ok(datagram_fields(alloc, rest)?.map(|f| Event::Forward(f.now, f.from, f.bytes)));
+        return forward_line(alloc, rest);
     }
     if word == b"expire".as_slice() {
         return Ok(number_below(rest).map(Event::Expire));
@@ -218,6 +233,7 @@ fn read_lines(alloc: Global, text: &[u8]) -> Result<Vec<Event>, ReadFault>
             return Err(fault);
         }
     }
+    events.shrink_to_fit();
     Ok(events)
 }
 

@@ -1,18 +1,30 @@
 //! What the values of the options of `replay` mean, and those that `serve` has too.
 ghost use Rattle.std.specs.Prelude.{◌≡◌, ◌^◌};
-ghost use Rattle.rb_address.specs.Reading.{number_below, ipv4_host};
-ghost use Rattle.rb_lines.specs.Options.{value_of, port, limits_of, beginning_of};
+ghost use Rattle.std.specs.List.{list_all};
+ghost use Rattle.rb_address.specs.Reading.{number_below};
+ghost use Rattle.rb_address.specs.Networks.{plain_host_of};
+ghost use Rattle.rb_lines.specs.Options.{value_of, with_host, announce_at, announced_of, is_quotable, read_local, local_address, port, limits_of, beginning_of};
 
-use rb_address::{cut, number_below, plain_number};
+use rb_address::{Host, number_below};
 use rb_model::Limits;
-use rb_proto::Listener;
+use rb_proto::{Announced, Listener};
+use rb_uaddr::AddressText;
+
+/// The longest path of a local socket, in bytes.
+const LONGEST_PATH: usize = 107;
+
+/// No host of either family.
+const UNANNOUNCED: Announced = Announced {
+    inet: None,
+    inet6: None,
+};
 
 /// What the core of a replay begins with.
-#[derive(Clone, Copy, Debug, PartialEq, Eq)]
+#[derive(Clone, Debug, Drop, PartialEq, Eq)]
 pub struct Beginning {
     /// How many connections, rows and forwarded calls there may be.
     pub limits: Limits,
-    /// The host that answers show for 0.0.0.0, and the port.
+    /// The announced host of each family that is served, the port, and the path of the local socket.
     pub listener: Listener,
     /// The xid of the first forwarded call.
     pub first_xid: u32,
@@ -25,8 +37,8 @@ pub struct Beginning {
 /// An option that has a value.
 #[derive(Clone, Copy, Debug, PartialEq, Eq)]
 pub enum Valued {
-    /// `--announce HOST`
-    Announce,
+    /// The value of `--announce` at this place, from 0. None may stand at place 2.
+    Announce(usize),
     /// The value of `--bind` at this place, from 0. None may stand at place 16.
     Bind(usize),
     /// The value of `--from` at this place, from 0. None may stand at place 16.
@@ -55,9 +67,12 @@ pub enum Valued {
 
 /// The values of the options of `replay`, as texts.
 #[derive(Clone, Copy, Debug, PartialEq, Eq)]
-pub struct ReplayTexts<'a> {
-    /// The listener's host, in dotted decimal form without leading zeros.
-    pub announce: &'a str,
+pub struct ReplayTexts<'m, 'a> {
+    /// At most one host of each family: an IPv4 address in dotted decimal form without leading zeros, and an IPv6 address
+    /// without brackets. A family of which one is given is served.
+    pub announce: &'m [&'a str],
+    /// A path of 1 to 107 bytes, without control characters and quotes.
+    pub local: Option<&'a str>,
     /// A number of 64 bits, as the next two; which of them are good limits is for the core.
     pub conns: &'a str,
     /// The most rows.
@@ -81,26 +96,95 @@ pub(crate) fn number(option: Valued, text: &str) -> Result<u64, Valued>
     number_below(text.as_bytes()).ok_or(option)
 }
 
-/// A host as `h1.h2.h3.h4`, in decimal without leading zeros.
-#[tactic(auto, unfolding(rb_address::specs::Reading::ipv4_host))]
-fn host(text: &[u8]) -> Option<[u8; 4]>
-    ensures { result ≡ ipv4_host text.now }
+/// A host of IPv4 or IPv6, none of IPv4 in IPv6's form.
+pub(crate) fn read_host(option: Valued, text: &str) -> Result<Host, Valued>
+    ensures { result ≡ value_of option (plain_host_of text.now) }
 {
-    let (a, rest) = cut(text, b'.')?;
-    let (b, rest) = cut(rest, b'.')?;
-    let (c, d) = cut(rest, b'.')?;
-    let a = plain_number(a, 256)?;
-    let b = plain_number(b, 256)?;
-    let c = plain_number(c, 256)?;
-    let d = plain_number(d, 256)?;
-    Some([a as u8, b as u8, c as u8, d as u8])
+    Host::read(text.as_bytes()).ok_or(option)
 }
 
-/// An address in dotted decimal form.
-pub(crate) fn address(option: Valued, text: &str) -> Result<[u8; 4], Valued>
-    ensures { result ≡ value_of option (ipv4_host text.now) }
+/// The announced hosts and one more, of a family that has none yet.
+fn with_host(announced: Announced, host: Host) -> Option<Announced>
+    ensures { result ≡ with_host announced host }
 {
-    host(text.as_bytes()).ok_or(option)
+    match host {
+        Host::V4(octets) => {
+            if announced.inet.is_some() {
+                return None;
+            }
+            Some(Announced {
+                inet: Some(octets),
+                inet6: announced.inet6,
+            })
+        }
+        Host::V6(octets) => {
+            if announced.inet6.is_some() {
+                return None;
+            }
+            Some(Announced {
+                inet: announced.inet,
+                inet6: Some(octets),
+            })
+        }
+    }
+}
+
+/// The announced hosts and that of `--announce` at a place.
+fn announce_at(place: usize, announced: Announced, text: &str) -> Result<Announced, Valued>
+    ensures { result ≡ announce_at place announced text.now }
+{
+    let host = read_host(Valued::Announce(place), text)?;
+    with_host(announced, host).ok_or(Valued::Announce(place))
+}
+
+/// The announced hosts: at most one of each family.
+pub(crate) fn read_announced(texts: &[&str]) -> Result<Announced, Valued>
+    ensures { result ≡ announced_of texts.now }
+{
+    match texts {
+        [] => Ok(UNANNOUNCED),
+        [text] => announce_at(0, UNANNOUNCED, text),
+        [first, second] => {
+            let one = announce_at(0, UNANNOUNCED, first)?;
+            announce_at(1, one, second)
+        }
+        [first, second, ..] => {
+            let one = announce_at(0, UNANNOUNCED, first)?;
+            let _both = announce_at(1, one, second)?;
+            Err(Valued::Announce(2))
+        }
+    }
+}
+
+/// Whether each byte may stand in the path of a local socket: no control character, and no quote, so that the path can
+/// stand in quotes in a line.
+fn is_quotable(text: &str) -> bool
+    ensures { result ≡ list_all is_quotable text.now }
+{
+    text.bytes().all(|b| b >= 32 && b != b'\'')
+}
+
+/// The path of the local socket. One of no bytes or of more than 107 names no socket.
+pub(crate) fn read_local<'a>(text: Option<&'a str>) -> Result<Option<&'a str>, Valued>
+    ensures { result ≡ read_local text.entry }
+{
+    let Some(path) = text else {
+        return Ok(None);
+    };
+    if path.is_empty() || path.len() > LONGEST_PATH || !is_quotable(path) {
+        return Err(Valued::Local);
+    }
+    Ok(Some(path))
+}
+
+/// The same, as the address of the local socket.
+fn read_local_address(text: Option<&str>) -> Result<Option<AddressText>, Valued>
+    ensures { result ≡ local_address text.entry }
+{
+    let Some(path) = read_local(text)? else {
+        return Ok(None);
+    };
+    Ok(Some(AddressText::new(path.as_bytes())))
 }
 
 /// A number of 32 bits.
@@ -144,17 +228,22 @@ pub(crate) fn read_limits(conns: &str, rows: &str, forwards: &str) -> Result<Lim
 }
 
 /// What a replay begins with, or the first option whose value can't be read, in the order of the fields.
-pub fn read_beginning(texts: &ReplayTexts<'_>) -> Result<Beginning, Valued>
+pub fn read_beginning(texts: &ReplayTexts<'_, '_>) -> Result<Beginning, Valued>
     ensures { result ≡ beginning_of texts.now }
 {
-    let host = address(Valued::Announce, texts.announce)?;
+    let announced = read_announced(texts.announce)?;
+    let local = read_local_address(texts.local)?;
     let limits = read_limits(texts.conns, texts.rows, texts.forwards)?;
     let port = read_port(texts.port)?;
     let first_xid = number32(Valued::Xid, texts.xid)?;
     let moment = number(Valued::Now, texts.moment)?;
     Ok(Beginning {
         limits,
-        listener: Listener { host, port },
+        listener: Listener {
+            announced,
+            port,
+            local,
+        },
         first_xid,
         moment,
         steps: texts.steps,

@@ -2,13 +2,15 @@
 ghost use Rattle.std.specs.Prelude.{◌≡◌};
 ghost use Rattle.std.specs.List.{list_all};
 ghost use Rattle.rb_lines.specs.Options.{value_of};
-ghost use Rattle.rb_lines.specs.Serving.{Serves, address, default_of, read_announce, host_at, hosts_from, network_at, networks_from, read_local, is_octal, read_mode, record_limit, rest_of, service_of, service_view, result_view};
+ghost use Rattle.rb_lines.specs.Serving.{Serves, default_of, host_at, hosts_from, network_at, networks_from, is_octal, read_mode, record_limit, rest_of, service_of, service_view, result_view};
 
-use crate::options::{Valued, address, number, read_limits, read_port};
-use rb_address::Network;
+use crate::options::{
+    Valued, number, read_announced, read_host, read_limits, read_local, read_port,
+};
+use rb_address::{Host, Network};
 use rb_model::Limits;
+use rb_proto::Announced;
 use std::alloc::Global;
-use std::net::Ipv4Addr;
 
 /// The most addresses of `--bind`.
 pub const MOST_HOSTS: usize = 16;
@@ -16,24 +18,24 @@ pub const MOST_HOSTS: usize = 16;
 /// The most networks of `--from`.
 pub const MOST_NETWORKS: usize = 16;
 
-/// The longest path of a local socket, in bytes.
-const LONGEST_PATH: usize = 107;
-
 /// The values of the options of `serve`, as texts.
 #[derive(Clone, Copy, Debug)]
 pub struct ServeTexts<'m, 'a> {
-    /// An IPv4 address in dotted decimal form without leading zeros.
-    pub announce: Option<&'a str>,
-    /// At most 16 such addresses.
+    /// At most one host of each family: an IPv4 address in dotted decimal form without leading zeros, and an IPv6 address
+    /// without brackets.
+    pub announce: &'m [&'a str],
+    /// At most 16 such addresses of both families.
     pub bind: &'m [&'a str],
     /// At most 16 networks, as 192.0.2.0/24 or 2001:db8::/32.
     pub from: &'m [&'a str],
     /// Whether `--loopback6` is given.
     pub loopback6: bool,
-    /// A path of 1 to 107 bytes.
+    /// A path of 1 to 107 bytes, without control characters and quotes.
     pub local: Option<&'a str>,
     /// The bits for owner, group and others, in octal digits.
     pub local_mode: &'a str,
+    /// Whether `--believe-claims` is given.
+    pub believe_claims: bool,
     /// From 1 to 65535.
     pub port: &'a str,
     /// A number of 64 bits, as the next three; which of them are good limits is for the core.
@@ -53,18 +55,20 @@ pub struct ServeTexts<'m, 'a> {
 /// What `serve` listens on, and for how long.
 #[derive(Debug, Drop)]
 pub struct Service<'a> {
-    /// The addresses to listen on.
-    pub hosts: Vec<Ipv4Addr>,
+    /// The addresses to listen on, of both families. `::` stands for every address of both.
+    pub hosts: Vec<Host>,
     /// The networks whose hosts may ask, beside this machine; with none everybody may.
     pub networks: Vec<Network>,
-    /// Whether to listen on [::1] over TCP besides.
+    /// Whether to listen on ::1 besides.
     pub loopback6: bool,
     /// The path of the local socket, if there is one.
     pub local: Option<&'a str>,
     /// The mode of its file: the bits for owner, group and others.
     pub local_mode: u32,
-    /// The host that answers show for 0.0.0.0, where it is given.
-    pub announce: Option<Ipv4Addr>,
+    /// Whether callers are believed what they say of themselves.
+    pub believe_claims: bool,
+    /// The host of each family that answers show for 0.0.0.0 and ::, where one is given.
+    pub announce: Announced,
     /// The port of TCP and UDP, from 1.
     pub port: u16,
     /// How many connections, rows and forwarded calls there may be.
@@ -100,48 +104,30 @@ pub fn serve_default(option: Valued) -> &'static str
 {
     match option {
         Valued::Bind(_) => "127.0.0.1",
-        Valued::LocalMode => "0666",
+        Valued::LocalMode => "0600",
         Valued::Port => "111",
         Valued::Conns => "64",
         Valued::Rows => "1024",
         Valued::Forwards => "0",
         Valued::Turns => "0",
         Valued::RecordLimit => "16000000",
-        Valued::Announce | Valued::From(_) | Valued::Local | Valued::Xid | Valued::Now => "",
-    }
-}
-
-/// An address in dotted decimal form.
-fn ipv4(option: Valued, text: &str) -> Result<Ipv4Addr, Valued>
-    ensures { result ≡ value_of option (address text.now) }
-{
-    let octets = address(option, text)?;
-    Ok(Ipv4Addr::from_octets(octets))
-}
-
-/// The address that is announced, where one is given.
-fn read_announce(text: Option<&str>) -> Result<Option<Ipv4Addr>, Valued>
-    ensures { result ≡ read_announce text.entry }
-{
-    match text {
-        Some(text) => Ok(Some(ipv4(Valued::Announce, text)?)),
-        None => Ok(None),
+        Valued::Announce(_) | Valued::From(_) | Valued::Local | Valued::Xid | Valued::Now => "",
     }
 }
 
 /// The address of `--bind` at a place.
-fn host_at(place: usize, text: &str) -> Result<Ipv4Addr, Valued>
+fn host_at(place: usize, text: &str) -> Result<Host, Valued>
     ensures { result ≡ host_at place text.now }
 {
     if place < MOST_HOSTS {
-        ipv4(Valued::Bind(place), text)
+        read_host(Valued::Bind(place), text)
     } else {
         Err(Valued::Bind(place))
     }
 }
 
 /// The addresses of `--bind`.
-fn read_hosts(alloc: Global, texts: &[&str]) -> Result<Vec<Ipv4Addr>, ServeFault>
+fn read_hosts(alloc: Global, texts: &[&str]) -> Result<Vec<Host>, ServeFault>
     ensures { Serves (λ hosts. hosts.items) result (hosts_from 0 texts.now) }
 {
     let mut hosts = Vec::new(alloc);
@@ -185,19 +171,6 @@ fn read_networks(alloc: Global, texts: &[&str]) -> Result<Vec<Network>, ServeFau
     Ok(networks)
 }
 
-/// The path of the local socket. One of no bytes or of more than 107 names no socket.
-fn read_local<'a>(text: Option<&'a str>) -> Result<Option<&'a str>, Valued>
-    ensures { result ≡ read_local text.entry }
-{
-    let Some(path) = text else {
-        return Ok(None);
-    };
-    if path.is_empty() || path.len() > LONGEST_PATH {
-        return Err(Valued::Local);
-    }
-    Ok(Some(path))
-}
-
 fn is_octal(text: &str) -> bool
     ensures { result ≡ list_all is_octal text.now }
 {
@@ -238,8 +211,8 @@ fn read_record_limit(text: &str) -> Result<usize, Valued>
 
 /// What the values of the options from `--local` on mean, with the addresses and networks that were read.
 fn read_rest<'a>(
-    announce: Option<Ipv4Addr>,
-    hosts: Vec<Ipv4Addr>,
+    announce: Announced,
+    hosts: Vec<Host>,
     networks: Vec<Network>,
     texts: &ServeTexts<'_, 'a>,
 ) -> Result<Service<'a>, Valued>
@@ -257,6 +230,7 @@ fn read_rest<'a>(
         loopback6: texts.loopback6,
         local,
         local_mode,
+        believe_claims: texts.believe_claims,
         announce,
         port,
         limits,
@@ -276,7 +250,7 @@ pub fn read_service<'a>(
 ) -> Result<Service<'a>, ServeFault>
     ensures { Serves service_view result (service_of texts.now) }
 {
-    let announce = match read_announce(texts.announce) {
+    let announce = match read_announced(texts.announce) {
         Ok(announce) => announce,
         Err(bad) => return Err(ServeFault::BadValue(bad)),
     };

@@ -1,5 +1,5 @@
 //! Worked examples of the definitions, which the proof computes.
-ghost use Rattle.rb_lines.specs.Worked.{StoredRunIsRead, StoredRunIsPrinted, BadEventLine, LinesAreCounted, NumbersOfLines, PeersOfLines, ConnectionsAreRead, ConnectionsArePrinted, ForwardsAreRead, ForwardsArePrinted, Ipv6PeersAreRead, Ipv6PeersArePrinted};
+ghost use Rattle.rb_lines.specs.Worked.{StoredRunIsRead, StoredRunIsPrinted, BadEventLine, LinesAreCounted, NumbersOfLines, PeersOfLines, ConnectionsAreRead, ConnectionsArePrinted, ForwardsAreRead, ForwardsArePrinted, CallersAreRead, CallersArePrinted, OptionsArePrinted, Ipv6PeersAreRead, Ipv6PeersArePrinted};
 
 /// The definitions give what the worked examples say.
 pub fn worked_examples()
@@ -13,6 +13,9 @@ pub fn worked_examples()
     ensures connections_are_printed { ConnectionsArePrinted }
     ensures forwards_are_read { ForwardsAreRead }
     ensures forwards_are_printed { ForwardsArePrinted }
+    ensures callers_are_read { CallersAreRead }
+    ensures callers_are_printed { CallersArePrinted }
+    ensures options_are_printed { OptionsArePrinted }
     ensures ipv6_peers_are_read { Ipv6PeersAreRead }
     ensures ipv6_peers_are_printed { Ipv6PeersArePrinted }
 {}

@@ -3,12 +3,13 @@ ghost use Rattle.std.specs.Prelude.{◌≤◌, length};
 
 use crate::inbox::{Inbox, READ_AHEAD};
 use crate::outbox::{OWN_ROOM, Outbox};
-use rb_address::Host;
+use mio::{Registry, Token};
+use rb_address::{Family, Host, Who};
 use rb_policy::{
-    Holder, Next, Origin, Phase, Round, after_read, after_write, ends_record, is_cut_off, is_stuck,
-    outcome_of_count, phase_of, reads_on, round_of,
+    Evidence, Holder, Next, Origin, Phase, Round, after_read, after_write, ends_record,
+    evidence_of, is_cut_off, is_stuck, looks_in, outcome_of_count, phase_of, reads_on, round_of,
 };
-use rb_sockets::Stream;
+use rb_sockets::{Ends, Stream};
 use std::alloc::{AllocError, Global};
 
 /// A turn of the daemon.
@@ -20,14 +21,24 @@ pub struct Turn {
     pub moment: u64,
 }
 
+/// A connection that is not opened before the kernel's tables were looked at.
+#[derive(Clone, Copy, Debug, PartialEq, Eq)]
+struct Held {
+    ends: Ends,
+    /// What they show of it so far.
+    known: Evidence,
+}
+
 /// The place of an accepted connection. Its memory is taken before the first connection has it, and stays for the
 /// next.
 #[derive(Drop)]
 pub struct Link {
-    /// The core's number of the connection.
-    id: u64,
+    /// The core's number of the connection; none before it is opened.
+    id: Option<u64>,
     /// None where no connection has the place.
     stream: Option<Stream>,
+    /// Whether it waits to be opened, and for what.
+    held: Option<Held>,
     origin: Origin,
     /// The moment of its last progress, or of its opening, in milliseconds. A record that ended is progress, and so
     /// are bytes that the socket took.
@@ -60,8 +71,9 @@ impl Link {
     /// A place that no connection has.
     pub(crate) fn new(alloc: Global) -> Result<Link, AllocError> {
         Ok(Link {
-            id: 0,
+            id: None,
             stream: None,
+            held: None,
             origin: Origin {
                 host: Host::V4([0; 4]),
                 is_local: false,
@@ -81,8 +93,8 @@ impl Link {
         })
     }
 
-    /// The core's number of the connection that has the place.
-    pub fn id(&self) -> u64 {
+    /// The core's number of the connection that has the place, where that is opened.
+    pub fn id(&self) -> Option<u64> {
         self.id
     }
 
@@ -93,13 +105,14 @@ impl Link {
 
     /// Whether the connection of the number has the place.
     pub(crate) fn is_of(&self, id: u64) -> bool {
-        self.id == id && !self.is_free()
+        self.id == Some(id)
     }
 
-    /// The connection gets the place at this moment, in milliseconds.
-    pub(crate) fn open(&mut self, id: u64, stream: Stream, origin: Origin, moment: u64) {
-        self.id = id;
+    /// A connection gets the place at this moment, in milliseconds. It is not opened yet.
+    pub(crate) fn take(&mut self, stream: Stream, origin: Origin, moment: u64) {
+        self.id = None;
         self.stream = Some(stream);
+        self.held = None;
         self.origin = origin;
         self.since = moment;
         self.is_reading = true;
@@ -112,14 +125,70 @@ impl Link {
         self.is_waiting = false;
     }
 
-    /// Closes the connection that has the place, and gives its number. The long outbox is for others from here on.
+    /// It is not opened before the kernel's tables were looked at.
+    pub(crate) fn hold(&mut self, ends: Ends) {
+        self.held = Some(Held {
+            ends,
+            known: Evidence::NotFound,
+        });
+    }
+
+    /// Whether the table of a family is to be looked at for it.
+    pub(crate) fn looks_in(&self, table: Family) -> bool {
+        match &self.held {
+            Some(held) => looks_in(table, held.ends.theirs.family(), held.known),
+            None => false,
+        }
+    }
+
+    /// Notes what the table of a family, where it was read, shows of it.
+    pub(crate) fn look_in(&mut self, table: Family, text: Option<&[u8]>) {
+        if !self.looks_in(table) {
+            return;
+        }
+        if let Some(held) = &mut self.held {
+            held.known = evidence_of(table, text, &held.ends.theirs, &held.ends.ours);
+        }
+    }
+
+    /// Who it is, where it waited for that, by what the tables showed. They say nothing of it where it is connected no
+    /// longer: another connection may have its two ends by then.
+    pub(crate) fn shown(&mut self) -> Option<Who> {
+        let held = self.held.take()?;
+        let is_connected = self
+            .stream
+            .as_ref()
+            .is_some_and(|stream| stream.is_connected());
+        let evidence = if is_connected {
+            held.known
+        } else {
+            Evidence::NotFound
+        };
+        Some(held.ends.who(false, evidence))
+    }
+
+    /// The connection that has the place is opened under this number of the core's, and its events are shown under the
+    /// token. Whether that was done.
+    pub(crate) fn open(&mut self, registry: &Registry, token: Token, id: u64) -> bool {
+        let Some(stream) = &mut self.stream else {
+            return false;
+        };
+        if stream.send_at_once().is_err() || stream.register(registry, token).is_err() {
+            return false;
+        }
+        self.id = Some(id);
+        true
+    }
+
+    /// Closes the connection that has the place, and gives its number, where it is opened. The long outbox is for others
+    /// from here on.
     pub(crate) fn close(&mut self, long_outbox: &mut Outbox) -> Option<u64> {
-        let stream = self.stream.take()?;
-        drop(stream);
+        self.stream = None;
+        self.held = None;
         self.outbox.clear();
         long_outbox.take_longer(&mut self.outbox);
         self.is_waiting = false;
-        Some(self.id)
+        self.id.take()
     }
 
     /// Whether it is to be served though no event shows it.

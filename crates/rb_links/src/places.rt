@@ -4,8 +4,9 @@ ghost use Rattle.std.specs.Prelude.{◌≡◌, vec_len, IfOk};
 use crate::link::{Link, Turn};
 use crate::outbox::{LONG_ROOM, Outbox};
 use mio::{Registry, Token};
+use rb_address::{Family, Who};
 use rb_policy::{Admission, Holder, Origin, Round, accept_count, admit};
-use rb_sockets::Stream;
+use rb_sockets::{Ends, Stream};
 use std::alloc::{AllocError, Global};
 
 /// The places of connections, by the keys that their events show.
@@ -19,6 +20,8 @@ pub struct Places {
     holders: Vec<Option<Holder>>,
     /// How many places have connections.
     taken: usize,
+    /// Whether connections may wait to be opened.
+    are_held: bool,
     /// Whether connections are to be served though no event shows them.
     are_left: bool,
     /// The key at which the last round of the next turn begins.
@@ -48,6 +51,7 @@ impl Places {
             long_outbox: Outbox::new(alloc, LONG_ROOM)?,
             holders,
             taken: 0,
+            are_held: false,
             are_left: false,
             first_left: 0,
         })
@@ -92,7 +96,7 @@ impl Places {
             self.are_left |= link.is_waiting();
             return false;
         }
-        !link.is_free()
+        link.id().is_some()
     }
 
     /// The connection at a place is to be served though no event shows it again, if there is one.
@@ -148,12 +152,14 @@ impl Places {
             .is_some_and(|link| link.is_stuck(moment))
     }
 
-    /// Closes the connection at a place, if there is one, and gives its number.
+    /// Closes the connection at a place, if there is one, and gives its number, where it is opened.
     pub fn close(&mut self, key: usize) -> Option<u64> {
         let link = self.links.get_mut(key)?;
-        let id = link.close(&mut self.long_outbox)?;
+        if link.is_free() {
+            return None;
+        }
         self.taken = self.taken.saturating_sub(1);
-        Some(id)
+        link.close(&mut self.long_outbox)
     }
 
     /// What is done with a newcomer at this moment, in milliseconds, as the connections stand now.
@@ -166,24 +172,55 @@ impl Places {
         admit(self.holders.as_slice(), newcomer, moment)
     }
 
-    /// Gives a connection a place, under whose key its events are shown, at this moment, in milliseconds. Returns whether
-    /// it has it.
-    pub fn give(
-        &mut self,
-        registry: &Registry,
-        key: usize,
-        id: u64,
-        mut stream: Stream,
-        origin: Origin,
-        moment: u64,
-    ) -> bool {
-        let is_ready = stream.send_at_once().is_ok()
-            && stream.register(registry, Token(key)).is_ok();
-        match self.links.get_mut(key) {
-            Some(link) if is_ready => link.open(id, stream, origin, moment),
-            Some(_) | None => return false,
+    /// Gives a connection a place at this moment, in milliseconds. It is not opened yet.
+    pub fn give(&mut self, key: usize, stream: Stream, origin: Origin, moment: u64) {
+        if let Some(link) = self.links.get_mut(key) {
+            link.take(stream, origin, moment);
+            self.taken = self.taken.saturating_add(1);
         }
-        self.taken = self.taken.saturating_add(1);
-        true
+    }
+
+    /// The connection at a place is opened under this number of the core's, and its events are shown under the place's
+    /// key. Whether that was done.
+    pub fn open(&mut self, registry: &Registry, key: usize, id: u64) -> bool {
+        match self.links.get_mut(key) {
+            Some(link) => link.open(registry, Token(key), id),
+            None => false,
+        }
+    }
+
+    /// The connection at a place, which has these ends, is not opened before the kernel's tables were looked at.
+    pub fn hold(&mut self, key: usize, ends: Ends) {
+        if let Some(link) = self.links.get_mut(key) {
+            link.hold(ends);
+            self.are_held = true;
+        }
+    }
+
+    /// Whether connections may wait to be opened.
+    pub fn are_held(&self) -> bool {
+        self.are_held
+    }
+
+    /// Whether the table of a family is to be looked at for one that waits.
+    pub fn looks_in(&self, table: Family) -> bool {
+        self.links.iter().any(|link| link.looks_in(table))
+    }
+
+    /// Notes what the table of a family, where it was read, shows of those that wait.
+    pub fn look_in(&mut self, table: Family, text: Option<&[u8]>) {
+        for link in &mut self.links {
+            link.look_in(table, text);
+        }
+    }
+
+    /// All tables were looked at: those that wait are to be opened, each by `shown`.
+    pub fn end_looking(&mut self) {
+        self.are_held = false;
+    }
+
+    /// Who is at a place, where that waited to be opened.
+    pub fn shown(&mut self, key: usize) -> Option<Who> {
+        self.links.get_mut(key)?.shown()
     }
 }

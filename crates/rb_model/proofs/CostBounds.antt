@@ -1,11 +1,10 @@
 -- What bounds costs: a search takes few looks, and a message that walks no rows costs no more than one that does.
-use Rattle.std.proofs.Common.{◌≡◌, ◌≤◌, ℕ, zero, suc, ◌+◌, ◌-◌, ◌/◌, ◌<◌, Bool, true, false, cond, List, length, inl, inr, arith}
-use Rattle.std.specs.Prelude.{nat_le}
+use Rattle.std.proofs.Common.{◌≡◌, ◌≤◌, ℕ, zero, suc, ◌+◌, ◌-◌, ◌/◌, Bool, true, false, List, length, inl, inr, arith}
 use Rattle.std.proofs.lemmas.Bool.{cases_lt}
 use Rattle.std.proofs.lemmas.Bool.Decides.{nat_tests}
 use Rattle.rb_xdr.specs.Ordered.{halvings, looks}
 use Rattle.rb_model.specs.declared.message.Message.{Message}
-use Rattle.rb_model.specs.Calls.{longest_reply, kept_of, message_of}
+use Rattle.rb_model.specs.Calls.{kept_of, message_of}
 use Rattle.rb_model.specs.Connections.Taking.{Ends}
 use Rattle.rb_model.specs.Costs.{Sizes, asks_for_rows, walked, sizes_where, sizes_for, find_cost, take_cost, recount_cost, message_cost, answer_cost, record_cost, plain_cost, plain_record_cost}
 

@@ -8,9 +8,9 @@ use Rattle.rb_model.specs.Costs.{event_cost, run_cost}
 -- in each state that a run reaches
 abbrev pub StepsAreBounded : Type 0
 StepsAreBounded =
-    (s : State) → IsReached s → are_good s.setting.limits ≡ true → (event : Event) → event_cost s event ≤ bound_at s event
+    (s : State) → IsReached s → are_good s.setting.limits s.setting.listener ≡ true → (event : Event) → event_cost s event ≤ bound_at s event
 
 -- and so over a run from there
 abbrev pub RunsAreBounded : Type 0
 RunsAreBounded =
-    (s : State) → IsReached s → are_good s.setting.limits ≡ true → (events : List Event) → run_cost s events ≤ run_bound s events
+    (s : State) → IsReached s → are_good s.setting.limits s.setting.listener ≡ true → (events : List Event) → run_cost s events ≤ run_bound s events

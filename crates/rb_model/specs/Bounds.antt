@@ -40,7 +40,7 @@ count_in other = 0
 
 -- the bytes that an event takes, by its output: a datagram counts whole, and what is refused takes none
 abbrev pub bytes_in : Event → Output → ℕ
-bytes_in (Datagram now peer content) output = length content
+bytes_in (Datagram now who content) output = length content
 bytes_in (Forward now from message) output = length message
 bytes_in event output = count_in output
 
@@ -49,7 +49,7 @@ abbrev pub bytes_lent : Output → ℕ
 bytes_lent (IsPending bytes) = length bytes
 bytes_lent (Replied reply) = length reply
 bytes_lent (UnsentIs (Some unsent)) = length unsent.call
-bytes_lent (RepliedTo peer reply) = length reply
+bytes_lent (RepliedTo who reply) = length reply
 bytes_lent other = 0
 
 -- the bytes that an event lends, or reports as given

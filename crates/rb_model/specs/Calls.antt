@@ -97,8 +97,8 @@ success xid results = fitting_reply xid (reply_head xid replies.Success ++ resul
 
 -- Results of these bytes, after so many changes: a list of rows is streamed on a connection, of any length.
 abbrev pub results_outcome : Caller → ℕ → ℕ → List ℕ → Results → Outcome
-results_outcome (Tcp id peer) count xid bytes (results.Rows list) = Reply (reply_head xid replies.Success ++ bytes) (Some count)
-results_outcome (Udp peer) count xid bytes (results.Rows list) = Reply (success xid bytes) None
+results_outcome (Tcp id who) count xid bytes (results.Rows list) = Reply (reply_head xid replies.Success ++ bytes) (Some count)
+results_outcome (Udp who) count xid bytes (results.Rows list) = Reply (success xid bytes) None
 results_outcome caller count xid bytes (results.Value value) = Reply (success xid bytes) None
 results_outcome caller count xid bytes results.Statistics = Reply (success xid bytes) None
 

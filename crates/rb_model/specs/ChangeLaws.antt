@@ -1,5 +1,5 @@
 -- Laws of the changes that calls make, and of the calls that set the rows again (RFC 1833 sections 2.2.1 and 3.2).
-use Rattle.std.specs.Prelude.{◌≡◌, ◌≤◌, ⊤, ℕ, Bool, true, false, List, [], ◌∷◌, ◌++◌, length, map, bytes_eq, All, Option, Some, None, option_map}
+use Rattle.std.specs.Prelude.{◌≡◌, ◌≤◌, ⊤, ℕ, ◌+◌, Bool, true, false, List, [], ◌∷◌, ◌++◌, length, map, bytes_eq, All, Option, Some, None, option_map}
 use Rattle.rb_xdr.specs.Xdr.{IsNumber, AreBytes, boolean}
 use Rattle.rb_rpc.specs.declared.call.Credential.{Credential}
 use Rattle.rb_rpc.specs.declared.call.Credential.TheVariants as credentials
@@ -7,11 +7,14 @@ use Rattle.rb_rpc.specs.declared.call.CallHead.{CallHead}
 use Rattle.rb_rpc.specs.declared.caller.Caller.{Caller}
 use Rattle.rb_rpc.specs.declared.caller.Caller.TheVariants.{Tcp, Udp}
 use Rattle.rb_address.specs.declared.host.Host.TheVariants.{V4}
-use Rattle.rb_address.specs.declared.peer.Peer.{Peer}
+use Rattle.rb_address.specs.declared.who.Source.TheVariants as sources
+use Rattle.rb_address.specs.declared.who.Trust.{Trust}
+use Rattle.rb_address.specs.declared.who.Trust.TheVariants.{Claims, Local, Stranger}
+use Rattle.rb_address.specs.declared.who.Who.{Who}
 use Rattle.rb_rpc.specs.CallBytes.{call_bytes}
 use Rattle.rb_rpc.specs.Grammar.{IsCaller}
-use Rattle.rb_registry.specs.declared.row.Owner.{Owner}
-use Rattle.rb_registry.specs.declared.row.Owner.TheVariants.{Unknown, Uid}
+use Rattle.rb_address.specs.declared.who.Owner.{Owner}
+use Rattle.rb_address.specs.declared.who.Owner.TheVariants.{Unknown, Uid}
 use Rattle.rb_registry.specs.declared.row.Row.{Row}
 use Rattle.rb_registry.specs.declared.row.Which.TheVariants.{Inet}
 use Rattle.rb_registry.specs.Rows.{Change, rpcb_prog, left_by}
@@ -25,10 +28,10 @@ use Rattle.rb_arguments.specs.declared.request.Request.TheVariants as requests
 use Rattle.rb_arguments.specs.Types.{rpcb_spelling}
 use Rattle.rb_proto.specs.declared.call.Call.{Call}
 use Rattle.rb_proto.specs.declared.listener.Listener.{Listener}
-use Rattle.rb_proto.specs.Callers.{is_local, peer_of, owner_of}
+use Rattle.rb_proto.specs.Callers.{may_register, own_rows, owner_of, who_of}
 use Rattle.rb_proto.specs.Ledger.{rows_in}
 use Rattle.rb_proto.specs.Netids.{which_of}
-use Rattle.rb_proto.specs.Answers.{row_of_mapping, row_of_rpcb, removal_of, can_be_set}
+use Rattle.rb_proto.specs.Answers.{row_of_mapping, row_of_rpcb, can_be_set}
 use Rattle.rb_model.specs.declared.message.Message.{Message}
 use Rattle.rb_model.specs.declared.message.Message.TheVariants as says
 use Rattle.rb_model.specs.declared.types.Limits.{Limits}
@@ -40,17 +43,21 @@ use Rattle.rb_model.specs.State.{Connection, State, opening, are_good, at_moment
 use Rattle.rb_model.specs.State.Phase.{Owing}
 use Rattle.rb_model.specs.Step.{serve, Event, Output, step, run, after, IsReached}
 use Rattle.rb_model.specs.Step.Output.{Replied}
-use Rattle.rb_model.specs.Step.Event.{Bytes, Datagram}
+use Rattle.rb_model.specs.Step.Event.{Open, Bytes, Datagram}
 
 -- ---- what a call asks for
 
--- the change that a SET or an UNSET asks for, in the name of the owner that its credential says
-abbrev pub change_asked : CallHead → Request → Option Change
-change_asked head (requests.Mapping mappings.Set m) = option_map Added (row_of_mapping (owner_of head.cred) m)
-change_asked head (requests.Mapping mappings.Unset m) = Some (removal_of head m.prog m.vers Inet)
-change_asked head (requests.Rpcb rpcbs.Set r) = option_map Added (row_of_rpcb (owner_of head.cred) r)
-change_asked head (requests.Rpcb rpcbs.Unset r) = option_map (removal_of head r.prog r.vers) (which_of r.netid)
-change_asked head _ = None
+-- the change that a SET or an UNSET asks for in the name of this owner
+abbrev pub change_for : Owner → Request → Option Change
+change_for owner (requests.Mapping mappings.Set m) = option_map Added (row_of_mapping owner m)
+change_for owner (requests.Mapping mappings.Unset m) = Some (Removed m.prog m.vers Inet owner)
+change_for owner (requests.Rpcb rpcbs.Set r) = option_map Added (row_of_rpcb owner r)
+change_for owner (requests.Rpcb rpcbs.Unset r) = option_map (λ which. Removed r.prog r.vers which owner) (which_of r.netid)
+change_for owner _ = None
+
+-- the change that a call of this caller asks for, in the name of the owner that it counts as
+abbrev pub change_asked : Caller → CallHead → Request → Option Change
+change_asked caller head request = change_for (owner_of (who_of caller).trust head.cred) request
 
 -- the credential of an owner
 abbrev pub credential_for : Owner → Credential
@@ -66,19 +73,19 @@ pub record Brought : Type 0 where
   pub content : List ℕ
 
 -- the record that ends in a piece of bytes, if one does
-abbrev pub record_in : ℕ → ℕ → Peer → Taking → Option Brought
-record_in now id peer TakesNone = None
-record_in now id peer (GoesOn fed) = None
-record_in now id peer (Ends n content) = Some (record { now = now; caller = Tcp id peer; content = content })
+abbrev pub record_in : ℕ → ℕ → Who → Taking → Option Brought
+record_in now id who TakesNone = None
+record_in now id who (GoesOn fed) = None
+record_in now id who (Ends n content) = Some (record { now = now; caller = Tcp id who; content = content })
 
 -- none where no connection of the number is live
 abbrev pub record_on : ℕ → ℕ → List ℕ → Option Connection → Option Brought
 record_on now id piece None = None
-record_on now id piece (Some c) = record_in now id c.peer (taking_of c.phase piece)
+record_on now id piece (Some c) = record_in now id c.who (taking_of c.phase piece)
 
 -- a datagram, or the record that ends in a piece of bytes
 abbrev pub brought_by : State → Event → Option Brought
-brought_by s (Datagram now peer content) = Some (record { now = now; caller = Udp peer; content = content })
+brought_by s (Datagram now who content) = Some (record { now = now; caller = Udp who; content = content })
 brought_by s (Bytes now id piece) = record_on now id piece (live_connection id s.connections.all)
 brought_by s other = None
 
@@ -105,16 +112,16 @@ change_where told None = []
 change_where true (Some change) = change ∷ []
 change_where false (Some change) = []
 
--- the change that a message asks for, where it is answered TRUE
-abbrev pub change_told : Outcome → Message → List Change
-change_told said (says.Asked call) = change_where (is_told_true call.head.xid said) (change_asked call.head call.request)
-change_told said says.NoCall = []
-change_told said (says.Refused head) = []
-change_told said (says.Garbage head) = []
+-- the change that a caller's message asks for, where it is answered TRUE
+abbrev pub change_told : Caller → Outcome → Message → List Change
+change_told caller said (says.Asked call) = change_where (is_told_true call.head.xid said) (change_asked caller call.head call.request)
+change_told caller said says.NoCall = []
+change_told caller said (says.Refused head) = []
+change_told caller said (says.Garbage head) = []
 
 abbrev pub change_from : State → Option Brought → List Change
 change_from s None = []
-change_from s (Some m) = change_told (said_to s m) (message_of m.content)
+change_from s (Some m) = change_told m.caller (said_to s m) (message_of m.content)
 
 -- the change of the call that an event brings, where it asks for one and is answered TRUE
 abbrev pub change_by : State → Event → List Change
@@ -131,7 +138,7 @@ pub record Asks (s : State) (event : Event) (change : Change) : Type 0 where
   pub call : Call
   pub brings : brought_by s event ≡ Some message
   pub says : message_of message.content ≡ says.Asked call
-  pub asks : change_asked call.head call.request ≡ Some change
+  pub asks : change_asked message.caller call.head call.request ≡ Some change
   pub told : said_to s message ≡ told_true call.head.xid
 
 -- the live connection of the number owes the whole reply
@@ -142,8 +149,8 @@ pub record Owes (s : State) (id : ℕ) (reply : List ℕ) : Type 0 where
 
 -- the caller gets the reply: it is the output of the event, or the caller's connection owes it after the event
 abbrev pub GetsReply : State → Event → Caller → List ℕ → Type 0
-GetsReply s event (Udp peer) reply = (step s event).0 ≡ Replied reply
-GetsReply s event (Tcp id peer) reply = Owes (step s event).1 id reply
+GetsReply s event (Udp who) reply = (step s event).0 ≡ Replied reply
+GetsReply s event (Tcp id who) reply = Owes (step s event).1 id reply
 
 -- the row that it adds may be set
 abbrev pub MayBeMade : Change → Type 0
@@ -154,10 +161,10 @@ MayBeMade (Removed prog vers which owner) = ⊤
 abbrev pub IsAppended : State → Event → Change → Type 0
 IsAppended s event change = (step s event).1.ledger.changes ≡ s.ledger.changes ++ change ∷ []
 
--- A caller on this machine asks for the change by the event, gets TRUE for it, and the change is appended.
+-- A caller that may register asks for the change by the event, gets TRUE for it, and the change is appended.
 pub record Accepts (s : State) (event : Event) (change : Change) : Type 0 where
   pub asked : Asks s event change
-  pub here : is_local s.setting.listener (peer_of asked.message.caller).host ≡ true
+  pub registers : may_register s.setting.listener.announced (who_of asked.message.caller) ≡ true
   pub may : MayBeMade change
   pub gets : GetsReply s event asked.message.caller (success asked.call.head.xid (boolean true))
   pub appends : IsAppended s event change
@@ -201,10 +208,17 @@ pub record IsSpelled (row : Row) : Type 0 where
   pub owner : IsCaller (credential_for row.owner)
   pub addr : AreBytes row.addr
 
--- what an event brings is of bytes
+-- the uid by which a caller is known, if it is, fits in 32 bits
+abbrev pub IsTrust : Trust → Type 0
+IsTrust Claims = ⊤
+IsTrust (Local owner) = IsCaller (credential_for owner)
+IsTrust Stranger = ⊤
+
+-- what an event brings is of bytes, from a caller of such a uid
 abbrev pub BringsBytes : Event → Type 0
+BringsBytes (Open now who) = IsTrust who.trust
 BringsBytes (Bytes now id piece) = AreBytes piece
-BringsBytes (Datagram now peer content) = AreBytes content
+BringsBytes (Datagram now who content) = IsTrust who.trust × AreBytes content
 BringsBytes other = ⊤
 
 -- it is the state after some list of events that bring bytes
@@ -217,9 +231,13 @@ RowsAreSpelled = (s : State) → IsReachedByBytes s → All IsSpelled (set_rows 
 
 -- ---- the calls that set them again
 
--- 127.0.0.1, port 0
-abbrev pub this_machine : Peer
-this_machine = record { host = V4 (127 ∷ 0 ∷ 0 ∷ 1 ∷ []); port = 0 }
+-- a caller from port 0 of 127.0.0.1, that claims who it is
+abbrev pub this_machine : Who
+this_machine = record {
+  source = sources.Inet (record { host = V4 (127 ∷ 0 ∷ 0 ∷ 1 ∷ []); port = 0 });
+  asked = V4 (0 ∷ 0 ∷ 0 ∷ 0 ∷ []);
+  trust = Claims;
+}
 
 -- a call of RPCBPROC_SET of version 4, by the owner of the row
 abbrev pub set_head : Row → CallHead
@@ -253,8 +271,8 @@ pub record Sets (start : State) (calls : List Event) (rows : List Row) : Type 0 
 -- listener, its first xid, its moment and that of the calls.
 abbrev pub RowsCanBeSetAgain : Type 0
 RowsCanBeSetAgain =
-    (s : State) → IsReachedByBytes s → (limits : Limits) → are_good limits ≡ true → length (rows_in s.ledger) ≤ limits.rows
-    → (listener : Listener) (first_xid opened now : ℕ)
+    (s : State) → IsReachedByBytes s → (limits : Limits) (listener : Listener) → are_good limits listener ≡ true
+    → length (own_rows listener) + length (set_rows s) ≤ limits.rows → (first_xid opened now : ℕ)
     → Sets (opening limits listener first_xid opened) (set_calls now (set_rows s)) (set_rows s)
 
 -- a call of at most 368 bytes sets the row
@@ -277,5 +295,5 @@ opened_again s = opening s.setting.limits s.setting.listener s.setting.first_xid
 -- same order.
 abbrev pub KeptRowsAreRestored : Type 0
 KeptRowsAreRestored =
-    (s : State) → IsReachedByBytes s → are_good s.setting.limits ≡ true
+    (s : State) → IsReachedByBytes s → are_good s.setting.limits s.setting.listener ≡ true
     → rows_in (after (opened_again s) (kept_calls s)).ledger ≡ rows_in s.ledger

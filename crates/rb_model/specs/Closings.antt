@@ -41,12 +41,12 @@ pub record BringsEnd (s : State) (id : ℕ) (piece : List ℕ) (caller : Caller)
   pub takes : fed_in connection.phase ≡ Some fed
   pub n : ℕ
   pub ends : first_record (fed ++ piece) ≡ Some n
-  pub caller_is : caller ≡ Tcp id connection.peer
+  pub caller_is : caller ≡ Tcp id connection.who
   pub content_is : content ≡ data_of (take n (fed ++ piece))
 
 -- the event brings this data of a datagram, or of a record, from this caller, at this moment
 abbrev pub Brings : State → Event → ℕ → Caller → List ℕ → Type 0
-Brings s (Datagram at peer bytes) now caller content = (now ≡ at) × (caller ≡ Udp peer) × (content ≡ bytes)
+Brings s (Datagram at who bytes) now caller content = (now ≡ at) × (caller ≡ Udp who) × (content ≡ bytes)
 Brings s (Bytes at id piece) now caller content = (now ≡ at) × BringsEnd s id piece caller content
 Brings s other now caller content = ⊥
 

@@ -2,7 +2,7 @@
 use Rattle.std.specs.Prelude.{ℕ, ◌+◌, ◌-◌, ◌*◌, ◌/◌, ◌==◌, nat_lt, min, Bool, true, false, not, ◌&&◌, if◌then◌else◌, List, [], ◌∷◌, ◌++◌, length, take, drop, find, filter, Option, Some, None, Result, Ok, Err}
 use Rattle.std.specs.Option.{option_map}
 use Rattle.std.specs.List.{list_any}
-use Rattle.rb_address.specs.declared.peer.Peer.{Peer}
+use Rattle.rb_address.specs.declared.who.Who.{Who}
 use Rattle.rb_rpc.specs.Records.{first_record, data_of, marked_reply}
 use Rattle.rb_model.specs.declared.types.CoreFault.{CoreFault}
 use Rattle.rb_model.specs.declared.types.CoreFault.TheVariants.{Full, Gone, Spent}
@@ -157,18 +157,18 @@ number_for conns c =
     else Ok c.next
 
 -- a new connection among them, Idle from its opening
-abbrev pub with_new : Peer → ℕ → Connections → Connections
-with_new peer clock c =
-    let new : Connection = record { number = c.next; peer = peer; phase = Idle; since = clock } in
+abbrev pub with_new : Who → ℕ → Connections → Connections
+with_new who clock c =
+    let new : Connection = record { number = c.next; who = who; phase = Idle; since = clock } in
     record { next = c.next + 1; all = c.all ++ new ∷ [] }
 
-abbrev pub opening_as : Peer → ℕ → Connections → Result ℕ CoreFault → Result ℕ CoreFault × Connections
-opening_as peer clock c (Err fault) = (Err fault, c)
-opening_as peer clock c (Ok number) = (Ok number, with_new peer clock c)
+abbrev pub opening_as : Who → ℕ → Connections → Result ℕ CoreFault → Result ℕ CoreFault × Connections
+opening_as who clock c (Err fault) = (Err fault, c)
+opening_as who clock c (Ok number) = (Ok number, with_new who clock c)
 
 -- a connection is opened where there may be one more
-unfoldable pub open_in_table : ℕ → Peer → ℕ → Connections → Result ℕ CoreFault × Connections
-open_in_table conns peer clock c = opening_as peer clock c (number_for conns c)
+unfoldable pub open_in_table : ℕ → Who → ℕ → Connections → Result ℕ CoreFault × Connections
+open_in_table conns who clock c = opening_as who clock c (number_for conns c)
 
 -- The connections are in the order of their numbers, so the first is that of least number.
 unfoldable pub next_lost_in_table : Connections → Option ℕ

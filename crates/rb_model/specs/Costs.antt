@@ -214,15 +214,15 @@ unsent_count (Some unsent) = length unsent.call
 
 -- what an event costs from a state
 abbrev pub event_cost : State → Event → ℕ
-event_cost s (Open now peer) = 4
+event_cost s (Open now who) = 4
 event_cost s (Bytes now id piece) = bytes_cost (sizes_in s) piece (live_connection id s.connections.all)
 event_cost s (Pending id) = find_cost (length s.connections.all) + pending_cost
 event_cost s (Gave now id n) = find_cost (length s.connections.all) + 1 + gave_cost (sizes_in s)
 event_cost s (Closed id) = close_cost (sizes_in s)
 event_cost s NextLost = find_cost (length s.connections.all)
-event_cost s (Datagram now peer content) =
-    datagram_cost (sizes_for (message_of content) (sizes_in s)) (length content) (reply_count s (Datagram now peer content))
-    + reply_cost s (Datagram now peer content)
+event_cost s (Datagram now who content) =
+    datagram_cost (sizes_for (message_of content) (sizes_in s)) (length content) (reply_count s (Datagram now who content))
+    + reply_cost s (Datagram now who content)
 event_cost s Unsent = unsent_cost s.setting.limits.forwards (unsent_count (unsent_call s))
 event_cost s (Sent number) = sent_cost s.setting.limits.forwards
 event_cost s (Forward now from message) = ended_cost (sizes_in s) + reply_cost s (Forward now from message)

@@ -1,6 +1,7 @@
 -- How forwarded calls end, and what their callers are told (RFC 1833 sections 2.2.1 and 3.2).
 use Rattle.std.specs.Prelude.{ℕ, max, List, [], drop, Option, Some, None}
 use Rattle.rb_address.specs.declared.peer.Peer.{Peer}
+use Rattle.rb_address.specs.declared.who.Who.{Who}
 use Rattle.rb_rpc.specs.declared.caller.Caller.{Caller}
 use Rattle.rb_rpc.specs.declared.caller.Caller.TheVariants.{Tcp, Udp}
 use Rattle.rb_rpc.specs.declared.reply.ReplyStatus.{ReplyStatus}
@@ -49,18 +50,18 @@ outcome_of_end forward message Dropped = Silent
 abbrev pub outcome_at_end : List ℕ → entry.Ended → Outcome
 outcome_at_end message ended = outcome_of_end ended.forward message ended.outcome
 
-abbrev pub told_over_udp : Peer → Outcome → Told
-told_over_udp peer (Reply reply stamp) = Datagram peer
-told_over_udp peer NoCall = told.Silent
-told_over_udp peer Forwarded = told.Silent
-told_over_udp peer Silent = told.Silent
+abbrev pub told_over_udp : Who → Outcome → Told
+told_over_udp who (Reply reply stamp) = Datagram who
+told_over_udp who NoCall = told.Silent
+told_over_udp who Forwarded = told.Silent
+told_over_udp who Silent = told.Silent
 
 -- ---- the end of an entry
 
 -- A caller is told this at the end of its call. A connection goes on with it; over UDP it is the last reply.
 abbrev pub tell : Caller → Outcome → State → Told × State
-tell (Tcp id peer) said s = (TcpReady id, on_connection id (settle s.clock said) s)
-tell (Udp peer) said s = (told_over_udp peer said, record s { reply = reply_in said })
+tell (Tcp id who) said s = (TcpReady id, on_connection id (settle s.clock said) s)
+tell (Udp who) said s = (told_over_udp who said, record s { reply = reply_in said })
 
 -- An entry has ended, if there is one, and this is the ledger after it: its caller is told how it ended. `message` is
 -- the datagram that ended it.

@@ -2,6 +2,7 @@
 use Rattle.std.specs.Prelude.{◌≡◌, ℕ, ◌+◌, ◌==◌, nat_le, nat_lt, max, Bool, ◌&&◌, if◌then◌else◌, List, [], ◌∷◌, ◌++◌, map, filter, Option, Some, None}
 use Rattle.std.specs.List.{count_by}
 use Rattle.rb_address.specs.declared.peer.Peer.{Peer}
+use Rattle.rb_address.specs.declared.who.Who.{Who}
 use Rattle.rb_rpc.specs.declared.caller.Caller.{Caller}
 use Rattle.rb_rpc.specs.declared.caller.Caller.TheVariants.{Tcp, Udp}
 use Rattle.rb_forward.specs.declared.types.Outcome.TheVariants.{Failed}
@@ -42,10 +43,10 @@ ConnectionsAwait =
 
 -- Its caller is told this, and nobody else: a connection goes on with it, or it is the reply over UDP.
 abbrev pub CallerGets : State → ℕ → Outcome → Caller → Told → State → Type 0
-CallerGets s clock said (Tcp id peer) told after =
+CallerGets s clock said (Tcp id who) told after =
     (told ≡ TcpReady id) × (after.connections ≡ changed_at id (settle clock said) s.connections) × (after.reply ≡ [])
-CallerGets s clock said (Udp peer) told after =
-    (told ≡ told_over_udp peer said) × (after.connections ≡ s.connections) × (after.reply ≡ reply_in said)
+CallerGets s clock said (Udp who) told after =
+    (told ≡ told_over_udp who said) × (after.connections ≡ s.connections) × (after.reply ≡ reply_in said)
 
 -- The first entry for which `Is` holds ends, and is there no longer; its caller is told what `says`
 -- gives for it.
@@ -93,18 +94,18 @@ DeadlinesEndOne = (s : State) (now : ℕ) → EndsByDeadline s now (expire s now
 -- ---- what callers over UDP get
 
 -- the output with what they are told
-abbrev pub later_output : Peer → Outcome → Output
-later_output peer (Reply reply stamp) = RepliedTo peer reply
-later_output peer NoCall = outputs.Silent
-later_output peer Forwarded = outputs.Silent
-later_output peer Silent = outputs.Silent
+abbrev pub later_output : Who → Outcome → Output
+later_output who (Reply reply stamp) = RepliedTo who reply
+later_output who NoCall = outputs.Silent
+later_output who Forwarded = outputs.Silent
+later_output who Silent = outputs.Silent
 
 -- Where the caller of the first entry for which `Is` holds is over UDP, the output of the event has what `says` gives
 -- for it.
 abbrev pub TellsOverUdp : (Entry → Type 0) → (Entry → Outcome) → State → Event → Type 0
 TellsOverUdp Is says s event =
-    (e : Entry) (rest : List Entry) (peer : Peer) → IsFirst Is s.ledger.forwards.all e rest → e.forward.caller ≡ Udp peer
-    → (step s event).0 ≡ later_output peer (says e)
+    (e : Entry) (rest : List Entry) (who : Who) → IsFirst Is s.ledger.forwards.all e rest → e.forward.caller ≡ Udp who
+    → (step s event).0 ≡ later_output who (says e)
 
 -- A caller over UDP gets what the datagram of its target says, or what the deadline says.
 pub record UdpCallersAreTold (s : State) : Type 0 where

@@ -50,7 +50,7 @@ lookup_notes head target found = LookedUp (version_of head.vers) target (is_some
 abbrev pub getport_notes : CallHead → Mapping → List Row → Option Transport → List Note
 getport_notes head m rows None = []
 getport_notes head m rows (Some transport) =
-    lookup_notes head (record { prog = m.prog; vers = m.vers; transport = transport }) (find_row m.prog m.vers (netid_of transport) rows)
+    lookup_notes head (record { prog = m.prog; vers = m.vers; netid = netid_of transport }) (find_row m.prog m.vers (netid_of transport) rows)
 
 -- a call that is forwarded counts when it ends, one that could not be as a failure at once
 abbrev pub failure_notes : Outcome → Note → List Note

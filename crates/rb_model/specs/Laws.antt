@@ -155,7 +155,7 @@ pub record ReadsOn (a : Arrival) (fed : List ℕ) : Type 0 where
 -- the outcome of the record with these bytes
 abbrev pub said_to : Arrival → List ℕ → Outcome
 said_to a record_bytes =
-    (serve (at_moment a.now a.state) (Tcp a.id a.connection.peer) (data_of record_bytes)).0
+    (serve (at_moment a.now a.state) (Tcp a.id a.connection.who) (data_of record_bytes)).0
 
 -- Its whole reply, marked, is owed from this moment on; or it is forwarded, and awaited; or it stays without a reply, and
 -- the connection is Idle; or it is no call, and no connection of the number is live.
@@ -269,8 +269,8 @@ pub record IsWellKept (s : State) : Type 0 where
   pub own_distinct : are_distinct s.ledger.own ≡ true
   pub distinct : are_distinct (rows_in s.ledger) ≡ true
   -- At good limits no more rows are live than there may be, nor live or needed by a list.
-  pub fit : are_good s.setting.limits ≡ true → length (rows_in s.ledger) ≤ s.setting.limits.rows
-  pub needed_fit : are_good s.setting.limits ≡ true
+  pub fit : are_good s.setting.limits s.setting.listener ≡ true → length (rows_in s.ledger) ≤ s.setting.limits.rows
+  pub needed_fit : are_good s.setting.limits s.setting.listener ≡ true
       → length (rows_in s.ledger) + length (needed_removals s.connections.all s.ledger) ≤ s.setting.limits.rows
 
 abbrev pub LedgersAreWellKept : Type 0

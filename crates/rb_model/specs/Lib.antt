@@ -19,6 +19,7 @@ pub mod ForwardLaws
 pub mod Closings
 pub mod WholeRuns
 pub mod ChangeLaws
+pub mod CallerLaws
 pub mod HistoryLaws
 pub mod BoundLaws
 pub mod Worked
@@ -29,3 +30,4 @@ pub mod WorkedLists
 pub mod WorkedBounds
 pub mod WorkedChanges
 pub mod WorkedHistory
+pub mod WorkedCallers

@@ -11,13 +11,13 @@ use Rattle.rb_model.specs.Step.Event.{Open, Bytes, Pending, Gave, Closed, NextLo
 use Rattle.rb_model.specs.Step.Output.{Opened, Refused, TooMuch, Took, TookAndClosed, IsPending, Done, LostIs, Replied, Forwarded, Silent, UnsentIs, Ignored, Nothing, ConnectionClosed, Ready, RepliedTo}
 
 abbrev pub event_of : event.Event → Event
-event_of (events.Open now peer) = Open now peer
+event_of (events.Open now who) = Open now who
 event_of (events.Bytes now id piece) = Bytes now id piece.items
 event_of (events.Pending id) = Pending id
 event_of (events.Gave now id n) = Gave now id n
 event_of (events.Closed id) = Closed id
 event_of events.NextLost = NextLost
-event_of (events.Datagram now peer content) = Datagram now peer content.items
+event_of (events.Datagram now who content) = Datagram now who content.items
 event_of events.Unsent = Unsent
 event_of (events.Sent number) = Sent number
 event_of (events.Forward now from message) = Forward now from message.items
@@ -43,7 +43,7 @@ output_of outputs.Ignored = Ignored
 output_of outputs.Nothing = Nothing
 output_of (outputs.ConnectionClosed number) = ConnectionClosed number
 output_of (outputs.Ready number) = Ready number
-output_of (outputs.RepliedTo peer reply) = RepliedTo peer reply.items
+output_of (outputs.RepliedTo who reply) = RepliedTo who reply.items
 
 abbrev pub events_of : List event.Event → List Event
 events_of events = map event_of events

@@ -74,7 +74,7 @@ exchange_in s caller content = record { content = content; said = (serve s calle
 -- the call in these bytes of a record, none where no connection of the number is live
 abbrev pub call_in : State → ℕ → List ℕ → Option Connection → List Exchange
 call_in s id record_bytes None = []
-call_in s id record_bytes (Some c) = exchange_in s (Tcp id c.peer) (data_of record_bytes) ∷ []
+call_in s id record_bytes (Some c) = exchange_in s (Tcp id c.who) (data_of record_bytes) ∷ []
 
 -- the call that ended, where the bytes since the last record are a whole record
 abbrev pub calls_ended : State → ℕ → List ℕ → Option ℕ → List Exchange

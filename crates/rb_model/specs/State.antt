@@ -1,6 +1,6 @@
 -- What the daemon knows between two events, as plain data.
-use Rattle.std.specs.Prelude.{ℕ, ◌-◌, ◌^◌, nat_le, max, Bool, ◌&&◌, List, [], Option}
-use Rattle.rb_address.specs.declared.peer.Peer.{Peer}
+use Rattle.std.specs.Prelude.{ℕ, ◌+◌, ◌-◌, ◌^◌, nat_le, max, Bool, ◌&&◌, List, [], length, Option}
+use Rattle.rb_address.specs.declared.who.Who.{Who}
 use Rattle.rb_proto.specs.declared.listener.Listener.{Listener}
 use Rattle.rb_proto.specs.Callers.{own_rows}
 use Rattle.rb_proto.specs.Ledger.{Ledger, fresh_ledger}
@@ -32,10 +32,10 @@ pub data Phase : Type 0 where
   Awaiting : Phase
   Lost : Phase
 
--- `since` is the moment of its last progress, from which its deadline counts
+-- `who` is at its other end, and `since` is the moment of its last progress, from which its deadline counts
 pub record Connection : Type 0 where
   pub number : ℕ
-  pub peer : Peer
+  pub who : Who
   pub phase : Phase
   pub since : ℕ
 
@@ -54,10 +54,11 @@ pub record State : Type 0 where
   pub ledger : Ledger
   pub reply : List ℕ
 
-abbrev pub are_good : Limits → Bool
-are_good limits =
+-- there is room for the own rows and two more
+abbrev pub are_good : Limits → Listener → Bool
+are_good limits listener =
     nat_le 1 limits.conns && nat_le limits.conns 256
-    && nat_le 8 limits.rows && nat_le limits.rows 4096 && nat_le limits.forwards 64
+    && nat_le (length (own_rows listener) + 2) limits.rows && nat_le limits.rows 4096 && nat_le limits.forwards 64
 
 abbrev pub opening : Limits → Listener → ℕ → ℕ → State
 opening limits listener first_xid now = record {

@@ -2,6 +2,7 @@
 use Rattle.std.specs.Prelude.{◌≡◌, ℕ, nat_lt, max, Bool, false, if◌then◌else◌, List, [], ◌∷◌, length, Option, Some, None, Result, Ok, Err}
 use Rattle.rb_rpc.specs.declared.caller.Caller.{Caller}
 use Rattle.rb_address.specs.declared.peer.Peer.{Peer}
+use Rattle.rb_address.specs.declared.who.Who.{Who}
 use Rattle.rb_rpc.specs.declared.caller.Caller.TheVariants.{Tcp, Udp}
 use Rattle.rb_feed.specs.Feeds.{arguments_of}
 use Rattle.rb_forward.specs.Forwards.{Unsent as UnsentCall, unsent, can_be_sent}
@@ -31,7 +32,7 @@ pub use Rattle.rb_model.specs.Ending.{Told, Expired, forward_reply, expire}
 -- what a call from a caller sees
 abbrev pub context_in : State → Caller → Context
 context_in s caller = record {
-  listener = s.setting.listener;
+  announced = s.setting.listener.announced;
   limit = s.setting.limits.rows;
   forwards = s.setting.limits.forwards;
   clock = s.clock;
@@ -65,8 +66,8 @@ abbrev pub settle_on : ℕ → Outcome × State → Bool × State
 settle_on id (given, s) = (is_no_call given, on_connection id (settle s.clock given) s)
 
 -- the data of a record on a connection is answered, and the connection is settled
-unfoldable pub serve_record : State → ℕ → Peer → List ℕ → Bool × State
-serve_record s id peer content = settle_on id (serve s (Tcp id peer) content)
+unfoldable pub serve_record : State → ℕ → Who → List ℕ → Bool × State
+serve_record s id who content = settle_on id (serve s (Tcp id who) content)
 
 abbrev pub with_count : ℕ → Bool × State → Taken × State
 with_count n (closed, s) = (record { count = n; closed = closed }, s)
@@ -75,7 +76,7 @@ with_count n (closed, s) = (record { count = n; closed = closed }, s)
 abbrev pub when_taken : State → ℕ → List ℕ → Connection → Taking → Taken × State
 when_taken s id piece c TakesNone = (record { count = 0; closed = false }, s)
 when_taken s id piece c (GoesOn fed) = (record { count = length piece; closed = false }, on_connection id (keep_reading s.clock fed) s)
-when_taken s id piece c (Ends n content) = with_count n (serve_record s id c.peer content)
+when_taken s id piece c (Ends n content) = with_count n (serve_record s id c.who content)
 
 abbrev pub bytes_to : State → ℕ → ℕ → List ℕ → Option Connection → Result Taken CoreFault × State
 bytes_to s now id piece None = (Err Gone, s)
@@ -110,8 +111,8 @@ is_too_much n (Ok bytes) = nat_lt (length bytes) n
 
 -- ---- connections that come and go
 
-unfoldable pub open_connection : State → ℕ → Peer → Result ℕ CoreFault × State
-open_connection s now peer = unless_refused now s (open_in_table s.setting.limits.conns peer (max s.clock now) s.connections)
+unfoldable pub open_connection : State → ℕ → Who → Result ℕ CoreFault × State
+open_connection s now who = unless_refused now s (open_in_table s.setting.limits.conns who (max s.clock now) s.connections)
 
 -- where a connection is closed, the call that was forwarded for it ends
 abbrev pub dropped_with : State → ℕ → Result (Unit {0}) CoreFault × Connections → Result (Unit {0}) CoreFault × State
@@ -133,8 +134,8 @@ next_lost s = next_lost_in_table s.connections
 abbrev pub with_reply : Outcome × State → Outcome × State
 with_reply (given, s) = (given, record s { reply = reply_in given })
 
-unfoldable pub datagram : State → ℕ → Peer → List ℕ → Outcome × State
-datagram s now peer content = with_reply (serve (at_moment now s) (Udp peer) content)
+unfoldable pub datagram : State → ℕ → Who → List ℕ → Outcome × State
+datagram s now who content = with_reply (serve (at_moment now s) (Udp who) content)
 
 -- ---- calls that are forwarded
 
@@ -150,13 +151,13 @@ sent_call s number =
 -- ---- events, one for each event line (docs/EVENTS.md)
 
 pub data Event : Type 0 where
-  Open : ℕ → Peer → Event
+  Open : ℕ → Who → Event
   Bytes : ℕ → ℕ → List ℕ → Event
   Pending : ℕ → Event
   Gave : ℕ → ℕ → ℕ → Event
   Closed : ℕ → Event
   NextLost : Event
-  Datagram : ℕ → Peer → List ℕ → Event
+  Datagram : ℕ → Who → List ℕ → Event
   Unsent : Event
   Sent : ℕ → Event
   Forward : ℕ → Peer → List ℕ → Event
@@ -180,7 +181,7 @@ pub data Output : Type 0 where
   Nothing : Output
   ConnectionClosed : ℕ → Output
   Ready : ℕ → Output
-  RepliedTo : Peer → List ℕ → Output
+  RepliedTo : Who → List ℕ → Output
 
 abbrev pub output_or : {A : Type 0} → (A → Output) → Result A CoreFault × State → Output × State
 output_or show (Ok x, s) = (show x, s)
@@ -202,7 +203,7 @@ show_outcome (outcomes.Silent, s) = (Silent, s)
 -- the output where a forwarded call ended; `reply` is the last reply over UDP
 abbrev pub show_told : List ℕ → Told → Output
 show_told reply (TcpReady id) = Ready id
-show_told reply (ends.Datagram peer) = RepliedTo peer reply
+show_told reply (ends.Datagram who) = RepliedTo who reply
 show_told reply ends.Silent = Silent
 
 abbrev pub show_end : Option Told × State → Output × State
@@ -215,13 +216,13 @@ show_expired (Ended told, s) = (show_told s.reply told, s)
 show_expired (expiries.ConnectionClosed id, s) = (ConnectionClosed id, s)
 
 unfoldable pub step : State → Event → Output × State
-step s (Open now peer) = output_or Opened (open_connection s now peer)
+step s (Open now who) = output_or Opened (open_connection s now who)
 step s (Bytes now id piece) = output_or show_taken (bytes s now id piece)
 step s (Pending id) = output_or IsPending (pending s id, s)
 step s (Gave now id n) = if is_too_much n (pending s id) then (TooMuch, s) else output_or show_done (gave s now id n)
 step s (Closed id) = output_or show_done (close_connection s id)
 step s NextLost = (LostIs (next_lost s), s)
-step s (Datagram now peer content) = show_outcome (datagram s now peer content)
+step s (Datagram now who content) = show_outcome (datagram s now who content)
 step s Unsent = (UnsentIs (unsent_call s), s)
 step s (Sent number) = output_or show_done (sent_call s number)
 step s (Forward now from message) = show_end (forward_reply s now from message)

@@ -67,7 +67,7 @@ whole_bound limits buffered events outputs =
 -- brings a byte of arguments pays two steps ahead for it, and the event that answers the record spends them.
 abbrev pub EventsArePaidAhead : Type 0
 EventsArePaidAhead =
-    (s : State) → IsReached s → are_good s.setting.limits ≡ true → (event : Event)
+    (s : State) → IsReached s → are_good s.setting.limits s.setting.listener ≡ true → (event : Event)
     → event_cost s event + 2 * args_waiting (step s event).1.connections.all
     ≤ 2 * args_waiting s.connections.all + 16 * (bytes_in event (step s event).0 + bytes_reported event (step s event).0)
     + event_allowance s.setting.limits
@@ -75,5 +75,5 @@ EventsArePaidAhead =
 -- So a run costs no more than its bound, where of the buffers only the arguments that wait count.
 abbrev pub WholeRunsAreBounded : Type 0
 WholeRunsAreBounded =
-    (s : State) → IsReached s → are_good s.setting.limits ≡ true → (events : List Event)
+    (s : State) → IsReached s → are_good s.setting.limits s.setting.listener ≡ true → (events : List Event)
     → run_cost s events ≤ whole_bound s.setting.limits (args_waiting s.connections.all) events (run s events)

@@ -1,18 +1,34 @@
 -- Worked examples: what runs give, word by word.
-use Rattle.std.specs.Prelude.{◌≡◌, ℕ, List, [], ◌∷◌, ◌++◌, replicate}
+use Rattle.std.specs.Prelude.{◌≡◌, ℕ, List, [], ◌∷◌, ◌++◌, replicate, Some, None}
 use Rattle.rb_xdr.specs.Xdr.{words}
 use Rattle.rb_address.specs.declared.host.Host.TheVariants.{V4}
 use Rattle.rb_address.specs.declared.peer.Peer.{Peer}
+use Rattle.rb_address.specs.declared.who.Source.TheVariants.{Inet}
+use Rattle.rb_address.specs.declared.who.Trust.TheVariants.{Claims}
+use Rattle.rb_address.specs.declared.who.Who.{Who}
+use Rattle.rb_proto.specs.declared.listener.Listener.{Listener}
 use Rattle.rb_model.specs.State.{State, opening}
 use Rattle.rb_model.specs.Step.{Output, run}
 use Rattle.rb_model.specs.Step.Event.{Datagram}
 use Rattle.rb_model.specs.Step.Output.{Replied, Silent}
 
-abbrev pub loopback : Peer
-loopback = record { host = V4 (127 ∷ 0 ∷ 0 ∷ 1 ∷ []); port = 900 }
+-- a caller of which nothing is known but what it claims, and not which host it asked
+abbrev pub who_at : Peer → Who
+who_at peer = record { source = Inet peer; asked = V4 (0 ∷ 0 ∷ 0 ∷ 0 ∷ []); trust = Claims }
+
+abbrev pub loopback : Who
+loopback = who_at (record { host = V4 (127 ∷ 0 ∷ 0 ∷ 1 ∷ []); port = 900 })
+
+-- port 111 over IPv4, where 192.0.2.1 is told, without a local socket
+abbrev pub listener : Listener
+listener = record {
+  announced = record { inet = Some (192 ∷ 0 ∷ 2 ∷ 1 ∷ []); inet6 = None };
+  port = 111;
+  local = None;
+}
 
 abbrev pub fresh : State
-fresh = opening (record { conns = 4; rows = 300; forwards = 4 }) (record { host = 192 ∷ 0 ∷ 2 ∷ 1 ∷ []; port = 111 }) 1000 0
+fresh = opening (record { conns = 4; rows = 300; forwards = 4 }) listener 1000 0
 
 -- A SET of program 200001, version 1 on TCP, the port of it, and the same SET again: TRUE, 2049, FALSE.
 abbrev pub SetThenAskThenSetAgain : Type 0
@@ -47,7 +63,7 @@ GreatestVersionElse =
     ∷ []
 
 abbrev pub fresh_with : ℕ → State
-fresh_with rows = opening (record { conns = 4; rows = rows; forwards = 4 }) (record { host = 192 ∷ 0 ∷ 2 ∷ 1 ∷ []; port = 111 }) 1000 0
+fresh_with rows = opening (record { conns = 4; rows = rows; forwards = 4 }) listener 1000 0
 
 -- a call of version 2 with the null credential, and these words as its arguments
 abbrev pub call2 : ℕ → ℕ → List ℕ → List ℕ
@@ -77,12 +93,12 @@ LimitIsReached =
     ∷ [])
     ≡ Replied (success_reply 1 (1 ∷ [])) ∷ Replied (success_reply 2 (1 ∷ [])) ∷ Replied (success_reply 3 (0 ∷ [])) ∷ []
 
--- a SET is accepted from the listener's own host, and not from another
+-- a SET is accepted from the announced host, and not from another
 abbrev pub LocalCallersSet : Type 0
 LocalCallersSet =
     run fresh
-    (Datagram 0 (record { host = V4 (198 ∷ 51 ∷ 100 ∷ 7 ∷ []); port = 900 }) (call2 3 1 (200001 ∷ 1 ∷ 6 ∷ 2049 ∷ []))
-    ∷ Datagram 0 (record { host = V4 (192 ∷ 0 ∷ 2 ∷ 1 ∷ []); port = 900 }) (call2 3 1 (200001 ∷ 1 ∷ 6 ∷ 2049 ∷ []))
+    (Datagram 0 (who_at (record { host = V4 (198 ∷ 51 ∷ 100 ∷ 7 ∷ []); port = 900 })) (call2 3 1 (200001 ∷ 1 ∷ 6 ∷ 2049 ∷ []))
+    ∷ Datagram 0 (who_at (record { host = V4 (192 ∷ 0 ∷ 2 ∷ 1 ∷ []); port = 900 })) (call2 3 1 (200001 ∷ 1 ∷ 6 ∷ 2049 ∷ []))
     ∷ [])
     ≡ Replied (success_reply 3 (0 ∷ [])) ∷ Replied (success_reply 3 (1 ∷ [])) ∷ []
 

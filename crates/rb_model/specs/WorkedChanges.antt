@@ -2,18 +2,18 @@
 use Rattle.std.specs.Prelude.{◌≡◌, List, [], ◌∷◌, codes}
 use Rattle.rb_xdr.specs.Xdr.{words}
 use Rattle.rb_address.specs.declared.host.Host.TheVariants.{V4}
-use Rattle.rb_address.specs.declared.peer.Peer.{Peer}
+use Rattle.rb_address.specs.declared.who.Who.{Who}
 use Rattle.rb_address.specs.declared.netid.Netid.TheVariants.{Tcp, Udp, Local}
-use Rattle.rb_registry.specs.declared.row.Owner.TheVariants.{Unknown, Uid}
+use Rattle.rb_address.specs.declared.who.Owner.TheVariants.{Unknown, Uid}
 use Rattle.rb_registry.specs.declared.row.Which.TheVariants.{Inet}
 use Rattle.rb_registry.specs.Rows.Change.{Added, Removed}
 use Rattle.rb_model.specs.Step.{Event, after}
 use Rattle.rb_model.specs.Step.Event.{Open, Bytes, Datagram}
 use Rattle.rb_model.specs.ChangeLaws.{changes_by, kept_calls}
-use Rattle.rb_model.specs.Worked.{loopback, fresh}
+use Rattle.rb_model.specs.Worked.{who_at, loopback, fresh}
 
-abbrev pub elsewhere : Peer
-elsewhere = record { host = V4 (198 ∷ 51 ∷ 100 ∷ 1 ∷ []); port = 900 }
+abbrev pub elsewhere : Who
+elsewhere = who_at (record { host = V4 (198 ∷ 51 ∷ 100 ∷ 1 ∷ []); port = 900 })
 
 -- SETs of program 200001, version 1 on TCP, by AUTH_NONE, and of 200002, version 3 on a local socket, by uid 1000; a SET from
 -- elsewhere, which is FALSE; a SET of 200003, version 1 on UDP, and the UNSET of it.
@@ -39,9 +39,9 @@ ChangesOfSomeCalls =
 abbrev pub KeptCallsOfSomeCalls : Type 0
 KeptCallsOfSomeCalls =
     kept_calls (after fresh some_calls)
-    ≡ Datagram 8 (record { host = V4 (127 ∷ 0 ∷ 0 ∷ 1 ∷ []); port = 0 })
+    ≡ Datagram 8 (who_at (record { host = V4 (127 ∷ 0 ∷ 0 ∷ 1 ∷ []); port = 0 }))
     (words (0 ∷ 0 ∷ 2 ∷ 0x186a0 ∷ 4 ∷ 1 ∷ 0 ∷ 0 ∷ 0 ∷ 0 ∷ 0x30d41 ∷ 1 ∷ 3 ∷ 0x74637000 ∷ 11 ∷ 0x302e302e ∷ 0x302e302e ∷ 0x382e3100 ∷ 0 ∷ []))
-    ∷ Datagram 8 (record { host = V4 (127 ∷ 0 ∷ 0 ∷ 1 ∷ []); port = 0 })
+    ∷ Datagram 8 (who_at (record { host = V4 (127 ∷ 0 ∷ 0 ∷ 1 ∷ []); port = 0 }))
     (words (0 ∷ 0 ∷ 2 ∷ 0x186a0 ∷ 4 ∷ 1 ∷ 1 ∷ 20 ∷ 0 ∷ 0 ∷ 1000 ∷ 0 ∷ 0 ∷ 0 ∷ 0 ∷ 0x30d42 ∷ 3 ∷ 5 ∷ 0x6c6f6361 ∷ 0x6c000000 ∷ 11 ∷ 0x2f72756e ∷ 0x2f782e73 ∷ 0x6f636b00 ∷ 0 ∷ []))
     ∷ []
 

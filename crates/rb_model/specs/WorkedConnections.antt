@@ -9,7 +9,7 @@ use Rattle.rb_model.specs.Step.Event.{Open, Bytes, Pending, Gave, Closed, NextLo
 use Rattle.rb_model.specs.Step.Output.{Opened, Refused, TooMuch, Took, TookAndClosed, IsPending, Done, LostIs}
 use Rattle.rb_model.specs.Calls.Outcome.{NoCall, Reply}
 use Rattle.rb_model.specs.Sessions.{Exchange, session}
-use Rattle.rb_model.specs.Worked.{loopback, fresh, success_reply, call_by_none}
+use Rattle.rb_model.specs.Worked.{listener, loopback, fresh, success_reply, call_by_none}
 
 abbrev pub open_event : Event
 open_event = Open 0 loopback
@@ -135,12 +135,12 @@ limits conns rows forwards = record { conns = conns; rows = rows; forwards = for
 
 abbrev pub GoodLimits : Type 0
 GoodLimits =
-    map are_good
+    map (λ (l : Limits). are_good l listener)
     (limits 1 8 0 ∷ limits 256 4096 64 ∷ limits 0 8 0 ∷ limits 257 8 0 ∷ limits 1 7 0 ∷ limits 1 4097 0 ∷ limits 1 8 65 ∷ [])
     ≡ true ∷ true ∷ false ∷ false ∷ false ∷ false ∷ false ∷ []
 
 abbrev pub with_one_place : State
-with_one_place = opening (limits 1 300 4) (record { host = 192 ∷ 0 ∷ 2 ∷ 1 ∷ []; port = 111 }) 1000 0
+with_one_place = opening (limits 1 300 4) listener 1000 0
 
 abbrev pub NumbersDoNotRecur : Type 0
 NumbersDoNotRecur =

@@ -11,7 +11,7 @@ use Rattle.rb_model.specs.Step.Output.{Opened, Took, IsPending, Done, Replied, F
 use Rattle.rb_model.specs.Calls.{Outcome as said}
 use Rattle.rb_model.specs.Sessions.{session}
 use Rattle.rb_model.specs.ForwardLaws.{ended_in}
-use Rattle.rb_model.specs.Worked.{loopback, fresh, call2, success_reply, call_by_none}
+use Rattle.rb_model.specs.Worked.{listener, loopback, fresh, call2, success_reply, call_by_none}
 use Rattle.rb_model.specs.WorkedConnections.{open_event, null_call, in_one}
 
 -- a SET of program 200001, version 1 on UDP, at port 2049, and its reply
@@ -106,7 +106,7 @@ GreatestResults =
 
 -- without a place for an entry
 abbrev pub with_none : State
-with_none = opening (record { conns = 4; rows = 300; forwards = 0 }) (record { host = 192 ∷ 0 ∷ 2 ∷ 1 ∷ []; port = 111 }) 1000 0
+with_none = opening (record { conns = 4; rows = 300; forwards = 0 }) listener 1000 0
 
 abbrev pub NoPlace : Type 0
 NoPlace =

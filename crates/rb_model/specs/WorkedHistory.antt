@@ -1,6 +1,6 @@
 -- Worked examples: what statistics count of a run.
 use Rattle.std.specs.Prelude.{◌≡◌, true, false, List, [], ◌∷◌}
-use Rattle.rb_address.specs.declared.netid.Transport.TheVariants.{Tcp, Udp}
+use Rattle.rb_address.specs.declared.netid.Netid.TheVariants.{Tcp, Udp}
 use Rattle.rb_stats.specs.declared.key.Version.TheVariants.{Two, Four}
 use Rattle.rb_stats.specs.Statistics.Note.{Called, WasSet, WasUnset, LookedUp, Forwarded}
 use Rattle.rb_model.specs.Step.{Event}
@@ -35,8 +35,8 @@ look_ups =
 abbrev pub HistoryOfLookUps : Type 0
 HistoryOfLookUps =
     history_by fresh look_ups
-    ≡ Called Two 3 ∷ LookedUp Two (record { prog = 100000; vers = 2; transport = Udp }) true
-    ∷ Called Two 3 ∷ LookedUp Two (record { prog = 200001; vers = 1; transport = Tcp }) false
+    ≡ Called Two 3 ∷ LookedUp Two (record { prog = 100000; vers = 2; netid = Udp }) true
+    ∷ Called Two 3 ∷ LookedUp Two (record { prog = 200001; vers = 1; netid = Tcp }) false
     ∷ Called Two 3
     ∷ Called Two 1
     ∷ []
@@ -48,10 +48,10 @@ HistoryOfForwards =
     history_by fresh
     (Datagram 0 loopback (indirect 14 200003) ∷ set_event ∷ Datagram 1000 loopback (indirect 15 200001) ∷ Sent 1
     ∷ Datagram 1000 loopback (callit 16 200001) ∷ Forward 2000 target (success_reply 1000 []) ∷ Expire 5999 ∷ Expire 6000 ∷ [])
-    ≡ Called Four 10 ∷ Forwarded Four (record { prog = 200003; vers = 1; transport = Udp }) 0 false true
+    ≡ Called Four 10 ∷ Forwarded Four (record { prog = 200003; vers = 1; netid = Udp }) 0 false true
     ∷ Called Two 1 ∷ WasSet Two
     ∷ Called Four 10
     ∷ Called Two 5
-    ∷ Forwarded Four (record { prog = 200001; vers = 1; transport = Udp }) 0 true true
-    ∷ Forwarded Two (record { prog = 200001; vers = 1; transport = Udp }) 0 false false
+    ∷ Forwarded Four (record { prog = 200001; vers = 1; netid = Udp }) 0 true true
+    ∷ Forwarded Two (record { prog = 200001; vers = 1; netid = Udp }) 0 false false
     ∷ []

@@ -1,13 +1,13 @@
 //! Events of a run, and what they give.
 use crate::types::CoreFault;
-use rb_address::Peer;
+use rb_address::{Peer, Who};
 
 /// An event of a run: one call on a core, and where that makes a reply over UDP, the look at this reply. Moments are
 /// milliseconds since the start of 1970.
 #[derive(Debug, Drop)]
 pub enum Event {
-    /// A connection is opened: the moment, and where it came from.
-    Open(u64, Peer),
+    /// A connection is opened: the moment, and who is at its other end.
+    Open(u64, Who),
     /// Bytes arrive on a connection: the moment, its number, and the bytes.
     Bytes(u64, u64, Vec<u8>),
     /// Asks which bytes are to be sent next on the connection of this number.
@@ -18,8 +18,8 @@ pub enum Event {
     Closed(u64),
     /// Asks for the Lost connection of least number.
     NextLost,
-    /// A datagram: the moment, where it came from, and its bytes.
-    Datagram(u64, Peer, Vec<u8>),
+    /// A datagram: the moment, who sent it, and its bytes.
+    Datagram(u64, Who, Vec<u8>),
     /// Asks for the forwarded call that is to be sent next.
     Unsent,
     /// The forwarded call of the number was sent.
@@ -76,6 +76,6 @@ pub enum Output {
     ConnectionClosed(u64),
     /// A forwarded call has ended, and its connection, of this number, awaits it no longer.
     Ready(u64),
-    /// A forwarded call has ended, and this is the reply to the peer.
-    RepliedTo(Peer, Vec<u8>),
+    /// A forwarded call has ended, and this is the reply to its caller.
+    RepliedTo(Who, Vec<u8>),
 }

@@ -2,7 +2,7 @@
 ghost use Rattle.std.specs.Prelude.{◌≡◌};
 ghost use Rattle.rb_model.specs.State.{fault_number};
 
-use rb_address::Peer;
+use rb_address::Who;
 use thiserror::Error;
 
 /// How much a core may hold.
@@ -10,7 +10,8 @@ use thiserror::Error;
 pub struct Limits {
     /// How many connections there may be, 1 to 256, Lost ones among them.
     pub conns: usize,
-    /// How many rows there may be, 8 to 4,096, live or retained for lists that are being given.
+    /// How many rows there may be, live or retained for lists that are being given: at least the listener's own rows, of
+    /// which there are 0 to 12, and two more, and at most 4,096.
     pub rows: usize,
     /// How many forwarded calls there may be, 0 to 64.
     pub forwards: usize,
@@ -68,8 +69,8 @@ pub enum Standing {
 pub enum Told {
     /// The connection of this number is Awaiting no longer: a reply is pending on it, or it takes bytes again.
     TcpReady(u64),
-    /// The reply that `udp_reply` lends goes to this peer.
-    Datagram(Peer),
+    /// The reply that `udp_reply` lends goes to this caller.
+    Datagram(Who),
     /// Nothing: the call came over UDP, and has no reply.
     Silent,
 }

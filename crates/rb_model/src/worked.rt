@@ -3,6 +3,7 @@ ghost use Rattle.rb_model.specs.WorkedConnections.{NoCallCloses, OtherRpcVersion
 ghost use Rattle.rb_model.specs.WorkedChanges.{ChangesOfSomeCalls, ChangesOfPieces, KeptCallsOfSomeCalls};
 ghost use Rattle.rb_model.specs.WorkedHistory.{HistoryOfSomeCalls, HistoryOfLookUps, HistoryOfForwards};
 ghost use Rattle.rb_model.specs.WorkedForwards.{ForwardWithoutRow, RefusedCallsAreCounted, ForwardUntilDeadline, IndirectPasses, CallitPasses, TargetRefuses, DeniedIsSystemErr, CallitIsSilent, GreatestResults, NoPlace, GreatestArguments, SilentOnTcp, ForwardPassesOnTcp, ForwardOnTcpIsWhole, ClosedCallerIsDropped, EachEndsInTurn};
+ghost use Rattle.rb_model.specs.WorkedCallers.{KnownCallersSetAsTheyAre, StrangersAreRefused, LastQuarterIsKept, AskedHostIsTold, CallersOverIpv6AreTold, CallsOverIpv6AreForwarded, OwnRowsOfAllNetids, OwnRowsNeedRoom};
 ghost use Rattle.rb_model.specs.WorkedBounds.{BytesBounds, StepsBounds};
 ghost use Rattle.rb_model.specs.WorkedLists.{DumpSurvivesUnsetAndEvicts, OldReadersAreEvicted, FullTableRefuses, RowsThatCameAndWentAreNeeded, ListInTwoFragments, ListAsOfItsCall};
 ghost use Rattle.rb_model.specs.WorkedDeadlines.{IdleEnds, ReadingEnds, TwoEnd, OwingEnds, GivenBytesAreProgress, IdleAfterTheReply, DueAtOnceAtTheGreatestMoment, ForwardedCallsComeFirst, NextOfEach};
@@ -108,6 +109,18 @@ pub fn worked_changes()
     ensures changes_of_some_calls { ChangesOfSomeCalls }
     ensures changes_of_pieces { ChangesOfPieces }
     ensures kept_calls_of_some_calls { KeptCallsOfSomeCalls }
+{}
+
+/// The definitions give what the worked examples of callers say.
+pub fn worked_callers()
+    ensures known_as_uid_5 { KnownCallersSetAsTheyAre }
+    ensures stranger_on_this_host { StrangersAreRefused }
+    ensures last_quarter { LastQuarterIsKept }
+    ensures host_that_was_asked { AskedHostIsTold }
+    ensures caller_over_ipv6 { CallersOverIpv6AreTold }
+    ensures forwarded_over_ipv6 { CallsOverIpv6AreForwarded }
+    ensures own_rows_of_all_netids { OwnRowsOfAllNetids }
+    ensures room_for_own_rows { OwnRowsNeedRoom }
 {}
 
 /// The definitions give what the worked examples of the history of calls say.

@@ -1,40 +1,41 @@
--- The first of a list of asks, and the others.
-use Rattle.std.proofs.Common.{◌≡◌, ◌≤◌, ◌<◌, ◌++◌, ◌-◌, ℕ, true, false, List, [], ◌∷◌, length, slice_index_or, drop, take, slice_set, arith, sym, refl, ap, ◌∙◌}
-use Rattle.std.proofs.lemmas.Bool.{cond-true, cond-false}
-use Rattle.std.proofs.lemmas.List.{drop_all, take_all, append-nil, length-drop}
-use Rattle.rb_address.specs.declared.peer.Peer.{Peer}
-use Rattle.rb_policy.specs.declared.asked.Ask.{Ask}
-use Rattle.rb_policy.specs.Asked.{socket_in, is_same_peer}
+-- The socket that has the host that was asked.
+use Rattle.std.proofs.Common.{◌≡◌, ◌<◌, ℕ, Bool, true, false, List, length, get_or, arith, refl, ap, ◌∙◌, Some, slice_get, lt-ltb}
+use Rattle.std.specs.Prelude.{position}
+use Rattle.std.specs.List.{position_or_len}
+use Rattle.std.proofs.lemmas.Option.{slice_get_within, get_or_from_slice_get, slice_get-get_or}
+use Rattle.std.proofs.lemmas.List.Sums.{position_or_len_is}
+use Rattle.rb_address.specs.declared.host.Host.{Host}
+use Rattle.rb_address.specs.declared.host.Host.TheVariants.{V4, V6}
+use Rattle.rb_address.specs.declared.host.Family.TheVariants.{Inet, Inet6}
+use Rattle.rb_address.proofs.HostLaws.{same_host_of}
+use Rattle.rb_policy.specs.Asked.{any_inet, has_asked, host_asked, EachHasItsOwn, AreApart, SocketsAreFound}
 
-pub first_is : (asks : List Ask) (peer : Peer) (other : Ask) → 1 ≤ length asks → is_same_peer (slice_index_or asks 0 other).peer peer ≡ true → (slice_index_or asks 0 other).socket ≡ socket_in asks peer
-first_is [] peer other some is = absurd (omega (arith, some))
-first_is (ask ∷ older) peer other some is = sym (cond-true _ _ _ is)
+pub each_has_its_own : EachHasItsOwn
+each_has_its_own (V4 octets) Inet may = grind (arith, same_host_of (V4 octets) (V4 octets) refl)
+each_has_its_own (V4 octets) Inet6 may = grind (arith, may)
+each_has_its_own (V6 octets) Inet may = grind (arith, may, same_host_of any_inet any_inet refl)
+each_has_its_own (V6 octets) Inet6 may = grind (arith, same_host_of (V6 octets) (V6 octets) refl)
 
-pub older_is : (asks : List Ask) (peer : Peer) (other : Ask) → 1 ≤ length asks → is_same_peer (slice_index_or asks 0 other).peer peer ≡ false → socket_in (drop 1 asks) peer ≡ socket_in asks peer
-older_is [] peer other some other_is = absurd (omega (arith, some))
-older_is (ask ∷ older) peer other some other_is = sym (cond-false _ _ _ other_is)
+-- no one before it passes
+before : (bound : List Host) (i : ℕ) (own asked : Host) → AreApart bound → slice_get bound i ≡ Some own → has_asked asked own ≡ true → (k : ℕ) → k < i → has_asked asked (get_or bound k own) ≡ false
+before bound i own asked apart at has k lt = by_test (has_asked asked (get_or bound k own)) refl
+  where
+    by_test : (b : Bool) → has_asked asked (get_or bound k own) ≡ b → has_asked asked (get_or bound k own) ≡ false
+    by_test false e = e
+    by_test true e =
+        let within = slice_get_within bound i own at in
+        let same = apart k i (get_or bound k own) own asked
+        (slice_get-get_or bound k own (omega (arith, lt, within))) at e has in
+        absurd (omega (arith, same, lt))
 
-one_in_front : (front older : List Ask) (ask : Ask) → length front ≡ 1 → slice_set (front ++ older) 0 ask ≡ ask ∷ older
-one_in_front [] older ask one = absurd (omega (arith, one))
-one_in_front (last ∷ []) older ask one = refl
-one_in_front (last ∷ more ∷ others) older ask one = absurd (omega (arith, one))
+found : (bound : List Host) (i : ℕ) (p : Host → Bool) → i < length bound → position_or_len p bound ≡ i → position p bound ≡ Some i
+found bound i p within is = rw (is, lt-ltb i (length bound) within) refl
 
--- the last of them goes to the front, and is replaced there
-pub put_first : (old turned : List Ask) (ask : Ask) → 0 < length old → turned ≡ drop (length old - 1) old ++ take (length old - 1) old → slice_set turned 0 ask ≡ ask ∷ take (length old - 1) old
-put_first old turned ask some is =
-    ap (λ (asks : List Ask). slice_set asks 0 ask) is
-    ∙ one_in_front (drop (length old - 1) old) (take (length old - 1) old) ask (omega (arith, some, length-drop (length old - 1) old))
-
--- of 64 the first 63 stay
-pub oldest_forgotten : (shown items now new : List Ask) (ask : Ask) → new ≡ ask ∷ take (length shown - 1) shown → shown ≡ items → items ≡ now → length items ≡ 64 → new ≡ ask ∷ take 63 now
-oldest_forgotten shown items now new ask is same view all =
-    let count : length shown - 1 ≡ 63 = omega (arith, ap (λ (xs : List Ask). length xs) same, all) in
-    is
-    ∙ ap (λ (n : ℕ). ask ∷ take n shown) count
-    ∙ ap (λ (xs : List Ask). ask ∷ take 63 xs) (same ∙ view)
-
-pub whole : (n : ℕ) (new old : List Ask) → length new ≡ n → length old ≡ n → take n (new ++ drop (length new) old) ≡ new
-whole n new old new_is old_is =
-    ap (λ (behind : List Ask). take n (new ++ behind)) (drop_all (length new) old (omega (arith, new_is, old_is)))
-    ∙ ap (λ (all : List Ask). take n all) (append-nil new)
-    ∙ take_all n new (omega (arith, new_is))
+pub sockets_are_found : SocketsAreFound
+sockets_are_found bound i own family apart at may =
+    let asked = host_asked own family in
+    let has = each_has_its_own own family may in
+    let within = slice_get_within bound i own at in
+    found bound i (has_asked asked) within
+    (position_or_len_is (has_asked asked) bound i own (omega (arith, within)) (before bound i own asked apart at has)
+    (λ lt. ap (has_asked asked) (get_or_from_slice_get bound i own own at) ∙ has))

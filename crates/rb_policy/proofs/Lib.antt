@@ -2,3 +2,4 @@ mod Asks
 mod DoorLaws
 mod Doors
 mod Standings
+mod TrustLaws

@@ -1,8 +1,85 @@
--- The addresses that the daemon is given, and those that it takes from them.
-use Rattle.std.specs.Prelude.{Option, Some, None}
-use Rattle.std.specs.declared.net.ipv4_addr.Ipv4Addr.{Ipv4Addr}
+-- The hosts that the daemon is given, which of them it binds, and what it announces and forwards from.
+use Rattle.std.specs.Prelude.{ℕ, Bool, true, false, not, ◌&&◌, List, [], ◌∷◌, Option, Some, None}
+use Rattle.std.specs.List.{list_any}
+use Rattle.rb_address.specs.declared.host.Host.{Host}
+use Rattle.rb_address.specs.declared.host.Host.TheVariants.{V4, V6}
+use Rattle.rb_address.specs.Hosts.{is_any, is_same_host}
+use Rattle.rb_policy.specs.declared.addresses.TheConstants.{ANY, LOOPBACK6}
 
--- the address that answers show: the one that is given, or the first that is listened on
-abbrev pub announced_address : Option Ipv4Addr → Ipv4Addr → Ipv4Addr
-announced_address (Some given) first = given
-announced_address None first = first
+-- ---- which of them are bound
+
+abbrev pub is_any6 : Host → Bool
+is_any6 (V4 octets) = false
+is_any6 (V6 octets) = is_any (V6 octets)
+
+abbrev pub is_same : Host → Host → Bool
+is_same a b = is_same_host a b
+
+abbrev pub has_host : Host → List Host → Bool
+has_host wanted hosts = list_any (λ host. is_same host wanted) hosts
+
+-- :: is every host of both families
+abbrev pub has_every_host : List Host → Bool
+has_every_host hosts = list_any is_any6 hosts
+
+-- 0.0.0.0 is not bound by itself where :: is, which has it
+abbrev pub is_bound : List Host → Host → Bool
+is_bound hosts host = not (has_every_host hosts && is_same_host host (V4 ANY))
+
+-- ::1 is bound besides, where that is wanted, it is none of them, and :: is none
+abbrev pub binds_loopback6 : List Host → Bool → Bool
+binds_loopback6 hosts wanted = wanted && not (has_every_host hosts) && not (has_host (V6 LOOPBACK6) hosts)
+
+-- ---- the first of each family
+
+abbrev pub first_inet : List Host → Option (List ℕ)
+first_inet [] = None
+first_inet (V4 octets ∷ rest) = Some octets
+first_inet (V6 octets ∷ rest) = first_inet rest
+
+abbrev pub first_inet6 : List Host → Option (List ℕ)
+first_inet6 [] = None
+first_inet6 (V4 octets ∷ rest) = first_inet6 rest
+first_inet6 (V6 octets ∷ rest) = Some octets
+
+-- what a family has, or else this, where that is wanted
+abbrev pub or_else : Option (List ℕ) → Bool → List ℕ → Option (List ℕ)
+or_else (Some first) wanted octets = Some first
+or_else None true octets = Some octets
+or_else None false octets = None
+
+-- the first host of IPv4, or 0.0.0.0 where :: is bound
+abbrev pub served_inet : List Host → Option (List ℕ)
+served_inet hosts = or_else (first_inet hosts) (has_every_host hosts) ANY
+
+-- the first host of IPv6, or ::1 where that is wanted
+abbrev pub served_inet6 : List Host → Bool → Option (List ℕ)
+served_inet6 hosts loopback6 = or_else (first_inet6 hosts) loopback6 LOOPBACK6
+
+-- ---- what is announced, and forwarded from
+
+-- of a family that is served the host that is given, or else its first
+abbrev pub announced_for : Option (List ℕ) → Option (List ℕ) → Option (List ℕ)
+announced_for None given = None
+announced_for (Some first) None = Some first
+announced_for (Some first) (Some given) = Some given
+
+abbrev pub announced_inet : Option (List ℕ) → List Host → Option (List ℕ)
+announced_inet given hosts = announced_for (served_inet hosts) given
+
+abbrev pub announced_inet6 : Option (List ℕ) → List Host → Bool → Option (List ℕ)
+announced_inet6 given hosts loopback6 = announced_for (served_inet6 hosts loopback6) given
+
+abbrev pub inet_or_loopback : Option (List ℕ) → Host
+inet_or_loopback (Some octets) = V4 octets
+inet_or_loopback None = V4 (127 ∷ 0 ∷ 0 ∷ 1 ∷ [])
+
+abbrev pub forwards_inet : List Host → Host
+forwards_inet hosts = inet_or_loopback (served_inet hosts)
+
+abbrev pub inet6_host : Option (List ℕ) → Option Host
+inet6_host (Some octets) = Some (V6 octets)
+inet6_host None = None
+
+abbrev pub forwards_inet6 : List Host → Bool → Option Host
+forwards_inet6 hosts loopback6 = inet6_host (served_inet6 hosts loopback6)

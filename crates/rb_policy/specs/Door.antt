@@ -1,10 +1,12 @@
 -- Who gets a place for a connection, and who is given up for it.
-use Rattle.std.specs.Prelude.{◌≡◌, ℕ, ◌-◌, ◌/◌, max, true, false, nat_lt, nat_le, Bool, not, ◌&&◌, ◌||◌, IsTrue, List, [], length, slice_get, count_by, position, Option, Some, None}
+use Rattle.std.specs.Prelude.{◌≡◌, ℕ, ◌-◌, ◌/◌, max, true, false, nat_lt, nat_le, Bool, not, ◌&&◌, ◌||◌, IsTrue, List, [], ◌∷◌, length, slice_get, count_by, position, Option, Some, None}
 use Rattle.std.specs.declared.cmp.Ordering.{Ordering}
 use Rattle.std.specs.declared.cmp.Ordering.TheVariants.{Less}
 use Rattle.std.specs.Ordering.{nat_cmp, bool_cmp, on, then_cmp}
 use Rattle.rb_address.specs.declared.host.Host.{Host}
-use Rattle.rb_address.specs.declared.peer.Peer.{Peer}
+use Rattle.rb_address.specs.declared.host.Host.TheVariants.{V4}
+use Rattle.rb_address.specs.declared.who.Source.{Source}
+use Rattle.rb_address.specs.declared.who.Source.TheVariants.{Inet, Local}
 use Rattle.rb_address.specs.Hosts.{is_loopback, is_same_host}
 use Rattle.rb_policy.specs.declared.door.Phase.{Phase}
 use Rattle.rb_policy.specs.declared.door.Phase.TheVariants.{Idle, Reading, Owing, Awaiting}
@@ -25,12 +27,10 @@ is_free (Some holder) = false
 
 -- ---- what is kept of a connection
 
--- of this host are 127.0.0.0/8, ::1 and the host that is announced
-abbrev pub origin_of : Peer → Host → Origin
-origin_of peer announced = record {
-  host = peer.host;
-  is_local = is_loopback peer.host || is_same_host peer.host announced;
-}
+-- of this host are 127.0.0.0/8, ::1 and the local socket, which has the host 127.0.0.1
+abbrev pub origin_of : Source → Origin
+origin_of (Inet peer) = record { host = peer.host; is_local = is_loopback peer.host }
+origin_of Local = record { host = V4 (127 ∷ 0 ∷ 0 ∷ 1 ∷ []); is_local = true }
 
 -- its phase: whether its call is forwarded, whether it is owed bytes, and whether a call is yet to come
 abbrev pub phase_of : Bool → Bool → Bool → Phase

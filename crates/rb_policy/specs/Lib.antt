@@ -8,6 +8,8 @@ pub mod LocalFile
 pub mod RecordFile
 pub mod Addresses
 pub mod Asked
+pub mod Evidence
+pub mod Trusts
 pub mod Door
 pub mod Standings
 pub mod DoorLaws

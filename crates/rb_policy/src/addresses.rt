@@ -1,24 +1,153 @@
-//! The addresses that the daemon is given, and those that it takes from them.
-ghost use Rattle.std.specs.Prelude.{◌≡◌, ◌↔◌, IsTrue};
-ghost use Rattle.std.specs.Net.Addr.{IsUnspecifiedV4};
-ghost use Rattle.rb_policy.specs.Addresses.{announced_address};
+//! The hosts that the daemon is given, which of them it binds, and what it announces and forwards from.
+ghost use Rattle.std.specs.Prelude.{◌≡◌};
+ghost use Rattle.rb_address.specs.Hosts.{is_any};
+ghost use Rattle.rb_policy.specs.Addresses.{is_any6, is_same, has_host, has_every_host, is_bound, binds_loopback6, first_inet, first_inet6, announced_inet, announced_inet6, forwards_inet, forwards_inet6, served_inet, served_inet6};
 
-use std::net::Ipv4Addr;
+use rb_address::Host;
 
-/// The address that answers show for a program that listens on every address: the one that is given, or else the
-/// first that is listened on.
-pub fn announced_address(given: Option<Ipv4Addr>, first: Ipv4Addr) -> Ipv4Addr
-    ensures { result ≡ announced_address given first }
+/// The host 0.0.0.0, which is every one of IPv4.
+pub const ANY: [u8; 4] = [0, 0, 0, 0];
+
+/// The host ::1.
+pub const LOOPBACK6: [u8; 16] = [0, 0, 0, 0, 0, 0, 0, 0, 0, 0, 0, 0, 0, 0, 0, 1];
+
+/// Whether it is ::, which is every host of both families.
+fn is_any6(host: Host) -> bool
+    ensures { result ≡ is_any6 host }
 {
-    match given {
-        Some(given) => given,
-        None => first,
+    match host {
+        Host::V4(_) => false,
+        Host::V6(_) => host.is_any(),
     }
 }
 
-/// Whether clients from elsewhere can make nothing of the announced address: it is 0.0.0.0.
-pub fn is_no_address(announced: Ipv4Addr) -> bool
-    ensures { IsTrue result ↔ IsUnspecifiedV4 announced }
+fn is_same(a: Host, b: Host) -> bool
+    ensures { result ≡ is_same a b }
 {
-    announced.is_unspecified()
+    a == b
+}
+
+fn has_host(hosts: &[Host], wanted: Host) -> bool
+    ensures { result ≡ has_host wanted hosts.now }
+{
+    hosts.iter().any(|host| is_same(*host, wanted))
+}
+
+/// Whether every host of both families is listened on: :: is one of these.
+pub fn has_every_host(hosts: &[Host]) -> bool
+    ensures { result ≡ has_every_host hosts.now }
+{
+    hosts.iter().any(|host| is_any6(*host))
+}
+
+/// Whether one of these hosts is bound by itself: 0.0.0.0 is not where :: is one of them.
+pub fn is_bound(hosts: &[Host], host: Host) -> bool
+    ensures { result ≡ is_bound hosts.now host }
+{
+    !(has_every_host(hosts) && host == Host::V4(ANY))
+}
+
+/// Whether ::1 is bound beside these hosts, where that is wanted: not where it is one of them, or :: is.
+pub fn binds_loopback6(hosts: &[Host], is_wanted: bool) -> bool
+    ensures { result ≡ binds_loopback6 hosts.now is_wanted }
+{
+    is_wanted && !has_every_host(hosts) && !has_host(hosts, Host::V6(LOOPBACK6))
+}
+
+fn first_inet(hosts: &[Host]) -> Option<[u8; 4]>
+    ensures { result ≡ first_inet hosts.now }
+{
+    match hosts {
+        [host, rest @ ..] => match *host {
+            Host::V4(octets) => Some(octets),
+            Host::V6(_) => first_inet(rest),
+        },
+        [] => None,
+    }
+}
+
+fn first_inet6(hosts: &[Host]) -> Option<[u8; 16]>
+    ensures { result ≡ first_inet6 hosts.now }
+{
+    match hosts {
+        [host, rest @ ..] => match *host {
+            Host::V4(_) => first_inet6(rest),
+            Host::V6(octets) => Some(octets),
+        },
+        [] => None,
+    }
+}
+
+/// The first of these hosts that is of IPv4, or 0.0.0.0 where :: is one of them; none where IPv4 is not served.
+fn served_inet(hosts: &[Host]) -> Option<[u8; 4]>
+    ensures { result ≡ served_inet hosts.now }
+{
+    match first_inet(hosts) {
+        Some(first) => Some(first),
+        None if has_every_host(hosts) => Some(ANY),
+        None => None,
+    }
+}
+
+/// The first of these hosts that is of IPv6, or ::1 where that is wanted besides; none where IPv6 is not served.
+fn served_inet6(hosts: &[Host], is_loopback6: bool) -> Option<[u8; 16]>
+    ensures { result ≡ served_inet6 hosts.now is_loopback6 }
+{
+    match first_inet6(hosts) {
+        Some(first) => Some(first),
+        None if is_loopback6 => Some(LOOPBACK6),
+        None => None,
+    }
+}
+
+/// The host of IPv4 that is announced where none was asked: the one that is given, or the first that is listened on; none
+/// where IPv4 is not served.
+pub fn announced_inet(given: Option<[u8; 4]>, hosts: &[Host]) -> Option<[u8; 4]>
+    ensures { result ≡ announced_inet given hosts.now }
+{
+    match (served_inet(hosts), given) {
+        (Some(_), Some(given)) => Some(given),
+        (served, _) => served,
+    }
+}
+
+/// The same of IPv6, where ::1 may be listened on besides.
+pub fn announced_inet6(
+    given: Option<[u8; 16]>,
+    hosts: &[Host],
+    is_loopback6: bool,
+) -> Option<[u8; 16]>
+    ensures { result ≡ announced_inet6 given hosts.now is_loopback6 }
+{
+    match (served_inet6(hosts, is_loopback6), given) {
+        (Some(_), Some(given)) => Some(given),
+        (served, _) => served,
+    }
+}
+
+/// The host that calls to targets of IPv4 are forwarded from: the first that is listened on, or 127.0.0.1.
+pub fn forwards_inet(hosts: &[Host]) -> Host
+    ensures { result ≡ forwards_inet hosts.now }
+{
+    match served_inet(hosts) {
+        Some(first) => Host::V4(first),
+        None => Host::V4([127, 0, 0, 1]),
+    }
+}
+
+/// The host that calls to targets of IPv6 are forwarded from: the first that is listened on, if there is one.
+pub fn forwards_inet6(hosts: &[Host], is_loopback6: bool) -> Option<Host>
+    ensures { result ≡ forwards_inet6 hosts.now is_loopback6 }
+{
+    match served_inet6(hosts, is_loopback6) {
+        Some(first) => Some(Host::V6(first)),
+        None => None,
+    }
+}
+
+/// Whether a client can make nothing of a host that is announced: it is every one of its family, 0.0.0.0 or ::.
+pub fn is_no_address(announced: Host) -> bool
+    ensures { result ≡ is_any announced }
+{
+    announced.is_any()
 }

@@ -3,7 +3,7 @@ ghost use Rattle.std.specs.Prelude.{◌≡◌, ◌<◌, length, position, IfNone
 ghost use Rattle.rb_policy.specs.Door.{is_free, count_held_by, is_held_by, share, may_hold_more, is_within_share, IsGivenUp, IsAdmitted, origin_of, phase_of, is_stuck, ends_record};
 ghost use Rattle.rb_policy.specs.Standings.{candidate, sooner, NobodyMayBeGivenUp};
 
-use rb_address::{Host, Peer};
+use rb_address::{Host, Source};
 
 /// For so many milliseconds after its last progress a connection is active.
 pub const ACTIVE: u64 = 1_000;
@@ -70,13 +70,20 @@ pub struct Origin {
     pub is_local: bool,
 }
 
-/// Where a connection came from, by its peer and the host that is announced: of this host are 127.0.0.0/8, ::1 and that.
-pub fn origin_of(peer: Peer, announced: Host) -> Origin
-    ensures { result ≡ origin_of peer announced }
+/// Where a connection came from, by its source: of this host are 127.0.0.0/8, ::1 and the local socket, which has the
+/// host 127.0.0.1 here. Nobody else may register, unless what callers claim is believed.
+pub fn origin_of(source: Source) -> Origin
+    ensures { result ≡ origin_of source }
 {
-    Origin {
-        host: peer.host(),
-        is_local: peer.is_loopback() || peer.host() == announced,
+    match source {
+        Source::Inet(peer) => Origin {
+            host: peer.host(),
+            is_local: peer.is_loopback(),
+        },
+        Source::Local => Origin {
+            host: Host::V4([127, 0, 0, 1]),
+            is_local: true,
+        },
     }
 }
 

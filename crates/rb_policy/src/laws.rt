@@ -1,4 +1,6 @@
-//! Laws of who has a place, and of who may ask.
+//! Laws of who has a place, of who may ask and is believed, and of the socket that was asked.
+ghost use Rattle.rb_policy.specs.Trusts.{OthersNeedNoTable, OthersAreStrangers};
+ghost use Rattle.rb_policy.specs.Asked.{SocketsAreFound, EachHasItsOwn};
 ghost use Rattle.rb_policy.specs.DoorLaws.{SharesAreKept, OneIsGivenUp};
 ghost use Rattle.rb_policy.specs.Networks.{WhoMayAsk, AskersOfOneNetwork};
 
@@ -14,4 +16,16 @@ pub fn door_laws()
 pub fn network_laws()
     ensures who { WhoMayAsk }
     ensures examples { AskersOfOneNetwork }
+{}
+
+/// The socket on which a datagram came is found again by the host that it asked.
+pub fn asked_laws()
+    ensures found { SocketsAreFound }
+    ensures own { EachHasItsOwn }
+{}
+
+/// Nobody but this machine may register, and the kernel's tables are asked of it alone.
+pub fn trust_laws()
+    ensures others { OthersAreStrangers }
+    ensures tables { OthersNeedNoTable }
 {}

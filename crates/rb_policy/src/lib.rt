@@ -5,6 +5,7 @@ mod addresses;
 mod asked;
 mod deadlines;
 mod door;
+mod evidence;
 mod laws;
 mod local_file;
 mod moments;
@@ -12,16 +13,24 @@ mod networks;
 mod outcome;
 mod peers;
 mod record_file;
+mod trust;
 mod turns;
 
-pub use addresses::{announced_address, is_no_address};
-pub use asked::{Ask, Asked};
+pub use addresses::{
+    ANY, LOOPBACK6, announced_inet, announced_inet6, binds_loopback6, forwards_inet,
+    forwards_inet6, has_every_host, is_bound, is_no_address,
+};
+pub use asked::{host_asked, socket_of};
 pub use deadlines::{Deadlines, LATE, MOST_PUT_OFF, is_behind};
 pub use door::{
     ACTIVE, Admission, Holder, OWED, Origin, Phase, admit, ends_record, is_stuck, origin_of,
     phase_of,
 };
-pub use laws::{door_laws, network_laws};
+pub use evidence::{
+    BETWEEN_READINGS, Evidence, LONGEST_TABLE, evidence_of, is_shown, looks_in, may_read,
+    wait_for_reading, whole_text,
+};
+pub use laws::{asked_laws, door_laws, network_laws, trust_laws};
 pub use local_file::{FileAction, FileState, file_action};
 pub use moments::Moments;
 pub use networks::{asker, may_ask};
@@ -29,8 +38,9 @@ pub use outcome::{
     Next, Outcome, after_accept, after_read, after_receive, after_write, outcome_of,
     outcome_of_count,
 };
-pub use peers::{address_of, inet_peer, local_peer, loopback6_peer};
+pub use peers::{address_for, ip_of, somebody};
 pub use record_file::{RecordAction, RecordState, record_action};
+pub use trust::{Entrance, lets_in_root_alone, trust_of};
 pub use turns::{
     Again, LAST_ROUND, Round, SOCKET_CALLS, STEP, accept_count, after_all_calls, is_cut_off,
     place_count, reads_on, round_of, serves_another, wait_of,

@@ -10,7 +10,7 @@ use Rattle.rb_arguments.specs.declared.request.Request.{Request}
 use Rattle.rb_arguments.specs.Arguments.{HasArgs}
 use Rattle.rb_arguments.specs.Remote.{args_of, HasContent}
 use Rattle.rb_proto.specs.Ledger.{Ledger, rows_in}
-use Rattle.rb_proto.specs.Forwarding.{peer_to_forward, forward_to, forward_call}
+use Rattle.rb_proto.specs.Forwarding.{address_asked, forward_to, forward_call}
 use Rattle.rb_proto.specs.Answers.{Context, Call, answer_to, answer}
 
 args_of_front : (remote : RemoteCall) (n : ℕ) (bytes : List ℕ) → HasContent remote (take n bytes) → args_of remote (take n bytes) ≡ args_of remote bytes
@@ -37,7 +37,7 @@ answer_to_front context head (Rpcb rpcbs.Getaddrlist r) n bytes l has = refl
 answer_to_front context head (Uaddr2taddr text) n bytes l has = refl
 answer_to_front context head (Taddr2uaddr netbuf) n bytes l has = refl
 answer_to_front context head (Forward kind remote) n bytes l has =
-    ap (λ (args : List ℕ). forward_to context head.xid kind remote args (peer_to_forward remote.prog remote.vers (rows_in l)) l) (args_of_front remote n bytes has)
+    ap (λ (args : List ℕ). forward_to context head.xid kind remote args (address_asked context remote (rows_in l)) l) (args_of_front remote n bytes has)
 
 pub answer_of_front : (context : Context) (call : Call) (n : ℕ) (bytes : List ℕ) (l : Ledger)
     → HasArgs call.request (take n bytes) → answer context call (take n bytes) l ≡ answer context call bytes l

@@ -11,3 +11,4 @@ pub mod Shown
 pub mod Notes
 pub mod Goings
 pub mod Refusing
+pub mod OwnRows

@@ -6,7 +6,7 @@ use Rattle.std.specs.Option.{option_map}
 use Rattle.std.proofs.lemmas.Option.{none-some}
 use Rattle.rb_rpc.specs.declared.reply.ReplyStatus.{ReplyStatus}
 use Rattle.rb_rpc.specs.declared.reply.ReplyStatus.TheVariants as replies
-use Rattle.rb_address.specs.declared.peer.Peer.{Peer}
+use Rattle.rb_uaddr.specs.declared.address.Uaddr.{Uaddr}
 use Rattle.rb_stats.specs.Statistics.{Note}
 use Rattle.rb_stats.proofs.Items.{count_by-push}
 use Rattle.rb_forward.specs.declared.types.Forward.{Forward}
@@ -21,7 +21,7 @@ use Rattle.rb_proto.specs.declared.context.Context.{Context}
 use Rattle.rb_arguments.specs.declared.remote.RemoteCall.{RemoteCall}
 use Rattle.rb_arguments.specs.Remote.{args_of}
 use Rattle.rb_proto.specs.Ledger.{Ledger, rows_in}
-use Rattle.rb_proto.specs.Forwarding.{outcome_note, end_note, end_notes, noted_end, peer_to_forward, forward_of, refuse, forward_to, forward_call, target_replied, fell_due, caller_dropped, call_sent}
+use Rattle.rb_proto.specs.Forwarding.{outcome_note, end_note, end_notes, noted_end, address_asked, forward_of, refuse, forward_to, forward_call, target_replied, fell_due, caller_dropped, call_sent}
 use Rattle.rb_proto.specs.ForwardLaws.{is_outcome, asked_so_far, ForwardsAreNotedOnce}
 
 -- ---- how many entries there are
@@ -66,20 +66,20 @@ unfolding with_next_entry
 start_counts clock forward args l = omega (arith, length-append l.forwards.all (next_entry clock forward args l.forwards ∷ []))
 
 module _ (context : Context) (xid : ℕ) (kind : Kind) (remote : RemoteCall) (l : Ledger) where
-  by_peer : (args : List ℕ) (found : Option Peer) → asked_so_far (forward_to context xid kind remote args found l).1 ≡ asked_so_far l + 1
-  by_peer args None = refused_is_noted context kind remote replies.ProgUnavail l
-  by_peer args (Some peer) = by_room (can_start context.forwards l.forwards)
+  by_address : (args : List ℕ) (found : Option Uaddr) → asked_so_far (forward_to context xid kind remote args found l).1 ≡ asked_so_far l + 1
+  by_address args None = refused_is_noted context kind remote replies.ProgUnavail l
+  by_address args (Some address) = by_room (can_start context.forwards l.forwards)
     where
       begun : Answer × Ledger
-      begun = (answers.Forwarded, record l { forwards = with_next_entry context.clock (forward_of context xid kind remote peer) args l.forwards })
+      begun = (answers.Forwarded, record l { forwards = with_next_entry context.clock (forward_of context xid kind remote address) args l.forwards })
 
       by_room : (b : Bool) → asked_so_far (cond b begun (refuse context kind remote replies.SystemErr l)).1 ≡ asked_so_far l + 1
-      by_room true = start_counts context.clock (forward_of context xid kind remote peer) args l
+      by_room true = start_counts context.clock (forward_of context xid kind remote address) args l
       by_room false = refused_is_noted context kind remote replies.SystemErr l
 
   call_counts : (arguments : List ℕ) → asked_so_far (forward_call context xid kind remote arguments l).1 ≡ asked_so_far l + 1
   unfolding forward_call
-  call_counts arguments = by_peer (args_of remote arguments) (peer_to_forward remote.prog remote.vers (rows_in l))
+  call_counts arguments = by_address (args_of remote arguments) (address_asked context remote (rows_in l))
 
 -- ---- an entry ends
 

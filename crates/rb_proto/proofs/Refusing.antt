@@ -2,7 +2,7 @@
 use Rattle.std.proofs.Common.{◌≡◌, ℕ, Bool, true, false, List, Some, refl, sym, ◌∙◌, ap}
 use Rattle.std.specs.Prelude.{IsTrue}
 use Rattle.rb_rpc.specs.declared.reply.ReplyStatus.TheVariants as replies
-use Rattle.rb_address.specs.declared.peer.Peer.{Peer}
+use Rattle.rb_uaddr.specs.declared.address.Uaddr.{Uaddr}
 use Rattle.rb_rpc.specs.declared.caller.Kind.{Kind}
 use Rattle.rb_forward.specs.Forwards.{can_start}
 use Rattle.rb_proto.specs.declared.answers.Answer.{Answer}
@@ -10,15 +10,15 @@ use Rattle.rb_proto.specs.declared.context.Context.{Context}
 use Rattle.rb_arguments.specs.declared.remote.RemoteCall.{RemoteCall}
 use Rattle.rb_proto.specs.Ledger.{Books, Ledger, StandsForLedger, rows_in}
 use Rattle.rb_proto.specs.Books.{ActsAs}
-use Rattle.rb_proto.specs.Forwarding.{peer_to_forward, refuse, forward_call}
+use Rattle.rb_proto.specs.Forwarding.{address_asked, refuse, forward_call}
 
 -- a test that can't be passed
 pub is_false : (b : Bool) → (IsTrue b → false ≡ true) → b ≡ false
 is_false true h = sym (h refl)
 is_false false h = refl
 
-module _ (context : Context) (xid : ℕ) (kind : Kind) (remote : RemoteCall) (arguments : List ℕ) (peer : Peer) (old new : Books) (given : Answer)
-    (found : (l : Ledger) → StandsForLedger old l → peer_to_forward remote.prog remote.vers (rows_in l) ≡ Some peer)
+module _ (context : Context) (xid : ℕ) (kind : Kind) (remote : RemoteCall) (arguments : List ℕ) (registered : Uaddr) (old new : Books) (given : Answer)
+    (found : (l : Ledger) → StandsForLedger old l → address_asked context remote (rows_in l) ≡ Some registered)
     (full : (l : Ledger) → StandsForLedger old l → can_start context.forwards l.forwards ≡ false)
     (refused : ActsAs (refuse context kind remote replies.SystemErr) old new given) where
   same : (l : Ledger) → StandsForLedger old l → forward_call context xid kind remote arguments l ≡ refuse context kind remote replies.SystemErr l

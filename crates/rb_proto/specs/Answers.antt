@@ -1,13 +1,14 @@
 -- What each procedure is answered, and the ledger after it (RFC 1833 sections 2.2 and 3.2).
-use Rattle.std.specs.Prelude.{ℕ, ◌-◌, ◌/◌, ◌^◌, ◌==◌, nat_le, min, Bool, false, not, ◌&&◌, if◌then◌else◌, List, [], ◌∷◌, ◌++◌, length, is_some, Option, Some, None, option_map, option_and_then}
+use Rattle.std.specs.Prelude.{ℕ, ◌-◌, ◌/◌, ◌^◌, ◌==◌, nat_lt, nat_le, min, Bool, false, not, ◌&&◌, if◌then◌else◌, List, [], ◌∷◌, ◌++◌, length, bytes_eq, is_some, Option, Some, None, option_map}
 use Rattle.std.specs.Option.{option_map_or}
 use Rattle.rb_rpc.specs.declared.call.CallHead.{CallHead}
+use Rattle.rb_uaddr.specs.declared.address.Hosts.{Hosts}
 use Rattle.rb_uaddr.specs.declared.address.Uaddr.{Uaddr}
 use Rattle.rb_uaddr.specs.declared.address.Uaddr.TheVariants.{V4, V6}
-use Rattle.rb_uaddr.specs.Uaddr.{port_of, any_host, text_of, parse, merged_address, transport_of, from_transport}
+use Rattle.rb_uaddr.specs.Uaddr.{port_of, any_host, any_host6, text_of, parse, merged_address, transport_of, from_transport}
 use Rattle.rb_address.specs.declared.netid.Netid.{Netid}
 use Rattle.rb_address.specs.declared.netid.Transport.{Transport}
-use Rattle.rb_registry.specs.declared.row.Owner.{Owner}
+use Rattle.rb_address.specs.declared.who.Owner.{Owner}
 use Rattle.rb_registry.specs.declared.row.Row.{Row}
 use Rattle.rb_registry.specs.declared.row.Which.{Which}
 use Rattle.rb_registry.specs.declared.row.Which.TheVariants.{Inet}
@@ -32,7 +33,7 @@ use Rattle.rb_arguments.specs.declared.procedure.VoidProcedure.{VoidProcedure}
 use Rattle.rb_arguments.specs.declared.procedure.VoidProcedure.TheVariants as voids
 use Rattle.rb_proto.specs.declared.answers.Listing.TheVariants.{Mappings, Rpcbs, Entries}
 use Rattle.rb_proto.specs.declared.answers.Value.TheVariants as values
-use Rattle.rb_proto.specs.Callers.{is_local, peer_of, transport_of_caller, owner_of}
+use Rattle.rb_proto.specs.Callers.{who_of, netid_of_caller, may_register, owner_of, share_in, hosts_in}
 use Rattle.rb_proto.specs.Ledger.{Ledger, rows_in, version_of, with_note}
 use Rattle.rb_proto.specs.Netids.{which_of, address_in, is_address}
 use Rattle.rb_proto.specs.Forwarding.{forward_call}
@@ -43,9 +44,13 @@ pub use Rattle.rb_proto.specs.declared.context.Context.{Context}
 
 -- ---- changes
 
--- the caller is on this machine
+-- the caller is on this machine, as far as it is trusted
 unfoldable pub comes_from_here : Context → Bool
-comes_from_here context = is_local context.listener (peer_of context.caller).host
+comes_from_here context = may_register context.announced (who_of context.caller)
+
+-- as whom a call of this head registers
+abbrev pub owner_in : Context → CallHead → Owner
+owner_in context head = owner_of (who_of context.caller).trust head.cred
 
 -- the change and the note of it behind the others, where it is accepted, and whether it is
 abbrev pub change_if : Bool → Change → Note → Ledger → Bool × Ledger
@@ -78,9 +83,14 @@ row_of_rpcb owner r = option_map on (netid_named r.netid)
 unfoldable pub can_be_set : Row → Bool
 can_be_set row = not (row.prog == rpcb_prog) && is_address row.netid row.addr
 
+-- these live rows are fewer than those among which the caller may set one more
+unfoldable pub has_share : Context → List Row → Bool
+has_share context rows = nat_lt (length rows) (share_in context)
+
 -- a caller on this machine may set the row, and there is a place for it beside these live rows, after so many changes
 abbrev pub accepts : Context → List Row → ℕ → Row → Bool
-accepts context rows count row = comes_from_here context && can_be_set row && has_place context.limit rows count row
+accepts context rows count row =
+    comes_from_here context && can_be_set row && has_share context rows && has_place context.limit rows count row
 
 unfoldable pub accepts_row : Context → Ledger → Row → Bool
 accepts_row context l row = accepts context (rows_in l) (length l.changes) row
@@ -93,13 +103,13 @@ set_row context head (Some row) l = change_if (accepts_row context l row) (Added
 -- ---- room for a row
 
 -- the row that a call of this head asks to SET, where it does
-abbrev pub row_asked : CallHead → Request → Option Row
-row_asked head (requests.Mapping mappings.Set m) = row_of_mapping (owner_of head.cred) m
-row_asked head (requests.Rpcb rpcbs.Set r) = row_of_rpcb (owner_of head.cred) r
-row_asked head _ = None
+abbrev pub row_asked : Context → CallHead → Request → Option Row
+row_asked context head (requests.Mapping mappings.Set m) = row_of_mapping (owner_in context head) m
+row_asked context head (requests.Rpcb rpcbs.Set r) = row_of_rpcb (owner_in context head) r
+row_asked context head _ = None
 
-unfoldable pub row_to_set : Call → Option Row
-row_to_set call = row_asked call.head call.request
+unfoldable pub row_to_set : Context → Call → Option Row
+row_to_set context call = row_asked context call.head call.request
 
 -- some row is asked for, and it is accepted beside these live rows, after so many changes
 abbrev pub adds : Context → List Row → ℕ → Option Row → Bool
@@ -108,7 +118,7 @@ adds context rows count (Some row) = accepts context rows count row
 
 -- the call is a SET that is accepted
 unfoldable pub adds_row : Context → Call → List Row → ℕ → Bool
-adds_row context call rows count = adds context rows count (row_to_set call)
+adds_row context call rows count = adds context rows count (row_to_set context call)
 
 -- a SET that is accepted wants room for its row
 abbrev pub wants_room : Context → Call → Ledger → Bool
@@ -121,30 +131,35 @@ unfoldable pub accepts_removal : Context → Ledger → Change → Bool
 accepts_removal context l removal = comes_from_here context && removes_some (rows_in l) (length l.changes) removal
 
 -- the rows of a version of a program on these netids that the caller's owner may remove
-abbrev pub removal_of : CallHead → ℕ → ℕ → Which → Change
-removal_of head prog vers which = Removed prog vers which (owner_of head.cred)
+abbrev pub removal_of : Context → CallHead → ℕ → ℕ → Which → Change
+removal_of context head prog vers which = Removed prog vers which (owner_in context head)
 
 -- An UNSET of a version of a program on these netids, if they are known: TRUE where some row is removed, and the UNSET
 -- noted, else FALSE.
 unfoldable pub unset_rows : Context → CallHead → ℕ → ℕ → Option Which → Ledger → Bool × Ledger
 unset_rows context head prog vers None l = (false, l)
 unset_rows context head prog vers (Some which) l =
-    change_if (accepts_removal context l (removal_of head prog vers which)) (removal_of head prog vers which) (WasUnset (version_of head.vers)) l
+    change_if (accepts_removal context l (removal_of context head prog vers which)) (removal_of context head prog vers which) (WasUnset (version_of head.vers)) l
 
 -- ---- rows that are asked for
 
--- the row's universal address as callers are told it: the listener's host stands in for 0.0.0.0
-unfoldable pub shown_address : List ℕ → Row → Option Uaddr
-shown_address host row = option_map (merged_address host) (address_in row.netid row.addr)
+-- the row's universal address as callers are told it: a host of its family stands in for 0.0.0.0 or ::
+unfoldable pub shown_address : Hosts → Row → Option Uaddr
+shown_address hosts row = option_map (merged_address hosts) (address_in row.netid row.addr)
 
--- an IPv4 address is told so; an IPv6 address and the name of a local socket stay as they were set
-abbrev pub told_text : Row → Option Uaddr → List ℕ
-told_text row (Some (V4 host port)) = text_of (V4 host port)
-told_text row (Some (V6 host port)) = row.addr
-told_text row None = row.addr
+-- the host is :: and another stands in for it
+abbrev pub is_replaced : Hosts → List ℕ → Bool
+is_replaced hosts own = bytes_eq own any_host6 && not (bytes_eq hosts.inet6 any_host6)
 
-unfoldable pub shown_text : List ℕ → Row → List ℕ
-shown_text host row = told_text row (shown_address host row)
+-- An IPv4 address is told so, and an IPv6 address where its :: is replaced. Any other IPv6 address and the name of a
+-- local socket stay as they were set.
+abbrev pub told_text : Hosts → Row → Option Uaddr → List ℕ
+told_text hosts row (Some (V4 own port)) = text_of (merged_address hosts (V4 own port))
+told_text hosts row (Some (V6 own port)) = if is_replaced hosts own then text_of (V6 hosts.inet6 port) else row.addr
+told_text hosts row None = row.addr
+
+unfoldable pub shown_text : Hosts → Row → List ℕ
+shown_text hosts row = told_text hosts row (address_in row.netid row.addr)
 
 -- 0 where there is no port
 unfoldable pub shown_port : Row → ℕ
@@ -154,9 +169,13 @@ shown_port row = option_map_or port_of (address_in row.netid row.addr) 0
 abbrev pub port_found : Option Row → ℕ
 port_found found = option_map_or shown_port found 0
 
+-- the name of a local socket stays as it was set
+abbrev pub addr_told : Hosts → Row → List ℕ
+addr_told hosts row = option_map_or text_of (shown_address hosts row) row.addr
+
 -- empty where there is no row
-abbrev pub addr_found : List ℕ → Option Row → List ℕ
-addr_found host found = option_map_or text_of (option_and_then (shown_address host) found) []
+abbrev pub addr_found : Hosts → Option Row → List ℕ
+addr_found hosts found = option_map_or (addr_told hosts) found []
 
 -- a look-up of the target, in a call of this head, is noted with whether it found a row
 abbrev pub with_lookup : CallHead → Target → Option Row → Ledger → Ledger
@@ -169,32 +188,32 @@ port_told head target found l = (port_found found, with_lookup head target found
 abbrev pub port_on : CallHead → Mapping → Option Transport → Ledger → ℕ × Ledger
 port_on head m None l = (0, l)
 port_on head m (Some transport) l =
-    port_told head (record { prog = m.prog; vers = m.vers; transport = transport }) (find_row m.prog m.vers (netid_of transport) (rows_in l)) l
+    port_told head (record { prog = m.prog; vers = m.vers; netid = netid_of transport }) (find_row m.prog m.vers (netid_of transport) (rows_in l)) l
 
 -- PMAPPROC_GETPORT: by the transport of prot; port is ignored. Where prot is of none, nothing is looked up.
 unfoldable pub getport : CallHead → Mapping → Ledger → ℕ × Ledger
 getport head m l = port_on head m (transport_of_protocol m.prot) l
 
--- what is asked for, on the transport on which the call came; r_netid, r_addr and r_owner are ignored
-abbrev pub target_of : Context → Rpcb → Target
-target_of context r = record { prog = r.prog; vers = r.vers; transport = transport_of_caller context.caller }
-
--- the netid of that transport
+-- the netid by which the call came
 abbrev pub netid_asked : Context → Netid
-netid_asked context = netid_of (transport_of_caller context.caller)
+netid_asked context = netid_of_caller context.caller
+
+-- what is asked for, on that netid; r_netid, r_addr and r_owner are ignored
+abbrev pub target_of : Context → Rpcb → Target
+target_of context r = record { prog = r.prog; vers = r.vers; netid = netid_asked context }
 
 -- the address of the row that was looked up
-abbrev pub addr_told : Context → CallHead → Rpcb → Option Row → Ledger → List ℕ × Ledger
-addr_told context head r found l =
-    (addr_found context.listener.host found, with_lookup head (target_of context r) found l)
+abbrev pub text_found : Context → CallHead → Rpcb → Option Row → Ledger → List ℕ × Ledger
+text_found context head r found l =
+    (addr_found (hosts_in context) found, with_lookup head (target_of context r) found l)
 
 -- RPCBPROC_GETADDR
 unfoldable pub getaddr : Context → CallHead → Rpcb → Ledger → List ℕ × Ledger
-getaddr context head r l = addr_told context head r (find_row r.prog r.vers (netid_asked context) (rows_in l)) l
+getaddr context head r l = text_found context head r (find_row r.prog r.vers (netid_asked context) (rows_in l)) l
 
 -- RPCBPROC_GETVERSADDR: the same, of the exact version alone
 unfoldable pub getversaddr : Context → CallHead → Rpcb → Ledger → List ℕ × Ledger
-getversaddr context head r l = addr_told context head r (find_exact r.prog r.vers (netid_asked context) (rows_in l)) l
+getversaddr context head r l = text_found context head r (find_exact r.prog r.vers (netid_asked context) (rows_in l)) l
 
 -- ---- the rest
 
@@ -237,14 +256,14 @@ answer_void context voids.Getstat = results.Statistics
 -- count for nothing else.
 abbrev pub answer_to : Context → CallHead → Request → List ℕ → Ledger → Answer × Ledger
 answer_to context head (requests.Void procedure) arguments l = (answers.Results (answer_void context procedure), l)
-answer_to context head (requests.Mapping mappings.Set m) arguments l = tell_done values.Bool (set_row context head (row_of_mapping (owner_of head.cred) m) l)
+answer_to context head (requests.Mapping mappings.Set m) arguments l = tell_done values.Bool (set_row context head (row_of_mapping (owner_in context head) m) l)
 answer_to context head (requests.Mapping mappings.Unset m) arguments l = tell_done values.Bool (unset_rows context head m.prog m.vers (Some Inet) l)
 answer_to context head (requests.Mapping mappings.Getport m) arguments l = tell_done values.Number (getport head m l)
-answer_to context head (requests.Rpcb rpcbs.Set r) arguments l = tell_done values.Bool (set_row context head (row_of_rpcb (owner_of head.cred) r) l)
+answer_to context head (requests.Rpcb rpcbs.Set r) arguments l = tell_done values.Bool (set_row context head (row_of_rpcb (owner_in context head) r) l)
 answer_to context head (requests.Rpcb rpcbs.Unset r) arguments l = tell_done values.Bool (unset_rows context head r.prog r.vers (which_of r.netid) l)
 answer_to context head (requests.Rpcb rpcbs.Getaddr r) arguments l = tell_done values.Text (getaddr context head r l)
 answer_to context head (requests.Rpcb rpcbs.Getversaddr r) arguments l = tell_done values.Text (getversaddr context head r l)
-answer_to context head (requests.Rpcb rpcbs.Getaddrlist r) arguments l = tell_rows (Entries r.prog r.vers context.listener.host) l
+answer_to context head (requests.Rpcb rpcbs.Getaddrlist r) arguments l = tell_rows (Entries r.prog r.vers (hosts_in context)) l
 answer_to context head (requests.Uaddr2taddr text) arguments l = tell (values.Netbuf (taddr_of text)) l
 answer_to context head (requests.Taddr2uaddr netbuf) arguments l = tell (values.Text (uaddr_of netbuf)) l
 answer_to context head (requests.Forward kind remote) arguments l = forward_call context head.xid kind remote arguments l

@@ -1,52 +1,149 @@
 -- The listener, and what it knows of a caller.
-use Rattle.std.specs.Prelude.{ℕ, ◌==◌, Bool, ◌||◌, List, [], ◌∷◌, codes, decimal, if◌then◌else◌}
+use Rattle.std.specs.Prelude.{ℕ, ◌-◌, ◌/◌, ◌==◌, Bool, true, false, ◌||◌, List, [], ◌∷◌, ◌++◌, bytes_eq, Option, Some, None, codes, decimal, if◌then◌else◌}
+use Rattle.std.specs.Option.{option_map_or}
 use Rattle.rb_rpc.specs.declared.call.Credential.{Credential}
 use Rattle.rb_rpc.specs.declared.call.Credential.TheVariants as credentials
-use Rattle.rb_address.specs.declared.host.Host.{Host}
-use Rattle.rb_address.specs.declared.host.Host.TheVariants as hosts
-use Rattle.rb_address.specs.declared.peer.Peer.{Peer}
-use Rattle.rb_address.specs.Hosts.{is_loopback, is_same_host}
 use Rattle.rb_rpc.specs.declared.caller.Caller.{Caller}
 use Rattle.rb_rpc.specs.declared.caller.Caller.TheVariants as callers
-use Rattle.rb_uaddr.specs.declared.address.Uaddr.TheVariants.{V4}
-use Rattle.rb_uaddr.specs.Uaddr.{any_host, text_of}
-use Rattle.rb_address.specs.declared.netid.Transport.{Transport}
+use Rattle.rb_uaddr.specs.declared.address.Hosts.{Hosts}
+use Rattle.rb_uaddr.specs.declared.address.Uaddr.TheVariants.{V4, V6}
+use Rattle.rb_uaddr.specs.Uaddr.{any_host, any_host6, text_of, merged_host, merged_host6}
+use Rattle.rb_address.specs.declared.host.Host.{Host}
+use Rattle.rb_address.specs.declared.host.Host.TheVariants as hosts
+use Rattle.rb_address.specs.Hosts.{is_loopback}
 use Rattle.rb_address.specs.declared.netid.Transport.TheVariants as transports
 use Rattle.rb_address.specs.declared.netid.Netid.{Netid}
-use Rattle.rb_address.specs.declared.netid.Netid.TheVariants.{Tcp, Udp}
-use Rattle.rb_registry.specs.declared.row.Owner.{Owner}
-use Rattle.rb_registry.specs.declared.row.Owner.TheVariants.{Unknown, Uid}
+use Rattle.rb_address.specs.declared.netid.Netid.TheVariants as netids
+use Rattle.rb_address.specs.declared.who.Owner.{Owner}
+use Rattle.rb_address.specs.declared.who.Owner.TheVariants.{Unknown, Uid}
+use Rattle.rb_address.specs.declared.who.Trust.{Trust}
+use Rattle.rb_address.specs.declared.who.Trust.TheVariants as trusts
+use Rattle.rb_address.specs.declared.who.Source.{Source}
+use Rattle.rb_address.specs.declared.who.Source.TheVariants as sources
+use Rattle.rb_address.specs.declared.who.Who.{Who}
+use Rattle.rb_address.specs.Callers.{netid_from}
 use Rattle.rb_registry.specs.declared.row.Row.{Row}
 use Rattle.rb_registry.specs.Rows.{rpcb_prog}
+use Rattle.rb_proto.specs.declared.listener.Announced.{Announced}
 use Rattle.rb_proto.specs.declared.listener.Listener.{Listener}
+use Rattle.rb_proto.specs.declared.context.Context.{Context}
 
--- a version of the portmapper itself, at the listener's port of every host
-abbrev pub own_row : Listener → ℕ → Netid → Row
-own_row listener vers netid = record { prog = rpcb_prog; vers = vers; netid = netid; addr = text_of (V4 any_host listener.port); owner = Uid 0 }
+-- ---- the rows of the portmapper itself
 
--- versions 4, 3 and 2, on tcp and then on udp
+abbrev pub own_row : Netid → List ℕ → ℕ → Row
+own_row netid addr vers = record { prog = rpcb_prog; vers = vers; netid = netid; addr = addr; owner = Uid 0 }
+
+-- versions 4 and 3
+abbrev pub own_pair : Netid → List ℕ → List Row
+own_pair netid addr = own_row netid addr 4 ∷ own_row netid addr 3 ∷ []
+
+-- version 2 is of IPv4 alone
+abbrev pub own_three : Netid → List ℕ → List Row
+own_three netid addr = own_row netid addr 4 ∷ own_row netid addr 3 ∷ own_row netid addr 2 ∷ []
+
+-- at every host of IPv6, where it is served
+abbrev pub own_inet6 : ℕ → Option (List ℕ) → List Row
+own_inet6 port None = []
+own_inet6 port (Some announced) =
+    own_pair netids.Tcp6 (text_of (V6 any_host6 port)) ++ own_pair netids.Udp6 (text_of (V6 any_host6 port))
+
+-- at every host of IPv4, where it is served
+abbrev pub own_inet : ℕ → Option (List ℕ) → List Row
+own_inet port None = []
+own_inet port (Some announced) =
+    own_three netids.Tcp (text_of (V4 any_host port)) ++ own_three netids.Udp (text_of (V4 any_host port))
+
+-- at the path of the local socket, where there is one
+abbrev pub own_local : Option (List ℕ) → List Row
+own_local None = []
+own_local (Some path) = own_pair netids.Local path
+
 unfoldable pub own_rows : Listener → List Row
 own_rows listener =
-    own_row listener 4 Tcp ∷ own_row listener 3 Tcp ∷ own_row listener 2 Tcp
-    ∷ own_row listener 4 Udp ∷ own_row listener 3 Udp ∷ own_row listener 2 Udp ∷ []
+    own_inet6 listener.port listener.announced.inet6
+    ++ own_inet listener.port listener.announced.inet ++ own_local listener.local
 
--- by its address alone: 127.0.0.0/8, ::1, or the announced host
-unfoldable pub is_local : Listener → Host → Bool
-is_local listener host = is_loopback host || is_same_host host (hosts.V4 listener.host)
+-- ---- who calls
 
-abbrev pub peer_of : Caller → Peer
-peer_of (callers.Tcp id peer) = peer
-peer_of (callers.Udp peer) = peer
+abbrev pub who_of : Caller → Who
+who_of (callers.Tcp id who) = who
+who_of (callers.Udp who) = who
 
--- the transport on which the call came
-abbrev pub transport_of_caller : Caller → Transport
-transport_of_caller (callers.Tcp id peer) = transports.Tcp
-transport_of_caller (callers.Udp peer) = transports.Udp
+-- the netid by which the call came
+abbrev pub netid_of_caller : Caller → Netid
+netid_of_caller (callers.Tcp id who) = netid_from transports.Tcp who.source
+netid_of_caller (callers.Udp who) = netid_from transports.Udp who.source
+
+-- ---- whether it may register, and as whom
+
+abbrev pub is_announced_as : List ℕ → Option (List ℕ) → Bool
+is_announced_as octets announced = option_map_or (λ own. bytes_eq octets own) announced false
+
+-- by its address alone: 127.0.0.0/8, ::1, or the announced host of its family
+unfoldable pub is_local : Announced → Host → Bool
+is_local announced (hosts.V4 octets) = is_loopback (hosts.V4 octets) || is_announced_as octets announced.inet
+is_local announced (hosts.V6 octets) = is_loopback (hosts.V6 octets) || is_announced_as octets announced.inet6
+
+abbrev pub is_here : Announced → Source → Bool
+is_here announced (sources.Inet peer) = is_local announced peer.host
+is_here announced sources.Local = true
+
+-- who claims to be of this machine has to be there by its address
+abbrev pub is_trusted : Announced → Source → Trust → Bool
+is_trusted announced source trusts.Claims = is_here announced source
+is_trusted announced source (trusts.Local owner) = true
+is_trusted announced source trusts.Stranger = false
+
+abbrev pub may_register : Announced → Who → Bool
+may_register announced who = is_trusted announced who.source who.trust
 
 -- as far as the credential says
-abbrev pub owner_of : Credential → Owner
-owner_of credentials.None = Unknown
-owner_of (credentials.Sys uid) = Uid uid
+abbrev pub owner_named : Credential → Owner
+owner_named credentials.None = Unknown
+owner_named (credentials.Sys uid) = Uid uid
+
+-- whose owner is known is that owner, whatever the credential says
+abbrev pub owner_of : Trust → Credential → Owner
+owner_of trusts.Claims cred = owner_named cred
+owner_of (trusts.Local owner) cred = owner
+owner_of trusts.Stranger cred = owner_named cred
+
+abbrev pub is_superuser : Owner → Bool
+is_superuser Unknown = false
+is_superuser (Uid uid) = uid == 0
+
+-- the last quarter of the rows is for owner uid 0
+abbrev pub share_of : Owner → ℕ → ℕ
+share_of owner limit = if is_superuser owner then limit else limit - limit / 4
+
+-- how many rows there may be with the one that a caller sets
+abbrev pub share_by : Trust → ℕ → ℕ
+share_by trusts.Claims limit = limit
+share_by (trusts.Local owner) limit = share_of owner limit
+share_by trusts.Stranger limit = limit
+
+abbrev pub share_in : Context → ℕ
+share_in context = share_by (who_of context.caller).trust context.limit
+
+-- ---- the hosts that it is told
+
+-- where none is announced, every host stays as it is
+abbrev pub announced_hosts : Announced → Hosts
+announced_hosts announced = record {
+  inet = option_map_or (λ host. host) announced.inet any_host;
+  inet6 = option_map_or (λ host. host) announced.inet6 any_host6;
+}
+
+-- In place of every host of a family a caller is told the host that it asked, where that is one of the family; else
+-- the announced one.
+unfoldable pub hosts_told : Announced → Host → Hosts
+hosts_told announced (hosts.V4 asked) =
+    record (announced_hosts announced) { inet = merged_host (announced_hosts announced).inet asked }
+hosts_told announced (hosts.V6 asked) =
+    record (announced_hosts announced) { inet6 = merged_host6 (announced_hosts announced).inet6 asked }
+
+abbrev pub hosts_in : Context → Hosts
+hosts_in context = hosts_told context.announced (who_of context.caller).asked
 
 -- r_owner as DUMP shows it
 unfoldable pub owner_text : Owner → List ℕ

@@ -1,12 +1,9 @@
 -- Laws of forwarded calls.
 use Rattle.std.specs.Prelude.{◌≡◌, ◌≢◌, ℕ, ◌+◌, Bool, true, false, List, length, Some, Contains}
 use Rattle.std.specs.List.{count_by}
-use Rattle.rb_address.specs.declared.host.Host.{Host}
-use Rattle.rb_address.specs.declared.host.Host.TheVariants as hosts
 use Rattle.rb_address.specs.declared.peer.Peer.{Peer}
-use Rattle.rb_uaddr.specs.declared.address.Uaddr.TheVariants.{V4}
-use Rattle.rb_uaddr.specs.Uaddr.{any_host, parse}
-use Rattle.rb_address.specs.declared.netid.Netid.TheVariants as netids
+use Rattle.rb_uaddr.specs.declared.address.Uaddr.{Uaddr}
+use Rattle.rb_address.specs.declared.netid.Netid.{Netid}
 use Rattle.rb_registry.specs.declared.row.Row.{Row}
 use Rattle.rb_registry.specs.Rows.{rpcb_prog}
 use Rattle.rb_stats.specs.Statistics.{Note}
@@ -19,34 +16,30 @@ use Rattle.rb_proto.specs.declared.context.Context.{Context}
 use Rattle.rb_arguments.specs.declared.remote.RemoteCall.{RemoteCall}
 use Rattle.rb_arguments.specs.Remote.{args_of}
 use Rattle.rb_proto.specs.Ledger.{Ledger, rows_in}
-use Rattle.rb_proto.specs.Forwarding.{loopback, forward_call, target_replied, fell_due, caller_dropped, call_sent}
+use Rattle.rb_proto.specs.Callers.{who_of, hosts_in}
+use Rattle.rb_proto.specs.Netids.{address_in}
+use Rattle.rb_proto.specs.Forwarding.{netid_to_forward, loopbacks, merged_peer, forward_call, target_replied, fell_due, caller_dropped, call_sent}
 
 -- ---- where calls go
 
--- One of the rows is at this host and port: on udp, of exactly the program and version that are called, and none of the
+-- One of the rows is at this address: on this netid, of exactly the program and version that are called, and none of the
 -- portmapper's own.
-pub record IsRegisteredAt (rows : List Row) (remote : RemoteCall) (host : List ℕ) (port : ℕ) : Type 0 where
+pub record IsRegisteredAt (netid : Netid) (rows : List Row) (remote : RemoteCall) (address : Uaddr) : Type 0 where
   pub row : Row
   pub is_there : Contains rows row
   pub prog : row.prog ≡ remote.prog
   pub vers : row.vers ≡ remote.vers
-  pub netid : row.netid ≡ netids.Udp
-  pub addr : parse row.addr ≡ Some (V4 host port)
+  pub netid_is : row.netid ≡ netid
+  pub addr : address_in netid row.addr ≡ Some address
   pub is_other : remote.prog ≢ rpcb_prog
 
--- the host is another's in place of 0.0.0.0, else the one that was registered
-abbrev pub StandsInForAny : List ℕ → List ℕ → Host → Type 0
-StandsInForAny other registered host = (registered ≡ any_host → host ≡ hosts.V4 other) × (registered ≢ any_host → host ≡ hosts.V4 registered)
-
--- what is asked where, and what its caller is shown
+-- What is asked where, and what its caller is shown: another host in place of 0.0.0.0 and ::, else the one that was
+-- registered.
 pub record AsksRegistered (context : Context) (rows : List Row) (remote : RemoteCall) (forward : Forward) : Type 0 where
-  pub host : List ℕ
-  pub port : ℕ
-  pub is_registered : IsRegisteredAt rows remote host port
-  pub target_host : StandsInForAny loopback host forward.target.host
-  pub target_port : forward.target.port ≡ port
-  pub shown_host : StandsInForAny context.listener.host host forward.shown.host
-  pub shown_port : forward.shown.port ≡ port
+  pub address : Uaddr
+  pub is_registered : IsRegisteredAt (netid_to_forward (who_of context.caller).source) rows remote address
+  pub target : forward.target ≡ merged_peer loopbacks address
+  pub shown : forward.shown ≡ merged_peer (hosts_in context) address
   pub prog : forward.prog ≡ remote.prog
   pub vers : forward.vers ≡ remote.vers
   pub proc : forward.proc ≡ remote.proc

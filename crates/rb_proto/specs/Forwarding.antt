@@ -1,15 +1,23 @@
 -- Calls that are forwarded: where to, what their callers are told, and what is noted (RFC 1833 sections 2.2.1 and 3.2).
-use Rattle.std.specs.Prelude.{ℕ, ◌==◌, Bool, true, false, if◌then◌else◌, List, [], ◌∷◌, ◌++◌, Option, Some, None, option_and_then}
+use Rattle.std.specs.Prelude.{ℕ, ◌==◌, Bool, true, false, if◌then◌else◌, List, [], ◌∷◌, ◌++◌, replicate, Option, Some, None, option_and_then}
 use Rattle.rb_xdr.specs.Xdr.{number, opaque}
 use Rattle.rb_rpc.specs.declared.caller.Caller.{Caller}
 use Rattle.rb_address.specs.declared.host.Host.{Host}
 use Rattle.rb_address.specs.declared.host.Host.TheVariants as hosts
+use Rattle.rb_address.specs.declared.netid.Netid.{Netid}
+use Rattle.rb_address.specs.declared.netid.Transport.TheVariants as transports
+use Rattle.rb_address.specs.declared.who.Source.{Source}
+use Rattle.rb_address.specs.declared.who.Source.TheVariants as sources
+use Rattle.rb_address.specs.Hosts.{family_of}
+use Rattle.rb_address.specs.Netids.{netid_on}
+use Rattle.rb_address.specs.Peers.{peer_at}
 use Rattle.rb_address.specs.declared.peer.Peer.{Peer}
 use Rattle.rb_rpc.specs.declared.reply.ReplyStatus.{ReplyStatus}
 use Rattle.rb_rpc.specs.declared.reply.ReplyStatus.TheVariants as replies
+use Rattle.rb_uaddr.specs.declared.address.Hosts.{Hosts}
 use Rattle.rb_uaddr.specs.declared.address.Uaddr.{Uaddr}
 use Rattle.rb_uaddr.specs.declared.address.Uaddr.TheVariants.{V4, V6}
-use Rattle.rb_uaddr.specs.Uaddr.{text_of, merged_host}
+use Rattle.rb_uaddr.specs.Uaddr.{text_of, merged_address}
 use Rattle.rb_address.specs.declared.netid.Netid.TheVariants as netids
 use Rattle.rb_registry.specs.declared.row.Row.{Row}
 use Rattle.rb_registry.specs.Rows.{rpcb_prog, find_exact}
@@ -28,7 +36,7 @@ use Rattle.rb_proto.specs.declared.context.Context.{Context}
 use Rattle.rb_arguments.specs.declared.remote.RemoteCall.{RemoteCall}
 use Rattle.rb_proto.specs.declared.answers.Answer.{Answer}
 use Rattle.rb_proto.specs.declared.answers.Answer.TheVariants as answers
-use Rattle.rb_proto.specs.Callers.{transport_of_caller}
+use Rattle.rb_proto.specs.Callers.{who_of, netid_of_caller, hosts_in}
 use Rattle.rb_proto.specs.Netids.{address_in}
 use Rattle.rb_proto.specs.Ledger.{Ledger, rows_in, with_note}
 use Rattle.rb_arguments.specs.Remote.{args_of}
@@ -48,47 +56,48 @@ is_indirect Callit3 = false
 is_indirect Bcast = false
 is_indirect Indirect = true
 
--- a call of this kind at its outcome, by what it calls and on which transport it came
+-- a call of this kind at its outcome, by what it calls and by which netid it came
 unfoldable pub outcome_note : Kind → Caller → ℕ → ℕ → ℕ → Bool → Note
 outcome_note kind caller prog vers proc passed =
-    Forwarded (version_of_kind kind) (record { prog = prog; vers = vers; transport = transport_of_caller caller }) proc passed (is_indirect kind)
+    Forwarded (version_of_kind kind) (record { prog = prog; vers = vers; netid = netid_of_caller caller }) proc passed (is_indirect kind)
 
 -- ---- where a call is forwarded
 
--- calls are forwarded over IPv4 alone
-abbrev pub ipv4_peer_at : Uaddr → Option Peer
-ipv4_peer_at (V4 host port) = Some (record { host = hosts.V4 host; port = port })
-ipv4_peer_at (V6 host port) = None
+-- over IPv6 for a caller of IPv6, else over IPv4
+abbrev pub netid_to_forward : Source → Netid
+netid_to_forward (sources.Inet peer) = netid_on transports.Udp (family_of peer.host)
+netid_to_forward sources.Local = netids.Udp
 
-abbrev pub peer_of_row : Row → Option Peer
-peer_of_row row = option_and_then ipv4_peer_at (address_in row.netid row.addr)
+-- the universal address of the row, in the form of its netid's family
+abbrev pub address_of_row : Row → Option Uaddr
+address_of_row row = address_in row.netid row.addr
 
--- Where the program's exact version is on udp. The portmapper itself is not called.
-unfoldable pub peer_to_forward : ℕ → ℕ → List Row → Option Peer
-peer_to_forward prog vers rows =
-    if prog == rpcb_prog then None else option_and_then peer_of_row (find_exact prog vers netids.Udp rows)
+-- Where the program's exact version is on this netid. The portmapper itself is not called.
+unfoldable pub address_to_forward : Netid → ℕ → ℕ → List Row → Option Uaddr
+address_to_forward netid prog vers rows =
+    if prog == rpcb_prog then None else option_and_then address_of_row (find_exact prog vers netid rows)
 
 -- every host of the listener is called on this machine
-abbrev pub loopback : List ℕ
-loopback = 127 ∷ 0 ∷ 0 ∷ 1 ∷ []
+abbrev pub loopbacks : Hosts
+loopbacks = record { inet = 127 ∷ 0 ∷ 0 ∷ 1 ∷ []; inet6 = replicate 15 0 ++ 1 ∷ [] }
 
--- another host in place of 0.0.0.0; each IPv6 host stays
-abbrev pub merged_in : List ℕ → Host → Host
-merged_in host (hosts.V4 own) = hosts.V4 (merged_host host own)
-merged_in host (hosts.V6 own) = hosts.V6 own
+-- the peer at a universal address
+abbrev pub peer_of_address : Uaddr → Peer
+peer_of_address (V4 host port) = peer_at (hosts.V4 host) port
+peer_of_address (V6 host port) = peer_at (hosts.V6 host) port
 
-abbrev pub merged_peer : List ℕ → Peer → Peer
-merged_peer host peer = record { host = merged_in host peer.host; port = peer.port }
+abbrev pub merged_peer : Hosts → Uaddr → Peer
+merged_peer hosts registered = peer_of_address (merged_address hosts registered)
 
--- What is asked at the registered host and port. In place of 0.0.0.0 the call goes to 127.0.0.1, and the listener's host
--- is shown.
-unfoldable pub forward_of : Context → ℕ → Kind → RemoteCall → Peer → Forward
+-- What is asked at the registered address. In place of 0.0.0.0 the call goes to 127.0.0.1, in place of :: to ::1, and
+-- the caller is shown the host that it is told.
+unfoldable pub forward_of : Context → ℕ → Kind → RemoteCall → Uaddr → Forward
 forward_of context xid kind remote registered = record {
   caller = context.caller;
   xid = xid;
   kind = kind;
-  target = merged_peer loopback registered;
-  shown = merged_peer context.listener.host registered;
+  target = merged_peer loopbacks registered;
+  shown = merged_peer (hosts_in context) registered;
   prog = remote.prog;
   vers = remote.vers;
   proc = remote.proc;
@@ -108,18 +117,23 @@ abbrev pub refuse : Context → Kind → RemoteCall → ReplyStatus → Ledger �
 refuse context kind remote status l =
     (refusal kind status, with_note (outcome_note kind context.caller remote.prog remote.vers remote.proc false) l)
 
--- a call of these arguments, to the registered host and port if there is one
-abbrev pub forward_to : Context → ℕ → Kind → RemoteCall → List ℕ → Option Peer → Ledger → Answer × Ledger
+-- a call of these arguments, to the registered address if there is one
+abbrev pub forward_to : Context → ℕ → Kind → RemoteCall → List ℕ → Option Uaddr → Ledger → Answer × Ledger
 forward_to context xid kind remote args None l = refuse context kind remote replies.ProgUnavail l
 forward_to context xid kind remote args (Some registered) l =
     if can_start context.forwards l.forwards
     then (answers.Forwarded, record l { forwards = with_next_entry context.clock (forward_of context xid kind remote registered) args l.forwards })
     else refuse context kind remote replies.SystemErr l
 
+-- where the call that is asked for goes, for this caller
+abbrev pub address_asked : Context → RemoteCall → List Row → Option Uaddr
+address_asked context remote rows =
+    address_to_forward (netid_to_forward (who_of context.caller).source) remote.prog remote.vers rows
+
 -- A call of this xid asks to have another one made: CALLIT, BCAST and INDIRECT.
 unfoldable pub forward_call : Context → ℕ → Kind → RemoteCall → List ℕ → Ledger → Answer × Ledger
 forward_call context xid kind remote arguments l =
-    forward_to context xid kind remote (args_of remote arguments) (peer_to_forward remote.prog remote.vers (rows_in l)) l
+    forward_to context xid kind remote (args_of remote arguments) (address_asked context remote (rows_in l)) l
 
 -- ---- how it ends
 

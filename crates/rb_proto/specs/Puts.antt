@@ -50,10 +50,10 @@ forwarding_cost books args = looks books.registry.limit + 3 + note_cost + forwar
 -- to do what a call asks for, with so many bytes of arguments; the rows of a list are walked when it is put
 abbrev pub request_cost : Books → Request → ℕ → ℕ
 request_cost books (requests.Void procedure) args = 0
-request_cost books (requests.Mapping mappings.Set m) args = set_cost books.registry
+request_cost books (requests.Mapping mappings.Set m) args = set_cost books.registry + 1
 request_cost books (requests.Mapping mappings.Unset m) args = unset_cost books.registry Inet
 request_cost books (requests.Mapping mappings.Getport m) args = lookup_cost books
-request_cost books (requests.Rpcb rpcbs.Set r) args = set_cost books.registry
+request_cost books (requests.Rpcb rpcbs.Set r) args = set_cost books.registry + 1
 request_cost books (requests.Rpcb rpcbs.Unset r) args = removal_cost books.registry (which_of r.netid)
 request_cost books (requests.Rpcb rpcbs.Getaddr r) args = lookup_cost books
 request_cost books (requests.Rpcb rpcbs.Getversaddr r) args = lookup_cost books

@@ -2,6 +2,7 @@
 use Rattle.std.specs.Prelude.{ℕ, ◌==◌, Bool, true, false, ◌&&◌, if◌then◌else◌, List, [], ◌++◌, map, filter, take, drop}
 use Rattle.std.specs.List.{flat_map}
 use Rattle.rb_xdr.specs.Xdr.{number, boolean, opaque, linked_list}
+use Rattle.rb_uaddr.specs.declared.address.Hosts.{Hosts}
 use Rattle.rb_address.specs.declared.netid.Netid.{Netid}
 use Rattle.rb_registry.specs.declared.row.Row.{Row}
 use Rattle.rb_registry.specs.declared.row.Which.TheVariants.{Inet}
@@ -49,9 +50,9 @@ mapping_of row = record { prog = row.prog; vers = row.vers; prot = prot_on row.n
 abbrev pub rpcb_of : Row → Rpcb
 rpcb_of row = record { prog = row.prog; vers = row.vers; netid = netid_text row.netid; addr = row.addr; owner = owner_text row.owner }
 
-abbrev pub entry_of : List ℕ → Row → Entry
-entry_of host row = record {
-  maddr = shown_text host row;
+abbrev pub entry_of : Hosts → Row → Entry
+entry_of hosts row = record {
+  maddr = shown_text hosts row;
   netid = netid_text row.netid;
   semantics = semantics_of row.netid;
   protofmly = family_text row.netid;
@@ -62,7 +63,7 @@ entry_of host row = record {
 abbrev pub list_bytes : List Row → Listing → List ℕ
 list_bytes rows Mappings = linked_list mapping_spelling (map mapping_of (filter is_inet rows))
 list_bytes rows Rpcbs = linked_list rpcb_spelling (map rpcb_of rows)
-list_bytes rows (Entries prog vers host) = linked_list entry_spelling (map (entry_of host) (filter (is_version prog vers) rows))
+list_bytes rows (Entries prog vers hosts) = linked_list entry_spelling (map (entry_of hosts) (filter (is_version prog vers) rows))
 
 -- ---- all results
 
@@ -93,13 +94,13 @@ results_at books given = result_bytes (shown_in books) given
 abbrev pub is_shown : Listing → Row → Bool
 is_shown Mappings row = is_inet row
 is_shown Rpcbs row = true
-is_shown (Entries prog vers host) row = is_version prog vers row
+is_shown (Entries prog vers hosts) row = is_version prog vers row
 
 -- the spelling of that item
 abbrev pub item_bytes : Listing → Row → List ℕ
 item_bytes Mappings row = mapping_spelling (mapping_of row)
 item_bytes Rpcbs row = rpcb_spelling (rpcb_of row)
-item_bytes (Entries prog vers host) row = entry_spelling (entry_of host row)
+item_bytes (Entries prog vers hosts) row = entry_spelling (entry_of hosts row)
 
 -- what a row adds to a list
 unfoldable pub row_bytes : Listing → Row → List ℕ
@@ -127,5 +128,5 @@ rpcb_head row = boolean true ++ number row.prog ++ number row.vers ++ netid_fron
 abbrev pub rpcb_item : Row → List ℕ
 rpcb_item row = boolean true ++ rpcb_spelling (rpcb_of row)
 
-abbrev pub entry_item : List ℕ → Row → List ℕ
-entry_item host row = boolean true ++ entry_spelling (entry_of host row)
+abbrev pub entry_item : Hosts → Row → List ℕ
+entry_item hosts row = boolean true ++ entry_spelling (entry_of hosts row)

@@ -1,5 +1,5 @@
 -- Worked examples. The listener is 192.0.2.1, port 111; callers are at 127.0.0.1 and come by UDP unless it says otherwise.
-use Rattle.std.specs.Prelude.{◌≡◌, ℕ, zero, suc, ◌+◌, List, [], ◌∷◌, ◌++◌, length, map, drop, replicate, Result, Ok, Err, codes}
+use Rattle.std.specs.Prelude.{◌≡◌, ℕ, zero, suc, ◌+◌, List, [], ◌∷◌, ◌++◌, length, map, drop, replicate, Some, None, Result, Ok, Err, codes}
 use Rattle.rb_xdr.specs.Xdr.{words, opaque}
 use Rattle.rb_rpc.specs.declared.call.CallHead.{CallHead}
 use Rattle.rb_rpc.specs.declared.call.Credential.{Credential}
@@ -8,7 +8,10 @@ use Rattle.rb_rpc.specs.declared.caller.Caller.{Caller}
 use Rattle.rb_rpc.specs.declared.caller.Caller.TheVariants.{Tcp, Udp}
 use Rattle.rb_address.specs.declared.host.Host.TheVariants.{V4}
 use Rattle.rb_address.specs.declared.netid.Netid.TheVariants as netids
-use Rattle.rb_registry.specs.declared.row.Owner.TheVariants as owners
+use Rattle.rb_address.specs.declared.who.Owner.TheVariants as owners
+use Rattle.rb_address.specs.declared.who.Source.TheVariants.{Inet}
+use Rattle.rb_address.specs.declared.who.Trust.TheVariants.{Claims}
+use Rattle.rb_address.specs.declared.who.Who.{Who}
 use Rattle.rb_registry.specs.declared.row.Row.{Row}
 use Rattle.rb_registry.specs.Rows.{rpcb_prog}
 use Rattle.rb_proto.specs.declared.listener.Listener.{Listener}
@@ -34,12 +37,23 @@ pub record Message : Type 0 where
   pub proc : ℕ
   pub args : List ℕ
 
+abbrev pub listener_host : List ℕ
+listener_host = 192 ∷ 0 ∷ 2 ∷ 1 ∷ []
+
 abbrev pub listener : Listener
-listener = record { host = 192 ∷ 0 ∷ 2 ∷ 1 ∷ []; port = 111 }
+listener = record { announced = record { inet = Some listener_host; inet6 = None }; port = 111; local = None }
+
+-- at this host, of which nothing is known but what it says
+abbrev pub who_at : List ℕ → Who
+who_at host = record {
+  source = Inet (record { host = V4 host; port = 900 });
+  asked = V4 (0 ∷ 0 ∷ 0 ∷ 0 ∷ []);
+  trust = Claims;
+}
 
 -- in a datagram from this host
 abbrev pub from : List ℕ → Caller
-from host = Udp (record { host = V4 host; port = 900 })
+from host = Udp (who_at host)
 
 abbrev pub loopback : List ℕ
 loopback = 127 ∷ 0 ∷ 0 ∷ 1 ∷ []
@@ -56,7 +70,7 @@ abbrev pub call_as : ℕ → ℕ → ℕ → List ℕ → Message
 call_as uid vers proc numbers = call_with (credentials.Sys uid) vers proc (words numbers)
 
 abbrev pub context_of : ℕ → Message → Context
-context_of limit m = record { listener = listener; limit = limit; forwards = 4; clock = m.clock; caller = m.caller }
+context_of limit m = record { announced = listener.announced; limit = limit; forwards = 4; clock = m.clock; caller = m.caller }
 
 abbrev pub head_of : Message → CallHead
 head_of m = record { xid = 1; prog = rpcb_prog; vers = m.vers; proc = m.proc; cred = m.cred }
@@ -207,7 +221,7 @@ GetaddrByTransport =
     results_of (
     set_udp ∷ call 3 3 (0x30d41 ∷ 1 ∷ 3 ∷ 0x74637000 ∷ 0 ∷ 0 ∷ []) ∷ call 4 3 (0x30d41 ∷ 7 ∷ 3 ∷ 0x74637000 ∷ 0 ∷ 0 ∷ [])
     ∷ call 4 9 (0x30d41 ∷ 7 ∷ 3 ∷ 0x74637000 ∷ 0 ∷ 0 ∷ [])
-    ∷ record (call 3 3 (0x30d41 ∷ 1 ∷ 3 ∷ 0x75647000 ∷ 0 ∷ 0 ∷ [])) { caller = Tcp 1 (record { host = V4 loopback; port = 900 }) } ∷ [])
+    ∷ record (call 3 3 (0x30d41 ∷ 1 ∷ 3 ∷ 0x75647000 ∷ 0 ∷ 0 ∷ [])) { caller = Tcp 1 (who_at loopback) } ∷ [])
     ≡ yes ∷ says merged_8_1 ∷ says merged_8_1 ∷ no_ ∷ no_ ∷ []
 
 abbrev pub Getaddrlist : Type 0
@@ -231,7 +245,7 @@ abbrev pub LocalityAndGettime : Type 0
 LocalityAndGettime =
     results_of (
     record (call 2 1 (0x30d41 ∷ 1 ∷ 6 ∷ 0x801 ∷ [])) { caller = from (198 ∷ 51 ∷ 100 ∷ 7 ∷ []) }
-    ∷ record (call 2 1 (0x30d41 ∷ 1 ∷ 6 ∷ 0x801 ∷ [])) { caller = from listener.host }
+    ∷ record (call 2 1 (0x30d41 ∷ 1 ∷ 6 ∷ 0x801 ∷ [])) { caller = from listener_host }
     ∷ record (call 2 2 (0x30d41 ∷ 1 ∷ 6 ∷ 0x801 ∷ [])) { caller = from (198 ∷ 51 ∷ 100 ∷ 7 ∷ []) }
     ∷ record (call 3 6 []) { clock = 1000000000500 } ∷ record (call 4 6 []) { clock = 4294967296000 } ∷ [])
     ≡ no_ ∷ yes ∷ no_ ∷ says (0x3b9aca00 ∷ []) ∷ says (0xffffffff ∷ []) ∷ []

@@ -7,7 +7,7 @@ use Rattle.rb_rpc.specs.declared.caller.Caller.{Caller}
 use Rattle.rb_rpc.specs.declared.caller.Caller.TheVariants.{Tcp, Udp}
 use Rattle.rb_rpc.specs.declared.call.Credential.TheVariants as credentials
 use Rattle.rb_rpc.specs.declared.reply.ReplyStatus.TheVariants as replies
-use Rattle.rb_address.specs.declared.netid.Transport.TheVariants as transports
+use Rattle.rb_address.specs.declared.netid.Netid.TheVariants as netids
 use Rattle.rb_registry.specs.Rows.{rpcb_prog}
 use Rattle.rb_stats.specs.declared.key.Version.TheVariants as versions
 use Rattle.rb_stats.specs.Statistics.{Note}
@@ -26,8 +26,8 @@ use Rattle.rb_arguments.specs.Arguments.{read_request}
 use Rattle.rb_proto.specs.Callers.{own_rows}
 use Rattle.rb_proto.specs.Ledger.{Ledger, fresh_ledger, with_note}
 use Rattle.rb_proto.specs.Answers.{Answer, answer}
-use Rattle.rb_proto.specs.Forwarding.{loopback, target_replied, fell_due, caller_dropped, call_sent, forwarded_bytes}
-use Rattle.rb_proto.specs.Worked.{Message, listener, call, call_with, context_of, call_of, outcome, results_behind, says, rpcb_args}
+use Rattle.rb_proto.specs.Forwarding.{target_replied, fell_due, caller_dropped, call_sent, forwarded_bytes}
+use Rattle.rb_proto.specs.Worked.{Message, listener, listener_host, loopback, who_at, call, call_with, context_of, call_of, outcome, results_behind, says, rpcb_args}
 
 -- ---- calls
 
@@ -60,10 +60,10 @@ one_registered = left_by fresh (call 2 1 (200001 ∷ 1 ∷ 17 ∷ 2049 ∷ []) �
 
 -- the notes of an INDIRECT and of a CALLIT that fail
 abbrev pub indirect_failed : ℕ → ℕ → Note
-indirect_failed prog vers = Forwarded versions.Four (record { prog = prog; vers = vers; transport = transports.Udp }) 0 false true
+indirect_failed prog vers = Forwarded versions.Four (record { prog = prog; vers = vers; netid = netids.Udp }) 0 false true
 
 abbrev pub callit_failed : ℕ → ℕ → Note
-callit_failed prog vers = Forwarded versions.Two (record { prog = prog; vers = vers; transport = transports.Udp }) 0 false false
+callit_failed prog vers = Forwarded versions.Two (record { prog = prog; vers = vers; netid = netids.Udp }) 0 false false
 
 -- where so many calls may be forwarded, the INDIRECT is refused so, and the CALLIT is silent
 abbrev pub IsRefused : ℕ → ℕ → ℕ → Answer → Ledger → Type 0
@@ -130,7 +130,7 @@ AnyHostIsThisMachine =
     answer_to 4 m one_registered
     ≡ Some (
       answers.Forwarded,
-      record one_registered { forwards = with_next_entry 1000 (forward_at Indirect m.caller loopback listener.host) [] no_forwards },
+      record one_registered { forwards = with_next_entry 1000 (forward_at Indirect m.caller loopback listener_host) [] no_forwards },
     )
 
 -- (200001, 1) on udp, at 10.0.0.5
@@ -152,21 +152,21 @@ OtherHostsStay =
 -- a call of this kind that waits, in a ledger without notes
 abbrev pub one_sent : Kind → Caller → Ledger
 one_sent kind caller =
-    call_sent 1 (record fresh { forwards = with_next_entry 1000 (forward_at kind caller loopback listener.host) [] no_forwards })
+    call_sent 1 (record fresh { forwards = with_next_entry 1000 (forward_at kind caller loopback listener_host) [] no_forwards })
 
 -- the entry ended so, and this was noted
 abbrev pub EndsWithNote : Kind → Caller → Outcome → Note → Option Ended × Ledger → Type 0
 EndsWithNote kind caller outcome note given =
     given ≡ (
-      Some (record { forward = forward_at kind caller loopback listener.host; outcome = outcome }),
+      Some (record { forward = forward_at kind caller loopback listener_host; outcome = outcome }),
       record fresh { history = note ∷ []; forwards = record { next = 2; all = [] } },
     )
 
 abbrev pub by_datagram : Caller
-by_datagram = Udp (record { host = V4 loopback; port = 900 })
+by_datagram = Udp (who_at loopback)
 
 abbrev pub by_connection : Caller
-by_connection = Tcp 3 (record { host = V4 loopback; port = 900 })
+by_connection = Tcp 3 (who_at loopback)
 
 -- an accepted reply by the target, at moment 2000, without results
 abbrev pub target_said : List ℕ → Ledger → Option Ended × Ledger
@@ -175,17 +175,17 @@ target_said numbers l = target_replied 1000 2000 (at_host loopback) (words (1000
 abbrev pub EndsAreNoted : Type 0
 EndsAreNoted =
     EndsWithNote Indirect by_datagram (outcomes.Passed 24)
-    (Forwarded versions.Four (record { prog = 200001; vers = 1; transport = transports.Udp }) 0 true true)
+    (Forwarded versions.Four (record { prog = 200001; vers = 1; netid = netids.Udp }) 0 true true)
     (target_said (0 ∷ []) (one_sent Indirect by_datagram))
     × EndsWithNote Callit3 by_connection (outcomes.Passed 24)
-    (Forwarded versions.Three (record { prog = 200001; vers = 1; transport = transports.Tcp }) 0 true false)
+    (Forwarded versions.Three (record { prog = 200001; vers = 1; netid = netids.Tcp }) 0 true false)
     (target_said (0 ∷ []) (one_sent Callit3 by_connection))
     × EndsWithNote Bcast by_datagram (outcomes.Refused replies.ProcUnavail)
-    (Forwarded versions.Four (record { prog = 200001; vers = 1; transport = transports.Udp }) 0 false false)
+    (Forwarded versions.Four (record { prog = 200001; vers = 1; netid = netids.Udp }) 0 false false)
     (target_said (3 ∷ []) (one_sent Bcast by_datagram))
     × EndsWithNote Callit2 by_datagram outcomes.Failed (callit_failed 200001 1) (fell_due 6000 (one_sent Callit2 by_datagram))
     × EndsWithNote Callit2 by_connection outcomes.Dropped
-    (Forwarded versions.Two (record { prog = 200001; vers = 1; transport = transports.Tcp }) 0 false false)
+    (Forwarded versions.Two (record { prog = 200001; vers = 1; netid = netids.Tcp }) 0 false false)
     (caller_dropped 3 (one_sent Callit2 by_connection))
 
 -- what does not end a call is not noted
@@ -193,14 +193,14 @@ abbrev pub OthersAreNotNoted : Type 0
 OthersAreNotNoted =
     let l : Ledger = one_sent Indirect by_datagram in
     (fell_due 5999 l ≡ (None, l)) × (caller_dropped 3 l ≡ (None, l))
-    × (target_replied 1000 2000 (at_host listener.host) (words (1000 ∷ 1 ∷ 0 ∷ 0 ∷ 0 ∷ 0 ∷ [])) l ≡ (None, l))
+    × (target_replied 1000 2000 (at_host listener_host) (words (1000 ∷ 1 ∷ 0 ∷ 0 ∷ 0 ∷ 0 ∷ [])) l ≡ (None, l))
 
 -- ---- results that passed
 
 -- version 2 shows the port, the others the universal address
 abbrev pub PlacesAreShown : Type 0
 PlacesAreShown =
-    let bytes_of : Kind → List ℕ → List ℕ = λ kind results. forwarded_bytes (forward_at kind by_datagram loopback listener.host) results in
+    let bytes_of : Kind → List ℕ → List ℕ = λ kind results. forwarded_bytes (forward_at kind by_datagram loopback listener_host) results in
     (bytes_of Callit2 [] ≡ words (2049 ∷ 0 ∷ []))
     × (bytes_of Indirect [] ≡ opaque (codes "192.0.2.1.8.1") ++ words (0 ∷ []))
     × (bytes_of Bcast (1 ∷ 2 ∷ []) ≡ opaque (codes "192.0.2.1.8.1") ++ words (2 ∷ 0x1020000 ∷ []))

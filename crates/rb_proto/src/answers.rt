@@ -1,7 +1,7 @@
 //! What is answered.
 use crate::address_buf::AddressBuf;
 use rb_rpc::ReplyStatus;
-use rb_uaddr::MAX_TEXT;
+use rb_uaddr::{Hosts, MAX_KEPT};
 use rb_xdr::Text;
 
 /// What a call is answered.
@@ -38,7 +38,7 @@ pub enum Value {
     /// A port, or a number of seconds.
     Number(u32),
     /// The text of an address, or the empty text.
-    Text(Text<MAX_TEXT>),
+    Text(Text<MAX_KEPT>),
     /// The transport form of an address, or an empty netbuf.
     Netbuf(AddressBuf),
 }
@@ -50,8 +50,8 @@ pub enum Listing {
     Mappings,
     /// Each row as an rpcb.
     Rpcbs,
-    /// Each row of this program and version as an rpcb_entry, with this host in place of 0.0.0.0.
-    Entries(u32, u32, [u8; 4]),
+    /// Each row of this program and version as an rpcb_entry, with these hosts in place of 0.0.0.0 and ::.
+    Entries(u32, u32, Hosts),
 }
 
 /// Names each field, so that a further one does not compile until it stands here. It belongs in the table of
@@ -59,8 +59,8 @@ pub enum Listing {
 fn layout(list: &Listing) {
     match *list {
         Listing::Mappings | Listing::Rpcbs => {}
-        Listing::Entries(prog, vers, host) => {
-            let _: (u32, u32, [u8; 4]) = (prog, vers, host);
+        Listing::Entries(prog, vers, hosts) => {
+            let _: (u32, u32, Hosts) = (prog, vers, hosts);
         }
     }
 }

@@ -1,6 +1,5 @@
 //! What is remembered of calls.
 ghost use Rattle.std.specs.Prelude.{◌≡◌};
-ghost use Rattle.rb_proto.specs.Callers.{owner_of};
 ghost use Rattle.rb_proto.specs.Ledger.{version_of};
 
 use crate::call::Call;
@@ -10,8 +9,8 @@ use crate::listener::{Listener, own_rows};
 use crate::sets::{accepts, row_to_set};
 use rb_address::Peer;
 use rb_forward::{Ended, Forwards, FwdId, Gone, Outcome, Unsent};
-use rb_registry::{Owner, Registry, RegistryFault};
-use rb_rpc::{CallHead, Credential};
+use rb_registry::{Registry, RegistryFault};
+use rb_rpc::CallHead;
 use rb_stats::{Stats, Version};
 use rb_xdr::Meter;
 use std::alloc::Global;
@@ -53,16 +52,6 @@ pub(crate) fn version_of(vers: u32) -> Version
     }
 }
 
-/// Whom the credential names.
-pub(crate) fn owner_of(cred: Credential) -> Owner
-    ensures { result ≡ owner_of cred }
-{
-    match cred {
-        Credential::None => Owner::Unknown,
-        Credential::Sys(uid) => Owner::Uid(uid),
-    }
-}
-
 impl Books {
     ghost use Rattle.std.specs.Prelude.{◌≡◌, ◌<◌, ◌≤◌, ◌↔◌, ◌+◌, ◌*◌, [], false, length, IfOk, IsErrOf, IfSome, IsOk, IsTrue, OnOk, OnErr};
     ghost use Rattle.rb_xdr.specs.Meter.{PaysAtMost};
@@ -81,9 +70,9 @@ impl Books {
     ghost use Rattle.rb_proto.specs.Callers.{own_rows};
     ghost use Rattle.rb_proto.specs.Ledger.{Ledger, StandsForLedger, fresh_ledger, with_call_noted};
 
-    /// Books with the listener's own six rows alone, for at most `limit` rows and at most `forwards` forwarded calls
-    /// at a time, the first with the xid `first_xid`. `BadLimits` where `limit` is below 6, else `NoMemory` where an
-    /// allocation is refused.
+    /// Books with the listener's own rows alone, for at most `limit` rows and at most `forwards` forwarded calls at a
+    /// time, the first with the xid `first_xid`. `BadLimits` where there are more own rows than `limit`, else `NoMemory`
+    /// where an allocation is refused.
     pub fn new(
         alloc: Global,
         limit: usize,
@@ -99,8 +88,10 @@ impl Books {
         ensures first_xid { IfOk result (λ books. books.forwards.first_xid ≡ first_xid) }
         ensures waiting { IfOk result (λ books. slots_of books.forwards ≡ []) }
         ensures tied { IfOk result (λ books. AreTied meter.old.tie books) }
-        ensures bad { IsErrOf result RegistryFault.BadLimits ↔ (limit < 6) }
-        ensures cost { PaysAtMost meter.old meter.new (66 + 2 * forwards) }
+        ensures bad { IsErrOf result RegistryFault.BadLimits
+            ↔ (limit < length (own_rows listener.now)) }
+        ensures cost { PaysAtMost meter.old meter.new
+            (18 * length (own_rows listener.now) + 2 * forwards) }
     {
         let registry = Registry::new(alloc, limit, own_rows(listener), meter)?;
         let stats = Stats::new(alloc, meter)?;
@@ -133,7 +124,7 @@ impl Books {
         ensures shows { BooksShow (wants_room context.now call.now) self.now result }
         ensures cost { PaysAtMost meter.old meter.new (room_cost self.now) }
     {
-        match row_to_set(call) {
+        match row_to_set(context, call) {
             Some(row) => accepts(&self.registry, context, &row, meter),
             None => false,
         }

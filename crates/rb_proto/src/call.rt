@@ -10,7 +10,7 @@ ghost use Rattle.rb_proto.specs.Answers.{answer, answer_void};
 ghost use Rattle.rb_proto.specs.Puts.{cost_of, ListsIfAsked};
 
 use crate::answers::{Answer, Listing, Results, Value};
-use crate::books::{Books, owner_of};
+use crate::books::Books;
 use crate::context::Context;
 use crate::forwarding::forward_call;
 use crate::lookups::{getaddr, getport, gettime, getversaddr, taddr2uaddr, uaddr2taddr};
@@ -82,7 +82,7 @@ pub fn answer(
     match &call.request {
         Request::Void(procedure) => Answer::Results(answer_void(context, *procedure)),
         Request::Mapping(MappingProcedure::Set, mapping) => {
-            let row = row_of_mapping(owner_of(head.cred), mapping);
+            let row = row_of_mapping(context.owner(head), mapping);
             told(Value::Bool(set_row(books, context, head, row, meter)))
         }
         Request::Mapping(MappingProcedure::Unset, mapping) => {
@@ -94,7 +94,7 @@ pub fn answer(
             told(Value::Number(getport(books, head, mapping, meter)))
         }
         Request::Rpcb(RpcbProcedure::Set, rpcb) => {
-            let row = row_of_rpcb(owner_of(head.cred), rpcb);
+            let row = row_of_rpcb(context.owner(head), rpcb);
             told(Value::Bool(set_row(books, context, head, row, meter)))
         }
         Request::Rpcb(RpcbProcedure::Unset, rpcb) => {
@@ -109,8 +109,7 @@ pub fn answer(
             told(Value::Text(getversaddr(books, context, head, rpcb, meter)))
         }
         Request::Rpcb(RpcbProcedure::Getaddrlist, rpcb) => {
-            let host = context.listener.host;
-            let list = Listing::Entries(rpcb.prog(), rpcb.vers(), host);
+            let list = Listing::Entries(rpcb.prog(), rpcb.vers(), context.hosts());
             Answer::Results(Results::Rows(list))
         }
         Request::Uaddr2taddr(text) => told(Value::Netbuf(uaddr2taddr(text))),

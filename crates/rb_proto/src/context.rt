@@ -1,17 +1,18 @@
 //! What a call sees.
-ghost use Rattle.std.specs.Prelude.{◌≡◌};
-ghost use Rattle.rb_proto.specs.Callers.{peer_of, transport_of_caller};
-ghost use Rattle.rb_proto.specs.Answers.{comes_from_here, netid_asked};
+ghost use Rattle.std.specs.Prelude.{◌≡◌, ◌≤◌};
+ghost use Rattle.rb_proto.specs.Callers.{who_of, netid_of_caller, is_here, may_register, owner_named, owner_of, is_superuser, share_of, share_in, hosts_in};
+ghost use Rattle.rb_proto.specs.Answers.{comes_from_here, owner_in, netid_asked};
 
-use crate::listener::{Listener, is_local};
-use rb_address::{Family, Netid, Peer, Transport};
-use rb_rpc::Caller;
+use crate::listener::Announced;
+use rb_address::{Netid, Owner, Source, Transport, Trust, Who};
+use rb_rpc::{CallHead, Caller, Credential};
+use rb_uaddr::Hosts;
 
-/// What the answer to a call depends on beside the books: the listener, the limits, the moment and the caller.
+/// What the answer to a call depends on beside the books: the announced hosts, the limits, the moment and the caller.
 #[derive(Clone, Copy, PartialEq, Eq, Debug)]
 pub struct Context {
-    /// Where the daemon listens.
-    pub listener: Listener,
+    /// The families that are served, and the host of each.
+    pub announced: Announced,
     /// The greatest number of rows.
     pub limit: usize,
     /// The greatest number of forwarded calls.
@@ -22,44 +23,115 @@ pub struct Context {
     pub caller: Caller,
 }
 
-fn peer_of(caller: &Caller) -> Peer
-    ensures { result ≡ peer_of caller.now }
+fn who_of(caller: &Caller) -> Who
+    ensures { result ≡ who_of caller.now }
 {
     match caller {
-        Caller::Tcp(_, peer) | Caller::Udp(peer) => *peer,
+        Caller::Tcp(_, who) | Caller::Udp(who) => *who,
     }
 }
 
-/// The transport on which a call of this caller came.
-pub(crate) fn transport_of_caller(caller: &Caller) -> Transport
-    ensures { result ≡ transport_of_caller caller.now }
+/// The netid by which a call of this caller came.
+pub(crate) fn netid_of_caller(caller: &Caller) -> Netid
+    ensures { result ≡ netid_of_caller caller.now }
 {
     match caller {
-        Caller::Tcp(..) => Transport::Tcp,
-        Caller::Udp(_) => Transport::Udp,
+        Caller::Tcp(_, who) => who.source.netid(Transport::Tcp),
+        Caller::Udp(who) => who.source.netid(Transport::Udp),
+    }
+}
+
+/// Whom the credential names.
+fn owner_named(cred: Credential) -> Owner
+    ensures { result ≡ owner_named cred }
+{
+    match cred {
+        Credential::None => Owner::Unknown,
+        Credential::Sys(uid) => Owner::Uid(uid),
+    }
+}
+
+/// As whom a caller registers: whose owner is known is that owner, whatever the credential says.
+fn owner_of(trust: Trust, cred: Credential) -> Owner
+    ensures { result ≡ owner_of trust cred }
+{
+    match trust {
+        Trust::Local(owner) => owner,
+        Trust::Claims | Trust::Stranger => owner_named(cred),
+    }
+}
+
+/// Among how many rows an owner may set one more: the last quarter is for uid 0.
+fn share_of(owner: Owner, limit: usize) -> usize
+    ensures share { result ≡ share_of owner limit }
+    ensures within { result ≤ limit }
+{
+    match owner {
+        Owner::SUPERUSER => limit,
+        Owner::Unknown | Owner::Uid(_) => limit - limit / 4,
     }
 }
 
 impl Context {
-    /// Returns whether the caller is on this machine.
+    /// Who called.
+    pub(crate) fn who(&self) -> Who
+        ensures { result ≡ who_of self.now.caller }
+    {
+        who_of(&self.caller)
+    }
+
+    /// Whether a caller from there is of this machine, by its address alone or by a local socket.
+    fn is_here(&self, source: Source) -> bool
+        ensures { result ≡ is_here self.now.announced source }
+    {
+        match source {
+            Source::Inet(peer) => self.announced.is_local(peer.host()),
+            Source::Local => true,
+        }
+    }
+
+    /// Returns whether the caller is on this machine, as far as it is trusted: then it may register.
     #[tactic(auto, unfolding(crate::specs::Answers::comes_from_here))]
     pub(crate) fn comes_from_here(&self) -> bool
         ensures { result ≡ comes_from_here self.now }
     {
-        is_local(&self.listener, peer_of(&self.caller).host())
+        let who = self.who();
+        match who.trust {
+            Trust::Claims => self.is_here(who.source),
+            Trust::Local(_) => true,
+            Trust::Stranger => false,
+        }
     }
 
-    /// The transport on which the call came.
-    pub(crate) fn transport(&self) -> Transport
-        ensures { result ≡ transport_of_caller self.now.caller }
+    /// As whom a call of this head registers.
+    pub(crate) fn owner(&self, head: &CallHead) -> Owner
+        ensures { result ≡ owner_in self.now head.now }
     {
-        transport_of_caller(&self.caller)
+        owner_of(self.who().trust, head.cred)
     }
 
-    /// The netid of that transport over IPv4.
+    /// Among how many rows the caller may set one more.
+    pub(crate) fn share(&self) -> usize
+        ensures share { result ≡ share_in self.now }
+        ensures within { result ≤ self.now.limit }
+    {
+        match self.who().trust {
+            Trust::Local(owner) => share_of(owner, self.limit),
+            Trust::Claims | Trust::Stranger => self.limit,
+        }
+    }
+
+    /// The netid by which the call came.
     pub(crate) fn netid(&self) -> Netid
         ensures { result ≡ netid_asked self.now }
     {
-        Netid::of(self.transport(), Family::Inet)
+        netid_of_caller(&self.caller)
+    }
+
+    /// The hosts that the caller is told in place of 0.0.0.0 and ::.
+    pub(crate) fn hosts(&self) -> Hosts
+        ensures { result ≡ hosts_in self.now }
+    {
+        self.announced.hosts_told(self.who().asked)
     }
 }

@@ -8,25 +8,28 @@ ghost use Rattle.rb_forward.specs.StandsFor.{slots_of};
 ghost use Rattle.rb_forward.specs.Table.{IsNew};
 ghost use Rattle.rb_proto.specs.Books.{ActsAs, ForwardsAs, AreTied, OnlyCallerWaits, SameFrame, StayUnlessForwarded, note_asked};
 ghost use Rattle.rb_arguments.specs.Remote.{HasContent};
-ghost use Rattle.rb_proto.specs.Forwarding.{version_of_kind, is_indirect, is_pass, ipv4_peer_at, peer_of_row, peer_to_forward, merged_peer, uaddr_at, forward_of, refusal, refuse, end_note};
+ghost use Rattle.rb_proto.specs.Forwarding.{version_of_kind, is_indirect, is_pass, netid_to_forward, address_of_row, address_asked, peer_of_address, merged_peer, uaddr_at, forward_of, refusal, refuse, end_note};
 ghost use Rattle.rb_proto.specs.Costs.{note_cost};
 ghost use Rattle.rb_proto.specs.Puts.{forwarding_cost, shows_rows};
 
 use crate::answers::Answer;
 use crate::books::Books;
-use crate::context::{Context, transport_of_caller};
+use crate::context::{Context, netid_of_caller};
 use crate::netids::address_in;
-use rb_address::{Host, Netid, Peer};
+use rb_address::{Host, Netid, Peer, Source, Transport};
 use rb_arguments::RemoteCall;
 use rb_forward::{Ended, Forward, Outcome};
 use rb_registry::{RPCB_PROG, Registry, Row};
 use rb_rpc::{Caller, Kind, ReplyStatus};
 use rb_stats::{Stats, Target, Version};
-use rb_uaddr::{Uaddr, merge_host};
+use rb_uaddr::{Hosts, Uaddr};
 use rb_xdr::Meter;
 
 /// Where a call to every host of the listener goes.
-const LOOPBACK: [u8; 4] = [127, 0, 0, 1];
+const LOOPBACKS: Hosts = Hosts {
+    inet: [127, 0, 0, 1],
+    inet6: [0, 0, 0, 0, 0, 0, 0, 0, 0, 0, 0, 0, 0, 0, 0, 1],
+};
 
 fn version_of_kind(kind: Kind) -> Version
     ensures { result ≡ version_of_kind kind }
@@ -59,7 +62,7 @@ fn note_outcome(stats: &mut Stats, asked: Asked, passed: bool, meter: &mut Meter
     let target = Target {
         prog: asked.prog,
         vers: asked.vers,
-        transport: transport_of_caller(&asked.caller),
+        netid: netid_of_caller(&asked.caller),
     };
     let indirect = matches!(asked.kind, Kind::Indirect);
     stats.note_remote(
@@ -99,47 +102,57 @@ pub(crate) fn note_end(stats: &mut Stats, ended: &Ended, meter: &mut Meter)
     note_outcome(stats, asked, passed, meter);
 }
 
-/// The host and the port of an IPv4 address.
-#[tactic(auto, unfolding(rb_address::specs::Hosts::plain_host))]
-fn ipv4_peer_at(address: Uaddr) -> Option<Peer>
-    ensures { result ≡ ipv4_peer_at address }
+/// By which datagrams a call of a caller from there is forwarded: over IPv6 for a caller of IPv6, else over IPv4.
+fn netid_to_forward(source: Source) -> Netid
+    ensures { result ≡ netid_to_forward source }
 {
-    match address {
-        Uaddr::V4(host, port) => Some(Peer::new(Host::V4(host), port)),
-        Uaddr::V6(..) => None,
+    match source {
+        Source::Inet(peer) => Netid::of(Transport::Udp, peer.host().family()),
+        Source::Local => Netid::Udp,
     }
 }
 
-fn peer_of_row(row: &Row) -> Option<Peer>
-    ensures { result ≡ peer_of_row row.now }
+fn address_of_row(row: &Row) -> Option<Uaddr>
+    ensures { result ≡ address_of_row row.now }
 {
-    ipv4_peer_at(address_in(row.netid, &row.addr)?)
+    address_in(row.netid, &row.addr)
 }
 
-/// Where the program's exact version is on udp. The portmapper itself is not called.
-#[tactic(auto, unfolding(crate::specs::Forwarding::peer_to_forward))]
-fn peer_to_forward(registry: &Registry, remote: &RemoteCall, meter: &mut Meter) -> Option<Peer>
+/// Where the program's exact version is, for this caller. The portmapper itself is not called.
+#[tactic(auto, unfolding(crate::specs::Forwarding::address_to_forward))]
+fn address_asked(
+    registry: &Registry,
+    context: &Context,
+    remote: &RemoteCall,
+    meter: &mut Meter,
+) -> Option<Uaddr>
     requires { meter.old.tie ≡ registry.now.tie }
-    ensures peer { result
-        ≡ peer_to_forward remote.now.prog remote.now.vers (rows_of registry.now) }
+    ensures address { result ≡ address_asked context.now remote.now (rows_of registry.now) }
     ensures cost { PaysAtMost meter.old meter.new (looks registry.now.limit + 1) }
 {
     if remote.prog == RPCB_PROG {
         return None;
     }
-    let row = registry.find_exact(remote.prog, remote.vers, Netid::Udp, meter)?;
-    peer_of_row(row)
+    let netid = netid_to_forward(context.who().source);
+    let row = registry.find_exact(remote.prog, remote.vers, netid, meter)?;
+    address_of_row(row)
 }
 
-/// The same port, of another host in place of 0.0.0.0. Each IPv6 host stays.
-#[tactic(auto, unfolding(rb_address::specs::Hosts::plain_host))]
-fn merged_peer(host: [u8; 4], peer: Peer) -> Peer
-    ensures { result ≡ merged_peer host peer }
+/// The peer at a universal address.
+fn peer_of_address(address: Uaddr) -> Peer
+    ensures { result ≡ peer_of_address address }
 {
-    match peer.host() {
-        Host::V4(own) => Peer::new(Host::V4(merge_host(host, own)), peer.port()),
-        Host::V6(_) => peer,
+    match address {
+        Uaddr::V4(host, port) => Peer::new(Host::V4(host), port),
+        Uaddr::V6(host, port) => Peer::new(Host::V6(host), port),
     }
+}
+
+/// The peer at a universal address, with a host of its family in place of 0.0.0.0 or ::.
+fn merged_peer(hosts: &Hosts, registered: Uaddr) -> Peer
+    ensures { result ≡ merged_peer hosts.now registered }
+{
+    peer_of_address(registered.merge(hosts))
 }
 
 /// The universal address of a peer.
@@ -152,15 +165,15 @@ pub(crate) fn uaddr_at(peer: Peer) -> Uaddr
     }
 }
 
-/// What is asked at the registered host and port, for a call of this xid. In place of 0.0.0.0 the call goes to 127.0.0.1,
-/// and the listener's host is shown.
+/// What is asked at the registered address, for a call of this xid. In place of 0.0.0.0 the call goes to 127.0.0.1, in
+/// place of :: to ::1, and the caller is shown the host that it is told.
 #[tactic(auto, unfolding(crate::specs::Forwarding::forward_of))]
 fn forward_of(
     context: &Context,
     xid: u32,
     kind: Kind,
     remote: &RemoteCall,
-    registered: Peer,
+    registered: Uaddr,
 ) -> Forward
     ensures forward { result ≡ forward_of context.now xid kind remote.now registered }
     ensures caller { result.caller ≡ context.now.caller }
@@ -169,8 +182,8 @@ fn forward_of(
         caller: context.caller,
         xid,
         kind,
-        target: merged_peer(LOOPBACK, registered),
-        shown: merged_peer(context.listener.host, registered),
+        target: merged_peer(&LOOPBACKS, registered),
+        shown: merged_peer(&context.hosts(), registered),
         prog: remote.prog,
         vers: remote.vers,
         proc: remote.proc,
@@ -241,7 +254,7 @@ pub(crate) fn forward_call(
     ensures frame { SameFrame books.old books.new }
     ensures cost { PaysAtMost meter.old meter.new (forwarding_cost books.old (length arguments.now)) }
 {
-    let Some(registered) = peer_to_forward(&books.registry, remote, meter) else {
+    let Some(registered) = address_asked(&books.registry, context, remote, meter) else {
         return refuse(
             books,
             context,

@@ -7,8 +7,10 @@ ghost use Rattle.rb_proto.specs.Results.{mapping_of, rpcb_of, entry_of};
 use crate::lookups::{shown_port, shown_text};
 use crate::netids::{family_text, prot_on, proto_text, semantics_of};
 use itoa::Buffer;
+use rb_address::Owner;
 use rb_arguments::{Entry, Mapping, Rpcb};
-use rb_registry::{Owner, Row};
+use rb_registry::Row;
+use rb_uaddr::Hosts;
 use rb_xdr::Text;
 
 /// The owner as DUMP shows it: `unknown`, `superuser` for uid 0, or the uid in decimal, whose digits stand in the buffer.
@@ -49,12 +51,12 @@ pub(crate) fn rpcb_of(row: &Row) -> Rpcb
     }
 }
 
-/// An item of GETADDRLIST, with this host in place of 0.0.0.0.
-pub(crate) fn entry_of(host: [u8; 4], row: &Row) -> Entry
-    ensures { result ≡ entry_of host row.now }
+/// An item of GETADDRLIST, with these hosts in place of 0.0.0.0 and ::.
+pub(crate) fn entry_of(hosts: &Hosts, row: &Row) -> Entry
+    ensures { result ≡ entry_of hosts.now row.now }
 {
     Entry {
-        maddr: shown_text(host, row),
+        maddr: shown_text(hosts, row),
         netid: Text::new(row.netid.text().as_bytes()),
         semantics: semantics_of(row.netid),
         protofmly: Text::new(family_text(row.netid)),

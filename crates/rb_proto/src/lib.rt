@@ -25,6 +25,6 @@ pub use context::Context;
 pub use forwarding::refusal;
 pub use laws::{forwards_are_noted_once, forwards_go_to_rows, list_replies_go_on};
 pub use list_reply::{ListPart, ListReply};
-pub use listener::Listener;
+pub use listener::{Announced, Listener, own_row_count};
 pub use put::{put_forwarded, put_results};
 pub use worked::{worked_examples, worked_forwards, worked_lists, worked_netids};

@@ -1,63 +1,189 @@
 //! Where the daemon listens.
-ghost use Rattle.std.specs.Prelude.{IsTrue, ◌≡◌};
+ghost use Rattle.std.specs.Prelude.{IsTrue, ◌≡◌, ◌++◌, ◌≤◌, length};
 ghost use Rattle.rb_registry.specs.Registry.{AreOwn};
 ghost use Rattle.rb_registry.specs.Rows.{are_distinct};
-ghost use Rattle.rb_proto.specs.Callers.{own_row, own_rows, is_local};
+ghost use Rattle.rb_proto.specs.Callers.{own_row, own_pair, own_three, own_inet6, own_inet, own_local, own_rows, is_local, announced_hosts, hosts_told};
 
-use rb_address::{Host, Netid};
-use rb_registry::{Owner, RPCB_PROG, Row};
-use rb_uaddr::Uaddr;
+use arrayvec::ArrayVec;
+use rb_address::{Host, Netid, Owner};
+use rb_registry::{MOST_OWN_ROWS, RPCB_PROG, Row};
+use rb_uaddr::{AddressText, Hosts, Uaddr};
 
-/// The host and the port of the daemon's own TCP and UDP sockets.
+/// Which families are served, and the host of each that is told to who asked no host of it: 0.0.0.0 or :: where none is.
 #[derive(Clone, Copy, PartialEq, Eq, Debug)]
+pub struct Announced {
+    /// The IPv4 host, its most significant byte first; `None` where IPv4 is not served.
+    pub inet: Option<[u8; 4]>,
+    /// The IPv6 host, its most significant byte first; `None` where IPv6 is not served.
+    pub inet6: Option<[u8; 16]>,
+}
+
+/// Where the daemon listens.
+#[derive(Clone, PartialEq, Eq, Debug, Drop)]
 pub struct Listener {
-    /// The IPv4 host, its most significant byte first; 0.0.0.0 stands for every address of the machine.
-    pub host: [u8; 4],
-    /// The port of both.
+    /// The families over which it is reached.
+    pub announced: Announced,
+    /// The port of its sockets of TCP and UDP.
     pub port: u16,
+    /// The path of its local socket, where it has one.
+    pub local: Option<AddressText>,
 }
 
 /// Names each field, so that a further one does not compile until it stands here. It belongs in the table of
 /// charges of docs/RULES.md first.
 fn layout(listener: &Listener) {
-    let Listener { host, port } = *listener;
-    let _: ([u8; 4], u16) = (host, port);
+    let Listener {
+        announced,
+        port,
+        local,
+    } = listener;
+    let Announced { inet, inet6 } = *announced;
+    let _: (Option<[u8; 4]>, Option<[u8; 16]>) = (inet, inet6);
+    let _: u16 = *port;
+    let _: &Option<AddressText> = local;
 }
 
 /// The row of the portmapper's own version on a netid.
-fn own_row(listener: &Listener, vers: u32, netid: Netid) -> Row
-    ensures { result ≡ own_row listener.now vers netid }
+fn own_row(netid: Netid, addr: &AddressText, vers: u32) -> Row
+    ensures { result ≡ own_row netid addr.now vers }
 {
     Row {
         prog: RPCB_PROG,
         vers,
         netid,
         owner: Owner::SUPERUSER,
-        addr: Uaddr::any(listener.port).text(),
+        addr: AddressText::new(addr.as_slice()),
     }
 }
 
-/// The rows of the portmapper itself: versions 4, 3 and 2, on tcp and then on udp, at the listener's port of every host.
-#[tactic(auto, unfolding(crate::specs::Callers::own_rows, rb_registry::specs::Rows::is_row, rb_registry::specs::Rows::is_on, rb_address::specs::Netids::is_netid))]
-pub(crate) fn own_rows(listener: &Listener) -> [Row; 6]
-    ensures rows { result ≡ own_rows listener.now }
-    ensures own { AreOwn result }
-    ensures distinct { IsTrue (are_distinct result) }
+/// Pushes the rows of versions 4 and 3 on a netid.
+fn push_pair(rows: &mut ArrayVec<Row, MOST_OWN_ROWS>, netid: Netid, addr: &AddressText)
+    requires { length rows.old.items ≤ 10 }
+    ensures { rows.new.items ≡ rows.old.items ++ own_pair netid addr.now }
 {
-    [
-        own_row(listener, 4, Netid::Tcp),
-        own_row(listener, 3, Netid::Tcp),
-        own_row(listener, 2, Netid::Tcp),
-        own_row(listener, 4, Netid::Udp),
-        own_row(listener, 3, Netid::Udp),
-        own_row(listener, 2, Netid::Udp),
-    ]
+    rows.push(own_row(netid, addr, 4));
+    rows.push(own_row(netid, addr, 3));
 }
 
-/// Returns whether the host is this machine's by its address alone: of 127.0.0.0/8, ::1, or the announced host.
-#[tactic(auto, unfolding(crate::specs::Callers::is_local))]
-pub(crate) fn is_local(listener: &Listener, host: Host) -> bool
-    ensures { result ≡ is_local listener.now host }
+/// Pushes the rows of versions 4, 3 and 2 on a netid.
+fn push_three(rows: &mut ArrayVec<Row, MOST_OWN_ROWS>, netid: Netid, addr: &AddressText)
+    requires { length rows.old.items ≤ 9 }
+    ensures { rows.new.items ≡ rows.old.items ++ own_three netid addr.now }
 {
-    host.is_loopback() || host == Host::V4(listener.host)
+    rows.push(own_row(netid, addr, 4));
+    rows.push(own_row(netid, addr, 3));
+    rows.push(own_row(netid, addr, 2));
+}
+
+/// The rows over IPv6, where it is served.
+fn push_inet6(rows: &mut ArrayVec<Row, MOST_OWN_ROWS>, listener: &Listener)
+    requires { length rows.old.items ≡ 0 }
+    ensures { rows.new.items ≡ own_inet6 listener.now.port listener.now.announced.inet6 }
+{
+    if listener.announced.inet6.is_some() {
+        let addr = Uaddr::any6(listener.port).text();
+        push_pair(rows, Netid::Tcp6, &addr);
+        push_pair(rows, Netid::Udp6, &addr);
+    }
+}
+
+/// The rows over IPv4, where it is served.
+fn push_inet(rows: &mut ArrayVec<Row, MOST_OWN_ROWS>, listener: &Listener)
+    requires { length rows.old.items ≤ 4 }
+    ensures { rows.new.items
+        ≡ rows.old.items ++ own_inet listener.now.port listener.now.announced.inet }
+{
+    if listener.announced.inet.is_some() {
+        let addr = Uaddr::any(listener.port).text();
+        push_three(rows, Netid::Tcp, &addr);
+        push_three(rows, Netid::Udp, &addr);
+    }
+}
+
+/// The rows of the local socket, where there is one.
+fn push_local(rows: &mut ArrayVec<Row, MOST_OWN_ROWS>, listener: &Listener)
+    requires { length rows.old.items ≤ 10 }
+    ensures { rows.new.items ≡ rows.old.items ++ own_local listener.now.local }
+{
+    if let Some(path) = &listener.local {
+        push_pair(rows, Netid::Local, path);
+    }
+}
+
+/// The rows of the portmapper itself: versions 4 and 3 on each netid that is served, and version 2 on tcp and udp. Over
+/// IPv4 and IPv6 they are at the listener's port of every host, on local at the socket's path.
+#[tactic(auto, using(crate::proofs::OwnRows::are_own, crate::proofs::OwnRows::are_distinct_rows), unfolding(crate::specs::Callers::own_rows))]
+pub(crate) fn own_rows(listener: &Listener) -> ArrayVec<Row, MOST_OWN_ROWS>
+    ensures rows { result.items ≡ own_rows listener.now }
+    ensures own { AreOwn result.items }
+    ensures distinct { IsTrue (are_distinct result.items) }
+{
+    let mut rows = ArrayVec::new();
+    push_inet6(&mut rows, listener);
+    push_inet(&mut rows, listener);
+    push_local(&mut rows, listener);
+    rows
+}
+
+/// How many rows of the portmapper itself there are: 0 to 12.
+#[tactic(auto, unfolding(crate::specs::Callers::own_rows))]
+pub fn own_row_count(listener: &Listener) -> usize
+    ensures count { result ≡ length (own_rows listener.now) }
+    ensures few { result ≤ 12 }
+{
+    let inet6 = if listener.announced.inet6.is_some() {
+        4
+    } else {
+        0
+    };
+    let inet = if listener.announced.inet.is_some() {
+        6
+    } else {
+        0
+    };
+    let local = if listener.local.is_some() { 2 } else { 0 };
+    inet6 + inet + local
+}
+
+impl Announced {
+    /// Whether the host is this machine's by its address alone: of 127.0.0.0/8, ::1, or the announced host of its family.
+    #[tactic(auto, unfolding(crate::specs::Callers::is_local))]
+    pub(crate) fn is_local(&self, host: Host) -> bool
+        ensures { result ≡ is_local self.now host }
+    {
+        host.is_loopback()
+            || match host {
+                Host::V4(octets) => self.inet == Some(octets),
+                Host::V6(octets) => self.inet6 == Some(octets),
+            }
+    }
+
+    /// The announced host of each family, every host where none is.
+    fn hosts(&self) -> Hosts
+        ensures { result ≡ announced_hosts self.now }
+    {
+        Hosts {
+            inet: self.inet.unwrap_or([0; 4]),
+            inet6: self.inet6.unwrap_or([0; 16]),
+        }
+    }
+
+    /// What a caller is told in place of every host of a family: the host that it asked, where that is one of the family;
+    /// else the announced one.
+    #[tactic(auto, unfolding(crate::specs::Callers::hosts_told))]
+    pub(crate) fn hosts_told(&self, asked: Host) -> Hosts
+        ensures { result ≡ hosts_told self.now asked }
+    {
+        let hosts = self.hosts();
+        match asked {
+            Host::V4(asked) => Hosts {
+                inet: hosts.merge_inet(asked),
+                ..hosts
+            },
+            Host::V6(asked) => Hosts {
+                inet6: hosts.merge_inet6(asked),
+                ..hosts
+            },
+        }
+    }
 }

@@ -5,7 +5,8 @@ ghost use Rattle.rb_proto.specs.Books.{ActsAs, AreTied, SameFrame};
 ghost use Rattle.rb_proto.specs.Ledger.{version_of};
 ghost use Rattle.rb_stats.specs.Statistics.Note.{LookedUp};
 ghost use Rattle.rb_stats.specs.Counting.{HasNoted};
-ghost use Rattle.rb_proto.specs.Answers.{shown_address, shown_text, shown_port, port_found, addr_found, getport, getaddr, getversaddr, target_of, seconds, taddr_of, uaddr_of};
+ghost use Rattle.rb_proto.specs.Answers.{shown_address, shown_text, shown_port, port_found, is_replaced, addr_told, addr_found, getport, getaddr, getversaddr, target_of, seconds, taddr_of, uaddr_of};
+ghost use Rattle.rb_uaddr.specs.Uaddr.{text_of};
 ghost use Rattle.rb_proto.specs.Costs.{note_cost};
 ghost use Rattle.rb_proto.specs.Puts.{lookup_cost};
 
@@ -18,27 +19,46 @@ use rb_arguments::{LentNetbuf, LentRpcb, LentText, Mapping};
 use rb_registry::Row;
 use rb_rpc::CallHead;
 use rb_stats::{Stats, Target};
-use rb_uaddr::{MAX_KEPT, MAX_TEXT, Uaddr};
+use rb_uaddr::{Hosts, MAX_KEPT, Uaddr};
 use rb_xdr::{Meter, Text};
 
-/// The row's universal address as a caller is told it: the listener's host stands in for 0.0.0.0.
+const ANY_HOST6: [u8; 16] = [0; 16];
+
+/// The row's universal address as a caller is told it: a host of its family stands in for 0.0.0.0 or ::.
 #[tactic(auto, unfolding(crate::specs::Answers::shown_address))]
-fn shown_address(host: [u8; 4], row: &Row) -> Option<Uaddr>
-    ensures { result ≡ shown_address host row.now }
+fn shown_address(hosts: &Hosts, row: &Row) -> Option<Uaddr>
+    ensures { result ≡ shown_address hosts.now row.now }
 {
-    Some(address_in(row.netid, &row.addr)?.merge(host))
+    Some(address_in(row.netid, &row.addr)?.merge(hosts))
 }
 
-/// The text of the row's address as a list of addresses has it: the listener's host stands in for 0.0.0.0, and any text
-/// that is no IPv4 address stays as it was set.
-#[tactic(auto, unfolding(crate::specs::Answers::shown_text))]
-pub(crate) fn shown_text(host: [u8; 4], row: &Row) -> Text<MAX_KEPT>
-    ensures { result ≡ shown_text host row.now }
+/// Whether the IPv6 host is :: and another stands in for it.
+fn is_replaced(hosts: &Hosts, own: [u8; 16]) -> bool
+    ensures { result ≡ is_replaced hosts.now own }
 {
-    match shown_address(host, row) {
-        Some(Uaddr::V4(own, port)) => Text::new(Uaddr::V4(own, port).text().as_slice()),
+    own == ANY_HOST6 && hosts.inet6 != ANY_HOST6
+}
+
+/// The text of the row's address as a list of addresses has it: a host of its family stands in for 0.0.0.0 or ::, and
+/// any other text that is no IPv4 address stays as it was set.
+#[tactic(auto, unfolding(crate::specs::Answers::shown_text))]
+pub(crate) fn shown_text(hosts: &Hosts, row: &Row) -> Text<MAX_KEPT>
+    ensures { result ≡ shown_text hosts.now row.now }
+{
+    match address_in(row.netid, &row.addr) {
+        Some(Uaddr::V4(own, port)) => text_of(Uaddr::V4(own, port).merge(hosts)),
+        Some(Uaddr::V6(own, port)) if is_replaced(hosts, own) => {
+            text_of(Uaddr::V6(hosts.inet6, port))
+        }
         Some(Uaddr::V6(..)) | None => Text::new(row.addr.as_slice()),
     }
+}
+
+/// The text of a universal address.
+fn text_of(address: Uaddr) -> Text<MAX_KEPT>
+    ensures { result ≡ text_of address }
+{
+    Text::new(address.text().as_slice())
 }
 
 /// The port of the row's address, 0 where it has none.
@@ -59,24 +79,34 @@ fn port_found(found: Option<&Row>) -> u32
     }
 }
 
-/// The address of a row that was looked up, the empty text where there is none.
-fn addr_found(host: [u8; 4], found: Option<&Row>) -> Text<MAX_TEXT>
-    ensures { result ≡ addr_found host (option_copied found.entry) }
+/// The address of a row as it is told to who looks it up: the name of a local socket stays as it was set.
+fn addr_told(hosts: &Hosts, row: &Row) -> Text<MAX_KEPT>
+    ensures { result ≡ addr_told hosts.now row.now }
 {
-    match found.and_then(|row| shown_address(host, row)) {
-        Some(address) => Text::new(address.text().as_slice()),
+    match shown_address(hosts, row) {
+        Some(address) => text_of(address),
+        None => Text::new(row.addr.as_slice()),
+    }
+}
+
+/// The address of a row that was looked up, the empty text where there is none.
+fn addr_found(hosts: &Hosts, found: Option<&Row>) -> Text<MAX_KEPT>
+    ensures { result ≡ addr_found hosts.now (option_copied found.entry) }
+{
+    match found {
+        Some(row) => addr_told(hosts, row),
         None => Text::new(&[]),
     }
 }
 
-/// What a call asks for on its own transport.
+/// What a call asks for on the netid by which it came.
 fn target_of(context: &Context, rpcb: &LentRpcb) -> Target
     ensures { result ≡ target_of context.now rpcb.now }
 {
     Target {
         prog: rpcb.prog(),
         vers: rpcb.vers(),
-        transport: context.transport(),
+        netid: context.netid(),
     }
 }
 
@@ -109,12 +139,12 @@ pub(crate) fn getport(
     let Some(transport) = Transport::of_protocol(mapping.prot) else {
         return 0;
     };
+    let netid = Netid::of(transport, Family::Inet);
     let target = Target {
         prog: mapping.prog,
         vers: mapping.vers,
-        transport,
+        netid,
     };
-    let netid = Netid::of(transport, Family::Inet);
     let found = books
         .registry
         .find(mapping.prog, mapping.vers, netid, meter);
@@ -123,7 +153,7 @@ pub(crate) fn getport(
     port
 }
 
-/// RPCBPROC_GETADDR (RFC 1833 section 2.2.1), on the transport of the call: the netid of the argument is ignored. The
+/// RPCBPROC_GETADDR (RFC 1833 section 2.2.1), on the netid by which the call came: that of the argument is ignored. The
 /// look-up is noted.
 #[tactic(auto, unfolding(crate::specs::Answers::getaddr))]
 pub(crate) fn getaddr(
@@ -132,7 +162,7 @@ pub(crate) fn getaddr(
     head: &CallHead,
     rpcb: &LentRpcb,
     meter: &mut Meter,
-) -> Text<MAX_TEXT>
+) -> Text<MAX_KEPT>
     requires { AreTied meter.old.tie books.old }
     ensures acts { ActsAs (getaddr context.now head.now rpcb.now) books.old books.new result }
     ensures registry { books.new.registry ≡ books.old.registry }
@@ -143,7 +173,7 @@ pub(crate) fn getaddr(
     let found = books
         .registry
         .find(rpcb.prog(), rpcb.vers(), context.netid(), meter);
-    let addr = addr_found(context.listener.host, found);
+    let addr = addr_found(&context.hosts(), found);
     let target = target_of(context, rpcb);
     note_lookup(&mut books.stats, head, target, found.is_some(), meter);
     addr
@@ -157,7 +187,7 @@ pub(crate) fn getversaddr(
     head: &CallHead,
     rpcb: &LentRpcb,
     meter: &mut Meter,
-) -> Text<MAX_TEXT>
+) -> Text<MAX_KEPT>
     requires { AreTied meter.old.tie books.old }
     ensures acts { ActsAs (getversaddr context.now head.now rpcb.now) books.old books.new result }
     ensures registry { books.new.registry ≡ books.old.registry }
@@ -168,7 +198,7 @@ pub(crate) fn getversaddr(
     let found = books
         .registry
         .find_exact(rpcb.prog(), rpcb.vers(), context.netid(), meter);
-    let addr = addr_found(context.listener.host, found);
+    let addr = addr_found(&context.hosts(), found);
     let target = target_of(context, rpcb);
     note_lookup(&mut books.stats, head, target, found.is_some(), meter);
     addr
@@ -195,11 +225,11 @@ pub(crate) fn uaddr2taddr(text: &LentText<128>) -> AddressBuf
 
 /// RPCBPROC_TADDR2UADDR (RFC 1833 section 2.2.1): the empty text where the buf is no address.
 #[tactic(auto, unfolding(crate::specs::Answers::uaddr_of))]
-pub(crate) fn taddr2uaddr(netbuf: &LentNetbuf) -> Text<MAX_TEXT>
+pub(crate) fn taddr2uaddr(netbuf: &LentNetbuf) -> Text<MAX_KEPT>
     ensures { result ≡ uaddr_of netbuf.now }
 {
     match Uaddr::from_transport(netbuf.buf()) {
-        Ok(address) => Text::new(address.text().as_slice()),
+        Ok(address) => text_of(address),
         Err(_) => Text::new(&[]),
     }
 }

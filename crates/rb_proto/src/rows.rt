@@ -15,6 +15,7 @@ use crate::items::{entry_of, mapping_of, owner_text, rpcb_of};
 use itoa::Buffer;
 use rb_address::Netid;
 use rb_registry::{Cursor, Registry, Row, Which};
+use rb_uaddr::Hosts;
 use rb_xdr::{Kept, Meter, Xdr, write_opaque};
 
 /// TRUE and a mapping, in bytes.
@@ -45,7 +46,7 @@ fn room_after_row(list: Listing, row: &Row, room: usize) -> Option<usize>
     match list {
         Listing::Mappings => room.checked_sub(MAPPING_ITEM),
         Listing::Rpcbs => (true, rpcb_of(row)).room_after(room),
-        Listing::Entries(_, _, host) => (true, entry_of(host, row)).room_after(room),
+        Listing::Entries(_, _, hosts) => (true, entry_of(&hosts, row)).room_after(room),
     }
 }
 
@@ -152,14 +153,14 @@ fn write_rpcb(row: &Row, out: &mut Kept, meter: &mut Meter)
 }
 
 /// Writes TRUE and the entry of a row. They are short, and the buffer has room for them if they are.
-fn write_entry(host: [u8; 4], row: &Row, out: &mut Kept, meter: &mut Meter)
+fn write_entry(hosts: &Hosts, row: &Row, out: &mut Kept, meter: &mut Meter)
     requires tie { meter.old.tie ≡ out.old.tie }
-    requires room { FitsIfShort (entry_item host row.now) out.old }
-    ensures short { IsShort (entry_item host row.now) }
-    ensures written { Appends (entry_item host row.now) out.old out.new }
-    ensures cost { Pays meter.old meter.new (length (entry_item host row.now)) }
+    requires room { FitsIfShort (entry_item hosts.now row.now) out.old }
+    ensures short { IsShort (entry_item hosts.now row.now) }
+    ensures written { Appends (entry_item hosts.now row.now) out.old out.new }
+    ensures cost { Pays meter.old meter.new (length (entry_item hosts.now row.now)) }
 {
-    let entry = entry_of(host, row);
+    let entry = entry_of(hosts, row);
     entry.within_limits();
     true.write(out, meter);
     entry.write(out, meter);
@@ -183,7 +184,7 @@ pub(crate) fn write_row(list: Listing, row: &Row, out: &mut Kept, meter: &mut Me
             let _ = out.extend(&mapping_item(row), meter);
         }
         Listing::Rpcbs => write_rpcb(row, out, meter),
-        Listing::Entries(_, _, host) => write_entry(host, row, out, meter),
+        Listing::Entries(_, _, hosts) => write_entry(&hosts, row, out, meter),
     }
 }
 

@@ -7,15 +7,15 @@ ghost use Rattle.rb_proto.specs.Puts.{removal_cost};
 ghost use Rattle.rb_registry.specs.Registry.{rows_of};
 ghost use Rattle.rb_registry.specs.Cursors.{GoesOn};
 ghost use Rattle.rb_proto.specs.Books.{ActsAs, AreTied, SameFrame, HasRoomFor};
-ghost use Rattle.rb_proto.specs.Answers.{row_of_mapping, row_of_rpcb, can_be_set, row_to_set, accepts, set_row, unset_rows};
+ghost use Rattle.rb_proto.specs.Answers.{row_of_mapping, row_of_rpcb, can_be_set, row_to_set, has_share, accepts, set_row, unset_rows};
 
-use crate::books::{Books, owner_of, version_of};
+use crate::books::{Books, version_of};
 use crate::call::Call;
 use crate::context::Context;
 use crate::netids::is_address;
-use rb_address::{Family, Netid, Transport};
+use rb_address::{Family, Netid, Owner, Transport};
 use rb_arguments::{LentRpcb, Mapping, MappingProcedure, Request, RpcbProcedure};
-use rb_registry::{Owner, RPCB_PROG, Registry, Row, Which};
+use rb_registry::{RPCB_PROG, Registry, Row, Which};
 use rb_rpc::CallHead;
 use rb_uaddr::{AddressText, Uaddr};
 use rb_xdr::Meter;
@@ -53,10 +53,10 @@ pub(crate) fn row_of_rpcb(owner: Owner, rpcb: &LentRpcb) -> Option<Row>
 
 /// The row that a call asks to SET, if it does.
 #[tactic(auto, unfolding(crate::specs::Answers::row_to_set))]
-pub(crate) fn row_to_set(call: &Call) -> Option<Row>
-    ensures { result ≡ row_to_set call.now }
+pub(crate) fn row_to_set(context: &Context, call: &Call) -> Option<Row>
+    ensures { result ≡ row_to_set context.now call.now }
 {
-    let owner = owner_of(call.head.cred);
+    let owner = context.owner(&call.head);
     match &call.request {
         Request::Mapping(MappingProcedure::Set, mapping) => row_of_mapping(owner, mapping),
         Request::Rpcb(RpcbProcedure::Set, rpcb) => row_of_rpcb(owner, rpcb),
@@ -72,6 +72,16 @@ fn can_be_set(row: &Row) -> bool
     row.prog != RPCB_PROG && is_address(row.netid, &row.addr)
 }
 
+/// Whether the live rows are fewer than those among which the caller may set one more.
+#[tactic(auto, unfolding(crate::specs::Answers::has_share))]
+fn has_share(registry: &Registry, context: &Context, meter: &mut Meter) -> bool
+    requires { meter.old.tie ≡ registry.now.tie }
+    ensures share { result ≡ has_share context.now (rows_of registry.now) }
+    ensures cost { PaysAtMost meter.old meter.new 1 }
+{
+    registry.len(meter) < context.share()
+}
+
 /// Whether a SET of the row is accepted.
 pub(crate) fn accepts(registry: &Registry, context: &Context, row: &Row, meter: &mut Meter) -> bool
     requires tie { meter.old.tie ≡ registry.now.tie }
@@ -83,11 +93,11 @@ pub(crate) fn accepts(registry: &Registry, context: &Context, row: &Row, meter: 
     if !context.comes_from_here() || !can_be_set(row) {
         return false;
     }
-    let found = registry.find_exact(row.prog, row.vers, row.netid, meter);
-    if found.is_some() {
+    if !has_share(registry, context, meter) {
         return false;
     }
-    if context.limit <= registry.len(meter) {
+    let found = registry.find_exact(row.prog, row.vers, row.netid, meter);
+    if found.is_some() {
         return false;
     }
     registry.stamp() < u64::MAX
@@ -110,12 +120,15 @@ pub(crate) fn set_row(
     ensures floor { books.new.registry.floor ≡ books.old.registry.floor }
     ensures forwards { books.new.forwards ≡ books.old.forwards }
     ensures frame { SameFrame books.old books.new }
-    ensures cost { PaysAtMost meter.old meter.new (set_cost books.old.registry) }
+    ensures cost { PaysAtMost meter.old meter.new (set_cost books.old.registry + 1) }
 {
     let Some(row) = row else {
         return false;
     };
     if !context.comes_from_here() || !can_be_set(&row) {
+        return false;
+    }
+    if !has_share(&books.registry, context, meter) {
         return false;
     }
     let added = books.registry.set(row, meter);
@@ -152,7 +165,7 @@ pub(crate) fn unset_rows(
     if !context.comes_from_here() {
         return false;
     }
-    let owner = owner_of(head.cred);
+    let owner = context.owner(head);
     let removed = books.registry.unset(prog, vers, which, owner, meter);
     if removed {
         books.stats.note_unset(version_of(head.vers));

@@ -1,3 +1,4 @@
 pub mod Prints
+pub mod Written
 pub mod RunTexts
 pub mod Tapes

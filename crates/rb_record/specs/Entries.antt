@@ -1,8 +1,12 @@
 -- Lines of events, as they are written, and what is written of a run.
-use Rattle.std.specs.Prelude.{ℕ, List, [], ◌∷◌, ◌++◌, slice_index, codes}
+use Rattle.std.specs.Prelude.{ℕ, List, [], ◌∷◌, ◌++◌, Option, Some, None, codes}
 use Rattle.std.specs.Fmt.{decimal}
 use Rattle.std.specs.List.{concat}
-use Rattle.rb_address.specs.Peers.{peer_text}
+use Rattle.rb_address.specs.declared.host.Host.{Host}
+use Rattle.rb_address.specs.declared.host.Host.TheVariants.{V4, V6}
+use Rattle.rb_address.specs.declared.who.Who.{Who}
+use Rattle.rb_address.specs.Callers.{who_text}
+use Rattle.rb_address.specs.Peers.{bare_host_text}
 use Rattle.rb_proto.specs.declared.listener.Listener.{Listener}
 use Rattle.rb_model.specs.declared.types.Limits.{Limits}
 use Rattle.rb_model.specs.State.{State}
@@ -14,15 +18,19 @@ use Rattle.rb_record.specs.declared.shown.Shown.{Shown}
 use Rattle.rb_record.specs.declared.entries.Start.{Start}
 use Rattle.rb_record.specs.Printing.{bytes_line, peer_line, output_text, shown_output}
 
+-- a word, a caller, and bytes from it
+abbrev pub who_line : List ℕ → Who → List ℕ → List ℕ
+who_line word who bytes = word ++ (who_text who ++ bytes_line (codes " ") bytes)
+
 -- the line of an event
 abbrev pub event_text : Event → List ℕ
-event_text (Open now from) = codes "open " ++ (decimal now ++ (codes " " ++ (peer_text from ++ codes "\n")))
+event_text (Open now from) = codes "open " ++ (decimal now ++ (codes " " ++ (who_text from ++ codes "\n")))
 event_text (Bytes now id bytes) = codes "bytes " ++ (decimal now ++ (codes " " ++ (decimal id ++ bytes_line (codes " ") bytes)))
 event_text (Pending id) = codes "pending " ++ (decimal id ++ codes "\n")
 event_text (Gave now id n) = codes "gave " ++ (decimal now ++ (codes " " ++ (decimal id ++ (codes " " ++ (decimal n ++ codes "\n")))))
 event_text (Closed id) = codes "closed " ++ (decimal id ++ codes "\n")
 event_text NextLost = codes "lost\n"
-event_text (Datagram now from bytes) = codes "datagram " ++ (decimal now ++ peer_line (codes " ") from bytes)
+event_text (Datagram now from bytes) = codes "datagram " ++ (decimal now ++ who_line (codes " ") from bytes)
 event_text Unsent = codes "unsent\n"
 event_text (Sent id) = codes "sent " ++ (decimal id ++ codes "\n")
 event_text (Forward now from bytes) = codes "forward " ++ (decimal now ++ peer_line (codes " ") from bytes)
@@ -45,12 +53,28 @@ abbrev pub limits_text : Limits → List ℕ
 limits_text limits =
     codes " --conns " ++ (decimal limits.conns ++ (codes " --rows " ++ (decimal limits.rows ++ (codes " --forwards " ++ decimal limits.forwards))))
 
--- the host in dotted decimal form, and the port
+abbrev pub announce_text : Host → List ℕ
+announce_text host = codes " --announce " ++ bare_host_text host
+
+-- of a family that is served
+abbrev pub inet_text : Option (List ℕ) → List ℕ
+inet_text None = []
+inet_text (Some octets) = announce_text (V4 octets)
+
+abbrev pub inet6_text : Option (List ℕ) → List ℕ
+inet6_text None = []
+inet6_text (Some octets) = announce_text (V6 octets)
+
+-- the path of the local socket in quotes, as a shell reads it
+abbrev pub local_text : Option (List ℕ) → List ℕ
+local_text None = []
+local_text (Some path) = codes " --local '" ++ (path ++ codes "'")
+
+-- the announced host of each family, the port, and the path of the local socket
 abbrev pub listener_text : Listener → List ℕ
 listener_text listener =
-    codes " --announce " ++ (decimal (slice_index listener.host 0) ++ (codes "." ++ (decimal (slice_index listener.host 1)
-    ++ (codes "." ++ (decimal (slice_index listener.host 2) ++ (codes "." ++ (decimal (slice_index listener.host 3)
-    ++ (codes " --port " ++ decimal listener.port))))))))
+    inet_text listener.announced.inet ++ (inet6_text listener.announced.inet6
+    ++ (codes " --port " ++ (decimal listener.port ++ local_text listener.local)))
 
 -- the command that checks a record of a run from such an opening, in a comment
 abbrev pub options_text : Limits → Listener → ℕ → ℕ → List ℕ
@@ -77,4 +101,4 @@ abbrev pub entry_of : Happening → Shown → List ℕ
 entry_of event output = entry_text (event_of event) (shown_output output)
 
 abbrev pub options_of : Start → List ℕ
-options_of start = options_text start.limits start.listener start.first_xid start.moment
+options_of start = options_text start.limits start.listener.now start.first_xid start.moment

@@ -4,6 +4,8 @@ use Rattle.std.specs.Option.{option_map}
 use Rattle.std.specs.Fmt.{decimal}
 use Rattle.std.specs.Io.KnownBytes.{Appends}
 use Rattle.rb_address.specs.declared.peer.Peer.{Peer}
+use Rattle.rb_address.specs.declared.who.Source.{Source}
+use Rattle.rb_address.specs.Callers.{source_text}
 use Rattle.rb_address.specs.Peers.{peer_text}
 use Rattle.rb_forward.specs.Forwards.{Unsent}
 use Rattle.rb_model.specs.declared.types.CoreFault.{CoreFault}
@@ -36,6 +38,10 @@ bytes_line word bytes = word ++ (hex_text bytes ++ codes "\n")
 abbrev pub peer_line : List ℕ → Peer → List ℕ → List ℕ
 peer_line word peer bytes = word ++ (peer_text peer ++ bytes_line (codes " ") bytes)
 
+-- a word, and bytes to where a call came from: a peer, or `local`
+abbrev pub source_line : List ℕ → Source → List ℕ → List ℕ
+source_line word source bytes = word ++ (source_text source ++ bytes_line (codes " ") bytes)
+
 abbrev pub unsent_line : Unsent → List ℕ
 unsent_line unsent = codes "unsent " ++ (decimal unsent.number ++ peer_line (codes " ") unsent.target unsent.call)
 
@@ -59,7 +65,7 @@ output_text Ignored = codes "ignored\n"
 output_text Nothing = codes "nothing\n"
 output_text (ConnectionClosed id) = codes "closed " ++ (decimal id ++ codes "\n")
 output_text (Ready id) = codes "ready " ++ (decimal id ++ codes "\n")
-output_text (RepliedTo peer bytes) = peer_line (codes "datagram ") peer bytes
+output_text (RepliedTo who bytes) = source_line (codes "datagram ") who.source bytes
 
 -- ---- as the code has them
 
@@ -83,7 +89,7 @@ shown_output shown.Ignored = Ignored
 shown_output shown.Nothing = Nothing
 shown_output (shown.ConnectionClosed number) = ConnectionClosed number
 shown_output (shown.Ready number) = Ready number
-shown_output (shown.RepliedTo peer reply) = RepliedTo peer reply.now
+shown_output (shown.RepliedTo who reply) = RepliedTo who reply.now
 
 -- Where what a writer holds is known, it has grown by this text and by nothing else.
 abbrev pub Writes : {T : Type 0} → (T → Option (List ℕ)) → T → T → List ℕ → Type 0

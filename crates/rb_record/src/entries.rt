@@ -1,23 +1,26 @@
 //! What a record is made of: the options of its replay, and events with what they gave.
 ghost use Rattle.std.specs.Prelude.{OnOk};
 ghost use Rattle.rb_record.specs.Printing.{Writes};
-ghost use Rattle.rb_record.specs.Entries.{entry_of, limits_text, listener_text, options_of};
+ghost use Rattle.rb_record.specs.Entries.{entry_of, limits_text, announce_text, inet_text, inet6_text, local_text, listener_text, options_of};
 
 use crate::happening::{Happening, write_event};
 use crate::printing::write_output;
 use crate::shown::Shown;
+use rb_address::Host;
 use rb_model::Limits;
 use rb_proto::Listener;
+use rb_uaddr::AddressText;
 use std::io;
 use std::io::Write;
 
 /// What a run begins with.
 #[derive(Clone, Copy, Debug)]
-pub struct Start {
+pub struct Start<'a> {
     /// How many connections, rows and forwarded calls there may be.
     pub limits: Limits,
-    /// Where the daemon listens: the host that answers show for 0.0.0.0, and the port.
-    pub listener: Listener,
+    /// Where the daemon listens: the announced host of each family that is served, the port, and the path of its local
+    /// socket.
+    pub listener: &'a Listener,
     /// The xid of the first forwarded call.
     pub first_xid: u32,
     /// The first moment, in milliseconds since the start of 1970.
@@ -53,20 +56,66 @@ fn write_limits<W: Write>(limits: &Limits, writer: &mut W) -> io::Result<()>
     )
 }
 
+fn write_announce<W: Write>(host: Host, writer: &mut W) -> io::Result<()>
+    ensures { OnOk result (Writes W.contents writer.old writer.new (announce_text host)) }
+{
+    write!(writer, " --announce {host}")
+}
+
+/// Writes the announced host of IPv4, where it is served.
+#[tactic(auto, using(crate::proofs::Written::nothing))]
+fn write_inet<W: Write>(announced: Option<[u8; 4]>, writer: &mut W) -> io::Result<()>
+    ensures { OnOk result (Writes W.contents writer.old writer.new (inet_text announced)) }
+{
+    match announced {
+        Some(octets) => write_announce(Host::V4(octets), writer),
+        None => Ok(()),
+    }
+}
+
+/// Writes the announced host of IPv6, where it is served.
+#[tactic(auto, using(crate::proofs::Written::nothing))]
+fn write_inet6<W: Write>(announced: Option<[u8; 16]>, writer: &mut W) -> io::Result<()>
+    ensures { OnOk result (Writes W.contents writer.old writer.new (inet6_text announced)) }
+{
+    match announced {
+        Some(octets) => write_announce(Host::V6(octets), writer),
+        None => Ok(()),
+    }
+}
+
+/// Writes the path of the local socket, where there is one.
+#[tactic(auto, using(crate::proofs::Written::nothing))]
+fn write_local<W: Write>(local: &Option<AddressText>, writer: &mut W) -> io::Result<()>
+    ensures { OnOk result (Writes W.contents writer.old writer.new (local_text local.now)) }
+{
+    match local {
+        Some(path) => {
+            writer.write_all(b" --local '")?;
+            writer.write_all(path.as_slice())?;
+            writer.write_all(b"'")
+        }
+        None => Ok(()),
+    }
+}
+
 fn write_listener<W: Write>(listener: &Listener, writer: &mut W) -> io::Result<()>
     ensures { OnOk result (Writes W.contents writer.old writer.new (listener_text listener.now)) }
 {
-    let a = listener.host[0];
-    let b = listener.host[1];
-    let c = listener.host[2];
-    let d = listener.host[3];
-    let port = listener.port;
-    write!(writer, " --announce {a}.{b}.{c}.{d} --port {port}")
+    let Listener {
+        announced,
+        port,
+        local,
+    } = listener;
+    write_inet(announced.inet, writer)?;
+    write_inet6(announced.inet6, writer)?;
+    write!(writer, " --port {port}")?;
+    write_local(local, writer)
 }
 
 /// Writes a comment line: the command that checks a record of a run that begins so. An error where the writer fails;
 /// how much of the line it has then is not known.
-pub fn write_options<W: Write>(start: &Start, writer: &mut W) -> io::Result<()>
+pub fn write_options<W: Write>(start: &Start<'_>, writer: &mut W) -> io::Result<()>
     ensures { OnOk result (Writes W.contents writer.old writer.new (options_of start.now)) }
 {
     let Start {

@@ -2,10 +2,10 @@
 ghost use Rattle.std.specs.Prelude.{OnOk};
 ghost use Rattle.hex.specs.Hex.{encode_lower};
 ghost use Rattle.rb_address.specs.Peers.{peer_text};
-ghost use Rattle.rb_record.specs.Printing.{hex_text, bytes_line, peer_line, call_of, unsent_line, refusal_text, output_text, shown_output, Writes};
+ghost use Rattle.rb_record.specs.Printing.{hex_text, bytes_line, peer_line, source_line, call_of, unsent_line, refusal_text, output_text, shown_output, Writes};
 
 use crate::shown::{Shown, ShownCall};
-use rb_address::Peer;
+use rb_address::{Peer, Source};
 use rb_model::CoreFault;
 use std::io;
 use std::io::Write;
@@ -61,6 +61,15 @@ pub(crate) fn write_to<W: Write>(
     write_bytes(" ", bytes, writer)
 }
 
+/// Writes a line of a word, and bytes to where a call came from.
+fn write_back<W: Write>(word: &str, source: Source, bytes: &[u8], writer: &mut W) -> io::Result<()>
+    ensures { OnOk result
+        (Writes W.contents writer.old writer.new (source_line word.now source bytes.now)) }
+{
+    write!(writer, "{word}{source}")?;
+    write_bytes(" ", bytes, writer)
+}
+
 /// Writes the line of a forwarded call that is to be sent.
 fn write_unsent<W: Write>(call: &ShownCall<'_>, writer: &mut W) -> io::Result<()>
     ensures { OnOk result (Writes W.contents writer.old writer.new
@@ -109,6 +118,6 @@ pub fn write_output<W: Write>(output: &Shown<'_>, writer: &mut W) -> io::Result<
         Shown::Nothing => writer.write_all(b"nothing\n"),
         Shown::ConnectionClosed(id) => writeln!(writer, "closed {id}"),
         Shown::Ready(id) => writeln!(writer, "ready {id}"),
-        Shown::RepliedTo(peer, bytes) => write_to("datagram ", *peer, bytes, writer),
+        Shown::RepliedTo(who, bytes) => write_back("datagram ", who.source, bytes, writer),
     }
 }

@@ -3,7 +3,7 @@ ghost use Rattle.std.specs.Prelude.{◌≡◌};
 ghost use Rattle.rb_model.specs.Plain.{output_of};
 ghost use Rattle.rb_record.specs.Printing.{shown_output};
 
-use rb_address::Peer;
+use rb_address::{Peer, Who};
 use rb_model::{CoreFault, Output};
 
 /// A forwarded call that is to be sent.
@@ -52,8 +52,8 @@ pub enum Shown<'a> {
     ConnectionClosed(u64),
     /// A forwarded call has ended, and the connection of the number goes on.
     Ready(u64),
-    /// A forwarded call has ended, and this is the reply to the peer.
-    RepliedTo(Peer, &'a [u8]),
+    /// A forwarded call has ended, and this is the reply to its caller.
+    RepliedTo(Who, &'a [u8]),
 }
 
 /// The same output, over its own bytes.
@@ -82,6 +82,6 @@ pub fn show(output: &Output) -> Shown<'_>
         Output::Nothing => Shown::Nothing,
         Output::ConnectionClosed(id) => Shown::ConnectionClosed(*id),
         Output::Ready(id) => Shown::Ready(*id),
-        Output::RepliedTo(peer, bytes) => Shown::RepliedTo(*peer, bytes),
+        Output::RepliedTo(who, bytes) => Shown::RepliedTo(*who, bytes),
     }
 }

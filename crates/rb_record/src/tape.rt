@@ -166,7 +166,7 @@ impl Tape {
     }
 
     /// Records, as the first line, the command that checks a record of a run that begins so.
-    pub fn begin(&mut self, start: &Start)
+    pub fn begin(&mut self, start: &Start<'_>)
         ensures { Records (options_of start.now ∷ []) self.old self.new }
     {
         if !self.page.is_on {

@@ -8,7 +8,7 @@ use Rattle.std.proofs.lemmas.List.{map-append}
 use Rattle.std.proofs.lemmas.List.Elements.{filter-append}
 use Rattle.rb_registry.specs.declared.row.Row.{Row}
 use Rattle.rb_registry.specs.declared.slot.Slot.{Slot}
-use Rattle.rb_registry.specs.declared.row.Owner.{Owner}
+use Rattle.rb_address.specs.declared.who.Owner.{Owner}
 use Rattle.rb_registry.specs.declared.row.Which.{Which}
 use Rattle.rb_registry.specs.Rows.{Change, covers, rpcb_prog}
 use Rattle.rb_registry.specs.Rows.Change.{Added, Removed}

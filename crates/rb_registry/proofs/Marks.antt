@@ -10,7 +10,7 @@ use Rattle.rb_xdr.proofs.PoolLemmas.{value_at-without, distinct-without, length-
 use Rattle.rb_xdr.proofs.Ordering.{distinct_rising, looks_more}
 use Rattle.rb_address.specs.declared.netid.Netid.{Netid}
 use Rattle.rb_address.specs.declared.netid.Netid.TheVariants.{Tcp, Udp, Tcp6, Udp6, Local}
-use Rattle.rb_registry.specs.declared.row.Owner.{Owner}
+use Rattle.rb_address.specs.declared.who.Owner.{Owner}
 use Rattle.rb_registry.specs.declared.row.Which.{Which}
 use Rattle.rb_registry.specs.declared.row.Which.TheVariants.{All, Inet, One}
 use Rattle.rb_registry.specs.declared.row.Row.{Row}
@@ -413,10 +413,10 @@ named_less All count kept few rows = omega (arith, few, rows)
 named_less Inet count kept few rows = omega (arith, few, rows)
 named_less (One netid) count kept few rows = omega (arith, few, rows)
 
--- what one of six own rows costs
-pub own_cost : (entries : List (ℕ × Slot)) (index : List (ℕ × ℕ)) (number : ℕ) → IsIndexed entries index → length entries ≤ 5 → looks (length index) + moves number index ≤ 10
+-- what one of twelve own rows costs
+pub own_cost : (entries : List (ℕ × Slot)) (index : List (ℕ × ℕ)) (number : ℕ) → IsIndexed entries index → length entries ≤ 11 → looks (length index) + moves number index ≤ 17
 unfolding looks
 own_cost entries index number indexed few =
     let whole = ranks_and_retained entries in
-    let more = looks_more (length index) 5 (omega (arith, whole, indexed.count, few)) in
+    let more = looks_more (length index) 11 (omega (arith, whole, indexed.count, few)) in
     omega (arith, whole, indexed.count, few, more)

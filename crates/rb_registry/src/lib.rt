@@ -14,6 +14,6 @@ mod worked;
 pub use cursor::Cursor;
 pub use fault::RegistryFault;
 pub use laws::row_laws;
-pub use registry::Registry;
-pub use row::{Owner, RPCB_PROG, Row, Which};
+pub use registry::{MOST_OWN_ROWS, Registry};
+pub use row::{RPCB_PROG, Row, Which};
 pub use worked::worked_examples;

@@ -5,15 +5,19 @@ ghost use Rattle.rb_registry.specs.Rows.{is_change_left};
 use crate::cursor::Cursor;
 use crate::fault::RegistryFault;
 use crate::removal::Removal;
-use crate::row::{Owner, Row, Which};
+use crate::row::{Row, Which};
 use crate::slot::Slot;
 use crate::walk::{
     drop_retained, find_exact, find_row, has_key, least_removal, live_after, mark_covered,
 };
-use rb_address::Netid;
+use arrayvec::ArrayVec;
+use rb_address::{Netid, Owner};
 use rb_xdr::{Meter, NoMemory, Ordered, Pool};
 use std::alloc::Global;
 use std::marker::Model;
+
+/// The most own rows that a registry has.
+pub const MOST_OWN_ROWS: usize = 12;
 
 // A table of so many rows would take more than 2^63 bytes.
 const TOO_MANY: usize = 1 << 56;
@@ -95,28 +99,29 @@ impl Registry {
     /// A registry of these rows, with room for `cap` rows in all, for calls that this meter counts.
     ///
     /// The own rows are of the portmapper's program, so nobody removes them, and no two are of one version and netid.
-    /// `BadLimits` where they are more than `cap`, else `NoMemory` where the memory for `cap` rows is refused.
+    /// `BadLimits` where they are more than `cap`, else `NoMemory` where the memory for `cap` rows is refused. It costs
+    /// at most 18 steps for each own row.
     pub fn new(
         alloc: Global,
         cap: usize,
-        own_rows: [Row; 6],
+        own_rows: ArrayVec<Row, MOST_OWN_ROWS>,
         meter: &mut Meter,
     ) -> Result<Registry, RegistryFault>
-        requires own { AreOwn own_rows }
-        requires distinct { IsTrue (are_distinct own_rows) }
-        ensures made { IfOk result (λ made. StandsForChanges made own_rows []) }
+        requires own { AreOwn own_rows.items }
+        requires distinct { IsTrue (are_distinct own_rows.items) }
+        ensures made { IfOk result (λ made. StandsForChanges made own_rows.items []) }
         ensures limit { IfOk result (λ made. made.limit ≡ cap) }
         ensures floor { IfOk result (λ made. made.floor ≡ 0) }
         ensures retained { IfOk result (λ made. removals_of made ≡ []) }
         ensures tie { IfOk result (λ made. made.tie ≡ meter.old.tie) }
-        ensures bad { IsErrOf result RegistryFault.BadLimits ↔ (cap < 6) }
-        ensures cost { OnOk result (PaysAtMost meter.old meter.new 66) }
+        ensures bad { IsErrOf result RegistryFault.BadLimits ↔ (cap < length own_rows.items) }
+        ensures cost { OnOk result (PaysAtMost meter.old meter.new (18 * length own_rows.items)) }
         ensures free { OnErr result (meter.new ≡ meter.old) }
     {
         if cap < own_rows.len() {
             return Err(RegistryFault::BadLimits);
         }
-        let mut slots = Pool::written(alloc, cap, || Slot::blank(&own_rows[0]), meter)?;
+        let mut slots = Pool::written(alloc, cap, || Ok(Slot::blank()), meter)?;
         if cap >= TOO_MANY {
             // Not reached: that much memory is refused.
             return Err(RegistryFault::NoMemory);

@@ -3,7 +3,6 @@ ghost use Rattle.std.specs.Prelude.{◌≡◌};
 ghost use Rattle.rb_registry.specs.Slots.{is_live_at, is_dropped};
 
 use crate::row::Row;
-use rb_xdr::NoMemory;
 
 /// A row, the number of the change that added it (0 for an own row), and of the one that removed it.
 ///
@@ -28,13 +27,13 @@ fn layout(slot: &Slot) {
 }
 
 impl Slot {
-    /// What is written to a place before any row has it: a copy of a row.
-    pub(crate) fn blank(row: &Row) -> Result<Slot, NoMemory> {
-        Ok(Slot {
+    /// What is written to a place before any row has it.
+    pub(crate) fn blank() -> Slot {
+        Slot {
             added: 0,
             removed: None,
-            row: row.clone().map_err(NoMemory::from)?,
-        })
+            row: Row::default(),
+        }
     }
 
     /// Whether the row was live after so many changes.

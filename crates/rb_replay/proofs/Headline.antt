@@ -21,10 +21,10 @@ use Rattle.rb_replay.proofs.StepBounds.{held_within_after}
 
 answers_datagrams : (s : State) → AnswersDatagrams s
 unfolding step datagram serve
-answers_datagrams s now peer content = by_outcome (outcome (context_in (at_moment now s) (Udp peer)) (message_of content) (arguments_of content) s.ledger)
+answers_datagrams s now who content = by_outcome (outcome (context_in (at_moment now s) (Udp who)) (message_of content) (arguments_of content) s.ledger)
   where
     roomy : State
-    roomy = with_room (context_in (at_moment now s) (Udp peer)) (message_of content) (at_moment now s)
+    roomy = with_room (context_in (at_moment now s) (Udp who)) (message_of content) (at_moment now s)
 
     by_outcome : (r : Outcome × Ledger) → (show_outcome (with_reply (with_ledger roomy r))).0 ≡ shown_as r.0
     by_outcome (NoCall, ledger) = refl
@@ -33,7 +33,7 @@ answers_datagrams s now peer content = by_outcome (outcome (context_in (at_momen
     by_outcome (Silent, ledger) = refl
 
 pub runs_are_served_within_bounds : RunsAreServedWithinBounds
-runs_are_served_within_bounds limits listener first_xid now good port events =
+runs_are_served_within_bounds limits listener first_xid now good is_listener events =
     let start : State = opening limits listener first_xid now in
     let s : State = after start events in
     let same : s.setting ≡ start.setting = after-setting start events in
@@ -45,7 +45,7 @@ runs_are_served_within_bounds limits listener first_xid now good port events =
       sessions = λ id. sessions_are_whole limits listener first_xid now events id;
       datagrams = answers_datagrams s;
       later = udp_callers_are_told s;
-      bytes = λ core stands. held_within_after core start events stands at_start port;
+      bytes = λ core stands. held_within_after core start events stands at_start is_listener;
       steps = λ event.
           let one = steps_are_bounded s reached (rw same good) event in
           subst (λ (x : Setting). event_cost s event ≤ steps_bound x.limits (bytes_in event (step s event).0) (bytes_out event (step s event).0)) same one;

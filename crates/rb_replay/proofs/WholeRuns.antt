@@ -44,7 +44,7 @@ all_buffers registry (slot ∷ slots) (c ∷ all) z =
 pub waits_in_buffers : (core : Held) (s : State) → StandsFor core s → args_waiting s.connections.all ≤ buffer_bytes core
 waits_in_buffers core s h = all_buffers core.books.registry (values_of core.connections.slots) s.connections.all h.connections.all
 
-pub paid_within_whole : (core : Held) (s : State) (events : List Event) (a b : Meter) → StandsFor core s → IsReached s → are_good s.setting.limits ≡ true
+pub paid_within_whole : (core : Held) (s : State) (events : List Event) (a b : Meter) → StandsFor core s → IsReached s → are_good s.setting.limits s.setting.listener ≡ true
     → PaysAtMost a b (run_cost s events) → PaysAtMost a b (whole_bound s.setting.limits (buffer_bytes core) events (run s events))
 paid_within_whole core s events a b h reached good pays =
     let cost = whole_runs_are_bounded s reached good events in

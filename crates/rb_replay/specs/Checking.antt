@@ -150,7 +150,7 @@ RefusesCheck remaining reader fault = status_of fault ≡ 2 → IfSome (remainin
 abbrev pub ExplainsCheck : {R E : Type 0} → Beginning → (R → Option (List ℕ)) → R
     → (E → Option (List ℕ)) → E → E → Ending → Type 0
 ExplainsCheck beginning remaining reader contents old new result =
-    result.status ≢ 0 → EndsBy (IsWhy beginning remaining reader) beginning.limits contents old new result
+    result.status ≢ 0 → EndsBy (IsWhy beginning remaining reader) beginning contents old new result
 
 -- ---- as the code has them
 

@@ -1,6 +1,6 @@
 -- What is promised of every run from an opening, in one law.
-use Rattle.std.specs.Prelude.{◌≡◌, ◌<◌, ◌≤◌, ℕ, ◌^◌, true, List}
-use Rattle.rb_address.specs.declared.peer.Peer.{Peer}
+use Rattle.std.specs.Prelude.{◌≡◌, ◌≤◌, ℕ, true, List}
+use Rattle.rb_address.specs.declared.who.Who.{Who}
 use Rattle.rb_rpc.specs.declared.caller.Caller.TheVariants.{Udp}
 use Rattle.rb_feed.specs.Feeds.{arguments_of}
 use Rattle.rb_proto.specs.declared.listener.Listener.{Listener}
@@ -17,7 +17,7 @@ use Rattle.rb_model.specs.Sessions.{session, IsWholeSession}
 use Rattle.rb_model.specs.Costs.{event_cost}
 use Rattle.rb_model.specs.Bounds.{bytes_bound, bytes_in, bytes_out, steps_bound}
 use Rattle.rb_core.specs.StandsFor.{Held, StandsFor}
-use Rattle.rb_core.specs.HeldBytes.{held}
+use Rattle.rb_core.specs.HeldBytes.{held, IsListener}
 
 -- what the sender of a datagram gets
 abbrev pub shown_as : Outcome → Output
@@ -29,9 +29,9 @@ shown_as Silent = outputs.Silent
 -- A datagram that comes now has exactly the reply that is defined over the SETs and UNSETs accepted before it.
 abbrev pub AnswersDatagrams : State → Type 0
 AnswersDatagrams s =
-    (now : ℕ) (peer : Peer) (content : List ℕ)
-    → (step s (Datagram now peer content)).0
-    ≡ shown_as (outcome (context_in (at_moment now s) (Udp peer)) (message_of content) (arguments_of content) s.ledger).0
+    (now : ℕ) (who : Who) (content : List ℕ)
+    → (step s (Datagram now who content)).0
+    ≡ shown_as (outcome (context_in (at_moment now s) (Udp who)) (message_of content) (arguments_of content) s.ledger).0
 
 -- After these events, at these limits:
 pub record IsServedWithin (limits : Limits) (start : State) (events : List Event) : Type 0 where
@@ -51,8 +51,9 @@ pub record IsServedWithin (limits : Limits) (start : State) (events : List Event
       → let output : Output = (step (after start events) event).0 in
       event_cost (after start events) event ≤ steps_bound limits (bytes_in event output) (bytes_out event output)
 
--- for every list of events from an opening at good limits, with a listener on a port of 16 bits
+-- for every list of events from an opening at good limits, with a listener on a port of 16 bits, whose local socket has a
+-- path of at most 128 bytes
 abbrev pub RunsAreServedWithinBounds : Type 0
 RunsAreServedWithinBounds =
-    (limits : Limits) (listener : Listener) (first_xid now : ℕ) → are_good limits ≡ true → listener.port < 2 ^ 16
+    (limits : Limits) (listener : Listener) (first_xid now : ℕ) → are_good limits listener ≡ true → IsListener listener
     → (events : List Event) → IsServedWithin limits (opening limits listener first_xid now) events

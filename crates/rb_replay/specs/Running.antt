@@ -27,16 +27,16 @@ first_state beginning =
 -- A state that a run reaches at these limits, which are in their ranges, and at which no connection is there.
 pub record IsFresh (limits : Limits) (s : State) : Type 0 where
   pub reached : IsReached s
-  pub good : are_good s.setting.limits ≡ true
+  pub good : are_good s.setting.limits s.setting.listener ≡ true
   pub limits_are : s.setting.limits ≡ limits
   pub none : s.connections.all ≡ []
 
 -- A command ends by a fault of which this holds, with its status, and tells its lines.
-pub record EndsBy {E : Type 0} (IsWhy : Fault → Type 0) (limits : Limits) (contents : E → Option (List ℕ)) (old new : E) (ending : Ending) : Type 0 where
+pub record EndsBy {E : Type 0} (IsWhy : Fault → Type 0) (beginning : Beginning) (contents : E → Option (List ℕ)) (old new : E) (ending : Ending) : Type 0 where
   pub fault : Fault
   pub why : IsWhy fault
   pub status : ending.status ≡ status_of fault
-  pub told : Says contents old new ending (fault_lines limits fault)
+  pub told : Says contents old new ending (fault_lines beginning.limits beginning.listener fault)
 
 -- the text is event lines
 abbrev pub IsRead : Result (List Event) ReadFault → Type 0
@@ -50,8 +50,8 @@ IsRefused (Err fault) = Unit {0}
 
 -- How the making of the core, or the run, may fail: by limits out of their ranges, and else by want of memory.
 abbrev pub IsCoreFault : Beginning → Fault → Type 0
-IsCoreFault beginning BadLimits = IsTrue (not (are_good beginning.limits))
-IsCoreFault beginning NoMemory = IsTrue (are_good beginning.limits)
+IsCoreFault beginning BadLimits = IsTrue (not (are_good beginning.limits beginning.listener))
+IsCoreFault beginning NoMemory = IsTrue (are_good beginning.limits beginning.listener)
 IsCoreFault beginning other = ⊥
 
 -- How a replay of a text that reads as this may fail: by what is wrong with the text, and where nothing is, by limits
@@ -63,7 +63,7 @@ IsReplayFault beginning NoMemory given = IsRead given × IsCoreFault beginning N
 IsReplayFault beginning BadLimits given = IsRead given × IsCoreFault beginning BadLimits
 IsReplayFault beginning SocketFailed given = ⊥
 IsReplayFault beginning ReadFailed given = ⊥
-IsReplayFault beginning WriteFailed given = IsRead given × IsTrue (are_good beginning.limits)
+IsReplayFault beginning WriteFailed given = IsRead given × IsTrue (are_good beginning.limits beginning.listener)
 IsReplayFault beginning NoOutputs given = ⊥
 IsReplayFault beginning (Differs n) given = ⊥
 IsReplayFault beginning (Lacks n) given = ⊥
@@ -131,4 +131,4 @@ Refuses beginning remaining reader fault =
 abbrev pub Explains : {R E : Type 0} → Beginning → (R → Option (List ℕ)) → R
     → (E → Option (List ℕ)) → E → E → Ending → Type 0
 Explains beginning remaining reader contents old new result =
-    result.status ≢ 0 → EndsBy (Refuses beginning remaining reader) beginning.limits contents old new result
+    result.status ≢ 0 → EndsBy (Refuses beginning remaining reader) beginning contents old new result

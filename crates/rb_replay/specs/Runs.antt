@@ -1,5 +1,5 @@
 -- What a list of events does to a core, what it costs, and how many bytes are held after it.
-use Rattle.std.specs.Prelude.{◌≡◌, ◌<◌, ◌≤◌, ◌-◌, ◌^◌, min, true, List, ◌++◌, length, take, ℕ}
+use Rattle.std.specs.Prelude.{◌≡◌, ◌≤◌, ◌-◌, min, true, List, ◌++◌, length, take, ℕ}
 use Rattle.std.specs.List.{sum_by}
 use Rattle.std.specs.Map.{values_of}
 use Rattle.rb_xdr.specs.Meter.{Meter, PaysAtMost}
@@ -14,7 +14,7 @@ use Rattle.rb_model.specs.Plain.{events_of}
 use Rattle.rb_model.specs.WholeRuns.{whole_bound}
 use Rattle.rb_connections.specs.declared.slot.Slot.{Slot}
 use Rattle.rb_core.specs.StandsFor.{Held, StandsFor}
-use Rattle.rb_core.specs.HeldBytes.{held}
+use Rattle.rb_core.specs.HeldBytes.{held, IsListener}
 use Rattle.rb_core.specs.Events.{greatest_count}
 
 -- ---- a run
@@ -37,13 +37,13 @@ PaysForRun core events before now = (s : State) → StandsFor core s → PaysAtM
 -- for these events than their bounds.
 abbrev pub PaysWithinBound : Held → List Event → Meter → Meter → Type 0
 PaysWithinBound core events before now =
-    (s : State) → StandsFor core s → IsReached s → are_good s.setting.limits ≡ true → PaysAtMost before now (run_bound s events)
+    (s : State) → StandsFor core s → IsReached s → are_good s.setting.limits s.setting.listener ≡ true → PaysAtMost before now (run_bound s events)
 
--- From each state that a run reaches, with a listener on a port of 16 bits, and that the old core
--- stood for, the new one holds no more than the bound.
+-- From each state that a run reaches, with a listener as its type has it, and that the old core stood for, the new one
+-- holds no more than the bound.
 abbrev pub StaysWithinBound : Held → Held → Type 0
 StaysWithinBound old new =
-    (s : State) → StandsFor old s → IsReached s → s.setting.listener.port < 2 ^ 16 → held new ≤ bytes_bound s.setting.limits
+    (s : State) → StandsFor old s → IsReached s → IsListener s.setting.listener → held new ≤ bytes_bound s.setting.limits
 
 -- the bytes in the buffers of all connections
 abbrev pub buffer_bytes : Held → ℕ
@@ -53,7 +53,7 @@ buffer_bytes core = sum_by (λ (slot : Slot). length slot.buffer.bytes) (values_
 -- bound of the run.
 abbrev pub PaysWithinWhole : Held → List Event → Meter → Meter → Type 0
 PaysWithinWhole core events before now =
-    (s : State) → StandsFor core s → IsReached s → are_good s.setting.limits ≡ true
+    (s : State) → StandsFor core s → IsReached s → are_good s.setting.limits s.setting.listener ≡ true
     → PaysAtMost before now (whole_bound s.setting.limits (buffer_bytes core) events (run s events))
 
 -- ---- the bound as it is printed

@@ -121,7 +121,7 @@ fn compare(alloc: Global, text: &[u8], outputs: &[Output]) -> Result<(), Fault>
 pub fn check_text(alloc: Global, beginning: &Beginning, text: &[u8]) -> Result<usize, Fault>
     ensures ok { IfOk result
         (λ n. OfRun beginning.now (AgreesWith text.now false n) (read text.now)) }
-    ensures good { OnOk result (IsTrue (are_good beginning.now.limits)) }
+    ensures good { OnOk result (IsTrue (are_good beginning.now.limits beginning.now.listener)) }
     ensures err { IfErr result (IsWrongWith beginning.now text.now) }
 {
     check_lines(alloc, beginning, text, false)
@@ -136,7 +136,7 @@ fn check_lines(
 ) -> Result<usize, Fault>
     ensures ok { IfOk result
         (λ n. OfRun beginning.now (AgreesWith text.now is_cut n) (read text.now)) }
-    ensures good { OnOk result (IsTrue (are_good beginning.now.limits)) }
+    ensures good { OnOk result (IsTrue (are_good beginning.now.limits beginning.now.listener)) }
     ensures err { IfErr result (IsWrongWith beginning.now text.now) }
 {
     let events = match read_events(alloc, text) {
@@ -182,7 +182,7 @@ fn check_all<R: Read>(
     reader: &mut R,
 ) -> Result<Agreement, Fault>
     ensures ok { IfOk result (λ a. IsAgreed beginning.now R.remaining reader.old a) }
-    ensures good { OnOk result (IsTrue (are_good beginning.now.limits)) }
+    ensures good { OnOk result (IsTrue (are_good beginning.now.limits beginning.now.listener)) }
     ensures refused { IfErr result (RefusesCheck (whole_input R.remaining) reader.old) }
     ensures why { IfErr result (IsWhy beginning.now (whole_input R.remaining) reader.old) }
 {
@@ -236,7 +236,7 @@ pub fn run_check<R: Read, W: Write + Drop, E: Write>(
     ensures status { result.status ≤ 2 }
     ensures ok { result.status ≡ 0
         → FindsAgreed beginning.now R.remaining reader.old W.contents out.old out.new }
-    ensures good { result.status ≡ 0 → IsTrue (are_good beginning.now.limits) }
+    ensures good { result.status ≡ 0 → IsTrue (are_good beginning.now.limits beginning.now.listener) }
     ensures flushed { result.status ≡ 0 → writer_buffer out.new ≡ [] }
     ensures quiet { result.status ≡ 0 → faults.new ≡ faults.old }
     ensures refused { result.status ≡ 2
@@ -247,10 +247,10 @@ pub fn run_check<R: Read, W: Write + Drop, E: Write>(
 {
     let found = match check_all(alloc, beginning, reader) {
         Ok(found) => found,
-        Err(fault) => return explain_run(fault, &beginning.limits, faults),
+        Err(fault) => return explain_run(fault, &beginning.limits, &beginning.listener, faults),
     };
     match put_agreement(found, out) {
         Ok(()) => DONE,
-        Err(fault) => explain_run(fault, &beginning.limits, faults),
+        Err(fault) => explain_run(fault, &beginning.limits, &beginning.listener, faults),
     }
 }

@@ -11,7 +11,7 @@ ghost use Rattle.rb_xdr.specs.Meter.{PaysAtMost};
 ghost use Rattle.rb_connections.specs.Slots.{Shows};
 ghost use Rattle.rb_connections.specs.Costs.{look_cost};
 
-use rb_address::Peer;
+use rb_address::{Peer, Who};
 use rb_core::Core;
 use rb_forward::{FwdId, LONGEST_FORWARDED_CALL};
 use rb_model::{Event, Expired, LONGEST_REPLY, Outcome, Output, Taken, Told, UnsentCall};
@@ -20,11 +20,11 @@ use rb_xdr::{Meter, NoMemory};
 use std::alloc::Global;
 
 #[tactic(auto, unfolding(rb_model::specs::Step::step))]
-fn open(core: &mut Core, now: u64, peer: Peer, meter: &mut Meter) -> Output
+fn open(core: &mut Core, now: u64, who: Who, meter: &mut Meter) -> Output
     requires { meter.old.tie ≡ core.old.tie }
-    ensures { HasHappened (Open now peer) core.old core.new meter.old meter.new result }
+    ensures { HasHappened (Open now who) core.old core.new meter.old meter.new result }
 {
-    match core.open(now, peer, meter) {
+    match core.open(now, who, meter) {
         Ok(number) => Output::Opened(number),
         Err(fault) => Output::Refused(fault),
     }
@@ -65,6 +65,7 @@ fn pending(alloc: Global, core: &mut Core, id: u64, meter: &mut Meter) -> Result
     match core.pending(id, meter) {
         Ok(bytes) => {
             copy.extend_from_slice(bytes).unwrap();
+            copy.shrink_to_fit();
             Ok(Output::Pending(copy))
         }
         Err(fault) => Ok(Output::Refused(fault)),
@@ -120,12 +121,12 @@ fn datagram(
     alloc: Global,
     core: &mut Core,
     now: u64,
-    peer: Peer,
+    who: Who,
     content: &[u8],
     meter: &mut Meter,
 ) -> Result<Output, NoMemory>
     requires { meter.old.tie ≡ core.old.tie }
-    ensures ok { MayHappen (Datagram now peer content.now)
+    ensures ok { MayHappen (Datagram now who content.now)
         core.old core.new meter.old meter.new result }
     ensures err { OnErr result (core.new ≡ core.old) }
     ensures free { OnErr result (meter.new ≡ meter.old) }
@@ -133,7 +134,7 @@ fn datagram(
     let Ok(mut reply) = Vec::with_capacity(alloc, LONGEST_REPLY) else {
         return Err(NoMemory);
     };
-    match core.datagram(now, peer, content, meter) {
+    match core.datagram(now, who, content, meter) {
         Outcome::NoCall | Outcome::Silent => Ok(Output::Silent),
         Outcome::Forwarded => Ok(Output::Forwarded),
         Outcome::Reply => {
@@ -159,6 +160,7 @@ fn unsent(alloc: Global, core: &mut Core, meter: &mut Meter) -> Result<Output, N
         return Ok(Output::Unsent(None));
     };
     call.extend_from_slice(unsent.call).unwrap();
+    call.shrink_to_fit();
     let (number, target) = (unsent.id.number, unsent.target);
     Ok(Output::Unsent(Some(UnsentCall {
         number,
@@ -191,10 +193,10 @@ fn show_told(core: &mut Core, told: Told, mut reply: Vec<u8>, meter: &mut Meter)
 {
     match told {
         Told::TcpReady(id) => Output::Ready(id),
-        Told::Datagram(peer) => {
+        Told::Datagram(who) => {
             reply.extend_from_slice(core.udp_reply(meter)).unwrap();
             reply.shrink_to_fit();
-            Output::RepliedTo(peer, reply)
+            Output::RepliedTo(who, reply)
         }
         Told::Silent => Output::Silent,
     }
@@ -253,13 +255,13 @@ pub(crate) fn happen(
     ensures free { OnErr result (meter.new ≡ meter.old) }
 {
     match event {
-        Event::Open(now, peer) => Ok(open(core, *now, *peer, meter)),
+        Event::Open(now, who) => Ok(open(core, *now, *who, meter)),
         Event::Bytes(now, id, piece) => Ok(bytes(core, *now, *id, piece, meter)),
         Event::Pending(id) => pending(alloc, core, *id, meter),
         Event::Gave(now, id, n) => Ok(gave(core, *now, *id, *n, meter)),
         Event::Closed(id) => Ok(closed(core, *id, meter)),
         Event::NextLost => Ok(next_lost(core, meter)),
-        Event::Datagram(now, peer, content) => datagram(alloc, core, *now, *peer, content, meter),
+        Event::Datagram(now, who, content) => datagram(alloc, core, *now, *who, content, meter),
         Event::Unsent => unsent(alloc, core, meter),
         Event::Sent(number) => Ok(sent(core, *number, meter)),
         Event::Forward(now, from, message) => forward(alloc, core, *now, *from, message, meter),

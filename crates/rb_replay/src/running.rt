@@ -17,6 +17,8 @@ use rb_lines::{
     print_steps, read_events,
 };
 use rb_model::{Event, Limits, Output};
+use rb_proto::Listener;
+use rb_uaddr::AddressText;
 use rb_xdr::Meter;
 use std::alloc::Global;
 use std::io;
@@ -36,11 +38,29 @@ pub(crate) fn read_input<R: Read>(alloc: Global, reader: &mut R) -> Result<Vec<u
     }
 }
 
+/// Another such listener.
+fn listener_like(listener: &Listener) -> Listener
+    ensures { result ≡ listener.now }
+{
+    match &listener.local {
+        Some(path) => Listener {
+            announced: listener.announced,
+            port: listener.port,
+            local: Some(AddressText::new(path.as_slice())),
+        },
+        None => Listener {
+            announced: listener.announced,
+            port: listener.port,
+            local: None,
+        },
+    }
+}
+
 /// A new core, as a replay begins.
 fn first_core(alloc: Global, beginning: &Beginning, meter: &mut Meter) -> Result<Core, Fault>
     ensures made { IfOk result (λ core. StandsFor core (first_state beginning.now)) }
     ensures tie { IfOk result (λ core. core.tie ≡ meter.new.tie) }
-    ensures good { OnOk result (IsTrue (are_good beginning.now.limits)) }
+    ensures good { OnOk result (IsTrue (are_good beginning.now.limits beginning.now.listener)) }
     ensures err { IfErr result (IsCoreFault beginning.now) }
 {
     let Beginning {
@@ -49,8 +69,9 @@ fn first_core(alloc: Global, beginning: &Beginning, meter: &mut Meter) -> Result
         first_xid,
         moment,
         steps: _,
-    } = *beginning;
-    match Core::new(alloc, limits, listener, first_xid, moment, meter) {
+    } = beginning;
+    let listener = listener_like(listener);
+    match Core::new(alloc, *limits, listener, *first_xid, *moment, meter) {
         Ok(core) => Ok(core),
         Err(CoreFault::BadLimits) => Err(Fault::BadLimits),
         Err(_) => Err(Fault::NoMemory),
@@ -81,7 +102,9 @@ fn run_on(
     ensures err { IfErr result (λ fault. fault ≡ Fault.NoMemory) }
 {
     let before = meter.count();
-    let mut outputs = Vec::new(alloc);
+    let Ok(mut outputs) = Vec::with_capacity(alloc, events.len()) else {
+        return Err(Fault::NoMemory);
+    };
     match replay(alloc, core, events, &mut outputs, meter) {
         Ok(()) => {
             let steps = meter.count().saturating_sub(before);
@@ -100,7 +123,7 @@ fn run_on(
 pub(crate) fn run_from(alloc: Global, beginning: &Beginning, events: &[Event]) -> Result<Ran, Fault>
     ensures ok { IfOk result (IsRunOf beginning.now (events_of events.now)) }
     ensures within { IfOk result KeepsBound }
-    ensures good { OnOk result (IsTrue (are_good beginning.now.limits)) }
+    ensures good { OnOk result (IsTrue (are_good beginning.now.limits beginning.now.listener)) }
     ensures err { IfErr result (IsCoreFault beginning.now) }
 {
     let mut meter = Meter::new();
@@ -137,7 +160,7 @@ fn replay_text<W: Write + Drop>(
 ) -> Result<(), Fault>
     ensures ok { OnOk result
         (PrintsRun beginning.now W.contents out.old out.new (read text.now)) }
-    ensures good { OnOk result (IsTrue (are_good beginning.now.limits)) }
+    ensures good { OnOk result (IsTrue (are_good beginning.now.limits beginning.now.listener)) }
     ensures flushed { OnOk result (writer_buffer out.new ≡ []) }
     ensures err { IfErr result (λ fault. IsReplayFault beginning.now fault (read text.now)) }
     ensures unwritten { IfErr result (λ fault. status_of fault ≡ 2 → out.new ≡ out.old) }
@@ -162,7 +185,7 @@ fn replay_all<R: Read, W: Write + Drop>(
 ) -> Result<(), Fault>
     ensures ok { OnOk result
         (Replays beginning.now R.remaining reader.old W.contents out.old out.new) }
-    ensures good { OnOk result (IsTrue (are_good beginning.now.limits)) }
+    ensures good { OnOk result (IsTrue (are_good beginning.now.limits beginning.now.listener)) }
     ensures flushed { OnOk result (writer_buffer out.new ≡ []) }
     ensures refused { IfErr result (Refuses beginning.now R.remaining reader.old) }
     ensures unwritten { IfErr result (λ fault. status_of fault ≡ 2 → out.new ≡ out.old) }
@@ -187,7 +210,7 @@ pub fn run_replay<R: Read, W: Write + Drop, E: Write>(
     ensures status { result.status ≤ 2 }
     ensures ok { result.status ≡ 0
         → Replays beginning.now R.remaining reader.old W.contents out.old out.new }
-    ensures good { result.status ≡ 0 → IsTrue (are_good beginning.now.limits) }
+    ensures good { result.status ≡ 0 → IsTrue (are_good beginning.now.limits beginning.now.listener) }
     ensures flushed { result.status ≡ 0 → writer_buffer out.new ≡ [] }
     ensures quiet { result.status ≡ 0 → faults.new ≡ faults.old }
     ensures refused { result.status ≡ 2 → Reads R.remaining reader.old IsRefused }
@@ -197,6 +220,6 @@ pub fn run_replay<R: Read, W: Write + Drop, E: Write>(
 {
     match replay_all(alloc, beginning, reader, out) {
         Ok(()) => DONE,
-        Err(fault) => explain_run(fault, &beginning.limits, faults),
+        Err(fault) => explain_run(fault, &beginning.limits, &beginning.listener, faults),
     }
 }

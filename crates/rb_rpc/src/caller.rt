@@ -1,5 +1,5 @@
 //! Who sends a call, and how one asks that another is made for it.
-use rb_address::Peer;
+use rb_address::Who;
 
 /// The most bytes of arguments of a call that is forwarded: `args` of RFC 1833 sections 2.1 and 3.1.
 pub const LONGEST_FORWARDED: usize = 8_800;
@@ -7,10 +7,10 @@ pub const LONGEST_FORWARDED: usize = 8_800;
 /// Where a call came from: a connection, by its number, or a datagram.
 #[derive(Clone, Copy, PartialEq, Eq, Debug)]
 pub enum Caller {
-    /// A connection, by its number, and the peer at its other end.
-    Tcp(u64, Peer),
+    /// A connection, by its number, and who is at its other end.
+    Tcp(u64, Who),
     /// A datagram, by its sender.
-    Udp(Peer),
+    Udp(Who),
 }
 
 /// By which procedure a caller has another call made for it. It says what is answered, and when.
@@ -30,11 +30,11 @@ pub enum Kind {
 /// charges of docs/RULES.md first.
 fn layout(caller: &Caller) {
     match *caller {
-        Caller::Tcp(number, peer) => {
-            let _: (u64, Peer) = (number, peer);
+        Caller::Tcp(number, who) => {
+            let _: (u64, Who) = (number, who);
         }
-        Caller::Udp(peer) => {
-            let _: Peer = peer;
+        Caller::Udp(who) => {
+            let _: Who = who;
         }
     }
 }

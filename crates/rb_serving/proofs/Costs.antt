@@ -100,7 +100,7 @@ pub adding_asks : (context : Context) (call : Call) (rows : List Row) (count : �
 unfolding adds_row row_to_set
 adding_asks context call rows count is = by_request call.request is
   where
-    by_request : (request : Request) → adds context rows count (row_asked call.head request) ≡ true → walks_rows request ≡ true
+    by_request : (request : Request) → adds context rows count (row_asked context call.head request) ≡ true → walks_rows request ≡ true
     by_request (requests.Mapping mappings.Set m) t = refl
     by_request (requests.Mapping mappings.Unset m) t = refl
     by_request (requests.Mapping mappings.Getport m) t = absurd cc

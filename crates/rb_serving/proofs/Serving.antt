@@ -73,8 +73,8 @@ null_fits xid =
 
 null_told : (caller : Caller) (count xid : ℕ) (shown : Shown) → Reply (reply_head xid Success) None ≡ answer_outcome caller count xid (result_bytes shown) null_answer
 unfolding result_bytes
-null_told (Udp peer) count xid shown = ap (λ (xs : List ℕ). Reply xs None) (sym (null_fits xid))
-null_told (Tcp id peer) count xid shown = ap (λ (xs : List ℕ). Reply xs None) (sym (null_fits xid))
+null_told (Udp who) count xid shown = ap (λ (xs : List ℕ). Reply xs None) (sym (null_fits xid))
+null_told (Tcp id who) count xid shown = ap (λ (xs : List ℕ). Reply xs None) (sym (null_fits xid))
 
 -- A call of NULL is noted, and its reply is a head.
 pub null_served : (context : Context) (head : CallHead) (arguments : List ℕ) (old new : Books) → Notes head old new → ActsAs (outcome context (null_message head) arguments) old new (Reply (reply_head head.xid Success) None)
@@ -89,14 +89,14 @@ null_served context head arguments old new notes =
 pub listed : (caller : Caller) (given : Results) (xid : ℕ) (books : Books) (listing : Listing) (l : Ledger) → Some listing ≡ list_streamed caller given → StandsForLedger books l
     → listing_outcome books.registry xid listing ≡ results_outcome caller (length l.changes) xid (result_bytes (shown_of l) given) given
 unfolding result_bytes
-listed (Udp peer) given xid books listing l e h = absurd cc
-listed (Tcp id peer) (results.Rows rows) xid books listing l e h =
+listed (Udp who) given xid books listing l e h = absurd cc
+listed (Tcp id who) (results.Rows rows) xid books listing l e h =
     let same : listing ≡ rows = cc in
     let live : list_reply xid (rows_of books.registry) listing ≡ list_reply xid (rows_in l) listing = ap (λ (rows : List Row). list_reply xid rows listing) h.registry.rows in
     rw (live, h.registry.stamp, same) refl
-listed (Tcp id peer) (results.Value value) xid books listing l e h = absurd cc
-listed (Tcp id peer) results.Statistics xid books listing l e h = absurd cc
+listed (Tcp id who) (results.Value value) xid books listing l e h = absurd cc
+listed (Tcp id who) results.Statistics xid books listing l e h = absurd cc
 
 pub streamed_to : (caller : Caller) (given : Results) (xid : ℕ) (listing : Listing) → Some listing ≡ list_streamed caller given → IsStreamedTo caller (Listed xid listing)
-streamed_to (Udp peer) given xid listing e = absurd cc
-streamed_to (Tcp id peer) given xid listing e = tt
+streamed_to (Udp who) given xid listing e = absurd cc
+streamed_to (Tcp id who) given xid listing e = tt

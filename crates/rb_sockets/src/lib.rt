@@ -3,16 +3,24 @@
 #![tactic(auto)]
 
 mod addresses;
+mod calls;
 mod descriptors;
 mod faults;
+mod listener;
 mod local;
 mod settings;
 mod sockets;
 mod stream;
+mod tables;
+mod watched;
 
 pub use addresses::{Addresses, LocalSocket};
+pub use calls::{CallSocket, CallSockets, ForwardSocket, ForwardSockets};
 pub use descriptors::{Shortage, open_files};
 pub use faults::{BindFault, DaemonFault, SocketFault, Step};
+pub use listener::{Ends, Listener, Visitor};
 pub use settings::Settings;
-pub use sockets::{CallSocket, CallSockets, ForwardSocket, Listener, Shown, Sockets, Watched};
+pub use sockets::{Shown, Sockets};
 pub use stream::{Incoming, Outgoing, Stream};
+pub use tables::Table;
+pub use watched::Watched;

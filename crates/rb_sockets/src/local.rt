@@ -1,15 +1,22 @@
 //! The start of the local socket.
 use crate::addresses::LocalSocket;
 use mio::net::{UnixListener, UnixStream};
-use rb_policy::{FileAction, FileState, file_action};
+use rb_policy::{Entrance, FileAction, FileState, file_action, lets_in_root_alone};
 use std::fs::{Files, Permissions};
 use std::io::ErrorKind;
-use std::net::Net;
+use std::net::{Net, Shutdown};
+use std::os::fd::OwnedFd;
 use std::os::unix::fs::{FileTypeExt, PermissionsExt};
+use std::os::unix::net::{SocketAddr, SocketAddrExt};
 use std::{fs, io};
 
-/// Listens on the local socket, in a file of its mode. A socket that nobody listens on any more is removed first.
-pub fn listen<R: Files + Net>(rt: &R, local: &LocalSocket<'_>) -> io::Result<UnixListener> {
+/// Listens on the local socket, in a file of its mode, and says where its callers come in. A socket that nobody listens on
+/// any more is removed first. It is root's where its mode lets in root alone, and the one with which the system made the
+/// file did too: else somebody may have come in before its mode was set.
+pub fn listen<R: Files + Net>(
+    rt: &R,
+    local: &LocalSocket<'_>,
+) -> io::Result<(UnixListener, Entrance)> {
     let LocalSocket { path, mode } = *local;
     let state = file_state(rt, path)?;
     match file_action(state) {
@@ -18,8 +25,16 @@ pub fn listen<R: Files + Net>(rt: &R, local: &LocalSocket<'_>) -> io::Result<Uni
         FileAction::GiveUp => return Err(in_the_way(state)),
     }
     let listener = UnixListener::bind(rt, path)?;
+    let was_root_alone = match fs::symlink_metadata(rt, path) {
+        Ok(made) => lets_in_root_alone(made.permissions().mode()),
+        Err(_) => false,
+    };
     fs::set_permissions(rt, path, Permissions::from_mode(mode))?;
-    Ok(listener)
+    if was_root_alone && lets_in_root_alone(mode) {
+        Ok((listener, Entrance::RootSocket))
+    } else {
+        Ok((listener, Entrance::OpenSocket))
+    }
 }
 
 /// What is at the path, as far as the system tells.
@@ -52,4 +67,17 @@ fn in_the_way(state: FileState) -> io::Error {
             io::Error::new(ErrorKind::AddrInUse, "another program listens on it")
         }
     }
+}
+
+/// The abstract name that newer clients try before the file. Nobody's mode keeps it, so nobody is answered there.
+const ABSTRACT_NAME: &[u8; 17] = b"/run/rpcbind.sock";
+
+/// Holds the abstract name, so that no other program answers there in place of this one: whoever tries it is refused, and
+/// goes on to the file. None where another program has it.
+pub fn hold_abstract_name<R: Files + Net>(rt: &R) -> Option<UnixStream> {
+    let address = SocketAddr::from_abstract_name(ABSTRACT_NAME).ok()?;
+    let listener = UnixListener::bind_addr(rt, &address).ok()?;
+    let held = UnixStream::from(OwnedFd::from(listener));
+    held.shutdown(Shutdown::Both).ok()?;
+    Some(held)
 }

@@ -1,22 +1,32 @@
 //! What a daemon is started with.
+ghost use Rattle.std.specs.Prelude.{◌≡◌};
+ghost use Rattle.rb_sockets.specs.Settings.{path_of};
+
 use crate::addresses::{Addresses, LocalSocket};
-use rb_address::Network;
+use rb_address::{Host, Network};
 use rb_model::Limits;
-use std::net::Ipv4Addr;
+use rb_policy::{announced_inet, announced_inet6};
+use rb_proto::{Announced, Listener};
+use rb_uaddr::{AddressText, MAX_KEPT};
 
 /// What a daemon is started with.
 #[derive(Clone, Copy, Debug, PartialEq, Eq)]
 pub struct Settings<'a> {
-    /// The addresses to listen on over TCP and UDP. Forwarded calls go out from the first.
-    pub hosts: &'a [Ipv4Addr],
+    /// The hosts to listen on over TCP and UDP; :: is every host of both families. Forwarded calls go out from the first
+    /// of their family.
+    pub hosts: &'a [Host],
     /// The networks whose hosts may ask, beside this machine; with none everybody may.
     pub networks: &'a [Network],
-    /// Whether to listen on [::1] over TCP besides.
+    /// Whether to listen on ::1 besides.
     pub loopback6: bool,
     /// The local socket to listen on besides, if any.
     pub local: Option<LocalSocket<'a>>,
-    /// The host that answers show where a program listens on every address. Callers from it count as local.
-    pub announce: Ipv4Addr,
+    /// Whether callers are believed what they claim: who is local is by its address, and whose it is by its credential.
+    pub are_claims_believed: bool,
+    /// The host of IPv4 that is told where none was asked and a program listens on every one, if one is given.
+    pub announce: Option<[u8; 4]>,
+    /// The same of IPv6.
+    pub announce6: Option<[u8; 16]>,
     /// The port of TCP and UDP.
     pub port: u16,
     /// How many connections, rows and forwarded calls there may be.
@@ -29,14 +39,56 @@ pub struct Settings<'a> {
 }
 
 impl<'a> Settings<'a> {
-    /// Where it listens, and whom it serves there.
+    ghost use Rattle.std.specs.Prelude.{◌≡◌};
+    ghost use Rattle.rb_sockets.specs.Settings.{announced_by, listener_of};
+
+    /// Where it listens, and whom it serves and believes there.
     pub fn addresses(&self) -> Addresses<'a> {
         Addresses {
             hosts: self.hosts,
             networks: self.networks,
             loopback6: self.loopback6,
             local: self.local,
+            are_claims_believed: self.are_claims_believed,
             port: self.port,
         }
+    }
+
+    /// Which families are served, and the host of each that is told where none was asked.
+    pub fn announced(&self) -> Announced
+        ensures { result ≡ announced_by self.now }
+    {
+        Announced {
+            inet: announced_inet(self.announce, self.hosts),
+            inet6: announced_inet6(self.announce6, self.hosts, self.loopback6),
+        }
+    }
+
+    /// Where the core is told that it listens.
+    pub fn listener(&self) -> Listener
+        ensures { result ≡ listener_of self.now }
+    {
+        Listener {
+            announced: self.announced(),
+            port: self.port,
+            local: path_of(&self.local),
+        }
+    }
+}
+
+/// The path of the local socket, as the row of it has it.
+fn path_of(local: &Option<LocalSocket<'_>>) -> Option<AddressText>
+    ensures { result ≡ path_of local.now }
+{
+    match local {
+        Some(local) => {
+            let path = local.path.as_bytes();
+            if path.len() <= MAX_KEPT {
+                Some(AddressText::new(path))
+            } else {
+                None
+            }
+        }
+        None => None,
     }
 }

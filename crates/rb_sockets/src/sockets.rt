@@ -1,213 +1,28 @@
 //! The daemon's own sockets. Each kind is a type of its own, so that nothing goes out on the wrong one.
-ghost use Rattle.std.specs.Prelude.{IfOk, ◌≤◌, length};
-
 use crate::addresses::{Addresses, LocalSocket};
+use crate::calls::{CallSocket, CallSockets, ForwardSocket, ForwardSockets};
 use crate::faults::{BindFault, Step};
+use crate::listener::Listener;
 use crate::local;
-use crate::stream::Stream;
-use mio::net::{TcpListener, UdpSocket, UnixListener};
-use mio::{Interest, Registry, Token};
-use rb_address::{Network, Peer};
-use rb_policy::{Again, Ask, Asked, address_of, asker, inet_peer, local_peer, loopback6_peer};
+use crate::watched::Watched;
+use mio::net::UnixStream;
+use mio::{Registry, Token};
+use rb_address::{Family, Host, Network};
+use rb_policy::{
+    ANY, LOOPBACK6, binds_loopback6, forwards_inet, forwards_inet6, has_every_host, is_bound,
+    trust_of,
+};
 use std::alloc::{AllocError, Global};
 use std::fs::Files;
 use std::io;
-use std::net::{Ipv4Addr, Ipv6Addr, Net, SocketAddr};
-use std::os::fd::{AsRawFd, RawFd};
-
-/// Where calls come in as datagrams, and where replies to them go out.
-#[derive(Drop)]
-pub struct CallSocket(UdpSocket);
-
-impl CallSocket {
-    fn bind(net: &impl Net, host: Ipv4Addr, port: u16) -> Result<CallSocket, BindFault> {
-        let address = SocketAddr::from((host, port));
-        match UdpSocket::bind(net, address) {
-            Ok(socket) => Ok(CallSocket(socket)),
-            Err(error) => Err(BindFault::Socket(Step::BindUdp(address).failed(error))),
-        }
-    }
-
-    /// A datagram, how long it is, and from whom, if that may call where these networks are served.
-    pub fn receive(
-        &self,
-        networks: &[Network],
-        room: &mut [u8],
-    ) -> io::Result<(usize, Option<Peer>)>
-        ensures { IfOk result (λ r. r.0 ≤ length room.new) }
-    {
-        let (len, from) = self.0.recv_from(room)?;
-        Ok((len, asker(networks, inet_peer(from))))
-    }
-
-    /// Sends a reply. One that the socket does not take is lost.
-    pub fn reply(&self, reply: &[u8], to: Peer) {
-        let _ = self.0.send_to(reply, address_of(to));
-    }
-}
-
-/// Where forwarded calls go out, and what comes back for them comes in.
-#[derive(Drop)]
-pub struct ForwardSocket(UdpSocket);
-
-impl ForwardSocket {
-    /// The port is of the system's choice.
-    fn bind(net: &impl Net, host: Ipv4Addr) -> Result<ForwardSocket, BindFault> {
-        let address = SocketAddr::from((host, 0));
-        match UdpSocket::bind(net, address) {
-            Ok(socket) => Ok(ForwardSocket(socket)),
-            Err(error) => Err(BindFault::Socket(Step::BindUdp(address).failed(error))),
-        }
-    }
-
-    /// A datagram, how long it is, and from whom, if that may be a target.
-    pub fn receive(&self, room: &mut [u8]) -> io::Result<(usize, Option<Peer>)>
-        ensures { IfOk result (λ r. r.0 ≤ length room.new) }
-    {
-        let (len, from) = self.0.recv_from(room)?;
-        Ok((len, inet_peer(from)))
-    }
-
-    /// Sends a forwarded call. One that the socket does not take is lost.
-    pub fn call(&self, call: &[u8], target: Peer) {
-        let _ = self.0.send_to(call, address_of(target));
-    }
-}
-
-/// Where connections come in.
-#[derive(Drop)]
-pub enum Listener {
-    /// Over TCP, on an IPv4 address.
-    Inet(TcpListener),
-    /// Over TCP, on [::1].
-    Loopback6(TcpListener),
-    /// On the local socket.
-    Local(UnixListener),
-}
-
-impl Listener {
-    fn bind_tcp(net: &impl Net, address: SocketAddr) -> Result<TcpListener, BindFault> {
-        match TcpListener::bind(net, address) {
-            Ok(listener) => Ok(listener),
-            Err(error) => Err(BindFault::Socket(Step::BindTcp(address).failed(error))),
-        }
-    }
-
-    /// A connection, and the peer that the core is handed for it where these networks are served. One without a peer is
-    /// to be closed.
-    pub fn accept(&self, networks: &[Network]) -> io::Result<(Stream, Option<Peer>)> {
-        let (stream, peer) = self.accept_any()?;
-        Ok((stream, asker(networks, peer)))
-    }
-
-    /// A connection from anywhere, and its peer.
-    fn accept_any(&self) -> io::Result<(Stream, Option<Peer>)> {
-        match self {
-            Listener::Inet(listener) => {
-                let (stream, from) = listener.accept()?;
-                Ok((Stream::Tcp(stream), inet_peer(from)))
-            }
-            Listener::Loopback6(listener) => {
-                let (stream, from) = listener.accept()?;
-                Ok((Stream::Tcp(stream), loopback6_peer(from)))
-            }
-            Listener::Local(listener) => {
-                let (stream, _) = listener.accept()?;
-                Ok((Stream::Local(stream), Some(local_peer())))
-            }
-        }
-    }
-
-    fn as_raw_fd(&self) -> RawFd {
-        match self {
-            Listener::Inet(listener) | Listener::Loopback6(listener) => listener.as_raw_fd(),
-            Listener::Local(listener) => listener.as_raw_fd(),
-        }
-    }
-
-    fn register(&mut self, registry: &Registry, token: Token) -> io::Result<()> {
-        match self {
-            Listener::Inet(listener) | Listener::Loopback6(listener) => {
-                registry.register(listener, token, Interest::READABLE)
-            }
-            Listener::Local(listener) => registry.register(listener, token, Interest::READABLE),
-        }
-    }
-}
-
-/// One of the daemon's own sockets, and when it is served again.
-#[derive(Drop)]
-pub struct Watched<S> {
-    /// The socket itself.
-    pub socket: S,
-    again: Again,
-    is_shown: bool,
-    has_failed: bool,
-}
-
-impl<S> Watched<S> {
-    fn new(socket: S) -> Watched<S> {
-        Watched {
-            socket,
-            again: Again::AtEvent,
-            is_shown: false,
-            has_failed: false,
-        }
-    }
-
-    /// An event showed it.
-    pub fn show(&mut self) {
-        self.is_shown = true;
-    }
-
-    /// Whether it is to be served in this turn.
-    pub fn is_ready(&self) -> bool {
-        self.is_shown || self.again != Again::AtEvent
-    }
-
-    /// It was served; `again` says when it is served next.
-    pub fn leave(&mut self, again: Again) {
-        self.again = again;
-        self.is_shown = false;
-    }
-
-    /// It failed. Whether that is the first time.
-    pub fn fail(&mut self) -> bool {
-        let is_first = !self.has_failed;
-        self.has_failed = true;
-        is_first
-    }
-
-    /// Whether the next turn is to serve it without a wait.
-    pub fn is_left(&self) -> bool {
-        self.again == Again::AtOnce
-    }
-}
-
-/// All sockets where calls come in as datagrams.
-#[derive(Drop)]
-pub struct CallSockets {
-    /// One for each address, in their order.
-    pub all: Vec<Watched<CallSocket>>,
-    asked: Asked,
-}
-
-impl CallSockets {
-    /// A call that came from the peer on the socket of this number is forwarded.
-    pub fn note(&mut self, peer: Peer, socket: usize) {
-        self.asked.note(Ask { peer, socket });
-    }
-
-    /// Sends a reply on the socket on which the peer asked.
-    pub fn reply_where_asked(&self, reply: &[u8], to: Peer) {
-        if let Some(asked) = self.all.get(self.asked.socket_of(to)) {
-            asked.socket.reply(reply, to);
-        }
-    }
-}
+use std::io::ErrorKind;
+use std::net::Net;
+use std::os::fd::AsRawFd;
 
 /// The keys of events: those of connections are the numbers of their places, at most 256.
 const FORWARDS: usize = 1024;
+
+const FORWARDS6: usize = 1025;
 
 const CALLS: usize = 2048;
 
@@ -218,8 +33,8 @@ const LISTENERS: usize = 4096;
 pub enum Shown {
     /// The connection that has the place of this number.
     Connection(usize),
-    /// The socket for forwarded calls.
-    Forwards,
+    /// The socket for calls that are forwarded to targets of a family.
+    Forwards(Family),
     /// The socket of this number where calls come in.
     Calls(usize),
     /// The listener of this number.
@@ -235,11 +50,15 @@ pub struct Sockets {
     /// Where calls come in as datagrams.
     pub calls: CallSockets,
     /// Where forwarded calls go out.
-    pub forwards: Watched<ForwardSocket>,
-    /// Where connections come in: over TCP one for each address, then [::1], then the local socket.
+    pub forwards: ForwardSockets,
+    /// Where connections come in: over TCP one for each host, then the local socket.
     pub listeners: Vec<Watched<Listener>>,
     /// The networks whose hosts may ask.
     pub networks: Vec<Network>,
+    /// Whether callers are believed what they claim.
+    pub are_claims_believed: bool,
+    /// The abstract name of the local socket, where it is held.
+    abstract_name: Option<UnixStream>,
 }
 
 impl Sockets {
@@ -251,51 +70,57 @@ impl Sockets {
         rt: &R,
         addresses: &Addresses<'_>,
     ) -> Result<Sockets, BindFault> {
-        let port = addresses.port;
-        let mut listeners = Vec::with_capacity(alloc, addresses.hosts.len().saturating_add(2))?;
-        let mut all = Vec::with_capacity(alloc, addresses.hosts.len())?;
-        for host in addresses.hosts {
-            let listener = Listener::bind_tcp(rt, SocketAddr::from((*host, port)))?;
-            put(&mut listeners, Listener::Inet(listener))?;
-        }
-        for host in addresses.hosts {
-            put(&mut all, CallSocket::bind(rt, *host, port)?)?;
-        }
-        let first = addresses
-            .hosts
-            .first()
-            .copied()
-            .unwrap_or(Ipv4Addr::LOCALHOST);
-        let forwards = Watched::new(ForwardSocket::bind(rt, first)?);
-        if addresses.loopback6 {
-            let address = SocketAddr::from((Ipv6Addr::LOCALHOST, port));
-            let listener = Listener::bind_tcp(rt, address)?;
-            put(&mut listeners, Listener::Loopback6(listener))?;
-        }
+        let most = addresses.hosts.len().saturating_add(3);
+        let mut inet = Inet {
+            listeners: Vec::with_capacity(alloc, most)?,
+            calls: Vec::with_capacity(alloc, most)?,
+            bound: Vec::with_capacity(alloc, most)?,
+            port: addresses.port,
+            are_claims_believed: addresses.are_claims_believed,
+        };
+        inet.bind_all(rt, addresses)?;
+        let forwards = bind_forwards(rt, addresses)?;
+        let Inet {
+            mut listeners,
+            calls: all,
+            bound,
+            port,
+            are_claims_believed,
+        } = inet;
+        let mut abstract_name = None;
         if let Some(local) = &addresses.local {
-            let listener = bind_local(rt, local)?;
-            put(&mut listeners, Listener::Local(listener))?;
+            put(&mut listeners, bind_local(rt, local, are_claims_believed)?)?;
+            if port == WELL_KNOWN {
+                abstract_name = local::hold_abstract_name(rt);
+            }
         }
-        let asked = Asked::new(alloc)?;
         let mut networks = Vec::with_capacity(alloc, addresses.networks.len())?;
         networks.extend_from_slice(addresses.networks)?;
         Ok(Sockets {
-            calls: CallSockets { all, asked },
+            calls: CallSockets { all, bound },
             forwards,
             listeners,
             networks,
+            are_claims_believed,
+            abstract_name,
         })
     }
 
     /// So many descriptors of the process are not for connections: the system gives the least number that is free, so
     /// when the last of these sockets got its own, all below that were taken.
     pub fn count_descriptors(&self) -> u64 {
-        let mut last = self.forwards.socket.0.as_raw_fd();
+        let mut last = self.forwards.inet.socket.as_raw_fd();
+        if let Some(inet6) = &self.forwards.inet6 {
+            last = last.max(inet6.socket.as_raw_fd());
+        }
         for calls in &self.calls.all {
-            last = last.max(calls.socket.0.as_raw_fd());
+            last = last.max(calls.socket.as_raw_fd());
         }
         for listener in &self.listeners {
             last = last.max(listener.socket.as_raw_fd());
+        }
+        if let Some(held) = &self.abstract_name {
+            last = last.max(held.as_raw_fd());
         }
         u64::try_from(last).unwrap_or(0).saturating_add(1)
     }
@@ -305,16 +130,20 @@ impl Sockets {
     /// when this returns, so it is not to be inlined.
     #[inline(never)]
     pub fn write_stack(&self) {
-        let _ = self.forwards.socket.receive(&mut [0; STACK]);
+        let _ = self.forwards.inet.socket.receive(&mut [0; STACK]);
     }
 
     /// Their events are shown from here on.
     pub fn register(&mut self, registry: &Registry) -> io::Result<()> {
-        let forwards = &mut self.forwards.socket.0;
-        registry.register(forwards, Token(FORWARDS), Interest::READABLE)?;
+        let ForwardSockets { inet, inet6 } = &mut self.forwards;
+        inet.socket.register(registry, Token(FORWARDS))?;
+        if let Some(inet6) = inet6 {
+            inet6.socket.register(registry, Token(FORWARDS6))?;
+        }
         for (i, calls) in self.calls.all.iter_mut().enumerate() {
-            let token = Token(CALLS.saturating_add(i));
-            registry.register(&mut calls.socket.0, token, Interest::READABLE)?;
+            calls
+                .socket
+                .register(registry, Token(CALLS.saturating_add(i)))?;
         }
         for (i, listener) in self.listeners.iter_mut().enumerate() {
             listener
@@ -334,7 +163,8 @@ impl Sockets {
         }
         match key.checked_sub(CALLS) {
             Some(i) => Shown::Calls(i),
-            None => Shown::Forwards,
+            None if key == FORWARDS6 => Shown::Forwards(Family::Inet6),
+            None => Shown::Forwards(Family::Inet),
         }
     }
 
@@ -342,7 +172,11 @@ impl Sockets {
     pub fn show(&mut self, token: Token) {
         match Sockets::shown_by(token) {
             Shown::Connection(_) => {}
-            Shown::Forwards => self.forwards.show(),
+            Shown::Forwards(family) => {
+                if let Some(forwards) = self.forwards.of_mut(family) {
+                    forwards.show();
+                }
+            }
             Shown::Calls(i) => {
                 if let Some(calls) = self.calls.all.get_mut(i) {
                     calls.show();
@@ -378,9 +212,96 @@ impl Sockets {
     }
 }
 
-fn bind_local<R: Files + Net>(rt: &R, local: &LocalSocket<'_>) -> Result<UnixListener, BindFault> {
+/// The port of the portmapper.
+const WELL_KNOWN: u16 = 111;
+
+/// The sockets of TCP and UDP, as they are bound: of each host one of TCP and one of UDP.
+#[derive(Drop)]
+struct Inet {
+    listeners: Vec<Watched<Listener>>,
+    calls: Vec<Watched<CallSocket>>,
+    bound: Vec<Host>,
+    port: u16,
+    are_claims_believed: bool,
+}
+
+impl Inet {
+    /// Binds all of the hosts, of TCP before UDP.
+    fn bind_all<R: Net>(&mut self, rt: &R, addresses: &Addresses<'_>) -> Result<(), BindFault> {
+        let hosts = addresses.hosts;
+        for host in hosts {
+            if is_bound(hosts, *host) {
+                self.bind_tcp(rt, host.plain())?;
+            }
+        }
+        let is_loopback6 = binds_loopback6(hosts, addresses.loopback6);
+        if is_loopback6 {
+            self.bind_tcp(rt, Host::V6(LOOPBACK6))?;
+        }
+        for host in hosts {
+            if is_bound(hosts, *host) {
+                self.bind_udp(rt, host.plain())?;
+            }
+        }
+        if is_loopback6 {
+            self.bind_udp(rt, Host::V6(LOOPBACK6))?;
+        }
+        if has_every_host(hosts) {
+            unless_in_use(self.bind_tcp(rt, Host::V4(ANY)))?;
+            unless_in_use(self.bind_udp(rt, Host::V4(ANY)))?;
+            // Where both are bound, :: has no datagrams that asked 0.0.0.0: the other one is to be found first.
+            self.calls.reverse();
+            self.bound.reverse();
+        }
+        Ok(())
+    }
+
+    fn bind_tcp(&mut self, rt: &impl Net, host: Host) -> Result<(), BindFault> {
+        let listener = Listener::bind_tcp(rt, host, self.port, self.are_claims_believed)?;
+        put(&mut self.listeners, listener)
+    }
+
+    fn bind_udp(&mut self, rt: &impl Net, host: Host) -> Result<(), BindFault> {
+        let calls = CallSocket::bind(rt, host, self.port, self.are_claims_believed)?;
+        put(&mut self.calls, calls)?;
+        match self.bound.push(host) {
+            Ok(()) => Ok(()),
+            Err(error) => Err(BindFault::Memory(AllocError::from(error))),
+        }
+    }
+}
+
+/// What binding 0.0.0.0 beside :: gave: where the system says that it is in use, :: has it already, as it does unless the
+/// system keeps both apart (bindv6only of ipv6(7)).
+fn unless_in_use(bound: Result<(), BindFault>) -> Result<(), BindFault> {
+    match bound {
+        Err(BindFault::Socket(fault)) if fault.error.kind() == ErrorKind::AddrInUse => Ok(()),
+        other => other,
+    }
+}
+
+fn bind_forwards<R: Net>(rt: &R, addresses: &Addresses<'_>) -> Result<ForwardSockets, BindFault> {
+    let inet = ForwardSocket::bind(rt, forwards_inet(addresses.hosts))?;
+    let inet6 = match forwards_inet6(addresses.hosts, addresses.loopback6) {
+        Some(host) => Some(Watched::new(ForwardSocket::bind(rt, host)?)),
+        None => None,
+    };
+    Ok(ForwardSockets {
+        inet: Watched::new(inet),
+        inet6,
+    })
+}
+
+fn bind_local<R: Files + Net>(
+    rt: &R,
+    local: &LocalSocket<'_>,
+    are_claims_believed: bool,
+) -> Result<Listener, BindFault> {
     match local::listen(rt, local) {
-        Ok(listener) => Ok(listener),
+        Ok((listener, entrance)) => Ok(Listener::Local(
+            listener,
+            trust_of(are_claims_believed, entrance),
+        )),
         Err(error) => Err(BindFault::Socket(Step::BindLocal.failed(error))),
     }
 }

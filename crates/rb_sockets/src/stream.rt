@@ -1,6 +1,8 @@
 //! Connections that were accepted, each of its own kind.
 use mio::net::{TcpStream, UnixStream};
 use mio::{Interest, Registry, Token};
+use rb_address::{Host, Peer};
+use rb_policy::ANY;
 use std::io;
 use std::io::{Read, Write};
 
@@ -21,6 +23,27 @@ impl Stream {
         match self {
             Stream::Tcp(stream) => stream.set_nodelay(true),
             Stream::Local(_) => Ok(()),
+        }
+    }
+
+    /// Our own end of a connection over TCP: the host that was asked, and its port. Where the system does not tell, and on
+    /// the local socket, 0.0.0.0 and port 0.
+    pub(crate) fn own_end(&self) -> Peer {
+        let nowhere = Peer::new(Host::V4(ANY), 0);
+        match self {
+            Stream::Tcp(stream) => match stream.local_addr() {
+                Ok(address) => Peer::of(address),
+                Err(_) => nowhere,
+            },
+            Stream::Local(_) => nowhere,
+        }
+    }
+
+    /// Whether it is connected still. As long as it is, no other connection has its two ends.
+    pub fn is_connected(&self) -> bool {
+        match self {
+            Stream::Tcp(stream) => stream.peer_addr().is_ok(),
+            Stream::Local(_) => true,
         }
     }
 

@@ -6,15 +6,16 @@ use Rattle.std.proofs.lemmas.Bool.{eqb-true}
 use Rattle.std.proofs.lemmas.List.{take-append-drop, take-append-le, take_all, length-take}
 use Rattle.std.proofs.lemmas.List.Elements.{filter-append}
 use Rattle.std.proofs.lemmas.List.Folds.{list_any-append}
-use Rattle.rb_address.specs.declared.netid.Transport.{Transport}
-use Rattle.rb_address.specs.declared.netid.Transport.TheVariants.{Tcp, Udp}
+use Rattle.rb_address.specs.declared.netid.Netid.{Netid}
+use Rattle.rb_address.specs.declared.netid.Netid.TheVariants.{Tcp, Udp, Tcp6, Udp6, Local}
+use Rattle.rb_address.specs.Netids.{is_netid}
 use Rattle.rb_stats.specs.declared.key.Version.{Version}
 use Rattle.rb_stats.specs.declared.key.Version.TheVariants.{Two, Three, Four}
 use Rattle.rb_stats.specs.declared.key.Info.{Info}
 use Rattle.rb_stats.specs.declared.key.Info.TheVariants.{Addr, Rmt}
 use Rattle.rb_stats.specs.declared.key.Target.{Target}
 use Rattle.rb_stats.specs.declared.key.Key.{Key}
-use Rattle.rb_stats.specs.Statistics.{is_version, is_transport, is_target, is_proc, is_key, is_in, info_of, distinct_keys, greatest_list}
+use Rattle.rb_stats.specs.Statistics.{is_version, is_target, is_proc, is_key, is_in, info_of, distinct_keys, greatest_list}
 
 pub both : (a b : Bool) → (a && b) ≡ true → (a ≡ true) × (b ≡ true)
 both true b e = (refl, e)
@@ -32,19 +33,23 @@ version_same Three Three h = refl
 version_same Four Four h = refl
 version_same _ _ h = absurd cc
 
-transport_same : (a b : Transport) → is_transport a b ≡ true → a ≡ b
-transport_same Tcp Tcp h = refl
-transport_same Udp Udp h = refl
-transport_same _ _ h = absurd cc
+netid_same : (a b : Netid) → is_netid a b ≡ true → a ≡ b
+unfolding is_netid
+netid_same Tcp Tcp h = refl
+netid_same Udp Udp h = refl
+netid_same Tcp6 Tcp6 h = refl
+netid_same Udp6 Udp6 h = refl
+netid_same Local Local h = refl
+netid_same _ _ h = absurd cc
 
 target_same : (a b : Target) → is_target a b ≡ true → a ≡ b
 target_same a b h =
-    let p = both (eqb a.prog b.prog && eqb a.vers b.vers) (is_transport a.transport b.transport) h in
+    let p = both (eqb a.prog b.prog && eqb a.vers b.vers) (is_netid a.netid b.netid) h in
     let q = both (eqb a.prog b.prog) (eqb a.vers b.vers) p.0 in
     let prog : a.prog ≡ b.prog = eqb-true a.prog b.prog q.0 in
     let vers : a.vers ≡ b.vers = eqb-true a.vers b.vers q.1 in
-    let transport : a.transport ≡ b.transport = transport_same a.transport b.transport p.1 in
-    ap (λ (n : ℕ). record a { prog = n }) prog ∙ ap (λ (n : ℕ). record a { prog = b.prog; vers = n }) vers ∙ ap (λ (t : Transport). record b { transport = t }) transport
+    let netid : a.netid ≡ b.netid = netid_same a.netid b.netid p.1 in
+    ap (λ (n : ℕ). record a { prog = n }) prog ∙ ap (λ (n : ℕ). record a { prog = b.prog; vers = n }) vers ∙ ap (λ (n : Netid). record b { netid = n }) netid
 
 proc_same : (a b : Option ℕ) → is_proc a b ≡ true → a ≡ b
 proc_same None None h = refl
@@ -67,9 +72,13 @@ version_itself Two = refl
 version_itself Three = refl
 version_itself Four = refl
 
-transport_itself : (a : Transport) → is_transport a a ≡ true
-transport_itself Tcp = refl
-transport_itself Udp = refl
+netid_itself : (a : Netid) → is_netid a a ≡ true
+unfolding is_netid
+netid_itself Tcp = refl
+netid_itself Udp = refl
+netid_itself Tcp6 = refl
+netid_itself Udp6 = refl
+netid_itself Local = refl
 
 proc_itself : (a : Option ℕ) → is_proc a a ≡ true
 proc_itself None = refl
@@ -78,7 +87,7 @@ proc_itself (Some a) = eq-eqb a a refl
 pub key_itself : (a : Key) → is_key a a ≡ true
 unfolding is_key
 key_itself a =
-    rw (version_itself a.version, eq-eqb a.target.prog a.target.prog refl, eq-eqb a.target.vers a.target.vers refl, transport_itself a.target.transport, proc_itself a.proc) refl
+    rw (version_itself a.version, eq-eqb a.target.prog a.target.prog refl, eq-eqb a.target.vers a.target.vers refl, netid_itself a.target.netid, proc_itself a.proc) refl
 
 -- a key has its item in one list
 pub in_place : (version : Version) (info : Info) (key : Key) → is_in version info key ≡ true → (key.version ≡ version) × (info_of key.proc ≡ info)

@@ -1,23 +1,23 @@
 -- How long statistics are.
-use Rattle.std.proofs.Common.{◌≡◌, ℕ, ◌+◌, ◌*◌, ◌≤◌, Bool, true, false, not, cond, List, [], ◌∷◌, ◌++◌, length, take, drop, map, Option, Some, None, refl, sym, ap, ◌∙◌, arith, length-append}
+use Rattle.std.proofs.Common.{◌≡◌, ℕ, ◌+◌, ◌*◌, ◌<◌, ◌≤◌, Bool, true, false, not, cond, List, [], ◌∷◌, ◌++◌, length, take, drop, map, get_or, Option, Some, None, refl, sym, ap, ◌∙◌, arith, length-append}
 use Rattle.std.specs.Prelude.{filter, filter_map, is_none, is_some}
 use Rattle.std.specs.List.{flat_map, list_all}
-use Rattle.std.proofs.lemmas.List.{take-append-drop, length-map, length-take}
+use Rattle.std.proofs.lemmas.List.{take-append-drop, take_more, length-map, length-take}
+use Rattle.std.proofs.lemmas.Grind.{flat_map-append}
 use Rattle.std.proofs.lemmas.List.Folds.{list_all-append, list_all-map}
 use Rattle.rb_xdr.specs.Xdr.{number, words, boolean, opaque, linked_list}
 use Rattle.rb_xdr.proofs.Words.{length-number}
-use Rattle.rb_address.specs.declared.netid.Transport.{Transport}
-use Rattle.rb_address.specs.declared.netid.Transport.TheVariants.{Tcp, Udp}
-use Rattle.rb_address.specs.Netids.{netid_of, netid_text}
+use Rattle.rb_address.specs.declared.netid.Netid.{Netid}
+use Rattle.rb_address.specs.declared.netid.Netid.TheVariants.{Tcp, Udp, Tcp6, Udp6, Local}
+use Rattle.rb_address.specs.Netids.{netid_text}
 use Rattle.rb_stats.specs.declared.key.Version.{Version}
 use Rattle.rb_stats.specs.declared.key.Version.TheVariants.{Two, Three, Four}
 use Rattle.rb_stats.specs.declared.key.Info.{Info}
 use Rattle.rb_stats.specs.declared.key.Info.TheVariants.{Addr, Rmt}
 use Rattle.rb_stats.specs.declared.key.Key.{Key}
 use Rattle.rb_stats.specs.declared.item.Item.{Item}
-use Rattle.rb_stats.specs.declared.counts.Counts.{Counts}
 use Rattle.rb_stats.specs.Statistics.{Note, Count, Stat, is_version, is_key, is_in, count_of, counts_in, distinct_keys, keys_of, items_of, item_of, item_spelling, lookup_spelling, forward_spelling, spelling_by, stat, stat_spelling, statistics, greatest_list}
-use Rattle.rb_stats.specs.Table.{items_in, stat_in, stat_size}
+use Rattle.rb_stats.specs.Table.{stat_size}
 use Rattle.rb_stats.specs.Stats.{Stats, StandsForHistory, stat_len, key_count}
 use Rattle.rb_stats.specs.Counting.{spelling}
 use Rattle.rb_stats.proofs.Keys.{by_test, both}
@@ -29,28 +29,28 @@ length-words (n ∷ numbers) = omega (arith, length-append (number n) (words num
 
 -- ---- items
 
-length-lookup : (item : Item) → length (lookup_spelling item) ≡ 24
+-- a netid's text is spelled in 8 bytes, or in 12
+short_netid : (netid : Netid) → length (opaque (netid_text netid)) ≤ 12
 unfolding number opaque
-length-lookup item = by_transport item.key.target.transport
-  where
-    by_transport : (transport : Transport) → length (number item.key.target.prog ++ (number item.key.target.vers ++ (number item.success ++ (number item.failure ++ opaque (netid_text (netid_of transport)))))) ≡ 24
-    by_transport Tcp = refl
-    by_transport Udp = refl
+short_netid Tcp = omega arith
+short_netid Udp = omega arith
+short_netid Tcp6 = omega arith
+short_netid Udp6 = omega arith
+short_netid Local = omega arith
 
-length-forward : (proc : ℕ) (item : Item) → length (forward_spelling proc item) ≡ 32
-unfolding number opaque
-length-forward proc item = by_transport item.key.target.transport
-  where
-    by_transport : (transport : Transport)
-        → length (number item.key.target.prog ++ (number item.key.target.vers ++ (number proc ++ (number item.success ++ (number item.failure ++ (number item.indirect ++ opaque (netid_text (netid_of transport)))))))) ≡ 32
-    by_transport Tcp = refl
-    by_transport Udp = refl
+pub length-lookup : (item : Item) → length (lookup_spelling item) ≡ 16 + length (opaque (netid_text item.key.target.netid))
+unfolding number
+length-lookup item = omega arith
+
+pub length-forward : (proc : ℕ) (item : Item) → length (forward_spelling proc item) ≡ 24 + length (opaque (netid_text item.key.target.netid))
+unfolding number
+length-forward proc item = omega arith
 
 length-true : length (boolean true) ≡ 4
 unfolding boolean number
 length-true = refl
 
-length-false : length (boolean false) ≡ 4
+pub length-false : length (boolean false) ≡ 4
 unfolding boolean number
 length-false = refl
 
@@ -59,32 +59,52 @@ abbrev pub fits_in : Info → Key → Bool
 fits_in Addr key = is_none key.proc
 fits_in Rmt key = is_some key.proc
 
-abbrev pub item_size : Info → ℕ
-item_size Addr = 28
-item_size Rmt = 36
+-- each has at most so many bytes, TRUE before it included
+abbrev pub most_size : Info → ℕ
+most_size Addr = 32
+most_size Rmt = 40
 
-length-item : (info : Info) (item : Item) → fits_in info item.key ≡ true → length (behind_true item_spelling item) ≡ item_size info
+short_item : (info : Info) (item : Item) → fits_in info item.key ≡ true → length (behind_true item_spelling item) ≤ most_size info
 unfolding item_spelling
-length-item Addr item fits = by_proc item.key.proc fits
+short_item Addr item fits = by_proc item.key.proc fits
   where
-    by_proc : (proc : Option ℕ) → is_none proc ≡ true → length (boolean true ++ spelling_by proc item) ≡ 28
-    by_proc None fits = omega (arith, length-append (boolean true) (lookup_spelling item), length-true, length-lookup item)
+    by_proc : (proc : Option ℕ) → is_none proc ≡ true → length (boolean true ++ spelling_by proc item) ≤ 32
+    by_proc None fits = omega (arith, length-append (boolean true) (lookup_spelling item), length-true, length-lookup item, short_netid item.key.target.netid)
     by_proc (Some proc) fits = absurd cc
-length-item Rmt item fits = by_proc item.key.proc fits
+short_item Rmt item fits = by_proc item.key.proc fits
   where
-    by_proc : (proc : Option ℕ) → is_some proc ≡ true → length (boolean true ++ spelling_by proc item) ≡ 36
+    by_proc : (proc : Option ℕ) → is_some proc ≡ true → length (boolean true ++ spelling_by proc item) ≤ 40
     by_proc None fits = absurd cc
-    by_proc (Some proc) fits = omega (arith, length-append (boolean true) (forward_spelling proc item), length-true, length-forward proc item)
+    by_proc (Some proc) fits = omega (arith, length-append (boolean true) (forward_spelling proc item), length-true, length-forward proc item, short_netid item.key.target.netid)
 
-length-items : (info : Info) (items : List Item) → list_all (λ (item : Item). fits_in info item.key) items ≡ true → length (flat_map (behind_true item_spelling) items) ≡ item_size info * length items
-length-items info [] fit = omega arith
-length-items info (item ∷ items) fit =
+short_items : (info : Info) (items : List Item) → list_all (λ (item : Item). fits_in info item.key) items ≡ true → length (flat_map (behind_true item_spelling) items) ≤ most_size info * length items
+short_items info [] fit = omega arith
+short_items info (item ∷ items) fit =
     let p = both (fits_in info item.key) (list_all (λ (item : Item). fits_in info item.key) items) fit in
-    omega (arith, length-append (behind_true item_spelling item) (flat_map (behind_true item_spelling) items), length-item info item p.0, length-items info items p.1)
+    omega (arith, length-append (behind_true item_spelling item) (flat_map (behind_true item_spelling) items), short_item info item p.0, short_items info items p.1)
 
-pub length-listed : (info : Info) (items : List Item) → list_all (λ (item : Item). fits_in info item.key) items ≡ true → length (linked_list item_spelling items) ≡ item_size info * length items + 4
+short_listed : (info : Info) (items : List Item) → list_all (λ (item : Item). fits_in info item.key) items ≡ true → length (linked_list item_spelling items) ≤ most_size info * length items + 4
 unfolding linked_list
-length-listed info items fit = omega (arith, length-append (flat_map (behind_true item_spelling) items) (boolean false), length-false, length-items info items fit)
+short_listed info items fit = omega (arith, length-append (flat_map (behind_true item_spelling) items) (boolean false), length-false, short_items info items fit)
+
+-- what stands for an item where there is none
+abbrev pub blank : Item
+blank = record { key = record { version = Two; target = record { prog = 0; vers = 0; netid = Tcp }; proc = None }; success = 0; failure = 0; indirect = 0 }
+
+-- one item more
+pub listed_more : (items : List Item) (n : ℕ) (other : Item) → n < length items
+    → length (flat_map (behind_true item_spelling) (take (n + 1) items)) ≡ length (flat_map (behind_true item_spelling) (take n items)) + 4 + length (item_spelling (get_or items n other))
+listed_more items n other within =
+    let next : Item = get_or items n other in
+    let more = ap (flat_map (behind_true item_spelling)) (take_more items n other within) ∙ flat_map-append (behind_true item_spelling) (take n items) (next ∷ []) in
+    omega (
+      arith,
+      ap (λ (bytes : List ℕ). length bytes) more,
+      length-append (flat_map (behind_true item_spelling) (take n items)) (behind_true item_spelling next ++ []),
+      length-append (behind_true item_spelling next) [],
+      length-append (boolean true) (item_spelling next),
+      length-true,
+    )
 
 -- ---- lists whose items fit
 
@@ -112,17 +132,13 @@ unfolding is_in
 fits version Addr key own = (both (is_version key.version version) (is_none key.proc) own).1
 fits version Rmt key own = (both (is_version key.version version) (is_some key.proc) own).1
 
-pub items_in-fit : (version : Version) (info : Info) (items : List Item) → list_all (λ (item : Item). fits_in info item.key) (items_in version info items) ≡ true
-unfolding items_in
-items_in-fit version info items = all_passed (λ (item : Item). is_in version info item.key) (λ (item : Item). fits_in info item.key) (λ item own. fits version info item.key own) items
-
 all_distinct : (info : Info) (keys : List Key) → list_all (fits_in info) keys ≡ true → list_all (fits_in info) (distinct_keys keys) ≡ true
 all_distinct info [] all = refl
 all_distinct info (key ∷ keys) all =
     let p = both (fits_in info key) (list_all (fits_in info) keys) all in
     rw p.0 (all_left (fits_in info) (λ other. not (is_key key other)) (distinct_keys keys) (all_distinct info keys p.1))
 
-pub items_of-fit : (version : Version) (info : Info) (counts : List Count) → list_all (λ (item : Item). fits_in info item.key) (items_of (counts_in version info counts)) ≡ true
+items_of-fit : (version : Version) (info : Info) (counts : List Count) → list_all (λ (item : Item). fits_in info item.key) (items_of (counts_in version info counts)) ≡ true
 unfolding items_of keys_of
 items_of-fit version info counts =
     let own = counts_in version info counts in
@@ -134,27 +150,20 @@ items_of-fit version info counts =
 
 -- ---- rpcb_stat
 
-pub length-stat : (s : Stat) → length s.info ≡ 13 → list_all (λ (item : Item). fits_in Addr item.key) s.addrinfo ≡ true → list_all (λ (item : Item). fits_in Rmt item.key) s.rmtinfo ≡ true
-    → length (stat_spelling s) ≡ stat_size (length s.addrinfo) (length s.rmtinfo)
+pub length-stat : (s : Stat) → length s.info ≡ 13 → length (stat_spelling s) ≡ stat_size s.addrinfo s.rmtinfo
 unfolding stat_spelling
-length-stat s thirteen lookups forwards =
+length-stat s thirteen =
     omega (
       arith,
       thirteen,
       length-words s.info,
       length-number s.setinfo,
       length-number s.unsetinfo,
-      length-listed Addr s.addrinfo lookups,
-      length-listed Rmt s.rmtinfo forwards,
       length-append (words s.info) (number s.setinfo ++ (number s.unsetinfo ++ (linked_list item_spelling s.addrinfo ++ linked_list item_spelling s.rmtinfo))),
       length-append (number s.setinfo) (number s.unsetinfo ++ (linked_list item_spelling s.addrinfo ++ linked_list item_spelling s.rmtinfo)),
       length-append (number s.unsetinfo) (linked_list item_spelling s.addrinfo ++ linked_list item_spelling s.rmtinfo),
       length-append (linked_list item_spelling s.addrinfo) (linked_list item_spelling s.rmtinfo),
     )
-
-pub length-stat_in : (version : Version) (counts : Counts) (items : List Item) → length counts.info ≡ 13
-    → length (stat_spelling (stat_in version counts items)) ≡ stat_size (length (items_in version Addr items)) (length (items_in version Rmt items))
-length-stat_in version counts items thirteen = length-stat (stat_in version counts items) thirteen (items_in-fit version Addr items) (items_in-fit version Rmt items)
 
 -- ---- of a history
 
@@ -168,18 +177,20 @@ pub short_lists : (version : Version) (notes : List Note) → (length (stat vers
 unfolding stat
 short_lists version notes = (few_items (counts_in version Addr (filter_map count_of notes)), few_items (counts_in version Rmt (filter_map count_of notes)))
 
-pub short_stat : (version : Version) (notes : List Note) → length (stat_spelling (stat version notes)) ≤ 2116
+pub short_stat : (version : Version) (notes : List Note) → length (stat_spelling (stat version notes)) ≤ 2372
 unfolding stat
 short_stat version notes =
     let counts : List Count = filter_map count_of notes in
     omega (
       arith,
-      length-stat (stat version notes) refl (items_of-fit version Addr counts) (items_of-fit version Rmt counts),
+      length-stat (stat version notes) refl,
+      short_listed Addr (items_of (counts_in version Addr counts)) (items_of-fit version Addr counts),
+      short_listed Rmt (items_of (counts_in version Rmt counts)) (items_of-fit version Rmt counts),
       few_items (counts_in version Addr counts),
       few_items (counts_in version Rmt counts),
     )
 
-pub short_statistics : (notes : List Note) → length (statistics notes) ≤ 6348
+pub short_statistics : (notes : List Note) → length (statistics notes) ≤ 7116
 unfolding statistics
 short_statistics notes =
     omega (
@@ -206,7 +217,7 @@ pub spelled : (kept : Stats) (notes : List Note) → StandsForHistory kept notes
 unfolding spelling statistics
 spelled kept notes h = rw (h.two, h.three, h.four) refl
 
-pub length-spelling : (kept : Stats) (a b c d e f : ℕ) → length (stat_spelling kept.two) ≡ stat_size a b → length (stat_spelling kept.three) ≡ stat_size c d → length (stat_spelling kept.four) ≡ stat_size e f
+pub length-spelling : (kept : Stats) (a b c d e f : List Item) → length (stat_spelling kept.two) ≡ stat_size a b → length (stat_spelling kept.three) ≡ stat_size c d → length (stat_spelling kept.four) ≡ stat_size e f
     → length (spelling kept) ≡ stat_size a b + stat_size c d + stat_size e f
 unfolding spelling
 length-spelling kept a b c d e f two three four =

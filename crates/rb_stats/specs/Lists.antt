@@ -1,6 +1,5 @@
 -- The items of each version as they are to be written.
 use Rattle.std.specs.Prelude.{◌≡◌, ℕ, ◌+◌}
-use Rattle.arrayvec.specs.ArrayVec.{array_vec_len}
 use Rattle.rb_stats.specs.declared.counts.Counts.{Counts}
 use Rattle.rb_stats.specs.declared.stat.Lists.{Lists}
 use Rattle.rb_stats.specs.declared.stat.AllLists.{AllLists}
@@ -9,7 +8,7 @@ use Rattle.rb_stats.specs.Stats.{Stats}
 use Rattle.rb_stats.specs.Table.{stat_of, stat_size}
 
 abbrev pub size_of : Lists → ℕ
-size_of lists = stat_size (array_vec_len lists.addrinfo) (array_vec_len lists.rmtinfo)
+size_of lists = stat_size lists.addrinfo.items lists.rmtinfo.items
 
 abbrev pub lists_size : AllLists → ℕ
 lists_size lists = size_of lists.two + size_of lists.three + size_of lists.four

@@ -1,9 +1,7 @@
 -- Statistics over the history of completed calls (RFC 1833 section 2.1, rpcb_stat_byvers).
 use Rattle.std.specs.Prelude.{ℕ, ◌+◌, ◌-◌, ◌^◌, ◌==◌, min, Bool, true, false, not, ◌&&◌, List, [], ◌∷◌, ◌++◌, map, filter, filter_map, count_by, take, Option, Some, None, is_some, is_none}
 use Rattle.rb_xdr.specs.Xdr.{number, words, opaque, linked_list}
-use Rattle.rb_address.specs.declared.netid.Transport.{Transport}
-use Rattle.rb_address.specs.declared.netid.Transport.TheVariants.{Tcp, Udp}
-use Rattle.rb_address.specs.Netids.{netid_of, netid_text}
+use Rattle.rb_address.specs.Netids.{is_netid, netid_text}
 use Rattle.rb_stats.specs.declared.key.Version.{Version}
 use Rattle.rb_stats.specs.declared.key.Version.TheVariants.{Two, Three, Four}
 use Rattle.rb_stats.specs.declared.key.Info.{Info}
@@ -52,13 +50,8 @@ is_unset version _ = false
 
 -- ---- keys
 
-abbrev pub is_transport : Transport → Transport → Bool
-is_transport Tcp Tcp = true
-is_transport Udp Udp = true
-is_transport _ _ = false
-
 abbrev pub is_target : Target → Target → Bool
-is_target a b = a.prog == b.prog && a.vers == b.vers && is_transport a.transport b.transport
+is_target a b = a.prog == b.prog && a.vers == b.vers && is_netid a.netid b.netid
 
 abbrev pub is_proc : Option ℕ → Option ℕ → Bool
 is_proc None None = true
@@ -144,19 +137,15 @@ stat version notes = record {
 
 -- ---- spelling
 
--- the transport's netid
-abbrev pub transport_text : Target → List ℕ
-transport_text target = netid_text (netid_of target.transport)
-
 -- rpcbs_addrlist: prog, vers, success, failure, netid
 abbrev pub lookup_spelling : Item → List ℕ
 lookup_spelling item =
-    number item.key.target.prog ++ (number item.key.target.vers ++ (number item.success ++ (number item.failure ++ opaque (transport_text item.key.target))))
+    number item.key.target.prog ++ (number item.key.target.vers ++ (number item.success ++ (number item.failure ++ opaque (netid_text item.key.target.netid))))
 
 -- rpcbs_rmtcalllist: prog, vers, proc, success, failure, indirect, netid
 abbrev pub forward_spelling : ℕ → Item → List ℕ
 forward_spelling proc item =
-    number item.key.target.prog ++ (number item.key.target.vers ++ (number proc ++ (number item.success ++ (number item.failure ++ (number item.indirect ++ opaque (transport_text item.key.target))))))
+    number item.key.target.prog ++ (number item.key.target.vers ++ (number proc ++ (number item.success ++ (number item.failure ++ (number item.indirect ++ opaque (netid_text item.key.target.netid))))))
 
 abbrev pub spelling_by : Option ℕ → Item → List ℕ
 spelling_by None item = lookup_spelling item

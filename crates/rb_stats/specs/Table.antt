@@ -1,14 +1,15 @@
 -- The table of items, and what it stands for.
-use Rattle.std.specs.Prelude.{◌≡◌, ℕ, ◌+◌, ◌*◌, ◌≤◌, Bool, if◌then◌else◌, nat_lt, slice_index, slice_set, List, [], ◌∷◌, ◌++◌, None, length, find, map, filter}
+use Rattle.std.specs.Prelude.{◌≡◌, ℕ, ◌+◌, ◌≤◌, Bool, if◌then◌else◌, nat_lt, slice_index, slice_set, List, [], ◌∷◌, ◌++◌, None, length, find, map, filter}
 use Rattle.std.specs.Map.{values_of}
 use Rattle.rb_xdr.specs.Pool.{Pool, HasDistinctKeys}
+use Rattle.rb_xdr.specs.Xdr.{linked_list}
 use Rattle.rb_stats.specs.declared.key.Version.{Version}
 use Rattle.rb_stats.specs.declared.key.Info.{Info}
 use Rattle.rb_stats.specs.declared.key.Key.{Key}
 use Rattle.rb_stats.specs.declared.item.Item.{Item}
 use Rattle.rb_stats.specs.declared.counts.Counts.{Counts}
 use Rattle.rb_stats.specs.declared.key.Info.TheVariants.{Addr, Rmt}
-use Rattle.rb_stats.specs.Statistics.{Count, Stat, counts_in, items_of, is_key, is_in, info_of, one_more, greatest_list}
+use Rattle.rb_stats.specs.Statistics.{Count, Stat, counts_in, items_of, is_key, is_in, info_of, one_more, greatest_list, item_spelling}
 
 -- the items in their order, the memory that the table holds (as of a `Pool`), and the number of the meter that counts
 -- the calls
@@ -99,6 +100,6 @@ stat_of counts addrinfo rmtinfo = record {
 abbrev pub stat_in : Version → Counts → List Item → Stat
 stat_in version counts items = stat_of counts (items_in version Addr items) (items_in version Rmt items)
 
--- how many bytes so many items take
-abbrev pub stat_size : ℕ → ℕ → ℕ
-stat_size lookups forwards = 68 + 28 * lookups + 36 * forwards
+-- how many bytes it has with these lists
+abbrev pub stat_size : List Item → List Item → ℕ
+stat_size addrinfo rmtinfo = 60 + length (linked_list item_spelling addrinfo) + length (linked_list item_spelling rmtinfo)

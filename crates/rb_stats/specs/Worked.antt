@@ -1,16 +1,16 @@
 -- Worked rows of the definitions.
 use Rattle.std.specs.Prelude.{◌≡◌, ℕ, zero, suc, ◌+◌, Bool, true, false, List, [], ◌∷◌, ◌++◌, length, map, take, drop, replicate}
 use Rattle.rb_xdr.specs.Xdr.{words, number_at}
-use Rattle.rb_address.specs.declared.netid.Transport.{Transport}
-use Rattle.rb_address.specs.declared.netid.Transport.TheVariants.{Tcp, Udp}
+use Rattle.rb_address.specs.declared.netid.Netid.{Netid}
+use Rattle.rb_address.specs.declared.netid.Netid.TheVariants.{Tcp, Udp, Tcp6, Udp6, Local}
 use Rattle.rb_stats.specs.declared.key.Version.TheVariants.{Two, Three, Four}
 use Rattle.rb_stats.specs.declared.key.Target.{Target}
 use Rattle.rb_stats.specs.declared.item.Item.{Item}
 use Rattle.rb_stats.specs.Statistics.{Note, stat, statistics}
 use Rattle.rb_stats.specs.Statistics.Note.{Called, WasSet, LookedUp, Forwarded}
 
-abbrev pub target : ℕ → Transport → Target
-target prog transport = record { prog = prog; vers = 1; transport = transport }
+abbrev pub target : ℕ → Netid → Target
+target prog netid = record { prog = prog; vers = 1; netid = netid }
 
 -- GETSTAT as the first call: info[12] of version 4 is 1
 abbrev pub FirstCall : Type 0
@@ -57,10 +57,19 @@ ForwardsAreCounted =
         Called Four 10 ∷ Forwarded Four (target 0x30d43 Udp) 0 false true ∷ Called Two 5 ∷ Forwarded Two (target 0x30d43 Udp) 0 false false
         ∷ Called Four 12 ∷ []
 
--- the same program and version on the other transport is another key
-abbrev pub TransportsAreApart : Type 0
-TransportsAreApart =
-    map (λ (item : Item). item.failure) (stat Three (looked Udp true ∷ looked Tcp false ∷ looked Udp false ∷ looked Tcp false ∷ [])).addrinfo ≡ 1 ∷ 2 ∷ []
-  where
-    looked : Transport → Bool → Note
-    looked transport found = LookedUp Three (target 200001 transport) found
+-- a look-up of version 3 on a netid
+abbrev pub looked : Netid → Bool → Note
+looked netid found = LookedUp Three (target 200001 netid) found
+
+-- the same program and version on another netid is another key
+abbrev pub NetidsAreApart : Type 0
+NetidsAreApart =
+    map (λ (item : Item). item.failure) (stat Three (looked Udp true ∷ looked Tcp false ∷ looked Udp false ∷ looked Tcp6 false ∷ looked Tcp false ∷ [])).addrinfo
+    ≡ 1 ∷ 2 ∷ 1 ∷ []
+
+-- an item on local has four bytes more than one on another netid
+abbrev pub LocalIsLonger : Type 0
+LocalIsLonger =
+    (map (λ netid. length (statistics (looked netid true ∷ []))) (Tcp ∷ Udp ∷ Tcp6 ∷ Udp6 ∷ Local ∷ []) ≡ 232 ∷ 232 ∷ 232 ∷ 232 ∷ 236 ∷ [])
+    × (drop 128 (take 168 (statistics (looked Local true ∷ []))) ≡ words (1 ∷ 200001 ∷ 1 ∷ 1 ∷ 0 ∷ 5 ∷ 0x6c6f6361 ∷ 0x6c000000 ∷ 0 ∷ 0 ∷ []))
+    × (drop 148 (take 156 (statistics (looked Udp6 true ∷ []))) ≡ words (4 ∷ 0x75647036 ∷ []))

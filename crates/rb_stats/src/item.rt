@@ -2,11 +2,13 @@
 ghost use Rattle.std.specs.Prelude.{◌≡◌, ◌+◌, ◌≤◌, ◌++◌, length};
 ghost use Rattle.rb_xdr.specs.Meter.{Pays};
 ghost use Rattle.rb_xdr.specs.Puts.{Appends, HasRoom};
+ghost use Rattle.rb_xdr.specs.Xdr.{opaque};
+ghost use Rattle.rb_address.specs.Netids.{netid_text};
 ghost use Rattle.rb_stats.specs.Statistics.{one_more, item_spelling};
 ghost use Rattle.rb_stats.specs.Table.{new_item, item_after};
 
 use crate::key::{Key, Target, Version};
-use rb_address::{Family, Netid, Transport};
+use rb_address::Netid;
 use rb_xdr::{Kept, Meter, Text, Xdr};
 
 /// The greatest number of type int (RFC 4506 section 4.1), at which counts stop.
@@ -17,6 +19,18 @@ pub(crate) fn count_one(number: &mut u32)
     ensures { number.new ≡ one_more number.old }
 {
     *number = number.saturating_add(1).min(GREATEST_INT);
+}
+
+/// How many bytes the text of a netid is written as.
+#[tactic(auto, unfolding(rb_xdr::specs::Xdr::opaque, rb_xdr::specs::Xdr::number))]
+fn text_size(netid: Netid) -> usize
+    ensures size { result ≡ length (opaque (netid_text netid)) }
+    ensures most { result ≤ 12 }
+{
+    match netid {
+        Netid::Tcp | Netid::Udp | Netid::Tcp6 | Netid::Udp6 => 8,
+        Netid::Local => 12,
+    }
 }
 
 /// A key with its numbers.
@@ -68,6 +82,18 @@ impl Item {
         }
     }
 
+    /// How many bytes it is written as.
+    pub(crate) fn size(&self) -> usize
+        ensures size { result ≡ length (item_spelling self.now) }
+        ensures most { result ≤ 36 }
+    {
+        let netid = text_size(self.key.target.netid);
+        match self.key.proc {
+            None => 16 + netid,
+            Some(_) => 24 + netid,
+        }
+    }
+
     /// Writes it as an item of addrinfo, or of rmtinfo where its key has a procedure.
     #[tactic(auto, unfolding(crate::specs::Statistics::item_spelling))]
     pub(crate) fn write(&self, out: &mut Kept, meter: &mut Meter)
@@ -76,12 +102,8 @@ impl Item {
         ensures written { Appends (item_spelling self.now) out.old out.new }
         ensures cost { Pays meter.old meter.new (length (item_spelling self.now)) }
     {
-        let Target {
-            prog,
-            vers,
-            transport,
-        } = self.key.target;
-        let netid: Text<3> = Text::new(Netid::of(transport, Family::Inet).text().as_bytes());
+        let Target { prog, vers, netid } = self.key.target;
+        let netid: Text<5> = Text::new(netid.text().as_bytes());
         match self.key.proc {
             None => {
                 (prog, (vers, (self.success, (self.failure, netid)))).write(out, meter);
@@ -100,7 +122,7 @@ impl Default for Item {
         let target = Target {
             prog: 0,
             vers: 0,
-            transport: Transport::Tcp,
+            netid: Netid::Tcp,
         };
         Item::new(Key {
             version: Version::Two,

@@ -2,7 +2,7 @@
 ghost use Rattle.std.specs.Prelude.{◌≡◌};
 ghost use Rattle.rb_stats.specs.Statistics.{is_version, is_target, is_proc, is_key, is_in, info_of};
 
-use rb_address::Transport;
+use rb_address::Netid;
 
 /// A version of the protocol, which has an rpcb_stat of its own (RFC 1833 section 2.1,
 /// rpcb_stat_byvers).
@@ -31,7 +31,7 @@ pub(crate) enum Info {
     Rmt,
 }
 
-/// A version of a program on a transport.
+/// A version of a program on a netid.
 #[derive(Clone, Copy, PartialEq, Eq, Debug)]
 pub struct Target {
     /// The program's number.
@@ -39,14 +39,14 @@ pub struct Target {
     /// The program's version.
     pub vers: u32,
     /// How it is reached.
-    pub transport: Transport,
+    pub netid: Netid,
 }
 
 impl Target {
     fn is(self, other: Target) -> bool
         ensures { result ≡ is_target self other }
     {
-        self.prog == other.prog && self.vers == other.vers && self.transport == other.transport
+        self.prog == other.prog && self.vers == other.vers && self.netid.is(other.netid)
     }
 }
 
@@ -81,14 +81,10 @@ fn layout(key: &Key) {
     match version {
         Version::Two | Version::Three | Version::Four => {}
     }
-    let Target {
-        prog,
-        vers,
-        transport,
-    } = target;
+    let Target { prog, vers, netid } = target;
     let _: (u32, u32) = (prog, vers);
-    match transport {
-        Transport::Tcp | Transport::Udp => {}
+    match netid {
+        Netid::Tcp | Netid::Udp | Netid::Tcp6 | Netid::Udp6 | Netid::Local => {}
     }
     let _: Option<u32> = proc;
 }

@@ -2,7 +2,7 @@
 ghost use Rattle.rb_stats.specs.Statistics.{Note, Count};
 ghost use Rattle.rb_stats.specs.Laws.{GreatestStays, ListsAreShort, KeysAreFew, StatisticsAreShort};
 
-/// Counts stop at the greatest int, lists at 32 items, and so all statistics at 6,348 bytes.
+/// Counts stop at the greatest int, lists at 32 items, and so all statistics at 7,116 bytes.
 pub fn statistics_laws()
     ensures greatest_of_notes { GreatestStays Note }
     ensures greatest_of_counts { GreatestStays Count }

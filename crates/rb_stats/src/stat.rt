@@ -5,7 +5,7 @@ ghost use Rattle.rb_xdr.specs.Meter.{Pays, PaysAtMost};
 ghost use Rattle.rb_xdr.specs.Puts.{Appends, HasRoom};
 ghost use Rattle.rb_xdr.specs.Xdr.{linked_list, words};
 ghost use Rattle.rb_stats.specs.Statistics.{item_spelling, stat_spelling, greatest_list};
-ghost use Rattle.rb_stats.specs.Table.{items_in, stat_size};
+ghost use Rattle.rb_stats.specs.Table.{items_in};
 ghost use Rattle.rb_stats.specs.Lists.{size_of, stat_with, lists_size};
 ghost use Rattle.rb_stats.specs.declared.key.Info.TheVariants.{Addr, Rmt};
 
@@ -29,9 +29,9 @@ impl Lists {
     /// How many bytes rpcb_stat has with them.
     pub(crate) fn stat_size(&self) -> usize
         ensures size { result ≡ size_of self.now }
-        ensures most { result ≤ stat_size greatest_list greatest_list }
+        ensures most { result ≤ 60 + 2 * (4 + 40 * greatest_list) }
     {
-        68 + 28 * self.addrinfo.len() + 36 * self.rmtinfo.len()
+        60 + list_size(self.addrinfo.as_slice()) + list_size(self.rmtinfo.as_slice())
     }
 }
 
@@ -78,6 +78,20 @@ pub(crate) fn lists_of(items: &Pool<Item>, version: Version, meter: &mut Meter) 
         place = Some(next);
     }
     Lists { addrinfo, rmtinfo }
+}
+
+/// How many bytes a list is written as.
+#[tactic(auto, unfolding(rb_xdr::specs::Xdr::linked_list))]
+fn list_size(items: &[Item]) -> usize
+    requires { length items.now ≤ greatest_list }
+    ensures size { result ≡ length (linked_list item_spelling items.now) }
+    ensures most { result ≤ 4 + 40 * greatest_list }
+{
+    let mut size = 4;
+    for item in items {
+        size += 4 + item.size();
+    }
+    size
 }
 
 /// Writes a list, each item behind TRUE, and FALSE at its end.

@@ -1,5 +1,5 @@
 //! Worked rows of the definitions.
-ghost use Rattle.rb_stats.specs.Worked.{FirstCall, CallsAreCounted, FirstKeysAlone, ForwardsAreCounted, TransportsAreApart};
+ghost use Rattle.rb_stats.specs.Worked.{FirstCall, CallsAreCounted, FirstKeysAlone, ForwardsAreCounted, NetidsAreApart, LocalIsLonger};
 
 /// The definitions give what the worked rows say.
 pub fn worked_examples()
@@ -7,5 +7,6 @@ pub fn worked_examples()
     ensures getstat_after_calls { CallsAreCounted }
     ensures getstat_first_keys { FirstKeysAlone }
     ensures getstat_forwards { ForwardsAreCounted }
-    ensures getstat_transports { TransportsAreApart }
+    ensures getstat_netids { NetidsAreApart }
+    ensures getstat_local { LocalIsLonger }
 {}

@@ -10,7 +10,7 @@ use Rattle.std.proofs.lemmas.Option.{none-some, same_Some}
 use Rattle.std.proofs.lemmas.Slice.Eq.{bytes_eq-Decides}
 use Rattle.rb_uaddr.specs.declared.address.Uaddr.{Uaddr}
 use Rattle.rb_uaddr.specs.declared.address.Uaddr.TheVariants.{V4, V6}
-use Rattle.rb_uaddr.specs.Uaddr.{IsBytes, any_host, port_bytes, dot, text_of, ipv6_host_text, octet, ipv4_of_parts, parts_of, parse_ipv4, parse_ipv6, parse, merged_address, merged_host}
+use Rattle.rb_uaddr.specs.Uaddr.{IsBytes, any_host, any_host6, port_bytes, dot, text_of, ipv6_host_text, octet, ipv4_of_parts, parts_of, parse_ipv4, parse_ipv6, parse, merged_address, merged_host, merged_host6}
 use Rattle.rb_uaddr.specs.Grammar.{SpellsV4, Spells, ReadIsSpelled, PrintedIsSpelled, PrintedIsRead, OneSpelling, ReadIsAddress, MergesAnyHost}
 use Rattle.rb_uaddr.proofs.Octets.{octet_is, octet_decimal}
 use Rattle.rb_uaddr.proofs.Splits.{bound, split_joined}
@@ -202,9 +202,10 @@ one_spelling text host port h =
 -- ---- merged
 
 pub merges_any_host : MergesAnyHost
-unfolding merged_address merged_host
+unfolding merged_address merged_host merged_host6
 merges_any_host = record {
-  replaced = λ host port. refl;
-  kept_ipv6 = λ host own_host port. refl;
-  kept = λ host own_host port other. rw (false_from_ne_true (bytes_eq own_host any_host) (λ same. other ((bytes_eq-Decides own_host any_host).0 same))) refl;
+  replaced = λ hosts port. refl;
+  kept = λ hosts own_host port other. rw (false_from_ne_true (bytes_eq own_host any_host) (λ same. other ((bytes_eq-Decides own_host any_host).0 same))) refl;
+  replaced_ipv6 = λ hosts port. refl;
+  kept_ipv6 = λ hosts own_host port other. rw (false_from_ne_true (bytes_eq own_host any_host6) (λ same. other ((bytes_eq-Decides own_host any_host6).0 same))) refl;
 }

@@ -7,7 +7,8 @@ use Rattle.std.specs.Net.Text.{hex}
 use Rattle.std.specs.Str.Parse.{AllDigits, digits_value}
 use Rattle.rb_uaddr.specs.declared.address.Uaddr.{Uaddr}
 use Rattle.rb_uaddr.specs.declared.address.Uaddr.TheVariants.{V4, V6}
-use Rattle.rb_uaddr.specs.Uaddr.{IsBytes, IsUaddr, any_host, dot, ipv6_host_text, parse, text_of, merged_address, is_local_text, transport_of, from_transport}
+use Rattle.rb_uaddr.specs.declared.address.Hosts.{Hosts}
+use Rattle.rb_uaddr.specs.Uaddr.{IsBytes, IsUaddr, any_host, any_host6, dot, ipv6_host_text, parse, text_of, merged_address, is_local_text, transport_of, from_transport}
 
 -- `h1.h2.h3.h4.p1.p2`: six numbers from 0 to 255 in decimal without leading zeros, with a dot between each two.
 -- The first four are the host, and the port is 256·p1 + p2.
@@ -178,11 +179,12 @@ TransportIsRead = (u : Uaddr) → IsUaddr u → from_transport (transport_of u) 
 abbrev pub TransportIsAddress : Type 0
 TransportIsAddress = (form : List ℕ) (u : Uaddr) → All (λ b. b < 256) form → from_transport form ≡ Some u → IsUaddr u
 
--- The listener's host stands in for 0.0.0.0 and for no other host, `::` of IPv6 among them; the port stays.
+-- The host of its family stands in for 0.0.0.0 and for ::, and for no other host; the port stays.
 pub record MergesAnyHost : Type 0 where
-  pub replaced : (host : List ℕ) (port : ℕ) → merged_address host (V4 any_host port) ≡ V4 host port
-  pub kept : (host own : List ℕ) (port : ℕ) → own ≢ any_host → merged_address host (V4 own port) ≡ V4 own port
-  pub kept_ipv6 : (host own : List ℕ) (port : ℕ) → merged_address host (V6 own port) ≡ V6 own port
+  pub replaced : (hosts : Hosts) (port : ℕ) → merged_address hosts (V4 any_host port) ≡ V4 hosts.inet port
+  pub kept : (hosts : Hosts) (own : List ℕ) (port : ℕ) → own ≢ any_host → merged_address hosts (V4 own port) ≡ V4 own port
+  pub replaced_ipv6 : (hosts : Hosts) (port : ℕ) → merged_address hosts (V6 any_host6 port) ≡ V6 hosts.inet6 port
+  pub kept_ipv6 : (hosts : Hosts) (own : List ℕ) (port : ℕ) → own ≢ any_host6 → merged_address hosts (V6 own port) ≡ V6 own port
 
 -- ---- the address of a local socket
 

@@ -9,6 +9,7 @@ use Rattle.std.specs.Net.Text.{hex_groups_text}
 use Rattle.std.specs.Str.Parse.{digits_value}
 use Rattle.rb_uaddr.specs.declared.address.Uaddr.{Uaddr}
 use Rattle.rb_uaddr.specs.declared.address.Uaddr.TheVariants.{V4, V6}
+use Rattle.rb_uaddr.specs.declared.address.Hosts.{Hosts}
 
 -- so many bytes
 pub record IsBytes (n : ℕ) (bytes : List ℕ) : Type 0 where
@@ -27,6 +28,9 @@ port_of (V6 host port) = port
 -- the IPv4 host 0.0.0.0, which stands for every host of the listener
 abbrev pub any_host : List ℕ
 any_host = 0 ∷ 0 ∷ 0 ∷ 0 ∷ []
+
+abbrev pub any_host6 : List ℕ
+any_host6 = replicate 16 0
 
 -- the port's high byte and low byte
 unfoldable pub port_bytes : ℕ → List ℕ
@@ -98,16 +102,20 @@ parse text = option_or (parse_ipv4 text) (parse_ipv6 text)
 unfoldable pub is_local_text : List ℕ → Bool
 is_local_text text = nat_lt 0 (length text) && nat_le (length text) 128 && not (list_any (λ b. b == 0) text)
 
--- ---- merged with the listener's host
+-- ---- a host of its family in place of every host
 
 -- an IPv4 host, or the given one in place of 0.0.0.0
 unfoldable pub merged_host : List ℕ → List ℕ → List ℕ
 merged_host host own = if bytes_eq own any_host then host else own
 
--- The IPv4 host 0.0.0.0 is replaced, and nothing else: the IPv6 host `::` stays.
-unfoldable pub merged_address : List ℕ → Uaddr → Uaddr
-merged_address host (V4 own port) = V4 (merged_host host own) port
-merged_address host (V6 own port) = V6 own port
+-- an IPv6 host, or the given one in place of ::
+unfoldable pub merged_host6 : List ℕ → List ℕ → List ℕ
+merged_host6 host own = if bytes_eq own any_host6 then host else own
+
+-- 0.0.0.0 and :: are replaced, and nothing else
+unfoldable pub merged_address : Hosts → Uaddr → Uaddr
+merged_address hosts (V4 own port) = V4 (merged_host hosts.inet own) port
+merged_address hosts (V6 own port) = V6 (merged_host6 hosts.inet6 own) port
 
 -- ---- the transport form, which RFC 1833 section 2.1 leaves open
 

@@ -1,10 +1,12 @@
 //! Universal addresses of TCP and UDP (RFC 5665 section 5.2.3).
 ghost use Rattle.std.specs.Prelude.{◌≡◌, ◌+◌, ◌*◌, slice_index};
-ghost use Rattle.rb_uaddr.specs.Uaddr.{any_host, port_bytes, port_of, merged_address, merged_host};
+ghost use Rattle.rb_uaddr.specs.Uaddr.{any_host, any_host6, port_bytes, port_of, merged_address, merged_host, merged_host6};
 
 use thiserror::Error;
 
 const ANY_HOST: [u8; 4] = [0; 4];
+
+const ANY_HOST6: [u8; 16] = [0; 16];
 
 /// The bytes or the text are no universal address.
 #[derive(Clone, Copy, Debug, PartialEq, Eq, Error)]
@@ -20,12 +22,28 @@ pub enum Uaddr {
     V6([u8; 16], u16),
 }
 
+/// A host of each family, which stands in for every host of it; 0.0.0.0 and :: leave that as it is.
+#[derive(Clone, Copy, Debug, PartialEq, Eq)]
+pub struct Hosts {
+    /// The IPv4 host, its most significant byte first.
+    pub inet: [u8; 4],
+    /// The IPv6 host, its most significant byte first.
+    pub inet6: [u8; 16],
+}
+
 impl Uaddr {
     /// The address 0.0.0.0 with this port, which stands for every IPv4 address of the listener.
     pub const fn any(port: u16) -> Uaddr
         ensures { result ≡ Uaddr.V4 any_host port }
     {
         Uaddr::V4(ANY_HOST, port)
+    }
+
+    /// The address :: with this port, which stands for every IPv6 address of the listener.
+    pub const fn any6(port: u16) -> Uaddr
+        ensures { result ≡ Uaddr.V6 any_host6 port }
+    {
+        Uaddr::V6(ANY_HOST6, port)
     }
 
     /// The port of TCP or UDP.
@@ -38,27 +56,35 @@ impl Uaddr {
         }
     }
 
-    /// The address with this host in place of 0.0.0.0. Any other host stays, and so does each IPv6
-    /// host, `::` among them.
+    /// The address with the host of its family in place of 0.0.0.0 or ::. Any other host stays.
     #[tactic(auto, unfolding(crate::specs::Uaddr::merged_address))]
-    pub fn merge(self, host: [u8; 4]) -> Uaddr
-        ensures { result ≡ merged_address host self }
+    pub fn merge(self, hosts: &Hosts) -> Uaddr
+        ensures { result ≡ merged_address hosts.now self }
     {
         match self {
-            Uaddr::V4(own, port) => Uaddr::V4(merge_host(host, own), port),
-            Uaddr::V6(_, _) => self,
+            Uaddr::V4(own, port) => Uaddr::V4(hosts.merge_inet(own), port),
+            Uaddr::V6(own, port) => Uaddr::V6(hosts.merge_inet6(own), port),
         }
     }
 }
 
-/// `own`, or `host` where `own` is 0.0.0.0.
-#[tactic(auto, unfolding(crate::specs::Uaddr::merged_host))]
-pub fn merge_host(host: [u8; 4], own: [u8; 4]) -> [u8; 4]
-    ensures { result ≡ merged_host host own }
-{
-    if own == ANY_HOST { host } else { own }
-}
+impl Hosts {
+    /// `own`, or the IPv4 host where `own` is 0.0.0.0.
+    #[tactic(auto, unfolding(crate::specs::Uaddr::merged_host))]
+    pub fn merge_inet(&self, own: [u8; 4]) -> [u8; 4]
+        ensures { result ≡ merged_host self.now.inet own }
+    {
+        if own == ANY_HOST { self.inet } else { own }
+    }
 
+    /// `own`, or the IPv6 host where `own` is ::.
+    #[tactic(auto, unfolding(crate::specs::Uaddr::merged_host6))]
+    pub fn merge_inet6(&self, own: [u8; 16]) -> [u8; 16]
+        ensures { result ≡ merged_host6 self.now.inet6 own }
+    {
+        if own == ANY_HOST6 { self.inet6 } else { own }
+    }
+}
 /// The port's high byte and low byte.
 #[tactic(auto, unfolding(crate::specs::Uaddr::port_bytes))]
 pub(crate) fn port_bytes(port: u16) -> [u8; 2]

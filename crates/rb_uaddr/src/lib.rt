@@ -9,7 +9,7 @@ mod print;
 mod text;
 mod transport;
 
-pub use address::{NotAnAddress, Uaddr, merge_host};
+pub use address::{Hosts, NotAnAddress, Uaddr};
 pub use laws::{grammar_laws, transport_laws, worked_examples};
 pub use parse::ipv6_host;
 pub use print::ipv6_host_text;

@@ -75,12 +75,13 @@ where
 }
 
 /// A turn, what was recorded of it, and a line for each listener that failed the first time.
-fn take_turn<R: Clock, F: Write + Drop, E: Write>(
+fn take_turn<R: Clock + Files, F: Write + Drop, E: Write>(
+    rt: &R,
     daemon: &mut Daemon<'_, R>,
     recorder: &mut Recorder<F>,
     faults: &mut E,
 ) -> Result<(), DaemonFault> {
-    let turned = daemon.turn(WAIT);
+    let turned = daemon.turn(rt, WAIT);
     recorder.write(daemon, faults);
     if let Some(fault) = daemon.take_fault() {
         let _ = writeln!(faults, "rpcbind: {fault}; it is tried again");
@@ -88,7 +89,7 @@ fn take_turn<R: Clock, F: Write + Drop, E: Write>(
     turned
 }
 
-fn take_turns<R: Clock + Wait, F: Write + Drop, E: Write>(
+fn take_turns<R: Clock + Files + Wait, F: Write + Drop, E: Write>(
     rt: &R,
     daemon: &mut Daemon<'_, R>,
     turns: u64,
@@ -97,12 +98,12 @@ fn take_turns<R: Clock + Wait, F: Write + Drop, E: Write>(
 ) -> Result<(), DaemonFault> {
     if turns > 0 {
         for _ in 0..turns {
-            take_turn(daemon, recorder, faults)?;
+            take_turn(rt, daemon, recorder, faults)?;
         }
         return Ok(());
     }
     for _ in rt.forever() {
-        take_turn(daemon, recorder, faults)?;
+        take_turn(rt, daemon, recorder, faults)?;
     }
     unreachable!()
 }

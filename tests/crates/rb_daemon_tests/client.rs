@@ -3,7 +3,7 @@
 use crate::turns::{Host, LOCAL, address};
 use std::io;
 use std::io::{ErrorKind, Read, Write};
-use std::net::{Ipv4Addr, Shutdown, SocketAddr, TcpStream, UdpSocket};
+use std::net::{Ipv4Addr, Ipv6Addr, Shutdown, SocketAddr, TcpStream, UdpSocket};
 use std::os::unix::net::UnixStream;
 
 /// The most turns that a test takes for one answer.
@@ -171,6 +171,22 @@ impl Caller {
     /// At a port, or at one of the system's choice.
     pub(crate) fn new(rt: &HostRuntime, port: u16) -> Option<Caller> {
         let own = SocketAddr::from((Ipv4Addr::LOCALHOST, port));
+        let socket = UdpSocket::bind(rt, own).ok()?;
+        socket.set_nonblocking(true).ok()?;
+        Some(Caller {
+            socket,
+            got: [0; ROOM],
+            len: 0,
+            from: own,
+        })
+    }
+
+    /// At a port of the system's choice, of the family of this address.
+    pub(crate) fn for_host(rt: &HostRuntime, to: SocketAddr) -> Option<Caller> {
+        let own = match to {
+            SocketAddr::V4(_) => SocketAddr::from((Ipv4Addr::UNSPECIFIED, 0)),
+            SocketAddr::V6(_) => SocketAddr::from((Ipv6Addr::UNSPECIFIED, 0)),
+        };
         let socket = UdpSocket::bind(rt, own).ok()?;
         socket.set_nonblocking(true).ok()?;
         Some(Caller {

@@ -1,7 +1,7 @@
 //! A system in which things fail: accepts of a listener, and descriptors that are used up.
 use crate::client::Client;
 use crate::records::answers_a_call;
-use crate::turns::{Host, Stopped, everywhere, plain};
+use crate::turns::{HERE, Host, Stopped, everywhere, plain};
 use rb_daemon::{Settings, Step};
 use std::alloc::Allocator;
 use std::fs::{Files, Metadata, OpenOptions, Permissions};
@@ -10,8 +10,6 @@ use std::net::{Ipv4Addr, Net, SocketAddr, TcpListener, UdpSocket};
 use std::os::fd::{BorrowedFd, OwnedFd};
 use std::os::unix::net::SocketAddr as UnixAddr;
 use std::test::Fail;
-
-const HOSTS: [Ipv4Addr; 1] = [Ipv4Addr::LOCALHOST];
 
 /// Where the local socket of `Crossed` listens.
 const CROSSED: u16 = 20_113;
@@ -121,7 +119,7 @@ fn failing_listener_ends_nothing(rt: HostRuntime) -> Result<(), Fail> {
     let system = Crossed { rt: &rt };
     let settings = Settings {
         loopback6: false,
-        ..everywhere(&HOSTS, 4)
+        ..everywhere(&HERE, 4)
     };
     let mut host = Host::over(&clock, &system, &settings).map_err(|_| "no daemon")?;
     assert_eq!(rt; serves_beside_a_fault(&rt, &mut host), Some(true));
@@ -143,7 +141,7 @@ fn few_descriptors_are_few_places(rt: HostRuntime) -> Result<(), Fail> {
     let clock = Stopped::new(&rt);
     let settings = Settings {
         open_files: 4,
-        ..plain(&HOSTS, 3)
+        ..plain(&HERE, 3)
     };
     let mut host = Host::with(&clock, &settings).map_err(|_| "no daemon")?;
     let shortage = host.shortage().ok_or("no shortage")?;

@@ -3,14 +3,19 @@ use crate::client::{Caller, Client};
 use crate::datagrams::answers;
 use crate::messages::{MARK_24, bytes_of, null_call, null_reply};
 use crate::turns::{Host, PORT, Stopped, address, plain};
+use rb_address::Host as Address;
 use std::net::{Ipv4Addr, SocketAddr};
 use std::test::Fail;
 
 /// Where the target of forwarded calls listens: 20,119 is 78 times 256, and 151.
 const TARGET: u16 = 20_119;
 
-/// The words of the address 127.0.0.1.78.151 as a string, and of no results behind it.
+/// The words of the address 127.0.0.1.78.151 as a string, and of no results behind it. It is told with the host that
+/// was asked.
 const AT_TARGET: [u32; 6] = [16, 0x3132_372e, 0x302e_302e, 0x312e_3738, 0x2e31_3531, 0];
+
+/// The same of 127.0.0.2.
+const AT_SECOND: [u32; 6] = [16, 0x3132_372e, 0x302e_302e, 0x322e_3738, 0x2e31_3531, 0];
 
 /// The program 200001 version 1 listens at the target.
 pub(crate) fn sets_target(
@@ -31,7 +36,12 @@ fn target_answers(rt: &HostRuntime, host: &mut Host<'_>, target: &mut Caller) ->
 
 /// An INDIRECT reaches its target, and what the target answers reaches the caller, from the address that was asked, as
 /// the reply to each other call.
-fn forwards_a_call(rt: &HostRuntime, host: &mut Host<'_>, asked: SocketAddr) -> Option<bool> {
+fn forwards_a_call(
+    rt: &HostRuntime,
+    host: &mut Host<'_>,
+    asked: SocketAddr,
+    told: [u32; 6],
+) -> Option<bool> {
     let mut caller = Caller::new(rt, 0)?;
     let mut target = Caller::new(rt, TARGET)?;
     let indirect = [15, 0, 2, 100_000, 4, 10, 0, 0, 0, 0, 200_001, 1, 0, 0];
@@ -39,7 +49,7 @@ fn forwards_a_call(rt: &HostRuntime, host: &mut Host<'_>, asked: SocketAddr) -> 
     let is_sent = caller.send_to(&bytes_of(rt.alloc(), &indirect).ok()?, asked);
     let is_answered = target_answers(rt, host, &mut target)?;
     caller.receive(host);
-    let is_passed = caller.got_just(&bytes_of(rt.alloc(), &passed_reply()).ok()?);
+    let is_passed = caller.got_just(&bytes_of(rt.alloc(), &passed_reply(told)).ok()?);
     let is_right = is_passed && caller.came_from(asked);
     let is_asked = caller.send_to(&bytes_of(rt.alloc(), &null_call(17)).ok()?, asked);
     caller.receive(host);
@@ -48,9 +58,9 @@ fn forwards_a_call(rt: &HostRuntime, host: &mut Host<'_>, asked: SocketAddr) -> 
     Some(is_set && is_sent && is_answered && is_right && is_there && host.is_well())
 }
 
-fn passed_reply() -> [u32; 12] {
+fn passed_reply(told: [u32; 6]) -> [u32; 12] {
     let [xid, mtype, stat, flavor, len, status] = null_reply(15);
-    let [size, a, b, c, d, results] = AT_TARGET;
+    let [size, a, b, c, d, results] = told;
     [
         xid, mtype, stat, flavor, len, status, size, a, b, c, d, results,
     ]
@@ -60,18 +70,23 @@ fn passed_reply() -> [u32; 12] {
 fn indirect_is_passed_back(rt: HostRuntime) -> Result<(), Fail> {
     let clock = Stopped::new(&rt);
     let mut host = Host::new(&clock, 1).ok_or("no daemon")?;
-    assert_eq!(rt; forwards_a_call(&rt, &mut host, address()), Some(true));
+    assert_eq!(rt;
+        forwards_a_call(&rt, &mut host, address(), AT_TARGET),
+        Some(true)
+    );
     Ok(())
 }
 
 #[test]
 fn replies_come_from_the_asked_address(rt: HostRuntime) -> Result<(), Fail> {
     let clock = Stopped::new(&rt);
-    let second = Ipv4Addr::new(127, 0, 0, 2);
-    let hosts = [Ipv4Addr::LOCALHOST, second];
+    let hosts = [Address::V4([127, 0, 0, 1]), Address::V4([127, 0, 0, 2])];
     let mut host = Host::with(&clock, &plain(&hosts, 1)).map_err(|_| "no daemon")?;
-    let asked = SocketAddr::from((second, PORT));
-    assert_eq!(rt; forwards_a_call(&rt, &mut host, asked), Some(true));
+    let asked = SocketAddr::from((Ipv4Addr::new(127, 0, 0, 2), PORT));
+    assert_eq!(rt;
+        forwards_a_call(&rt, &mut host, asked, AT_SECOND),
+        Some(true)
+    );
     Ok(())
 }
 
@@ -111,7 +126,7 @@ pub(crate) const TWO_CALLS: [u32; 26] = [
 fn forwards_over_tcp(rt: &HostRuntime, host: &mut Host<'_>, ends: bool) -> Option<bool> {
     let mut words = Vec::new(rt.alloc());
     words.push(0x8000_0030).ok()?;
-    words.extend_from_slice(&passed_reply()).ok()?;
+    words.extend_from_slice(&passed_reply(AT_TARGET)).ok()?;
     words.push(MARK_24).ok()?;
     words.extend_from_slice(&null_reply(16)).ok()?;
     let replies = bytes_of(rt.alloc(), &words).ok()?;

@@ -28,4 +28,6 @@ mod records;
 #[cfg(test)]
 mod refused;
 #[cfg(test)]
+mod trust;
+#[cfg(test)]
 mod turns;

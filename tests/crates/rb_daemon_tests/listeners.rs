@@ -2,15 +2,12 @@
 use crate::client::{Caller, Client};
 use crate::datagrams::answers;
 use crate::messages::{bytes_of, null_record, null_reply_record};
-use crate::turns::{Host, LOCAL, PORT, Stopped, address6, everywhere};
+use crate::turns::{HERE, Host, LOCAL, PORT, Stopped, address6, everywhere};
 use rb_daemon::{DaemonFault, Settings, Step};
 use std::fs;
-use std::net::Ipv4Addr;
 use std::os::unix::fs::{FileTypeExt, PermissionsExt};
 use std::os::unix::net::UnixListener;
 use std::test::Fail;
-
-const HOSTS: [Ipv4Addr; 1] = [Ipv4Addr::LOCALHOST];
 
 /// A daemon on all listeners, in a new file of the local socket.
 fn new_host<'a>(
@@ -19,7 +16,7 @@ fn new_host<'a>(
     conns: usize,
 ) -> Result<Host<'a>, &'static str> {
     let _ = fs::remove_file(rt, LOCAL);
-    Host::with(clock, &everywhere(&HOSTS, conns)).map_err(|_| "no daemon")
+    Host::with(clock, &everywhere(&HERE, conns)).map_err(|_| "no daemon")
 }
 
 /// A SET of version 2 in a record of 56 bytes: the program 200001 version 1 on TCP, at port 2049.
@@ -101,7 +98,7 @@ fn stale_file_is_replaced(rt: HostRuntime) -> Result<(), Fail> {
     let _ = fs::remove_file(&rt, LOCAL);
     drop(UnixListener::bind(&rt, LOCAL)?);
     let clock = Stopped::new(&rt);
-    let mut host = Host::with(&clock, &everywhere(&HOSTS, 1)).map_err(|_| "no daemon")?;
+    let mut host = Host::with(&clock, &everywhere(&HERE, 1)).map_err(|_| "no daemon")?;
     let mut client = Client::local(&rt).ok_or("no connection")?;
     let found = fs::symlink_metadata(&rt, LOCAL)?;
     assert!(rt; found.file_type().is_socket());
@@ -124,7 +121,7 @@ fn live_file_stays(rt: HostRuntime) -> Result<(), Fail> {
     let mut host = new_host(&rt, &clock, 2)?;
     let beside = Settings {
         port: PORT + 1,
-        ..everywhere(&HOSTS, 1)
+        ..everywhere(&HERE, 1)
     };
     assert_eq!(rt; is_kept_out(&clock, &beside), true);
     let mut client = Client::local(&rt).ok_or("no connection")?;
@@ -137,7 +134,7 @@ fn foreign_file_stays(rt: HostRuntime) -> Result<(), Fail> {
     let clock = Stopped::new(&rt);
     let _ = fs::remove_file(&rt, LOCAL);
     fs::write(&rt, LOCAL, b"kept")?;
-    assert_eq!(rt; is_kept_out(&clock, &everywhere(&HOSTS, 1)), true);
+    assert_eq!(rt; is_kept_out(&clock, &everywhere(&HERE, 1)), true);
     assert_eq!(rt; fs::metadata(&rt, LOCAL)?.len(), 4);
     fs::remove_file(&rt, LOCAL)?;
     Ok(())

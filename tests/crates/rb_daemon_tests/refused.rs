@@ -1,13 +1,11 @@
 //! Memory that is refused as a daemon is made. As the gate runs it nothing is refused; `tests/run-tests.sh
 //! rb_daemon_tests -- --fail-alloc N` refuses the allocation of number N.
-use crate::turns::{Stopped, plain};
+use crate::turns::{HERE, Stopped, plain};
 use rb_daemon::{Daemon, DaemonFault};
-use std::net::Ipv4Addr;
 
 #[test]
 fn refused_memory_of_a_daemon(rt: HostRuntime) {
     let clock = Stopped::new(&rt);
-    let hosts = [Ipv4Addr::LOCALHOST];
-    let made = Daemon::new(rt.alloc(), &rt, &clock, &plain(&hosts, 2));
+    let made = Daemon::new(rt.alloc(), &rt, &clock, &plain(&HERE, 2));
     assert!(rt; matches!(made, Ok(_) | Err(DaemonFault::Memory(_))));
 }

@@ -1,4 +1,5 @@
 //! The daemon of a test, whose turns the test itself takes, and whose clocks it sets.
+use rb_address::Host as Address;
 use rb_daemon::{Daemon, DaemonFault, Limits, LocalSocket, Settings, Shortage, SocketFault};
 use std::cell::Cell;
 use std::fs::Files;
@@ -8,6 +9,9 @@ use std::rt::Clock;
 use std::time::Duration;
 
 pub(crate) const PORT: u16 = 20_111;
+
+/// 127.0.0.1 alone.
+pub(crate) const HERE: [Address; 1] = [Address::V4([127, 0, 0, 1])];
 
 /// Where the local socket of a test is, in the folder that the test runs in.
 pub(crate) const LOCAL: &str = "rb_daemon_tests.sock";
@@ -74,6 +78,8 @@ impl Clock for Stopped {
 #[derive(Drop)]
 pub(crate) struct Host<'a> {
     daemon: Daemon<'a, Stopped>,
+    /// It has the kernel's tables of connections.
+    rt: HostRuntime,
     is_well: bool,
 }
 
@@ -85,14 +91,16 @@ pub(crate) fn address6() -> SocketAddr {
     SocketAddr::from((Ipv6Addr::LOCALHOST, PORT))
 }
 
-/// A daemon on 127.0.0.1 alone, with room for so many connections.
-pub(crate) fn plain(hosts: &[Ipv4Addr], conns: usize) -> Settings<'_> {
+/// A daemon that believes what callers claim, with room for so many connections.
+pub(crate) fn plain(hosts: &[Address], conns: usize) -> Settings<'_> {
     Settings {
         hosts,
         networks: &[],
         loopback6: false,
         local: None,
-        announce: Ipv4Addr::LOCALHOST,
+        are_claims_believed: true,
+        announce: Some([127, 0, 0, 1]),
+        announce6: None,
         port: PORT,
         limits: Limits {
             conns,
@@ -105,7 +113,7 @@ pub(crate) fn plain(hosts: &[Ipv4Addr], conns: usize) -> Settings<'_> {
 }
 
 /// A daemon that listens on [::1] and on the local socket besides.
-pub(crate) fn everywhere(hosts: &[Ipv4Addr], conns: usize) -> Settings<'_> {
+pub(crate) fn everywhere(hosts: &[Address], conns: usize) -> Settings<'_> {
     Settings {
         loopback6: true,
         local: Some(LocalSocket {
@@ -119,7 +127,7 @@ pub(crate) fn everywhere(hosts: &[Ipv4Addr], conns: usize) -> Settings<'_> {
 impl<'a> Host<'a> {
     /// A daemon with room for so many connections.
     pub(crate) fn new(clock: &'a Stopped, conns: usize) -> Option<Host<'a>> {
-        Host::with(clock, &plain(&[Ipv4Addr::LOCALHOST], conns)).ok()
+        Host::with(clock, &plain(&HERE, conns)).ok()
     }
 
     pub(crate) fn with(
@@ -138,6 +146,7 @@ impl<'a> Host<'a> {
         let daemon = Daemon::new(clock.rt.alloc(), system, clock, settings)?;
         Ok(Host {
             daemon,
+            rt: clock.rt,
             is_well: true,
         })
     }
@@ -151,7 +160,7 @@ impl<'a> Host<'a> {
     }
 
     pub(crate) fn turn(&mut self) {
-        if self.daemon.turn(WAIT).is_err() {
+        if self.daemon.turn(&self.rt, WAIT).is_err() {
             self.is_well = false;
         }
     }

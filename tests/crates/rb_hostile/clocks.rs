@@ -1,5 +1,5 @@
 //! Moments that are earlier than the last one: they count as the last one, and bring no deadline nearer or farther.
-use crate::cores::{LISTENER, limits_of};
+use crate::cores::{limits_of, listener};
 use rb_lines::Beginning;
 use rb_replay::run_replay;
 use std::alloc::{AllocError, Global};
@@ -15,7 +15,7 @@ const IGNORED: &[u8] = b"ignored\n";
 fn printed(alloc: Global, mut lines: &[u8]) -> Result<Vec<u8>, AllocError> {
     let beginning = Beginning {
         limits: limits_of(300),
-        listener: LISTENER,
+        listener: listener(),
         first_xid: 1000,
         moment: 0,
         steps: false,

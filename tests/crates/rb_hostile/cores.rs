@@ -1,19 +1,31 @@
 //! What the tests begin with: a core, and bytes that are written as words.
 
-use rb_address::{Host, Peer};
+use rb_address::{Host, Peer, Source, Trust, Who};
 use rb_core::{Core, CoreFault, Limits, Listener};
+use rb_proto::Announced;
 use rb_xdr::Meter;
 use std::alloc::{AllocError, Global};
 
-/// Who calls.
-pub(crate) fn loopback() -> Peer {
-    Peer::new(Host::V4([127, 0, 0, 1]), 900)
+/// Who calls: nothing is known but what it says.
+pub(crate) fn loopback() -> Who {
+    Who {
+        source: Source::Inet(Peer::new(Host::V4([127, 0, 0, 1]), 900)),
+        asked: Host::V4([0; 4]),
+        trust: Trust::Claims,
+    }
 }
 
-pub(crate) const LISTENER: Listener = Listener {
-    host: [192, 0, 2, 1],
-    port: 111,
-};
+/// It listens on IPv4 alone.
+pub(crate) fn listener() -> Listener {
+    Listener {
+        announced: Announced {
+            inet: Some([192, 0, 2, 1]),
+            inet6: None,
+        },
+        port: 111,
+        local: None,
+    }
+}
 
 /// Room for four connections and four forwarded calls, and for so many rows.
 pub(crate) fn limits_of(rows: usize) -> Limits {
@@ -26,7 +38,7 @@ pub(crate) fn limits_of(rows: usize) -> Limits {
 
 /// Its first forwarded call has the xid 1000, and its first moment is 0.
 pub(crate) fn core_of(alloc: Global, rows: usize, meter: &mut Meter) -> Result<Core, CoreFault> {
-    Core::new(alloc, limits_of(rows), LISTENER, 1000, 0, meter)
+    Core::new(alloc, limits_of(rows), listener(), 1000, 0, meter)
 }
 
 pub(crate) fn bytes_of(alloc: Global, words: &[u32]) -> Result<Vec<u8>, AllocError> {

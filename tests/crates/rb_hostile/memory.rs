@@ -3,6 +3,7 @@
 //! of number N in each test, and then these fail only where an answer is wrong.
 
 use crate::cores::{bytes_of, core_of, loopback, set_call};
+use rb_address::{Host, Peer};
 use rb_core::{Core, CoreFault, NoMemory};
 use rb_lines::{ReadFault, read_events};
 use rb_replay::{Event, Output, replay};
@@ -25,7 +26,8 @@ fn all_events(alloc: Global) -> Result<Vec<Event>, AllocError> {
     events.push(Event::Datagram(0, loopback(), set))?;
     events.push(Event::Datagram(0, loopback(), bytes_of(alloc, &indirect)?))?;
     events.push(Event::Unsent)?;
-    events.push(Event::Forward(0, loopback(), Vec::new(alloc)))?;
+    let peer = Peer::new(Host::V4([127, 0, 0, 1]), 900);
+    events.push(Event::Forward(0, peer, Vec::new(alloc)))?;
     events.push(Event::Expire(5000))?;
     events.push(Event::Open(5000, loopback()))?;
     events.push(Event::Pending(1))?;

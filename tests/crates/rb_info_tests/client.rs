@@ -1,6 +1,6 @@
 //! A client that asks a daemon in the same process. Its sockets never wait, since the daemon's turns are taken by the same
 //! thread.
-use rb_address::Transport;
+use rb_address::{Host, Transport};
 use rb_course::{Aim, Answer, Course, End, Stage, asked, begin, called_at, next};
 use rb_daemon::{Daemon, Limits, LocalSocket, Settings};
 use rb_show::{Ask, Form, HeldBytes, InfoFault, Shown, show_reply, write_call};
@@ -35,16 +35,17 @@ pub fn portmapper6() -> SocketAddr {
 
 /// A daemon on 127.0.0.1, [::1] and the local socket, which forwards calls.
 pub fn daemon_everywhere(rt: &HostRuntime) -> Option<Daemon<'_, HostRuntime>> {
-    let host = Ipv4Addr::LOCALHOST;
     let settings = Settings {
-        hosts: &[host],
+        hosts: &[Host::V4([127, 0, 0, 1])],
         networks: &[],
         loopback6: true,
         local: Some(LocalSocket {
             path: LOCAL,
             mode: 0o600,
         }),
-        announce: host,
+        are_claims_believed: true,
+        announce: None,
+        announce6: None,
         port: PORT,
         limits: Limits {
             conns: 4,
@@ -122,7 +123,7 @@ impl<'r, 'f> Client<'r, 'f> {
         let mut got = Vec::new(self.rt.alloc());
         let mut room = [0; 1024];
         for _ in 0..TURNS {
-            daemon.turn(WAIT).ok()?;
+            daemon.turn(self.rt, WAIT).ok()?;
             let len = stream.read(&mut room).unwrap_or(0);
             got.extend_from_slice(room.get(..len)?).ok()?;
             let answer = self.show(ask, xid, &got);
@@ -140,7 +141,7 @@ impl<'r, 'f> Client<'r, 'f> {
         ask: &Ask,
         xid: u32,
     ) -> Option<Result<Shown, InfoFault>> {
-        let caller = Caller::new(self.rt, 0)?;
+        let caller = Caller::toward(self.rt, address)?;
         caller.ask(self.rt, ask, xid, address)?;
         let record = caller.receive(self.rt, daemon)?;
         self.show(ask, xid, &record)
@@ -198,17 +199,31 @@ impl<'r, 'f> Client<'r, 'f> {
     }
 }
 
-/// A socket for datagrams, on a port of the loopback or on any where that is 0.
+/// A socket for datagrams, on a port of the loopback.
 #[derive(Drop)]
 pub struct Caller {
     socket: UdpSocket,
 }
 
 impl Caller {
-    pub fn new(rt: &HostRuntime, port: u16) -> Option<Caller> {
-        let socket = UdpSocket::bind(rt, SocketAddr::from((Ipv4Addr::LOCALHOST, port))).ok()?;
+    fn at(rt: &HostRuntime, address: SocketAddr) -> Option<Caller> {
+        let socket = UdpSocket::bind(rt, address).ok()?;
         socket.set_nonblocking(true).ok()?;
         Some(Caller { socket })
+    }
+
+    /// Of IPv4, on any port where this is 0.
+    pub fn new(rt: &HostRuntime, port: u16) -> Option<Caller> {
+        Caller::at(rt, SocketAddr::from((Ipv4Addr::LOCALHOST, port)))
+    }
+
+    /// Of the family of an address that it sends to, on any port.
+    fn toward(rt: &HostRuntime, address: SocketAddr) -> Option<Caller> {
+        let own = match address {
+            SocketAddr::V4(_) => SocketAddr::from((Ipv4Addr::LOCALHOST, 0)),
+            SocketAddr::V6(_) => SocketAddr::from((Ipv6Addr::LOCALHOST, 0)),
+        };
+        Caller::at(rt, own)
     }
 
     /// Sends the words as a datagram.
@@ -230,10 +245,14 @@ impl Caller {
     }
 
     /// Takes turns until a datagram came: its first word and its sender.
-    pub fn first_word(&self, daemon: &mut Daemon<'_, HostRuntime>) -> Option<(u32, SocketAddr)> {
+    pub fn first_word(
+        &self,
+        rt: &HostRuntime,
+        daemon: &mut Daemon<'_, HostRuntime>,
+    ) -> Option<(u32, SocketAddr)> {
         let mut room = [0; 1024];
         for _ in 0..TURNS {
-            daemon.turn(WAIT).ok()?;
+            daemon.turn(rt, WAIT).ok()?;
             if let Ok((_, sender)) = self.socket.recv_from(&mut room) {
                 let [a, b, c, d, ..] = room;
                 return Some((u32::from_be_bytes([a, b, c, d]), sender));
@@ -250,7 +269,7 @@ impl Caller {
     ) -> Option<Vec<u8>> {
         let mut room = [0; 1024];
         for _ in 0..TURNS {
-            daemon.turn(WAIT).ok()?;
+            daemon.turn(rt, WAIT).ok()?;
             if let Ok((len, _)) = self.socket.recv_from(&mut room) {
                 let header = LAST | u32::try_from(len).ok()?;
                 let mut record = Vec::new(rt.alloc());

@@ -29,7 +29,7 @@ fn step(
     stream.set_nonblocking(true).ok()?;
     stream.write_all(&call).ok()?;
     let mut got = [0; 256];
-    let len = receive(daemon, &mut stream, &mut got);
+    let len = receive(rt, daemon, &mut stream, &mut got);
     let mut reply = HeldBytes::new(got.get(..len)?);
     let answer = match show_reply(rt.alloc(), &ask, Form::Plain, xid, &mut reply, shown) {
         Ok(Shown::Null) => Answer::Ready,

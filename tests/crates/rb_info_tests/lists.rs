@@ -11,16 +11,17 @@ use std::test::Fail;
 /// Where a program of the test listens for datagrams: 78 times 256, and 153.
 const TARGET: u16 = 20_121;
 
-/// The own rows of the daemon (six, at 0.0.0.0 and its port).
+/// The own rows of the daemon: over IPv6 at :: and its port, over IPv4 at 0.0.0.0 and its port, and at the local socket.
 const ROWS: &[u8] =
-    b"100000 4 tcp 0.0.0.0.78.150 superuser\n100000 3 tcp 0.0.0.0.78.150 superuser\n100000 2 tcp 0.0.0.0.78.150 superuser\n100000 4 udp 0.0.0.0.78.150 superuser\n100000 3 udp 0.0.0.0.78.150 superuser\n100000 2 udp 0.0.0.0.78.150 superuser\n";
+    b"100000 4 tcp6 ::.78.150 superuser\n100000 3 tcp6 ::.78.150 superuser\n100000 4 udp6 ::.78.150 superuser\n100000 3 udp6 ::.78.150 superuser\n100000 4 tcp 0.0.0.0.78.150 superuser\n100000 3 tcp 0.0.0.0.78.150 superuser\n100000 2 tcp 0.0.0.0.78.150 superuser\n100000 4 udp 0.0.0.0.78.150 superuser\n100000 3 udp 0.0.0.0.78.150 superuser\n100000 2 udp 0.0.0.0.78.150 superuser\n100000 4 local rb_info_tests.sock superuser\n100000 3 local rb_info_tests.sock superuser\n";
 
-/// The same as objects, of version 2.
+/// Those that version 2 lists, of tcp and udp alone, as objects.
 const OBJECTS: &[u8] =
     b"{\"program\":100000,\"version\":4,\"protocol\":6,\"port\":20118}\n{\"program\":100000,\"version\":3,\"protocol\":6,\"port\":20118}\n{\"program\":100000,\"version\":2,\"protocol\":6,\"port\":20118}\n{\"program\":100000,\"version\":4,\"protocol\":17,\"port\":20118}\n{\"program\":100000,\"version\":3,\"protocol\":17,\"port\":20118}\n{\"program\":100000,\"version\":2,\"protocol\":17,\"port\":20118}\n";
 
+/// As Debian's shows its own rows by `rpcinfo -s`.
 const SUMMARY: &[u8] =
-    b"   program version(s) netid(s)                         service     owner\n    100000  2,3,4     udp,tcp                          portmapper  superuser\n";
+    b"   program version(s) netid(s)                         service     owner\n    100000  2,3,4     local,udp,tcp,udp6,tcp6          portmapper  superuser\n";
 
 fn of_nobody(question: Question) -> Ask {
     Ask {
@@ -33,24 +34,25 @@ fn names_of(rt: &HostRuntime) -> Option<Vec<Service>> {
     read_services(rt.alloc(), b"portmapper 100000\n").ok()
 }
 
-/// Whether a question over TCP is answered so.
+/// Whether a question over TCP is answered so: with so many rows, which are shown as this text.
 fn shows(
     rt: &HostRuntime,
     at: SocketAddr,
     form: Form<'_>,
     question: Question,
-    text: &[u8],
+    wanted: (u32, &[u8]),
 ) -> Option<bool> {
     let mut daemon = daemon_everywhere(rt)?;
     let mut client = Client::new(rt, form);
     let shown = client.ask(&mut daemon, at, &of_nobody(question))?;
-    Some(shown == Ok(Shown::Rows(6)) && client.has_shown(text))
+    let (count, text) = wanted;
+    Some(shown == Ok(Shown::Rows(count)) && client.has_shown(text))
 }
 
 /// `--json -p HOST`.
 #[test]
 fn objects_of_a_table(rt: HostRuntime) -> Result<(), Fail> {
-    let is_shown = shows(&rt, portmapper(), Form::Json, Question::Pmap, OBJECTS);
+    let is_shown = shows(&rt, portmapper(), Form::Json, Question::Pmap, (6, OBJECTS));
     assert_eq!(rt; is_shown, Some(true));
     Ok(())
 }
@@ -60,7 +62,7 @@ fn objects_of_a_table(rt: HostRuntime) -> Result<(), Fail> {
 fn summary_of_own_rows(rt: HostRuntime) -> Result<(), Fail> {
     let services = names_of(&rt).ok_or("no names")?;
     let form = Form::Named(&services);
-    let is_shown = shows(&rt, portmapper(), form, Question::Summary, SUMMARY);
+    let is_shown = shows(&rt, portmapper(), form, Question::Summary, (12, SUMMARY));
     assert_eq!(rt; is_shown, Some(true));
     Ok(())
 }
@@ -68,7 +70,7 @@ fn summary_of_own_rows(rt: HostRuntime) -> Result<(), Fail> {
 /// `::1` as HOST.
 #[test]
 fn rows_of_an_ipv6_host(rt: HostRuntime) -> Result<(), Fail> {
-    let is_shown = shows(&rt, portmapper6(), Form::Plain, Question::Rows, ROWS);
+    let is_shown = shows(&rt, portmapper6(), Form::Plain, Question::Rows, (12, ROWS));
     assert_eq!(rt; is_shown, Some(true));
     Ok(())
 }
@@ -80,7 +82,7 @@ fn shows_locally(rt: &HostRuntime) -> Option<bool> {
     stream.set_nonblocking(true).ok()?;
     let ask = of_nobody(Question::Rows);
     let shown = client.ask_stream(&mut daemon, &mut stream, &ask, 1)?;
-    Some(shown == Ok(Shown::Rows(6)) && client.has_shown(ROWS))
+    Some(shown == Ok(Shown::Rows(12)) && client.has_shown(ROWS))
 }
 
 /// `--local PATH`.
@@ -95,7 +97,7 @@ fn sets_target(rt: &HostRuntime, daemon: &mut Daemon<'_, HostRuntime>, prot: u32
     let caller = Caller::new(rt, 0)?;
     let set = [9, 0, 2, 100_000, 2, 1, 0, 0, 0, 0, 200_001, 1, prot, 20_121];
     caller.send(rt, &set, portmapper())?;
-    let (xid, _) = caller.first_word(daemon)?;
+    let (xid, _) = caller.first_word(rt, daemon)?;
     if xid == 9 { Some(()) } else { None }
 }
 
@@ -130,7 +132,7 @@ fn called_through(rt: &HostRuntime) -> Option<Shown> {
     let caller = Caller::new(rt, 0)?;
     let ask = of_nobody(Question::Callit(200_001, 1));
     caller.ask(rt, &ask, 1, portmapper())?;
-    let (xid, sender) = target.first_word(&mut daemon)?;
+    let (xid, sender) = target.first_word(rt, &mut daemon)?;
     target.send(rt, &[xid, 1, 0, 0, 0, 0], sender)?;
     let record = caller.receive(rt, &mut daemon)?;
     let mut nothing = Vec::new(rt.alloc());

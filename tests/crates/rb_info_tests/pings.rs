@@ -166,23 +166,33 @@ fn version_at_an_ipv6_address(rt: HostRuntime) -> Result<(), Fail> {
     Ok(())
 }
 
-/// `-t ::1 100000 4`, and `-T tcp6 ::1 100000 4`: GETADDR goes by the transport of the call, which is TCP.
+/// `-t ::1 100000 4`: GETPORT finds the port of tcp, which is served over IPv6 too.
 #[test]
 fn version_on_an_ipv6_host(rt: HostRuntime) -> Result<(), Fail> {
     let text = b"program 100000 version 4 ready\n".as_slice();
     let mapped = shape_of(&[Flag::Tcp], &["::1", "100000", "4"]);
-    let netid = Shape {
-        netid: Some("tcp6"),
-        ..shape_of(&[], &["::1", "100000", "4"])
-    };
     assert_eq!(rt;
         ends(&rt, &mapped, portmapper6(), End::Ready, text),
         Some(true)
     );
-    assert_eq!(rt;
-        ends(&rt, &netid, portmapper6(), End::Ready, text),
-        Some(true)
-    );
+    Ok(())
+}
+
+/// `-T NETID ::1 100000 4`: GETADDR goes by the netid of the call, and tells the host that it asked in place of ::.
+#[test]
+fn version_by_getaddr_on_an_ipv6_host(rt: HostRuntime) -> Result<(), Fail> {
+    let text = b"program 100000 version 4 ready\n".as_slice();
+    for netid in ["tcp6", "udp6"] {
+        let shape = Shape {
+            netid: Some(netid),
+            ..shape_of(&[], &["::1", "100000", "4"])
+        };
+        assert_eq!(rt;
+            ends(&rt, &shape, portmapper6(), End::Ready, text),
+            Some(true),
+            "{netid}"
+        );
+    }
     Ok(())
 }
 

@@ -1,5 +1,6 @@
 //! A daemon and a client in one process, on port 20113 of 127.0.0.1. The client never waits: the test itself takes the
 //! daemon's turns.
+use rb_address::Host;
 use rb_daemon::{Daemon, Limits, Settings};
 use std::alloc::AllocError;
 use std::io::{Read, Write};
@@ -41,18 +42,19 @@ fn reply(rt: &HostRuntime) -> Result<Vec<u8>, AllocError> {
 }
 
 pub fn daemon_of(rt: &HostRuntime, port: u16, conns: usize) -> Option<Daemon<'_, HostRuntime>> {
-    let host = Ipv4Addr::LOCALHOST;
     let limits = Limits {
         conns,
         rows: 8,
         forwards: 0,
     };
     let settings = Settings {
-        hosts: &[host],
+        hosts: &[Host::V4([127, 0, 0, 1])],
         networks: &[],
         loopback6: false,
         local: None,
-        announce: host,
+        are_claims_believed: true,
+        announce: None,
+        announce6: None,
         port,
         limits,
         open_files: u64::MAX,
@@ -63,12 +65,13 @@ pub fn daemon_of(rt: &HostRuntime, port: u16, conns: usize) -> Option<Daemon<'_,
 
 /// Takes turns until something has come, and says how many bytes.
 pub fn receive(
+    rt: &HostRuntime,
     daemon: &mut Daemon<'_, HostRuntime>,
     stream: &mut TcpStream,
     got: &mut [u8; 256],
 ) -> usize {
     for _ in 0..TURNS {
-        if daemon.turn(WAIT).is_err() {
+        if daemon.turn(rt, WAIT).is_err() {
             return 0;
         }
         if let Ok(len) = stream.read(got) {
@@ -86,7 +89,7 @@ fn answers_dump(rt: &HostRuntime, daemon: &mut Daemon<'_, HostRuntime>) -> Optio
     let wanted = reply(rt).ok()?;
     stream.write_all(&call).ok()?;
     let mut got = [0; 256];
-    let len = receive(daemon, &mut stream, &mut got);
+    let len = receive(rt, daemon, &mut stream, &mut got);
     Some(len == wanted.len() && got.starts_with(&wanted))
 }
 

@@ -1,19 +1,16 @@
-use rb_address::{Host, Peer};
-use rb_core::{Core, CoreFault, Exchanged, Limits, Listener, NoMemory, Outcome, Standing, Taken};
+use crate::address::claims;
+use crate::proto::listener;
+use rb_address::Who;
+use rb_core::{Core, CoreFault, Exchanged, Limits, NoMemory, Outcome, Standing, Taken};
 use rb_replay::{Event, Output, replay};
 use rb_xdr::Meter;
 use std::alloc::{AllocError, Global};
 use std::process::Abort;
 use std::test::Fail;
 
-fn loopback() -> Peer {
-    Peer::new(Host::V4([127, 0, 0, 1]), 900)
+fn loopback() -> Who {
+    claims([127, 0, 0, 1], 900)
 }
-
-const LISTENER: Listener = Listener {
-    host: [192, 0, 2, 1],
-    port: 111,
-};
 
 const LIMITS: Limits = Limits {
     conns: 4,
@@ -34,7 +31,7 @@ const NULL_RECORD: [u32; 11] = [0x8000_0028, 1, 0, 2, 100_000, 2, 0, 0, 0, 0, 0]
 const OVERLONG: [u32; 11] = [0x8001_86c8, 1, 0, 2, 100_000, 2, 0, 0, 0, 0, 0];
 
 fn new_core(alloc: Global, meter: &mut Meter) -> Result<Core, CoreFault> {
-    Core::new(alloc, LIMITS, LISTENER, 1000, 0, meter)
+    Core::new(alloc, LIMITS, listener(), 1000, 0, meter)
 }
 
 fn words(alloc: Global, numbers: &[u32]) -> Result<Vec<u8>, AllocError> {
@@ -83,7 +80,7 @@ fn limits_and_numbers(rt: HostRuntime) {
             rows,
             forwards,
         };
-        let made = Core::new(rt.alloc(), limits, LISTENER, 1000, 0, &mut Meter::new());
+        let made = Core::new(rt.alloc(), limits, listener(), 1000, 0, &mut Meter::new());
         assert!(rt; matches!(made, Err(CoreFault::BadLimits)));
     }
 }
@@ -354,7 +351,7 @@ fn single_bytes_are_cheap(rt: HostRuntime) -> Result<(), Fail> {
     };
     let record = greatest_callit(rt.alloc())?;
     let (_, front) = record.split_last().ok_or("empty")?;
-    let mut core = Core::new(rt.alloc(), limits, LISTENER, 1000, 0, &mut meter)?;
+    let mut core = Core::new(rt.alloc(), limits, listener(), 1000, 0, &mut meter)?;
     assert_eq!(rt; core.open(0, loopback(), &mut meter), Ok(1));
     assert_eq!(rt; bytes_are_cheap(&mut core, front, &mut meter), Ok(true));
     Ok(())

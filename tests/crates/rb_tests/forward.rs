@@ -1,3 +1,4 @@
+use crate::address::claims;
 use rb_address::{Host, Peer};
 use rb_forward::{Forward, Forwards};
 use rb_rpc::{Caller, Kind};
@@ -11,7 +12,7 @@ fn loopback(port: u16) -> Peer {
 // Procedure 0 of program 200001, version 1, for a datagram of xid 15.
 fn forward() -> Forward {
     Forward {
-        caller: Caller::Udp(loopback(900)),
+        caller: Caller::Udp(claims([127, 0, 0, 1], 900)),
         xid: 15,
         kind: Kind::Indirect,
         target: loopback(2049),

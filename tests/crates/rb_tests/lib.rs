@@ -7,11 +7,15 @@ mod arguments;
 #[cfg(test)]
 mod events;
 #[cfg(test)]
+mod evidence;
+#[cfg(test)]
 mod feed;
 #[cfg(test)]
 mod forward;
 #[cfg(test)]
 mod lines;
+#[cfg(test)]
+mod policy;
 #[cfg(test)]
 mod proto;
 #[cfg(test)]

@@ -1,5 +1,7 @@
 //! Event lines, read and run.
-use rb_core::{Core, Limits, Listener};
+use crate::proto::listener;
+use rb_address::Who;
+use rb_core::{Core, Limits};
 use rb_lines::{Beginning, ReadFault, read_events};
 use rb_replay::{Event, run_replay};
 use rb_xdr::Meter;
@@ -18,26 +20,25 @@ impl Read for Failing {
     }
 }
 
-const BEGINNING: Beginning = Beginning {
-    limits: Limits {
-        conns: 4,
-        rows: 300,
-        forwards: 4,
-    },
-    listener: Listener {
-        host: [192, 0, 2, 1],
-        port: 111,
-    },
-    first_xid: 1000,
-    moment: 0,
-    steps: false,
-};
+fn beginning() -> Beginning {
+    Beginning {
+        limits: Limits {
+            conns: 4,
+            rows: 300,
+            forwards: 4,
+        },
+        listener: listener(),
+        first_xid: 1000,
+        moment: 0,
+        steps: false,
+    }
+}
 
 /// The status, what is printed and what is said of faults.
 fn ran<R: Read>(alloc: Global, reader: &mut R) -> Result<(u8, Vec<u8>, Vec<u8>), AllocError> {
     let mut output = BufWriter::new(alloc, Vec::new(alloc)).map_err(|_| AllocError)?;
     let mut faults = Vec::new(alloc);
-    let ending = run_replay(alloc, &BEGINNING, reader, &mut output, &mut faults);
+    let ending = run_replay(alloc, &beginning(), reader, &mut output, &mut faults);
     let (printed, _) = output.into_parts();
     Ok((ending.status, printed, faults))
 }
@@ -49,6 +50,28 @@ fn read_events_has_memory(rt: HostRuntime) -> Result<(), Fail> {
     assert!(rt; matches!(read.as_slice(), [Event::Datagram(7, _, _)]));
     let refused = read_events(alloc, b"datagram 0 127.0.0.1:900 0g");
     assert!(rt; matches!(refused, Err(ReadFault::BadLine(1))));
+    Ok(())
+}
+
+// Callers of event lines. A target of forwarded calls is a peer, of whom nothing else is known.
+#[test]
+fn callers_of_lines_are_read(rt: HostRuntime) -> Result<(), Fail> {
+    let alloc = rt.alloc();
+    let lines = b"open 0 local/0\ndatagram 7 [::1]:900>::1/65534 -\n";
+    let read = read_events(alloc, lines).map_err(|_| "refused")?;
+    let [Event::Open(0, first), Event::Datagram(7, second, _)] = read.as_slice() else {
+        return Err("other events".into());
+    };
+    assert_eq!(rt; Some(*first), Who::read(b"local/0"));
+    assert_eq!(rt; Some(*second), Who::read(b"[::1]:900>::1/65534"));
+    for line in [
+        b"forward 0 [::1]:2049/0 -".as_slice(),
+        b"forward 0 [::1]:2049>::1 -".as_slice(),
+        b"forward 0 local -".as_slice(),
+    ] {
+        let refused = read_events(alloc, line);
+        assert!(rt; matches!(refused, Err(ReadFault::BadLine(1))));
+    }
     Ok(())
 }
 
@@ -87,7 +110,6 @@ fn greatest_limits_have_memory(rt: HostRuntime) {
         rows: 4096,
         forwards: 64,
     };
-    let listener = BEGINNING.listener;
-    let made = Core::new(rt.alloc(), limits, listener, 1000, 0, &mut Meter::new());
+    let made = Core::new(rt.alloc(), limits, listener(), 1000, 0, &mut Meter::new());
     assert!(rt; made.is_ok());
 }

@@ -1,21 +1,32 @@
+use crate::address::claims;
 use rb_address::{Host, Peer};
 use rb_arguments::{ArgumentFault, read_args};
 use rb_forward::{Forward, FwdId};
 use rb_proto::{
-    Answer, Books, Call, Context, ListReply, Listener, Listing, answer, put_forwarded, put_results,
-    refusal,
+    Announced, Answer, Books, Call, Context, ListReply, Listener, Listing, answer, own_row_count,
+    put_forwarded, put_results, refusal,
 };
 use rb_registry::RegistryFault;
 use rb_rpc::{CallHead, Caller, Credential, Kind, ReplyStatus};
+use rb_uaddr::AddressText;
 use rb_xdr::{Kept, Meter};
 use std::alloc::Global;
 use std::process::Abort;
 use std::test::Fail;
 
-const LISTENER: Listener = Listener {
-    host: [192, 0, 2, 1],
-    port: 111,
+const ANNOUNCED: Announced = Announced {
+    inet: Some([192, 0, 2, 1]),
+    inet6: None,
 };
+
+// It listens on IPv4 alone.
+pub(crate) fn listener() -> Listener {
+    Listener {
+        announced: ANNOUNCED,
+        port: 111,
+        local: None,
+    }
+}
 
 // (200001, 1) on udp at `0.0.0.0.8.1`, with no owner
 pub(crate) const UDP_ROW: &[u8] =
@@ -51,10 +62,6 @@ const LISTED: &[u8] = b"\0\0\0\x07\0\0\0\x01\0\0\0\0\0\0\0\0\0\0\0\0\0\0\0\0\
 \0\0\0\x01\0\x01\x86\xa0\0\0\0\x03\0\0\0\x11\0\0\0\x6f\0\0\0\x01\0\x01\x86\xa0\0\0\0\x02\0\0\0\x11\0\0\0\x6f\
 \0\0\0\x01\x00\x03\x0d\x41\0\0\0\x01\0\0\0\x06\0\0\x08\x01\0\0\0\0";
 
-fn caller() -> Peer {
-    Peer::new(Host::V4([127, 0, 0, 1]), 900)
-}
-
 const LIMIT: usize = 8;
 
 const CLOCK: u64 = 1_000_000_000_500;
@@ -62,11 +69,11 @@ const CLOCK: u64 = 1_000_000_000_500;
 // What a call from 127.0.0.1 sees that came in a datagram.
 fn context() -> Context {
     Context {
-        listener: LISTENER,
+        announced: ANNOUNCED,
         limit: LIMIT,
         forwards: 1,
         clock: CLOCK,
-        caller: Caller::Udp(caller()),
+        caller: Caller::Udp(claims([127, 0, 0, 1], 900)),
     }
 }
 
@@ -83,7 +90,7 @@ fn head(vers: u32, proc: u32) -> CallHead {
 
 // Books with room for two rows and for one forwarded call.
 fn new_books(alloc: Global, meter: &mut Meter) -> Result<Books, RegistryFault> {
-    Books::new(alloc, LIMIT, 1, 1000, &LISTENER, meter)
+    Books::new(alloc, LIMIT, 1, 1000, &listener(), meter)
 }
 
 // All that was put into the buffer.
@@ -236,7 +243,7 @@ fn forwarded_results_are_put(rt: HostRuntime) -> Result<(), Fail> {
     let mut meter = Meter::new();
     let mut out = Kept::new(rt.alloc(), 100, &mut meter)?;
     let forward = Forward {
-        caller: Caller::Udp(target()),
+        caller: Caller::Udp(claims([127, 0, 0, 1], 2049)),
         xid: 1,
         kind: Kind::Callit2,
         target: target(),
@@ -248,5 +255,41 @@ fn forwarded_results_are_put(rt: HostRuntime) -> Result<(), Fail> {
     put_forwarded(&forward, ARGS, 100, &mut out, &mut meter)?;
     let results = b"\0\0\x08\x01\0\0\0\x04\0\0\0\x07";
     assert_eq!(rt; all_bytes(&out, &mut meter), results.as_slice());
+    Ok(())
+}
+
+// How many rows of its own a listener has, and the books that are made for it.
+fn has_own_rows(alloc: Global, listener: &Listener, count: usize) -> Result<bool, RegistryFault> {
+    let mut meter = Meter::new();
+    let books = Books::new(alloc, count, 0, 1000, listener, &mut meter)?;
+    Ok(own_row_count(listener) == count && books.registry.len(&mut meter) == count)
+}
+
+// Versions 4, 3 and 2 on tcp and udp, 4 and 3 on tcp6 and udp6, and 4 and 3 on local.
+#[test]
+fn own_rows_have_room(rt: HostRuntime) -> Result<(), Fail> {
+    let inet6 = Announced {
+        inet: None,
+        inet6: Some([0; 16]),
+    };
+    let both = Announced {
+        inet: ANNOUNCED.inet,
+        inet6: inet6.inet6,
+    };
+    let over_ipv6 = Listener {
+        announced: inet6,
+        ..listener()
+    };
+    let everywhere = Listener {
+        announced: both,
+        port: 111,
+        local: Some(AddressText::new(b"/run/rpcbind.sock")),
+    };
+    assert_eq!(rt; has_own_rows(rt.alloc(), &listener(), 6), Ok(true));
+    assert_eq!(rt; has_own_rows(rt.alloc(), &over_ipv6, 4), Ok(true));
+    assert_eq!(rt; has_own_rows(rt.alloc(), &everywhere, 12), Ok(true));
+    let mut meter = Meter::new();
+    let refused = Books::new(rt.alloc(), 11, 0, 1000, &everywhere, &mut meter);
+    assert!(rt; matches!(refused, Err(RegistryFault::BadLimits)));
     Ok(())
 }

@@ -1,5 +1,6 @@
-use rb_address::Netid;
-use rb_registry::{Cursor, Owner, Registry, RegistryFault, Row, Which};
+use arrayvec::ArrayVec;
+use rb_address::{Netid, Owner};
+use rb_registry::{Cursor, MOST_OWN_ROWS, Registry, RegistryFault, Row, Which};
 use rb_uaddr::Uaddr;
 use rb_xdr::Meter;
 use std::process::Abort;
@@ -17,15 +18,14 @@ fn row(prog: u32, vers: u32, netid: Netid, owner: Owner) -> Row {
 }
 
 // Program 100000, versions 4, 3 and 2, on tcp and then on udp.
-fn own_rows() -> [Row; 6] {
-    [
-        row(100_000, 4, Netid::Tcp, Owner::SUPERUSER),
-        row(100_000, 3, Netid::Tcp, Owner::SUPERUSER),
-        row(100_000, 2, Netid::Tcp, Owner::SUPERUSER),
-        row(100_000, 4, Netid::Udp, Owner::SUPERUSER),
-        row(100_000, 3, Netid::Udp, Owner::SUPERUSER),
-        row(100_000, 2, Netid::Udp, Owner::SUPERUSER),
-    ]
+fn own_rows() -> ArrayVec<Row, MOST_OWN_ROWS> {
+    let mut rows = ArrayVec::new();
+    for netid in [Netid::Tcp, Netid::Udp] {
+        for vers in [4, 3, 2] {
+            rows.push(row(100_000, vers, netid, Owner::SUPERUSER));
+        }
+    }
+    rows
 }
 
 // The last digit of each row's version, in the order of the rows.
@@ -51,6 +51,8 @@ fn registry_has_memory(rt: HostRuntime) -> Result<(), Fail> {
     assert!(rt; matches!(refused, Err(RegistryFault::BadLimits)));
     let refused = Registry::new(rt.alloc(), usize::MAX, own_rows(), &mut meter);
     assert!(rt; matches!(refused, Err(RegistryFault::NoMemory)));
+    let empty = Registry::new(rt.alloc(), 0, ArrayVec::new(), &mut meter)?;
+    assert_eq!(rt; empty.len(&mut meter), 0);
     Ok(())
 }
 

@@ -1,4 +1,4 @@
-use rb_address::Transport;
+use rb_address::Netid;
 use rb_stats::{Stats, Target, Version};
 use rb_xdr::{Kept, Meter};
 use std::process::Abort;
@@ -7,7 +7,7 @@ use std::test::Fail;
 const TARGET: Target = Target {
     prog: 200_001,
     vers: 1,
-    transport: Transport::Tcp,
+    netid: Netid::Tcp,
 };
 
 // A call of procedure 1 and a SET in version 2, an UNSET in version 4, a look-up that found its row

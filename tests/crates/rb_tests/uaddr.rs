@@ -1,15 +1,51 @@
-use rb_uaddr::{AddressText, NotAnAddress, Uaddr};
+use rb_uaddr::{AddressText, Hosts, NotAnAddress, Uaddr};
 use std::test::Fail;
+
+// 2001:db8::9, of the documentation (RFC 3849)
+const OF_IPV6: [u8; 16] = [0x20, 0x01, 0x0d, 0xb8, 0, 0, 0, 0, 0, 0, 0, 0, 0, 0, 0, 9];
+
+const TOLD: Hosts = Hosts {
+    inet: [192, 0, 2, 1],
+    inet6: OF_IPV6,
+};
 
 #[test]
 fn any_host_is_merged(rt: HostRuntime) -> Result<(), Fail> {
     let address = Uaddr::parse(b"0.0.0.0.8.1")?;
     assert_eq!(rt; address, Uaddr::any(2049));
-    let merged = address.merge([192, 0, 2, 1]);
+    let merged = address.merge(&TOLD);
     assert_eq!(rt; merged.text().as_slice(), b"192.0.2.1.8.1".as_slice());
-    assert_eq!(rt; merged.merge([198, 51, 100, 7]), merged);
+    let others = Hosts {
+        inet: [198, 51, 100, 7],
+        inet6: [7; 16],
+    };
+    assert_eq!(rt; merged.merge(&others), merged);
     assert_eq!(rt; merged.port(), 2049);
     Ok(())
+}
+
+#[test]
+fn any_ipv6_host_is_merged(rt: HostRuntime) -> Result<(), Fail> {
+    let address = Uaddr::parse(b"::.8.1")?;
+    assert_eq!(rt; address, Uaddr::any6(2049));
+    let merged = address.merge(&TOLD);
+    assert_eq!(rt; merged.text().as_slice(), b"2001:db8::9.8.1".as_slice());
+    assert_eq!(rt; TOLD.merge_inet([0; 4]), [192, 0, 2, 1]);
+    assert_eq!(rt; TOLD.merge_inet([198, 51, 100, 7]), [198, 51, 100, 7]);
+    assert_eq!(rt; TOLD.merge_inet6([0; 16]), OF_IPV6);
+    assert_eq!(rt; TOLD.merge_inet6([7; 16]), [7; 16]);
+    Ok(())
+}
+
+// 0.0.0.0 and :: stand in for themselves.
+#[test]
+fn every_host_stays(rt: HostRuntime) {
+    let every = Hosts {
+        inet: [0; 4],
+        inet6: [0; 16],
+    };
+    assert_eq!(rt; Uaddr::any(2049).merge(&every), Uaddr::any(2049));
+    assert_eq!(rt; Uaddr::any6(2049).merge(&every), Uaddr::any6(2049));
 }
 
 #[test]
@@ -57,14 +93,14 @@ fn texts_are_kept(rt: HostRuntime) -> Result<(), Fail> {
 }
 
 /// A host as it may be given, as RFC 5952 prints it, and its groups.
-struct Host {
-    given: &'static [u8],
-    printed: &'static [u8],
-    groups: [u16; 8],
+pub(crate) struct Host {
+    pub(crate) given: &'static [u8],
+    pub(crate) printed: &'static [u8],
+    pub(crate) groups: [u16; 8],
 }
 
 /// The examples of RFC 4291 section 2.2 and of RFC 5952 sections 2 and 4.
-const HOSTS: [Host; 16] = [
+pub(crate) const HOSTS: [Host; 16] = [
     Host {
         given: b"ABCD:EF01:2345:6789:ABCD:EF01:2345:6789",
         printed: b"abcd:ef01:2345:6789:abcd:ef01:2345:6789",
@@ -174,7 +210,9 @@ fn ipv6_hosts_are_printed(rt: HostRuntime) -> Result<(), Fail> {
         let printed = with_port(rt, host.printed)?;
         assert_eq!(rt; address.text().as_slice(), printed.as_slice());
         assert_eq!(rt; Uaddr::parse(&printed), Ok(address));
-        assert_eq!(rt; address.merge([192, 0, 2, 1]), address);
+        if host.groups != [0; 8] {
+            assert_eq!(rt; address.merge(&TOLD), address);
+        }
 
         let mut form = transport_form(&host.groups);
         assert_eq!(rt; address.to_transport().as_slice(), form.as_slice());

@@ -18,7 +18,8 @@ pub returns : goal.returns
 unfolding lines_of
 returns c =
     let all = YieldsList-end (YieldsList-at c.into_iter-i-iterator.ensures.into_iter_gives (YieldsList-from_enumerate (YieldsList-at c.enumerate-i-items.ensures.source (YieldsList-from_slice_split _ (λ b. b == 10) c.args.text.now c.split.ensures.rest c.split.ensures.done c.split.ensures.closure (λ x b q k. search rules))) c.enumerate-i-items.ensures.count)) c.loop-i.yielded _ c.loop-i.yielded_by _ _ c.in-None.is c.next.ensures.steps in
-    ends (events_of c.loop-i.events.items) (length c.loop-i.yielded) (lines_of c.args.text.now) _ (omega (arith, all.1, length-enumerate_from 0 (lines_of c.args.text.now))) c.loop-i.invariant
+    rw c.shrink_to_fit.ensures.items
+    (ends (events_of c.loop-i.events.items) (length c.loop-i.yielded) (lines_of c.args.text.now) _ (omega (arith, all.1, length-enumerate_from 0 (lines_of c.args.text.now))) c.loop-i.invariant)
 
 pub returns-in-Err : goal.returns-in-Err
 unfolding lines_of

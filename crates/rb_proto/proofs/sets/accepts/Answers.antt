@@ -1,22 +1,22 @@
 use Rattle.std.proofs.Common.{sym, ◌∙◌}
 use Rattle.rb_registry.proofs.Finds.{any_found}
-use Rattle.rb_proto.proofs.RowChanges.{key_is_there, limit_is_reached, number_is_left}
+use Rattle.rb_proto.proofs.RowChanges.{share_is_used, key_is_there, number_is_left}
 use Rattle.rb_proto.proofs.sets.accepts.Goals as goal
+
+pub returns-then-not-has_share-clause-value : goal.returns-then-not-has_share-clause-value
+returns-then-not-has_share-clause-value c =
+    share_is_used c.args.context.now _ _ _
+    (sym c.comes_from_here.ensures ∙ c.if-not-comes_from_here.false)
+    (sym c.can_be_set.ensures ∙ c.if-not-can_be_set.false)
+    (sym c.has_share.ensures.share ∙ c.if-not-has_share.true)
 
 pub returns-then-is_some-clause-value : goal.returns-then-is_some-clause-value
 returns-then-is_some-clause-value c =
     key_is_there c.args.context.now _ _ _
     (sym c.comes_from_here.ensures ∙ c.if-not-comes_from_here.false)
     (sym c.can_be_set.ensures ∙ c.if-not-can_be_set.false)
+    (sym c.has_share.ensures.share ∙ c.if-not-has_share.false)
     (sym (any_found c.args.row.now.prog c.args.row.now.vers c.args.row.now.netid _ _ c.find_exact-found.ensures.found) ∙ sym c.is_some.ensures ∙ c.if-is_some.true)
-
-pub returns-then-context-len-clause-value : goal.returns-then-context-len-clause-value
-returns-then-context-len-clause-value c =
-    limit_is_reached c.args.context.now _ _ _
-    (sym c.comes_from_here.ensures ∙ c.if-not-comes_from_here.false)
-    (sym c.can_be_set.ensures ∙ c.if-not-can_be_set.false)
-    (sym (any_found c.args.row.now.prog c.args.row.now.vers c.args.row.now.netid _ _ c.find_exact-found.ensures.found) ∙ sym c.is_some.ensures ∙ c.if-is_some.false)
-    (rw (← c.len.ensures.len) c.if-context-len.true)
 
 pub returns-clause-value : goal.returns-clause-value
 returns-clause-value c =
@@ -24,5 +24,5 @@ returns-clause-value c =
     (number_is_left c.args.context.now _ _ _
     (sym c.comes_from_here.ensures ∙ c.if-not-comes_from_here.false)
     (sym c.can_be_set.ensures ∙ c.if-not-can_be_set.false)
-    (sym (any_found c.args.row.now.prog c.args.row.now.vers c.args.row.now.netid _ _ c.find_exact-found.ensures.found) ∙ sym c.is_some.ensures ∙ c.if-is_some.false)
-    (rw (← c.len.ensures.len) c.if-context-len.false))
+    (sym c.has_share.ensures.share ∙ c.if-not-has_share.false)
+    (sym (any_found c.args.row.now.prog c.args.row.now.vers c.args.row.now.netid _ _ c.find_exact-found.ensures.found) ∙ sym c.is_some.ensures ∙ c.if-is_some.false))

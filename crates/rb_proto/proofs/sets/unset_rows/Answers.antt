@@ -7,7 +7,7 @@ returns-then-removed-clause-acts c =
     rw (c.if-removed.true, c.in-Some.is)
     (unset_acts c.args.context.now c.args.head.now c.args.prog c.args.vers c.in-Some.which _ _
     (sym c.comes_from_here.ensures ∙ c.if-not-comes_from_here.false)
-    (rw (← c.owner_of-owner.ensures) (sym c.if-removed.ensures.taken))
-    (rw (← c.owner_of-owner.ensures) c.if-removed.ensures.changes)
+    (rw (← c.owner-owner.ensures) (sym c.if-removed.ensures.taken))
+    (rw (← c.owner-owner.ensures) c.if-removed.ensures.changes)
     (rw (← c.version_of.ensures) c.note_unset.ensures.history)
     refl)

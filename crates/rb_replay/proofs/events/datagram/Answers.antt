@@ -24,11 +24,11 @@ pub returns-in-NoCall-clause-ok : goal.returns-in-NoCall-clause-ok
 unfolding step
 returns-in-NoCall-clause-ok c = record {
   step = λ s h.
-      let d = datagram_shown c.args.core.now c.datagram.new.self (λ t. datagram t c.args.now c.args.peer c.args.content.now) _ c.datagram.ensures.acts s h in
+      let d = datagram_shown c.args.core.now c.datagram.new.self (λ t. datagram t c.args.now c.args.who c.args.content.now) _ c.datagram.ensures.acts s h in
       (is_silent c.datagram.result c.datagram.new.self.reply c.in-NoCall.is ∙ d.0, d.1);
   cost = λ s h.
-      let d = datagram_shown c.args.core.now c.datagram.new.self (λ t. datagram t c.args.now c.args.peer c.args.content.now) _ c.datagram.ensures.acts s h in
-      datagram_paid _ _ (sizes_held c.args.core.now c.datagram.new.self s _ h d.1 (step-follows s (Datagram c.args.now c.args.peer c.args.content.now)).setting) _ _ (message_of c.args.content.now) _ (length c.args.content.now) _ _ (omega (arith, ap length d.1.reply)) c.datagram.ensures.cost;
+      let d = datagram_shown c.args.core.now c.datagram.new.self (λ t. datagram t c.args.now c.args.who c.args.content.now) _ c.datagram.ensures.acts s h in
+      datagram_paid _ _ (sizes_held c.args.core.now c.datagram.new.self s _ h d.1 (step-follows s (Datagram c.args.now c.args.who c.args.content.now)).setting) _ _ (message_of c.args.content.now) _ (length c.args.content.now) _ _ (omega (arith, ap length d.1.reply)) c.datagram.ensures.cost;
   tie = c.datagram.ensures.tie;
   meter = c.datagram.ensures.cost.tie;
 }
@@ -37,11 +37,11 @@ pub returns-in-Forwarded-clause-ok : goal.returns-in-Forwarded-clause-ok
 unfolding step
 returns-in-Forwarded-clause-ok c = record {
   step = λ s h.
-      let d = datagram_shown c.args.core.now c.datagram.new.self (λ t. datagram t c.args.now c.args.peer c.args.content.now) _ c.datagram.ensures.acts s h in
+      let d = datagram_shown c.args.core.now c.datagram.new.self (λ t. datagram t c.args.now c.args.who c.args.content.now) _ c.datagram.ensures.acts s h in
       (rw c.in-Forwarded.is at d.0, d.1);
   cost = λ s h.
-      let d = datagram_shown c.args.core.now c.datagram.new.self (λ t. datagram t c.args.now c.args.peer c.args.content.now) _ c.datagram.ensures.acts s h in
-      datagram_paid _ _ (sizes_held c.args.core.now c.datagram.new.self s _ h d.1 (step-follows s (Datagram c.args.now c.args.peer c.args.content.now)).setting) _ _ (message_of c.args.content.now) _ (length c.args.content.now) _ _ (omega (arith, ap length d.1.reply)) c.datagram.ensures.cost;
+      let d = datagram_shown c.args.core.now c.datagram.new.self (λ t. datagram t c.args.now c.args.who c.args.content.now) _ c.datagram.ensures.acts s h in
+      datagram_paid _ _ (sizes_held c.args.core.now c.datagram.new.self s _ h d.1 (step-follows s (Datagram c.args.now c.args.who c.args.content.now)).setting) _ _ (message_of c.args.content.now) _ (length c.args.content.now) _ _ (omega (arith, ap length d.1.reply)) c.datagram.ensures.cost;
   tie = c.datagram.ensures.tie;
   meter = c.datagram.ensures.cost.tie;
 }
@@ -50,11 +50,11 @@ pub returns-in-Reply-clause-ok : goal.returns-in-Reply-clause-ok
 unfolding step
 returns-in-Reply-clause-ok c = record {
   step = λ s h.
-      let d = datagram_shown c.args.core.now c.datagram.new.self (λ t. datagram t c.args.now c.args.peer c.args.content.now) _ c.datagram.ensures.acts s h in
+      let d = datagram_shown c.args.core.now c.datagram.new.self (λ t. datagram t c.args.now c.args.who c.args.content.now) _ c.datagram.ensures.acts s h in
       (ap Replied (search rules) ∙ (rw c.in-Reply.is at d.0), stands_begun c.datagram.new.self _ _ c.udp_reply.follows.holds-at-none _ d.1);
   cost = λ s h.
-      let d = datagram_shown c.args.core.now c.datagram.new.self (λ t. datagram t c.args.now c.args.peer c.args.content.now) _ c.datagram.ensures.acts s h in
-      datagram_paid _ _ (sizes_held c.args.core.now c.datagram.new.self s _ h d.1 (step-follows s (Datagram c.args.now c.args.peer c.args.content.now)).setting) _ _ (message_of c.args.content.now) (datagram_cost (sizes_for (message_of c.args.content.now) (sizes_of c.args.core.now c.datagram.new.self)) (length c.args.content.now) (length c.datagram.new.self.reply) + (1 + length c.datagram.new.self.reply)) (length c.args.content.now) _ _ (omega (arith, ap length d.1.reply))
+      let d = datagram_shown c.args.core.now c.datagram.new.self (λ t. datagram t c.args.now c.args.who c.args.content.now) _ c.datagram.ensures.acts s h in
+      datagram_paid _ _ (sizes_held c.args.core.now c.datagram.new.self s _ h d.1 (step-follows s (Datagram c.args.now c.args.who c.args.content.now)).setting) _ _ (message_of c.args.content.now) (datagram_cost (sizes_for (message_of c.args.content.now) (sizes_of c.args.core.now c.datagram.new.self)) (length c.args.content.now) (length c.datagram.new.self.reply) + (1 + length c.datagram.new.self.reply)) (length c.args.content.now) _ _ (omega (arith, ap length d.1.reply))
       (one_then_other _ _ _ _ _ c.datagram.ensures.cost (record { steps = omega (arith, ap (λ (m : Meter). m.steps) c.udp_reply.ensures.cost); rises = omega (arith, ap (λ (m : Meter). m.steps) c.udp_reply.ensures.cost); tie = ap (λ (m : Meter). m.tie) c.udp_reply.ensures.cost }));
   tie = same_tie c.datagram.new.self _ _ c.udp_reply.follows.holds-at-none ∙ c.datagram.ensures.tie;
   meter = ap (λ (m : Meter). m.tie) c.udp_reply.ensures.cost ∙ c.datagram.ensures.cost.tie;

@@ -9,7 +9,7 @@ use Rattle.rb_replay.proofs.events.pending.Goals as goal
 pub returns-in-Ok-pending-clause-ok : goal.returns-in-Ok-pending-clause-ok
 unfolding step
 returns-in-Ok-pending-clause-ok c = record {
-  step = λ s h. let copied : c.extend_from_slice.new.self.items ≡ c.in-Ok-pending.bytes.now = search rules in rw (c.in-Ok-pending.ensures.lent s h) (ap IsPending copied, stands_begun c.args.core.now _ _ c.pending.follows.holds-at-none s h);
+  step = λ s h. let copied : c.shrink_to_fit.new.self.items ≡ c.in-Ok-pending.bytes.now = search rules in rw (c.in-Ok-pending.ensures.lent s h) (ap IsPending copied, stands_begun c.args.core.now _ _ c.pending.follows.holds-at-none s h);
   cost = λ s h. by_count (λ n. find_cost n + pending_cost) c.args.core.now s _ _ h c.in-Ok-pending.ensures.cost;
   tie = same_tie c.args.core.now _ _ c.pending.follows.holds-at-none;
   meter = c.in-Ok-pending.ensures.cost.tie;

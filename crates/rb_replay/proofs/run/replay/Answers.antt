@@ -40,7 +40,7 @@ returns-clause-bound c s h reached good = paid_within s (events_of c.args.events
 
 -- the bound of the events whose outputs were appended
 whole_of : (core : Held) (s : State) (events : List event.Event) (i : ℕ) → i ≤ length events → (before now : List output.Output) (new : Held) (a b : Meter)
-    → StandsFor core s → IsReached s → are_good s.setting.limits ≡ true
+    → StandsFor core s → IsReached s → are_good s.setting.limits s.setting.listener ≡ true
     → Happened s (take i (events_of events)) (outputs_of before) (outputs_of now) new → PaysAtMost a b (run_cost s (take i (events_of events)))
     → PaysAtMost a b (whole_bound s.setting.limits (buffer_bytes core) (answered_events events before now) (run s (answered_events events before now)))
 whole_of core s events i within before now new a b h reached good happened pays =

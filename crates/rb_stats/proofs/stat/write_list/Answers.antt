@@ -1,15 +1,10 @@
-use Rattle.std.proofs.Common.{length, get_or, None, true, false, ap, arith, length-append}
+use Rattle.std.proofs.Common.{length, get_or, true, false, ap, arith, length-append}
 use Rattle.rb_xdr.specs.Xdr.{boolean, linked_list}
 use Rattle.rb_xdr.specs.Kept.{Kept}
-use Rattle.rb_address.specs.declared.netid.Transport.TheVariants.{Tcp}
-use Rattle.rb_stats.specs.declared.key.Version.TheVariants.{Two}
-use Rattle.rb_stats.specs.declared.item.Item.{Item}
 use Rattle.rb_stats.specs.Statistics.{item_spelling}
 use Rattle.rb_stats.proofs.Writing.{behind_true, item_fits}
+use Rattle.rb_stats.proofs.Sizes.{blank}
 use Rattle.rb_stats.proofs.stat.write_list.Goals as goal
-
-abbrev blank : Item
-blank = record { key = record { version = Two; target = record { prog = 0; vers = 0; transport = Tcp }; proc = None }; success = 0; failure = 0; indirect = 0 }
 
 pub write-requires-clause-room : goal.write-requires-clause-room
 unfolding linked_list

@@ -16,13 +16,13 @@ use Rattle.rb_connections.proofs.connections.Connections.open.Goals as goal
 
 pub returns-then-len-self-clause-acts : goal.returns-then-len-self-clause-acts
 returns-then-len-self-clause-acts c =
-    λ registry. subst (λ t. Acts (StandsForConnections registry) (open_in_table t.conns c.args.peer c.args.clock) t t (Err Full)) c.self.view_is
-    (full_acts registry c.self.inside.conns c.args.peer c.args.clock (the_view c.self.inside) (omega (arith, c.len.ensures.len, c.if-len-self.true)))
+    λ registry. subst (λ t. Acts (StandsForConnections registry) (open_in_table t.conns c.args.who c.args.clock) t t (Err Full)) c.self.view_is
+    (full_acts registry c.self.inside.conns c.args.who c.args.clock (the_view c.self.inside) (omega (arith, c.len.ensures.len, c.if-len-self.true)))
 
 pub returns-then-self-clause-acts : goal.returns-then-self-clause-acts
 returns-then-self-clause-acts c =
-    λ registry. subst (λ t. Acts (StandsForConnections registry) (open_in_table t.conns c.args.peer c.args.clock) t t (Err Spent)) c.self.view_is
-    (spent_acts registry c.self.inside.conns c.args.peer c.args.clock (the_view c.self.inside) (omega (arith, c.len.ensures.len, c.if-len-self.false)) c.if-self.true)
+    λ registry. subst (λ t. Acts (StandsForConnections registry) (open_in_table t.conns c.args.who c.args.clock) t t (Err Spent)) c.self.view_is
+    (spent_acts registry c.self.inside.conns c.args.who c.args.clock (the_view c.self.inside) (omega (arith, c.len.ensures.len, c.if-len-self.false)) c.if-self.true)
 
 pub overflow_add-self-2 : goal.overflow_add-self-2
 overflow_add-self-2 c = let room = room_for_one c.self.inside.slots c.self.inside.spare c.self.inside.last_number c.self.inside.conns c.self.inside.held c.self.invariant in omega (arith, room)
@@ -55,11 +55,11 @@ invariant_of-self c = record {
 pub returns-clause-acts : goal.returns-clause-acts
 returns-clause-acts c = λ registry.
     let conns = ap (λ t. t.conns) c.self.view_is in
-    acts_from registry (open_in_table c.args.self.now.conns c.args.peer c.args.clock) (the_view c.self.inside) c.args.self.now _ _ c.self.view_is
-    (opened_acts registry c.args.self.now.conns c.args.peer c.args.clock (the_view c.self.inside) _ _ (omega (arith, conns, c.len.ensures.len, c.if-len-self.false)) (omega (arith, c.if-self.false)) c.put_slot-key.ensures.last refl
+    acts_from registry (open_in_table c.args.self.now.conns c.args.who c.args.clock) (the_view c.self.inside) c.args.self.now _ _ c.self.view_is
+    (opened_acts registry c.args.self.now.conns c.args.who c.args.clock (the_view c.self.inside) _ _ (omega (arith, conns, c.len.ensures.len, c.if-len-self.false)) (omega (arith, c.if-self.false)) c.put_slot-key.ensures.last refl
     (record {
       number = refl;
-      peer = refl;
+      who = refl;
       since = refl;
       phase = (c.take_buffers-buffer.ensures.made.buffer_empty, c.take_buffers-buffer.ensures.made.window_empty);
     }))

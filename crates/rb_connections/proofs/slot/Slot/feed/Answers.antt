@@ -11,13 +11,13 @@ returns-clause-received c = λ x fed b.
     let taken = c.feed-count.ensures.taken fed b.reads in
     let end = has_ended fed piece (first_record (fed ++ piece)) c.feed-count.result c.in-Some.verdict taken c.in-Some.is in
     let count = counts_to fed piece end.at (first_record (fed ++ piece)) c.feed-count.result taken end.is in
-    ended_then fed piece x _ end.at _ _ end.is count b.peer end.says
+    ended_then fed piece x _ end.at _ _ end.is count b.who end.says
 
 pub returns-clause-stands : goal.returns-clause-stands
 returns-clause-stands c = λ registry x fed b.
     let piece = c.args.piece.now in
     let end = has_ended fed piece (first_record (fed ++ piece)) c.feed-count.result c.in-Some.verdict (c.feed-count.ensures.taken fed b.reads) c.in-Some.is in
-    rw (end.is, c.swap.ensures.x_after, c.clear.ensures.empty) (record { number = b.number; peer = b.peer; since = refl; phase = (refl, b.window) })
+    rw (end.is, c.swap.ensures.x_after, c.clear.ensures.empty) (record { number = b.number; who = b.who; since = refl; phase = (refl, b.window) })
 
 pub returns-clause-arguments : goal.returns-clause-arguments
 returns-clause-arguments c = λ x fed b.
@@ -33,7 +33,7 @@ returns-in_default-clause-stands c = λ registry x fed b.
     let none = not_ended fed piece (first_record (fed ++ piece)) c.feed-count.result (c.feed-count.ensures.taken fed b.reads) c.in_default.is in
     rw none (record {
       number = b.number;
-      peer = b.peer;
+      who = b.who;
       since = b.since;
       phase = (subst (StandsBehind c.feed-count.new.self c.feed-count.new.kept (fed ++ piece)) none (c.feed-count.ensures.after fed b.reads), b.window);
     })

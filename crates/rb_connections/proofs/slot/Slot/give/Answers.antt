@@ -46,7 +46,7 @@ returns-else-giving-clause-acts c =
     let s = c.show.ensures.shows in
     some_given registry old c.show.new.self c.args.clock c.args.n c.min-more.result c.in-Owing.giving c.in-Owing.is
     (λ o g. let count = pending_few registry c.in-Owing.giving _ _ o g in omega (arith, count)) (omega (arith, c.if-more-eq0.false))
-    (ap (λ (t : Slot). t.number) s.is) (ap (λ (t : Slot). t.peer) s.is) (ap (λ (t : Slot). t.since) s.is)
+    (ap (λ (t : Slot). t.number) s.is) (ap (λ (t : Slot). t.who) s.is) (ap (λ (t : Slot). t.since) s.is)
     (λ o g. subst (λ (t : Slot). StandsForPhase registry t.stage t.buffer t.window (phase_when_given c.min-more.result (Owing o))) (sym s.is)
     (goes_on_giving registry s.giving old.buffer c.show.new.self.window _ o
     (moves registry c.in-Owing.giving _ _ o g c.min-more.result c.show.new.self.window s.giving (omega arith) c.if-giving.false c.requires.buffers.window_cap s.shows)))

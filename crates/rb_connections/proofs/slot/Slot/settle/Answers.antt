@@ -7,23 +7,23 @@ use Rattle.rb_connections.proofs.slot.Slot.settle.Goals as goal
 
 pub returns-in-Answered-NoCall-clause-stands : goal.returns-in-Answered-NoCall-clause-stands
 unfolding settle
-returns-in-Answered-NoCall-clause-stands c = λ x h. rw (c.in-Answered-NoCall.is, rw c.in-Answered-NoCall.is at c.in-Answered-NoCall.field-0-is) (record { number = h.number; peer = h.peer; since = refl; phase = tt })
+returns-in-Answered-NoCall-clause-stands c = λ x h. rw (c.in-Answered-NoCall.is, rw c.in-Answered-NoCall.is at c.in-Answered-NoCall.field-0-is) (record { number = h.number; who = h.who; since = refl; phase = tt })
 
 pub returns-in-Answered-Forwarded-clause-stands : goal.returns-in-Answered-Forwarded-clause-stands
 unfolding settle
 returns-in-Answered-Forwarded-clause-stands c = λ x h.
-    rw (c.in-Answered-Forwarded.is, rw c.in-Answered-Forwarded.is at c.in-Answered-Forwarded.field-0-is, c.empty.ensures.emptied) (record { number = h.number; peer = h.peer; since = refl; phase = (refl, refl) })
+    rw (c.in-Answered-Forwarded.is, rw c.in-Answered-Forwarded.is at c.in-Answered-Forwarded.field-0-is, c.empty.ensures.emptied) (record { number = h.number; who = h.who; since = refl; phase = (refl, refl) })
 
 pub returns-in-Answered-Silent-clause-stands : goal.returns-in-Answered-Silent-clause-stands
 unfolding settle
 returns-in-Answered-Silent-clause-stands c = λ x h.
-    rw (c.in-Answered-Silent.is, rw c.in-Answered-Silent.is at c.in-Answered-Silent.field-0-is, c.empty-in-Answered-Silent.ensures.emptied) (record { number = h.number; peer = h.peer; since = refl; phase = (refl, refl) })
+    rw (c.in-Answered-Silent.is, rw c.in-Answered-Silent.is at c.in-Answered-Silent.field-0-is, c.empty-in-Answered-Silent.ensures.emptied) (record { number = h.number; who = h.who; since = refl; phase = (refl, refl) })
 
 pub returns-in-Answered-Reply-clause-stands : goal.returns-in-Answered-Reply-clause-stands
 unfolding settle
 returns-in-Answered-Reply-clause-stands c = λ x h.
     rw (c.in-Answered-Reply.is, rw c.in-Answered-Reply.is at c.in-Answered-Reply.field-0-is)
-    (slot_begins _ _ _ c.show.new.self c.show.ensures.shows c.args.clock x c.args.draft.now.bytes None h.number h.peer refl c.requires.buffers.window_cap
+    (slot_begins _ _ _ c.show.new.self c.show.ensures.shows c.args.clock x c.args.draft.now.bytes None h.number h.who refl c.requires.buffers.window_cap
     (ap (λ (k : Kept). k.bytes) c.swap.ensures.x_after) refl)
 
 pub returns-in-Answered-Reply-clause-lists : goal.returns-in-Answered-Reply-clause-lists
@@ -37,7 +37,7 @@ pub returns-in-Listed-clause-stands : goal.returns-in-Listed-clause-stands
 unfolding settle
 returns-in-Listed-clause-stands c = λ x h.
     rw c.in-Listed.is
-    (slot_begins _ _ _ c.show-in-Listed.new.self c.show-in-Listed.ensures.shows c.args.clock x _ _ h.number h.peer refl c.requires.buffers.window_cap
+    (slot_begins _ _ _ c.show-in-Listed.new.self c.show-in-Listed.ensures.shows c.args.clock x _ _ h.number h.who refl c.requires.buffers.window_cap
     c.new-list.ensures.rest (ap (λ (n : ℕ). Some n) c.new-list.ensures.stamp))
 
 pub returns-in-Listed-clause-lists : goal.returns-in-Listed-clause-lists

@@ -40,7 +40,7 @@ returns-in-Idle-clause-acts c =
     let p = idle_phase registry _ _ _ x.phase c.in-Idle.is h.phase in
     let before : IsBeforePiece _ c.new.result c.args.clock x [] = record {
       number = h.number;
-      peer = h.peer;
+      who = h.who;
       since = sym (since_of_idle c.args.clock x.since x.phase p.0);
       reads = reads_nothing c.new.result _ c.new.ensures.marks c.new.ensures.head p.1 c.requires.buffers.buffer_cap;
       window = p.2;
@@ -58,7 +58,7 @@ returns-in-Reading-clause-acts c =
     let some = some_bytes piece (sym c.is_empty.ensures ∙ c.if-is_empty.false) in
     λ registry. feeding_acts registry c.args.self.now _ c.args.clock piece _ (λ x h.
     let p = reading_phase registry c.in-Reading.reader _ _ _ x.phase c.in-Reading.is h.phase in
-    let before : IsBeforePiece _ c.in-Reading.reader c.args.clock x p.0 = record { number = h.number; peer = h.peer; since = h.since ∙ sym (since_of_reading c.args.clock x.since x.phase p.0 p.1); reads = p.2; window = p.3 } in
+    let before : IsBeforePiece _ c.in-Reading.reader c.args.clock x p.0 = record { number = h.number; who = h.who; since = h.since ∙ sym (since_of_reading c.args.clock x.since x.phase p.0 p.1); reads = p.2; window = p.3 } in
     record {
       taken = taking_on p.0 piece;
       is = some_where_fed x.phase p.0 piece (ap fed_in p.1) some;
@@ -93,7 +93,7 @@ returns-in-Idle-clause-arguments c = λ registry x h.
     let p = idle_phase registry _ _ _ x.phase c.in-Idle.is h.phase in
     let before : IsBeforePiece _ c.new.result c.args.clock x [] = record {
       number = h.number;
-      peer = h.peer;
+      who = h.who;
       since = sym (since_of_idle c.args.clock x.since x.phase p.0);
       reads = reads_nothing c.new.result _ c.new.ensures.marks c.new.ensures.head p.1 c.requires.buffers.buffer_cap;
       window = p.2;
@@ -105,7 +105,7 @@ returns-in-Reading-clause-arguments c = λ registry x h.
     let piece = c.args.piece.now in
     let some = some_bytes piece (sym c.is_empty.ensures ∙ c.if-is_empty.false) in
     let p = reading_phase registry c.in-Reading.reader _ _ _ x.phase c.in-Reading.is h.phase in
-    let before : IsBeforePiece _ c.in-Reading.reader c.args.clock x p.0 = record { number = h.number; peer = h.peer; since = h.since ∙ sym (since_of_reading c.args.clock x.since x.phase p.0 p.1); reads = p.2; window = p.3 } in
+    let before : IsBeforePiece _ c.in-Reading.reader c.args.clock x p.0 = record { number = h.number; who = h.who; since = h.since ∙ sym (since_of_reading c.args.clock x.since x.phase p.0 p.1); reads = p.2; window = p.3 } in
     taken_arguments _ _ piece x (taking_on p.0 piece) (some_where_fed x.phase p.0 piece (ap fed_in p.1) some) (c.feed-in-Reading.ensures.arguments x p.0 before)
 
 pub returns-in-Owing-clause-arguments : goal.returns-in-Owing-clause-arguments

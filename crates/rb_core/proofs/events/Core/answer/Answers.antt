@@ -3,7 +3,7 @@ use Rattle.std.specs.Prelude.{Option}
 use Rattle.std.proofs.Common.{◌≡◌, true, false, Bool, List, ℕ, [], length, take, ◌+◌, refl, sym, subst, arith, ◌∙◌}
 use Rattle.std.proofs.lemmas.List.{length-take}
 use Rattle.rb_xdr.specs.Kept.{Kept}
-use Rattle.rb_address.specs.declared.peer.Peer.{Peer}
+use Rattle.rb_address.specs.declared.who.Who.{Who}
 use Rattle.rb_rpc.specs.declared.caller.Caller.TheVariants.{Tcp}
 use Rattle.rb_proto.specs.declared.books.Books.{Books}
 use Rattle.rb_proto.specs.declared.context.Context.{Context}
@@ -52,20 +52,20 @@ module _ (id : ℕ) (ended : EndedRecord) (args : Option (Bor (List ℕ))) (lent
       subst (λ (held : Held). GivesAtOnce room id ended args held n) is
       (subst (λ (xs : List ℕ). (s : State) → StandsFor (without_arguments view) s → n ≡ count_when_answered (length room) id (serve_ended id ended xs s)) all counts)
 
-module _ (view : Held) (id : ℕ) (peer : Peer) (message : Message) (arguments : List ℕ) (books : Books) (roomy : Table) (given : Outcome)
-    (acts : ServesInRoom (context_of view (Tcp id peer)) message arguments view.connections view.books roomy books given)
+module _ (view : Held) (id : ℕ) (who : Who) (message : Message) (arguments : List ℕ) (books : Books) (roomy : Table) (given : Outcome)
+    (acts : ServesInRoom (context_of view (Tcp id who)) message arguments view.connections view.books roomy books given)
     (frame : SameFrame view.books books) (stays : StaysTable view.connections roomy) (idle : has_idle id roomy ≡ true) where
-  served : ServedIn (context_of view (Tcp id peer)) view message arguments roomy books given
+  served : ServedIn (context_of view (Tcp id who)) view message arguments roomy books given
   served = record { acts = acts; frame = frame; stays = stays }
 
   -- of what it is answered with this is left to its connection
   answers : (table : Table) (left : Outcome) (bytes : List ℕ) → StaysTable roomy table → Leaves given left bytes
       → BecomesFrom books.registry (changed_at id (settle view.clock left)) roomy table → (closed : Bool) → closed ≡ is_no_call given
-      → Acts StandsFor (λ s. answer_and_give id (length bytes) (settle_on id (serve_message s (Tcp id peer) message arguments))) view (record view { connections = table; books = books }) (closed, bytes)
-  answers table left bytes later leave goes closed is = rw is (answer_giving view id peer message arguments roomy books given left bytes table served later leave idle goes)
+      → Acts StandsFor (λ s. answer_and_give id (length bytes) (settle_on id (serve_message s (Tcp id who) message arguments))) view (record view { connections = table; books = books }) (closed, bytes)
+  answers table left bytes later leave goes closed is = rw is (answer_giving view id who message arguments roomy books given left bytes table served later leave idle goes)
 
-  counts : (room n : ℕ) → n ≡ count_of room given → (s : State) → StandsFor view s → n ≡ count_when_answered room id (settle_on id (serve_message s (Tcp id peer) message arguments))
-  counts room n is s h = is ∙ sym (answer_counts room view id peer message arguments roomy books given served idle s h)
+  counts : (room n : ℕ) → n ≡ count_of room given → (s : State) → StandsFor view s → n ≡ count_when_answered room id (settle_on id (serve_message s (Tcp id who) message arguments))
+  counts room n is s h = is ∙ sym (answer_counts room view id who message arguments roomy books given served idle s h)
 
 -- ---- a reply that is given at once
 
@@ -76,10 +76,10 @@ module _ (c : goal.Then-given-gt0) where
   abbrev lent_then : List ℕ
   lent_then = c.lend_arguments-arguments.result.now
 
-  acts_then : ServesInRoom (context_of view_then (Tcp c.args.id c.args.ended.peer)) (message_with c.args.ended.verdict lent_then) lent_then c.self.inside.connections c.self.inside.books c.serve_verdict-served.new.connections c.serve_verdict-served.new.books
+  acts_then : ServesInRoom (context_of view_then (Tcp c.args.id c.args.ended.who)) (message_with c.args.ended.verdict lent_then) lent_then c.self.inside.connections c.self.inside.books c.serve_verdict-served.new.connections c.serve_verdict-served.new.books
       (served_in c.serve_verdict-served.new.books.registry c.serve_verdict-served.result c.serve_verdict-served.new.out.bytes)
   acts_then =
-      let seen : c.context-context.result ≡ context_of view_then (Tcp c.args.id c.args.ended.peer) = sees (the_view c.self.inside) c.args.self.now c.context-context.result (Tcp c.args.id c.args.ended.peer) c.self.view_is c.context-context.ensures in
+      let seen : c.context-context.result ≡ context_of view_then (Tcp c.args.id c.args.ended.who) = sees (the_view c.self.inside) c.args.self.now c.context-context.result (Tcp c.args.id c.args.ended.who) c.self.view_is c.context-context.ensures in
       subst (λ (x : Context). ServesVerdict x c.args.ended.verdict lent_then c.self.inside.connections c.self.inside.books c.serve_verdict-served.new.connections c.serve_verdict-served.new.books c.serve_verdict-served.result c.serve_verdict-served.new.out)
       seen c.serve_verdict-served.ensures.acts
 
@@ -96,7 +96,7 @@ returns-then-given-gt0-clause-acts c =
     let reply = reply_then c in
     rw c.clear.ensures.empty (
     answered_from c.args.id c.args.ended c.args.arguments (lent_then c) (the_view c.self.inside) c.args.self.now c.lend_arguments-arguments.ensures.value c.self.view_is _ false once.result once.new.room
-    (answers (view_then c) c.args.id c.args.ended.peer (message_with c.args.ended.verdict (lent_then c)) (lent_then c) v.new.books v.new.connections
+    (answers (view_then c) c.args.id c.args.ended.who (message_with c.args.ended.verdict (lent_then c)) (lent_then c) v.new.books v.new.connections
     (served_in v.new.books.registry v.result v.new.out.bytes) (acts_then c) v.ensures.leaves.frame v.ensures.open.stays (v.ensures.open.idle c.args.id (idle_then c).is_idle)
     v.new.connections Silent (take once.result once.new.room) (record { conns = refl; tie = refl; within = λ within. within })
     (leaves_none v.new.books.registry v.result v.new.out once.new.draft _ (omega (arith, length-take once.result once.new.room, once.ensures.within, c.if-given-gt0.true)) reply)
@@ -110,7 +110,7 @@ returns-then-given-gt0-clause-count c =
     let v = c.serve_verdict-served in
     let once = c.give_at_once-given in
     counted_from c.args.id c.args.ended c.args.arguments (lent_then c) (the_view c.self.inside) c.args.self.now c.lend_arguments-arguments.ensures.value c.self.view_is c.args.room.now once.result
-    (counts (view_then c) c.args.id c.args.ended.peer (message_with c.args.ended.verdict (lent_then c)) (lent_then c) v.new.books v.new.connections
+    (counts (view_then c) c.args.id c.args.ended.who (message_with c.args.ended.verdict (lent_then c)) (lent_then c) v.new.books v.new.connections
     (served_in v.new.books.registry v.result v.new.out.bytes) (acts_then c) v.ensures.leaves.frame v.ensures.open.stays (v.ensures.open.idle c.args.id (idle_then c).is_idle)
     (length c.args.room.now) once.result (once.ensures.count ∙ counts_served (length c.args.room.now) v.new.books.registry v.result v.new.out.bytes))
 
@@ -123,10 +123,10 @@ module _ (c : goal.After-is_no_call) where
   abbrev lent_else : List ℕ
   lent_else = c.lend_arguments-arguments.result.now
 
-  acts_else : ServesInRoom (context_of view_else (Tcp c.args.id c.args.ended.peer)) (message_with c.args.ended.verdict lent_else) lent_else c.self.inside.connections c.self.inside.books c.serve_verdict-served.new.connections c.serve_verdict-served.new.books
+  acts_else : ServesInRoom (context_of view_else (Tcp c.args.id c.args.ended.who)) (message_with c.args.ended.verdict lent_else) lent_else c.self.inside.connections c.self.inside.books c.serve_verdict-served.new.connections c.serve_verdict-served.new.books
       (served_in c.serve_verdict-served.new.books.registry c.serve_verdict-served.result c.serve_verdict-served.new.out.bytes)
   acts_else =
-      let seen : c.context-context.result ≡ context_of view_else (Tcp c.args.id c.args.ended.peer) = sees (the_view c.self.inside) c.args.self.now c.context-context.result (Tcp c.args.id c.args.ended.peer) c.self.view_is c.context-context.ensures in
+      let seen : c.context-context.result ≡ context_of view_else (Tcp c.args.id c.args.ended.who) = sees (the_view c.self.inside) c.args.self.now c.context-context.result (Tcp c.args.id c.args.ended.who) c.self.view_is c.context-context.ensures in
       subst (λ (x : Context). ServesVerdict x c.args.ended.verdict lent_else c.self.inside.connections c.self.inside.books c.serve_verdict-served.new.connections c.serve_verdict-served.new.books c.serve_verdict-served.result c.serve_verdict-served.new.out)
       seen c.serve_verdict-served.ensures.acts
 
@@ -141,7 +141,7 @@ returns-clause-acts c =
     let v = c.serve_verdict-served in
     rw c.clear.ensures.empty (
     answered_from c.args.id c.args.ended c.args.arguments (lent_else c) (the_view c.self.inside) c.args.self.now c.lend_arguments-arguments.ensures.value c.self.view_is _ c.is_no_call.result 0 c.give_at_once-given.new.room
-    (answers (view_else c) c.args.id c.args.ended.peer (message_with c.args.ended.verdict (lent_else c)) (lent_else c) v.new.books v.new.connections
+    (answers (view_else c) c.args.id c.args.ended.who (message_with c.args.ended.verdict (lent_else c)) (lent_else c) v.new.books v.new.connections
     (served_in v.new.books.registry v.result v.new.out.bytes) (acts_else c) v.ensures.leaves.frame v.ensures.open.stays (v.ensures.open.idle c.args.id (idle_else c))
     c.settle-standing.new.self (served_in v.new.books.registry v.result v.new.out.bytes) [] c.settle-standing.ensures.stays (leaves_all (served_in v.new.books.registry v.result v.new.out.bytes))
     (subst (λ (k : Kept). Settles v.new.books.registry c.args.id c.self.inside.clock v.result k.bytes v.new.connections c.settle-standing.new.self) (c.give_at_once-given.ensures.none (none_given c)) c.settle-standing.ensures.stands)
@@ -151,7 +151,7 @@ pub returns-clause-count : goal.returns-clause-count
 returns-clause-count c =
     let v = c.serve_verdict-served in
     counted_from c.args.id c.args.ended c.args.arguments (lent_else c) (the_view c.self.inside) c.args.self.now c.lend_arguments-arguments.ensures.value c.self.view_is c.args.room.now 0
-    (counts (view_else c) c.args.id c.args.ended.peer (message_with c.args.ended.verdict (lent_else c)) (lent_else c) v.new.books v.new.connections
+    (counts (view_else c) c.args.id c.args.ended.who (message_with c.args.ended.verdict (lent_else c)) (lent_else c) v.new.books v.new.connections
     (served_in v.new.books.registry v.result v.new.out.bytes) (acts_else c) v.ensures.leaves.frame v.ensures.open.stays (v.ensures.open.idle c.args.id (idle_else c))
     (length c.args.room.now) 0 (sym (none_given c) ∙ c.give_at_once-given.ensures.count ∙ counts_served (length c.args.room.now) v.new.books.registry v.result v.new.out.bytes))
 

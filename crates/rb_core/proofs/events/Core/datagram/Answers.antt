@@ -60,9 +60,9 @@ returns-clause-acts c =
     let given : Outcome = outcome_with c.in-Answered.outcome reply in
     let acts : ServesInRoom c.context-context.result (message_with v arguments) arguments old.connections old.books table books given = rw c.in-Answered.is at c.serve_verdict-served.ensures.acts in
     acts_begun _ (the_view c.self.inside) c.args.self.now _ c.count-self-inside.result _ c.self.view_is
-    (datagram_acts (with_steps_before (the_view c.self.inside) c.count-self-inside.result) c.args.now c.max-self-inside.result c.args.peer content table books reply c.serve_verdict-served.new.out.tie c.max-self-inside.ensures c.serve_verdict-served.ensures.leaves.reply.short
+    (datagram_acts (with_steps_before (the_view c.self.inside) c.count-self-inside.result) c.args.now c.max-self-inside.result c.args.who content table books reply c.serve_verdict-served.new.out.tie c.max-self-inside.ensures c.serve_verdict-served.ensures.leaves.reply.short
     given
-    (served_by old (Udp c.args.peer) c.context-context.result c.context-context.ensures (message_of content) (arguments_of content) table books given
+    (served_by old (Udp c.args.who) c.context-context.result c.context-context.ensures (message_of content) (arguments_of content) table books given
     (of_content c.context-context.result (message_with v arguments) arguments content old.connections table old.books books given says c.arguments_behind-arguments.ensures.arguments acts)
     c.serve_verdict-served.ensures.leaves.frame c.serve_verdict-served.ensures.open.stays)
     (written_is c.in-Answered.outcome reply (rw c.in-Answered.is at c.serve_verdict-served.ensures.leaves.written)))
@@ -87,7 +87,7 @@ returns-clause-plain c =
 
 pub returns-clause-bound : goal.returns-clause-bound
 returns-clause-bound c =
-    datagram_within c.args.self.now c.args.meter.now _ _ c.args.now c.args.peer c.args.content.now (outcome_with c.in-Answered.outcome c.serve_verdict-served.new.out.bytes)
+    datagram_within c.args.self.now c.args.meter.now _ _ c.args.now c.args.who c.args.content.now (outcome_with c.in-Answered.outcome c.serve_verdict-served.new.out.bytes)
     (returns-clause-acts c) (returns-clause-cost c)
 
 pub invariant_of-self-2 : goal.invariant_of-self-2
@@ -96,10 +96,10 @@ invariant_of-self-2 c =
     let table = c.serve_verdict-served.new.connections in
     let books = c.serve_verdict-served.new.books in
     let awaited : AreAwaited old.books.forwards table = λ number waits. c.serve_verdict-served.ensures.open.free number (c.self.invariant.awaited number waits) in
-    let anew : OnlyWaitsAnew (Udp c.args.peer) (slots_of old.books.forwards) (slots_of books.forwards) =
+    let anew : OnlyWaitsAnew (Udp c.args.who) (slots_of old.books.forwards) (slots_of books.forwards) =
     subst (λ (x : Context). OnlyWaitsAnew x.caller (slots_of old.books.forwards) (slots_of books.forwards)) c.context-context.ensures c.serve_verdict-served.ensures.leaves.waiting in
     core_changed _ _ _ _ _ _ _ _ _ _ _ _ _ c.self.invariant c.serve_verdict-served.ensures.open.stays
     c.serve_verdict-served.ensures.leaves.frame (search rules) (search rules) c.len.ensures.len c.serve_verdict-served.ensures.leaves.reply.short
-    (awaited_by_udp old.books.forwards books.forwards c.args.peer table awaited anew)
+    (awaited_by_udp old.books.forwards books.forwards c.args.who table awaited anew)
     c.serve_verdict-served.ensures.lists
     (search rules) (search rules) (search rules)

@@ -11,12 +11,12 @@ returns-in_err-number-clause-acts c =
     let p = err_from_is_err_and c.from_residual.result c.from_residual.ensures.1 in
     rw (p.1, p.2, c.in_err-number.ensures.refused) (
     acts_begun _ (the_view c.self.inside) c.args.self.now _ c.count-self-inside.result _ c.self.view_is
-    (open_refused (with_steps_before (the_view c.self.inside) c.count-self-inside.result) c.args.now c.max-clock.result c.max-clock.ensures c.open.new.self c.args.peer _ (c.in_err-number.ensures.acts c.self.inside.books.registry)))
+    (open_refused (with_steps_before (the_view c.self.inside) c.count-self-inside.result) c.args.now c.max-clock.result c.max-clock.ensures c.open.new.self c.args.who _ (c.in_err-number.ensures.acts c.self.inside.books.registry)))
 
 pub returns-clause-acts : goal.returns-clause-acts
 returns-clause-acts c =
     acts_begun _ (the_view c.self.inside) c.args.self.now _ c.count-self-inside.result _ c.self.view_is
-    (open_done (with_steps_before (the_view c.self.inside) c.count-self-inside.result) c.args.now c.max-clock.result c.max-clock.ensures c.open.new.self c.args.peer c.in_ok-number.number c.in_ok-number.ensures.goes_on.stays (c.in_ok-number.ensures.acts c.self.inside.books.registry))
+    (open_done (with_steps_before (the_view c.self.inside) c.count-self-inside.result) c.args.now c.max-clock.result c.max-clock.ensures c.open.new.self c.args.who c.in_ok-number.number c.in_ok-number.ensures.goes_on.stays (c.in_ok-number.ensures.acts c.self.inside.books.registry))
 
 pub invariant_of-self-2 : goal.invariant_of-self-2
 invariant_of-self-2 c =

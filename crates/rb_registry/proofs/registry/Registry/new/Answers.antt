@@ -1,9 +1,8 @@
 use Rattle.std.proofs.Common.{refl, rules, append-nil, append_assoc, ◌≡◌, ◌<◌, ◌≤◌, true, false, sym, ◌∙◌, ap, arith, ◌+◌, length, length-append, List, ◌++◌, ◌∷◌, [], ℕ}
-use Rattle.std.specs.Array.Iter.{array_into_iter_items}
 use Rattle.std.specs.Map.{values_of}
 use Rattle.rb_xdr.specs.Meter.{Meter}
 use Rattle.rb_registry.specs.declared.row.Row.{Row}
-use Rattle.std.proofs.lemmas.List.{map-append, nil_from_length}
+use Rattle.std.proofs.lemmas.List.{map-append}
 use Rattle.rb_registry.specs.declared.slot.Slot.{Slot}
 use Rattle.std.proofs.lemmas.Grind.{common_steps}
 use Rattle.std.proofs.lemmas.Map.Entries.{length-values_of}
@@ -51,7 +50,7 @@ own-init c = record {
 pub insert-requires-in-own-clause-absent : goal.insert-requires-in-own-clause-absent
 insert-requires-in-own-clause-absent c =
     rw c.rank-rank.ensures.rank
-    (own_missing c.own.yielded c.in-Some.row _ c.args.own_rows c.own.slots.entries c.own.index.entries c.own.invariant.table.indexed c.own.invariant.table.stamped c.rank-rank.ensures.vers c.own.invariant.rows
+    (own_missing c.own.yielded c.in-Some.row _ c.args.own_rows.items c.own.slots.entries c.own.index.entries c.own.invariant.table.indexed c.own.invariant.table.stamped c.rank-rank.ensures.vers c.own.invariant.rows
     (ap (λ (rows : List Row). c.own.yielded ++ rows) (sym c.in-Some.ensures.steps) ∙ c.own.invariant.left) c.requires.distinct)
 
 pub unreachable-requires-in_default-insert : goal.unreachable-requires-in_default-insert
@@ -64,12 +63,12 @@ unreachable-requires-in_default-insert c =
 
 pub own-preserved : goal.own-preserved
 own-preserved c =
-    let stood : c.own.yielded ++ (c.in-Some.row ∷ array_into_iter_items c.next.new.self) ≡ c.args.own_rows = ap (λ (rows : List Row). c.own.yielded ++ rows) (sym c.in-Some.ensures.steps) ∙ c.own.invariant.left in
-    let missing = own_missing c.own.yielded c.in-Some.row (array_into_iter_items c.next.new.self) c.args.own_rows c.own.slots.entries c.own.index.entries c.own.invariant.table.indexed c.own.invariant.table.stamped c.rank-rank.ensures.vers c.own.invariant.rows stood c.requires.distinct in
+    let stood : c.own.yielded ++ (c.in-Some.row ∷ c.next.new.self) ≡ c.args.own_rows.items = ap (λ (rows : List Row). c.own.yielded ++ rows) (sym c.in-Some.ensures.steps) ∙ c.own.invariant.left in
+    let missing = own_missing c.own.yielded c.in-Some.row c.next.new.self c.args.own_rows.items c.own.slots.entries c.own.index.entries c.own.invariant.table.indexed c.own.invariant.table.stamped c.rank-rank.ensures.vers c.own.invariant.rows stood c.requires.distinct in
     let pushed = IsIndexed-push c.in-Ok.key 0 c.in-Some.row c.own.slots.entries c.own.index.entries c.own.invariant.table.indexed c.rank-rank.ensures.vers missing in
-    let as_long = length-append c.own.yielded (c.in-Some.row ∷ array_into_iter_items c.next.new.self) in
-    let six : length c.args.own_rows ≡ 6 = search rules in
-    let few : length c.own.slots.entries ≤ 5 = omega (arith, as_long, six, ap (λ (rows : List Row). length rows) stood, c.own.invariant.count) in
+    let as_long = length-append c.own.yielded (c.in-Some.row ∷ c.next.new.self) in
+    let twelve : length c.args.own_rows.items ≤ 12 = search rules in
+    let few : length c.own.slots.entries ≤ 11 = omega (arith, as_long, twelve, ap (λ (rows : List Row). length rows) stood, c.own.invariant.count) in
     let cost = own_cost c.own.slots.entries c.own.index.entries c.rank-rank.result c.own.invariant.table.indexed few in
     let added : c.insert.new.meter.steps ≡ c.own.meter.steps + 1 = ap (λ (m : Meter). m.steps) c.insert.ensures.cost in
     let moved : c.insert-in-own.new.meter.steps ≡ c.insert.new.meter.steps + (looks (length c.own.index.entries) + moves c.rank-rank.result c.own.index.entries) = ap (λ (m : Meter). m.steps) c.insert-in-own.ensures.cost in
@@ -119,12 +118,12 @@ overflow_add-held c =
 
 pub returns-clause-made : goal.returns-clause-made
 returns-clause-made c =
-    let none : array_into_iter_items c.own.row-iterator ≡ [] = nil_from_length _ c.in-None.ensures.steps.0 in
-    let given : c.own.yielded ++ [] ≡ c.args.own_rows = rw none at c.own.invariant.left in
-    let all : c.own.yielded ≡ c.args.own_rows = sym (append-nil c.own.yielded) ∙ given in
+    let none : c.own.row-iterator ≡ [] = c.in-None.ensures.steps.0 in
+    let given : c.own.yielded ++ [] ≡ c.args.own_rows.items = rw none at c.own.invariant.left in
+    let all : c.own.yielded ≡ c.args.own_rows.items = sym (append-nil c.own.yielded) ∙ given in
     record {
       are_own = c.requires.own;
-      rows = c.own.invariant.rows ∙ all ∙ sym (append-nil c.args.own_rows);
+      rows = c.own.invariant.rows ∙ all ∙ sym (append-nil c.args.own_rows.items);
       past = grind (arith, common_steps, all);
       slots = c.own.invariant.slots ∙ ap (λ (own : List Row). slots_from 0 own []) all;
       counted = c.own.invariant.counted ∙ sym (length-values_of c.own.slots.entries);

@@ -1,5 +1,4 @@
 use Rattle.std.proofs.Common.{◌≡◌, ◌+◌, ◌*◌, ◌≤◌, ◌++◌, length, []}
-use Rattle.std.specs.Array.Iter.{array_into_iter_items}
 use Rattle.std.specs.Map.{values_of}
 use Rattle.rb_registry.specs.Slots.{slots_from}
 use Rattle.rb_registry.specs.Table.{IsTable}
@@ -10,7 +9,7 @@ abbrev pub invariant-own : goal.invariant-own
 invariant-own l = record {
   can_next : (goal.iterator-own).can_next l.row-iterator;
   finite : (goal.iterator-own).is_finite l.row-iterator;
-  left : l.yielded ++ array_into_iter_items l.row-iterator ≡ l.fn.own_rows;
+  left : l.yielded ++ l.row-iterator ≡ l.fn.own_rows.items;
   table : IsTable 0 0 l.slots.cap l.held 0 l.slots.entries l.slots.tie l.index;
   slots : values_of l.slots.entries ≡ slots_from 0 l.yielded [];
   dead : removals l.slots.entries ≡ [];
@@ -21,5 +20,5 @@ invariant-own l = record {
   tie : l.slots.tie ≡ l.fn.meter.tie;
   meter : l.meter.tie ≡ l.fn.meter.tie;
   rises : l.fn.meter.steps ≤ l.meter.steps;
-  steps : l.meter.steps ≤ l.fn.meter.steps + 11 * length l.yielded;
+  steps : l.meter.steps ≤ l.fn.meter.steps + 18 * length l.yielded;
 }

@@ -1,10 +1,11 @@
 use Rattle.std.proofs.Common.{◌≡◌, length, refl, sym, ap, ◌∙◌, arith}
 use Rattle.rb_stats.specs.Stats.{Stats, key_count}
 use Rattle.rb_stats.specs.Counting.{spelling}
+use Rattle.rb_stats.specs.Table.{stat_in}
 use Rattle.rb_stats.specs.declared.key.Version.TheVariants.{Two, Three, Four}
 use Rattle.rb_stats.proofs.Entries.{in_six}
 use Rattle.rb_stats.proofs.Histories.{kept_in}
-use Rattle.rb_stats.proofs.Sizes.{length-spelling, length-stat_in}
+use Rattle.rb_stats.proofs.Sizes.{length-spelling, length-stat}
 use Rattle.rb_stats.proofs.stats.Stats.lists.Goals as goal
 
 pub returns-clause-cost : goal.returns-clause-cost
@@ -20,7 +21,7 @@ pub returns-clause-size : goal.returns-clause-size
 returns-clause-size c =
     let s = c.self.inside in
     let is : length (spelling (kept_in s.two s.three s.four s.items.all s.items.memory s.items.tie)) ≡ _ =
-    length-spelling (kept_in s.two s.three s.four s.items.all s.items.memory s.items.tie) _ _ _ _ _ _ (length-stat_in Two s.two s.items.all c.self.invariant.0) (length-stat_in Three s.three s.items.all c.self.invariant.1) (length-stat_in Four s.four s.items.all c.self.invariant.2) in
+    length-spelling (kept_in s.two s.three s.four s.items.all s.items.memory s.items.tie) _ _ _ _ _ _ (length-stat (stat_in Two s.two s.items.all) c.self.invariant.0) (length-stat (stat_in Three s.three s.items.all) c.self.invariant.1) (length-stat (stat_in Four s.four s.items.all) c.self.invariant.2) in
     ap (λ (kept : Stats). length (spelling kept)) (sym c.self.view_is) ∙ is
     ∙ rw (c.lists.ensures.addrinfo, c.lists.ensures.rmtinfo, c.lists-2.ensures.addrinfo, c.lists-2.ensures.rmtinfo, c.lists-3.ensures.addrinfo, c.lists-3.ensures.rmtinfo) refl
 

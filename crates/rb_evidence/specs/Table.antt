@@ -1,0 +1,109 @@
+-- Whose a TCP connection from this host is, as Linux lists its sockets: a line each, of fields with spaces between them
+-- (proc(5), /proc/net/tcp and /proc/net/tcp6). Places of fields count from 0: 1 is the socket's own address, 2 the one that
+-- it is connected to, 3 the state, 7 the uid and 9 the inode.
+use Rattle.std.specs.Prelude.{◌≡◌, ℕ, ◌+◌, ◌/◌, ◌%◌, ◌^◌, ◌==◌, ◌&&◌, nat_lt, not, Bool, false, if◌then◌else◌, List, [], ◌∷◌, ◌++◌, length, filter, slice_get, All, codes, Option, Some, None, bytes_eq}
+use Rattle.std.specs.List.{slice_split}
+use Rattle.std.specs.Option.{option_map}
+use Rattle.std.specs.Borrow.{Bor}
+use Rattle.rb_address.specs.declared.peer.Peer.{Peer}
+use Rattle.rb_address.specs.declared.host.Host.{Host}
+use Rattle.rb_address.specs.Hosts.{octets_of_host, mapped_host}
+use Rattle.rb_address.specs.Reading.{◌>>=◌, number_below, plain_number}
+
+-- ---- lines and fields
+
+unfoldable pub pieces_of : ℕ → List ℕ → List (List ℕ)
+pieces_of between text = slice_split (λ b. b == between) text
+
+abbrev pub lines_of : List ℕ → List (List ℕ)
+lines_of table = pieces_of 10 table
+
+abbrev pub is_something : List ℕ → Bool
+is_something text = not (length text == 0)
+
+-- what stands between the spaces
+unfoldable pub fields_of : List ℕ → List (List ℕ)
+fields_of line = filter is_something (pieces_of 32 line)
+
+abbrev pub is_text : List ℕ → Option (List ℕ) → Bool
+is_text text None = false
+is_text text (Some field) = bytes_eq field text
+
+-- The field at this place has this text.
+abbrev pub is_field : ℕ → List ℕ → List ℕ → Bool
+is_field place text line = is_text text (slice_get (fields_of line) place)
+
+-- ---- a peer: its host in words of four bytes, each with its last byte first, and its port, in upper-case hexadecimal
+
+abbrev pub upper_digit : ℕ → ℕ
+upper_digit digit = if nat_lt digit 10 then digit + 48 else digit + 55
+
+abbrev pub byte_text : ℕ → List ℕ
+byte_text byte = upper_digit (byte / 16) ∷ upper_digit (byte % 16) ∷ []
+
+abbrev pub word_text : ℕ → ℕ → ℕ → ℕ → List ℕ
+word_text a b c d = byte_text d ++ byte_text c ++ byte_text b ++ byte_text a
+
+abbrev pub words_text : List ℕ → List ℕ
+words_text (a ∷ b ∷ c ∷ d ∷ octets) = word_text a b c d ++ words_text octets
+words_text octets = []
+
+abbrev pub text_at : Host → ℕ → List ℕ
+text_at host port = words_text (octets_of_host host) ++ codes ":" ++ byte_text (port / 256) ++ byte_text (port % 256)
+
+unfoldable pub endpoint_text : Peer → List ℕ
+endpoint_text p = text_at p.host p.port
+
+-- the same with the host in IPv6's form, as the table of IPv6 has one of IPv4
+unfoldable pub mapped_text : Peer → List ℕ
+mapped_text p = text_at (mapped_host p.host) p.port
+
+-- ---- whose it is
+
+abbrev pub is_between : List ℕ → List ℕ → List ℕ → Bool
+is_between theirs ours line = is_field 1 theirs line && is_field 2 ours line
+
+abbrev pub the_only : List (List ℕ) → Option (List ℕ)
+the_only [] = None
+the_only (line ∷ []) = Some line
+the_only (line ∷ another ∷ more) = None
+
+unfoldable pub only_between : List ℕ → List ℕ → List ℕ → Option (List ℕ)
+only_between table theirs ours = the_only (filter (is_between theirs ours) (lines_of table))
+
+-- the uid of a line that is established, 01, and has an inode that is not 0
+unfoldable pub owner_in : List ℕ → Option ℕ
+owner_in line = do
+  uid ← slice_get (fields_of line) 7
+  inode ← slice_get (fields_of line) 9
+  number ← number_below (2 ^ 64) inode
+  if is_field 3 (codes "01") line && not (number == 0) then plain_number (2 ^ 32) uid else None
+
+-- the uid of the one line from them to us
+unfoldable pub uid_between : List ℕ → List ℕ → List ℕ → Option ℕ
+uid_between table theirs ours = do
+  line ← only_between table theirs ours
+  owner_in line
+
+unfoldable pub uid_of : List ℕ → Peer → Peer → Option ℕ
+uid_of table theirs ours = uid_between table (endpoint_text theirs) (endpoint_text ours)
+
+unfoldable pub uid_of_mapped : List ℕ → Peer → Peer → Option ℕ
+uid_of_mapped table theirs ours = uid_between table (mapped_text theirs) (mapped_text ours)
+
+-- ---- as the code has them
+
+abbrev pub IsWithout : ℕ → List ℕ → Type 0
+IsWithout at text = All (λ b. (b == at) ≡ false) text
+
+-- the text is the front, its first such byte, and the back
+pub record IsCutAt (at : ℕ) (front back text : List ℕ) : Type 0 where
+  pub without : IsWithout at front
+  pub text_is : text ≡ front ++ at ∷ back
+
+abbrev pub borrowed : Option (Bor (List ℕ)) → Option (List ℕ)
+borrowed text = option_map (λ t. t.now) text
+
+abbrev pub option_list : Option (List ℕ) → List (List ℕ)
+option_list None = []
+option_list (Some line) = line ∷ []

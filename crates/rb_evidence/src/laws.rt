@@ -1,0 +1,18 @@
+//! What holds of each table, and worked examples.
+ghost use Rattle.rb_evidence.specs.Laws.{EndpointsDiffer, MappedDiffer, UidIsOfOneLine, TwoLinesAreNone};
+ghost use Rattle.rb_evidence.specs.Worked.{OverIpv4, OverIpv6, OverIpv4InIpv6};
+
+/// The uid is of one line, which is of this connection and no other.
+pub fn table_laws()
+    ensures endpoints_differ { EndpointsDiffer }
+    ensures mapped_differ { MappedDiffer }
+    ensures uid_is_of_one_line { UidIsOfOneLine }
+    ensures two_lines_are_none { TwoLinesAreNone }
+{}
+
+/// Worked examples, of tables that Linux 6.18 showed.
+pub fn worked_examples()
+    ensures over_ipv4 { OverIpv4 }
+    ensures over_ipv6 { OverIpv6 }
+    ensures over_ipv4_in_ipv6 { OverIpv4InIpv6 }
+{}

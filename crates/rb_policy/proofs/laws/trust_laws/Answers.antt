@@ -1,0 +1,8 @@
+use Rattle.rb_policy.proofs.TrustLaws.{others_are_strangers, others_need_no_table}
+use Rattle.rb_policy.proofs.laws.trust_laws.Goals as goal
+
+pub returns-clause-others : goal.returns-clause-others
+returns-clause-others c = others_are_strangers
+
+pub returns-clause-tables : goal.returns-clause-tables
+returns-clause-tables c = others_need_no_table

@@ -1,0 +1,54 @@
+-- What the kernel's tables of connections show of one from this host, and when they are read.
+use Rattle.std.specs.Prelude.{ℕ, ◌-◌, min, nat_le, Bool, true, false, not, ◌&&◌, if◌then◌else◌, List, take, Option, Some, None}
+use Rattle.rb_address.specs.declared.host.Family.{Family}
+use Rattle.rb_address.specs.declared.host.Family.TheVariants.{Inet, Inet6}
+use Rattle.rb_address.specs.declared.peer.Peer.{Peer}
+use Rattle.rb_address.specs.Hosts.{family_of, is_loopback}
+use Rattle.rb_evidence.specs.Table.{uid_of, uid_of_mapped}
+use Rattle.rb_policy.specs.declared.evidence.Evidence.{Evidence}
+use Rattle.rb_policy.specs.declared.evidence.Evidence.TheVariants.{Found, NotFound, Unread}
+use Rattle.rb_policy.specs.declared.evidence.TheConstants.{LONGEST_TABLE, BETWEEN_READINGS}
+
+-- of peers of this host alone, where what callers claim is not believed
+abbrev pub is_shown : Bool → Peer → Bool
+is_shown claims peer = not claims && is_loopback peer.host
+
+-- the table of IPv4 has peers of IPv4 alone; that of IPv6 is looked at where the first shows nothing
+abbrev pub looks_in : Family → Family → Evidence → Bool
+looks_in Inet Inet NotFound = true
+looks_in Inet6 peer NotFound = true
+looks_in table peer known = false
+
+-- a peer of IPv4 stands in the table of IPv6 in IPv6's form
+abbrev pub uid_by : Family → Family → List ℕ → Peer → Peer → Option ℕ
+uid_by Inet6 Inet text theirs ours = uid_of_mapped text theirs ours
+uid_by Inet6 Inet6 text theirs ours = uid_of text theirs ours
+uid_by Inet peer text theirs ours = uid_of text theirs ours
+
+abbrev pub uid_in : Family → List ℕ → Peer → Peer → Option ℕ
+uid_in table text theirs ours = uid_by table (family_of theirs.host) text theirs ours
+
+abbrev pub evidence_in : Option ℕ → Evidence
+evidence_in (Some uid) = Found uid
+evidence_in None = NotFound
+
+-- by the text of a table, where it was read
+abbrev pub evidence_of : Family → Option (List ℕ) → Peer → Peer → Evidence
+evidence_of table (Some text) theirs ours = evidence_in (uid_in table text theirs ours)
+evidence_of table None theirs ours = Unread
+
+-- ---- when they are read
+
+-- whether they may be read at a moment, where they were last read at another
+abbrev pub may_read : ℕ → Option ℕ → Bool
+may_read now (Some last) = nat_le BETWEEN_READINGS (now - last)
+may_read now None = true
+
+-- how long is waited at most for the next reading
+abbrev pub wait_for_reading : ℕ → Option ℕ → ℕ → ℕ
+wait_for_reading now (Some last) longest = min longest (BETWEEN_READINGS - (now - last))
+wait_for_reading now None longest = 0
+
+-- the first bytes of the room, where they are no more than a table may have
+abbrev pub whole_text : List ℕ → ℕ → Option (List ℕ)
+whole_text room count = if nat_le count LONGEST_TABLE then Some (take count room) else None

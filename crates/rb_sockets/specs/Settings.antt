@@ -1,0 +1,22 @@
+-- What the core is told of a daemon's settings.
+use Rattle.std.specs.Prelude.{ℕ, nat_le, if◌then◌else◌, List, length, Option, Some, None}
+use Rattle.rb_policy.specs.Addresses.{announced_inet, announced_inet6}
+use Rattle.rb_proto.specs.declared.listener.Announced.{Announced}
+use Rattle.rb_proto.specs.declared.listener.Listener.{Listener}
+use Rattle.rb_sockets.specs.declared.addresses.LocalSocket.{LocalSocket}
+use Rattle.rb_sockets.specs.declared.settings.Settings.{Settings}
+
+-- the path of the local socket; one of more than 128 bytes names none
+abbrev pub path_of : Option LocalSocket → Option (List ℕ)
+path_of None = None
+path_of (Some local) = if nat_le (length local.path.now) 128 then Some local.path.now else None
+
+-- the host of each family that is served
+abbrev pub announced_by : Settings → Announced
+announced_by s = record {
+  inet = announced_inet s.announce s.hosts.now;
+  inet6 = announced_inet6 s.announce6 s.hosts.now s.loopback6;
+}
+
+abbrev pub listener_of : Settings → Listener
+listener_of s = record { announced = announced_by s; port = s.port; local = path_of s.local }

@@ -1,0 +1,178 @@
+//! The sockets of datagrams: where calls come in, and where forwarded calls go out. They are two types, so that nothing goes
+//! out on the wrong one.
+ghost use Rattle.std.specs.Prelude.{IfOk, ◌≤◌, length};
+
+use crate::faults::{BindFault, Step};
+use crate::watched::Watched;
+use mio::net::UdpSocket;
+use mio::{Interest, Registry, Token};
+use rb_address::{Family, Host, Network, Peer, Source, Who};
+use rb_policy::{Entrance, address_for, asker, host_asked, ip_of, socket_of, somebody, trust_of};
+use std::io;
+use std::net::{Net, SocketAddr};
+use std::os::fd::{AsRawFd, RawFd};
+
+/// A socket of datagrams on a host and port; with port 0 on one of the system's choice.
+fn bind_udp(net: &impl Net, host: Host, port: u16) -> Result<UdpSocket, BindFault> {
+    let address = SocketAddr::new(ip_of(host), port);
+    match UdpSocket::bind(net, address) {
+        Ok(socket) => Ok(socket),
+        Err(error) => Err(BindFault::Socket(Step::BindUdp(address).failed(error))),
+    }
+}
+
+/// Where calls come in as datagrams, and where replies to them go out.
+#[derive(Drop)]
+pub struct CallSocket {
+    socket: UdpSocket,
+    bound: Host,
+    are_claims_believed: bool,
+}
+
+impl CallSocket {
+    pub(crate) fn bind(
+        net: &impl Net,
+        host: Host,
+        port: u16,
+        are_claims_believed: bool,
+    ) -> Result<CallSocket, BindFault> {
+        Ok(CallSocket {
+            socket: bind_udp(net, host, port)?,
+            bound: host,
+            are_claims_believed,
+        })
+    }
+
+    /// A datagram, how long it is, and from whom, if that may call where these networks are served.
+    pub fn receive(&self, networks: &[Network], room: &mut [u8]) -> io::Result<(usize, Option<Who>)>
+        ensures { IfOk result (λ r. r.0 ≤ length room.new) }
+    {
+        let (len, from) = self.socket.recv_from(room)?;
+        let who = match asker(networks, somebody(Peer::of(from))) {
+            Some(peer) => Some(self.who(peer)),
+            None => None,
+        };
+        Ok((len, who))
+    }
+
+    fn who(&self, peer: Peer) -> Who {
+        Who {
+            source: Source::Inet(peer),
+            asked: host_asked(self.bound, peer.family()),
+            trust: trust_of(self.are_claims_believed, Entrance::Udp(peer)),
+        }
+    }
+
+    /// Sends a reply. One that the socket does not take is lost.
+    pub fn reply(&self, reply: &[u8], to: Who) {
+        if let Source::Inet(peer) = to.source {
+            let _ = self.socket.send_to(reply, address_for(self.bound, peer));
+        }
+    }
+
+    pub(crate) fn as_raw_fd(&self) -> RawFd {
+        self.socket.as_raw_fd()
+    }
+
+    pub(crate) fn register(&mut self, registry: &Registry, token: Token) -> io::Result<()> {
+        registry.register(&mut self.socket, token, Interest::READABLE)
+    }
+}
+
+/// All sockets where calls come in as datagrams.
+#[derive(Drop)]
+pub struct CallSockets {
+    /// One for each host, in their order.
+    pub all: Vec<Watched<CallSocket>>,
+    /// These hosts.
+    pub(crate) bound: Vec<Host>,
+}
+
+impl CallSockets {
+    /// Sends a reply on the socket that was asked.
+    pub fn reply_where_asked(&self, reply: &[u8], to: Who) {
+        if let Some(place) = socket_of(&self.bound, to.asked) {
+            if let Some(asked) = self.all.get(place) {
+                asked.socket.reply(reply, to);
+            }
+        }
+    }
+}
+
+/// Where forwarded calls go out, and what comes back for them comes in.
+#[derive(Drop)]
+pub struct ForwardSocket {
+    socket: UdpSocket,
+    bound: Host,
+}
+
+impl ForwardSocket {
+    /// The port is of the system's choice.
+    pub(crate) fn bind(net: &impl Net, host: Host) -> Result<ForwardSocket, BindFault> {
+        Ok(ForwardSocket {
+            socket: bind_udp(net, host, 0)?,
+            bound: host,
+        })
+    }
+
+    /// A datagram, how long it is, and from whom, if that may be a target.
+    pub fn receive(&self, room: &mut [u8]) -> io::Result<(usize, Option<Peer>)>
+        ensures { IfOk result (λ r. r.0 ≤ length room.new) }
+    {
+        let (len, from) = self.socket.recv_from(room)?;
+        Ok((len, somebody(Peer::of(from))))
+    }
+
+    /// Sends a forwarded call. One that the socket does not take is lost.
+    fn call(&self, call: &[u8], target: Peer) {
+        let _ = self.socket.send_to(call, address_for(self.bound, target));
+    }
+
+    pub(crate) fn as_raw_fd(&self) -> RawFd {
+        self.socket.as_raw_fd()
+    }
+
+    pub(crate) fn register(&mut self, registry: &Registry, token: Token) -> io::Result<()> {
+        registry.register(&mut self.socket, token, Interest::READABLE)
+    }
+}
+
+/// The sockets of forwarded calls, one for each family of targets.
+#[derive(Drop)]
+pub struct ForwardSockets {
+    /// For targets of IPv4.
+    pub inet: Watched<ForwardSocket>,
+    /// For targets of IPv6, where IPv6 is served.
+    pub inet6: Option<Watched<ForwardSocket>>,
+}
+
+impl ForwardSockets {
+    /// Sends a forwarded call. One that no socket takes is lost.
+    pub fn call(&self, call: &[u8], target: Peer) {
+        match (target.family(), &self.inet6) {
+            (Family::Inet, _) => self.inet.socket.call(call, target),
+            (Family::Inet6, Some(inet6)) => inet6.socket.call(call, target),
+            (Family::Inet6, None) => {}
+        }
+    }
+
+    /// The socket for targets of a family.
+    pub fn of(&self, family: Family) -> Option<&Watched<ForwardSocket>> {
+        match family {
+            Family::Inet => Some(&self.inet),
+            Family::Inet6 => self.inet6.as_ref(),
+        }
+    }
+
+    /// The socket for targets of a family.
+    pub fn of_mut(&mut self, family: Family) -> Option<&mut Watched<ForwardSocket>> {
+        match family {
+            Family::Inet => Some(&mut self.inet),
+            Family::Inet6 => self.inet6.as_mut(),
+        }
+    }
+
+    pub(crate) fn is_left(&self) -> bool {
+        self.inet.is_left() || self.inet6.as_ref().is_some_and(|inet6| inet6.is_left())
+    }
+}

@@ -1,0 +1,115 @@
+#!/usr/bin/env python3
+"""Asks a portmapper at port 111 what no rpcinfo asks so, and prints what it tells; for tests/two-hosts.sh.
+
+Each line of standard input is a question, NETID HOST WORDS: it goes to this host over tcp, udp, tcp6 or udp6, and its
+words are a call as tests/row.py has it. SOURCE>HOST in place of HOST says from which address it goes. It is printed
+again, with the answer behind it:
+
+    udp 192.0.2.2>192.0.2.1 4 getaddr 200001 1: 192.0.2.1.8.1
+    tcp6 2001:db8:1::1 uid=1000 4 set 200001 1 tcp6 ::.8.1: 0
+
+An answer is a number; an address; the netids and addresses of a list, each with a space behind it, in their order; an
+address and the results of a call that was forwarded, in hexadecimal; `refused`; or `silent`, where none comes.
+"""
+import socket
+import struct
+import sys
+
+from row import Encoder
+
+PORT = 111
+PATIENCE = 5.0
+
+
+def number_from(data):
+    return struct.unpack_from(">I", data)[0], data[4:]
+
+
+def opaque_from(data):
+    length, data = number_from(data)
+    return data[:length], data[length + -length % 4:]
+
+
+def text_from(data):
+    content, data = opaque_from(data)
+    return content.decode() or "-", data
+
+
+def list_from(data):
+    """The entries of GETADDRLIST (RFC 1833 section 2.1), netid and address of each."""
+    told = ""
+    more, data = number_from(data)
+    while more:
+        address, data = text_from(data)
+        netid, data = text_from(data)
+        data = data[4:]
+        _, data = text_from(data)
+        _, data = text_from(data)
+        more, data = number_from(data)
+        told += f"{netid} {address} "
+    return told.rstrip()
+
+
+def told_by(procedure, reply):
+    if not reply:
+        return "silent"
+    if struct.unpack_from(">6I", reply)[1:] != (1, 0, 0, 0, 0):
+        return "refused"
+    results = reply[24:]
+    if procedure in ("getaddr", "getversaddr"):
+        return text_from(results)[0]
+    if procedure == "getaddrlist":
+        return list_from(results)
+    if procedure == "indirect":
+        address, results = text_from(results)
+        return f"{address} {opaque_from(results)[0].hex() or '-'}"
+    return str(number_from(results)[0])
+
+
+def read_all(connection, length):
+    data = b""
+    while len(data) < length:
+        piece = connection.recv(length - len(data))
+        if not piece:
+            raise ConnectionError
+        data += piece
+    return data
+
+
+def reply_over(netid, source, host, call):
+    """The reply to a call, or no bytes. Over UDP one from another address than the one that is asked is not seen."""
+    family = socket.AF_INET6 if netid.endswith("6") else socket.AF_INET
+    is_tcp = netid.startswith("tcp")
+    with socket.socket(family, socket.SOCK_STREAM if is_tcp else socket.SOCK_DGRAM) as asker:
+        asker.settimeout(PATIENCE)
+        if source:
+            asker.bind((source, 0))
+        try:
+            asker.connect((host, PORT))
+            if not is_tcp:
+                asker.send(call)
+                return asker.recv(65536)
+            asker.sendall(struct.pack(">I", 1 << 31 | len(call)) + call)
+            reply, is_last = b"", 0
+            while not is_last:
+                head = number_from(read_all(asker, 4))[0]
+                is_last = head >> 31
+                reply += read_all(asker, head & 0x7FFFFFFF)
+            return reply
+        except OSError:
+            return b""
+
+
+def main():
+    encoder = Encoder()
+    for line in sys.stdin:
+        question = line.rstrip("\n")
+        netid, place, *words = question.split()
+        source, _, host = place.rpartition(">")
+        procedure = [word for word in words if "=" not in word][1]
+        reply = reply_over(netid, source, host, encoder.bytes_of(words))
+        print(f"{question}: {told_by(procedure, reply)}", flush=True)
+
+
+if __name__ == "__main__":
+    main()

@@ -1,0 +1,243 @@
+//! Whom the daemon believes, row by row; which hosts it serves, announces and is asked at; and when it reads the kernel's
+//! tables.
+use crate::evidence::{AT_31112, table_at};
+use rb_address::{Family, Host, Owner, Peer, Source, Trust};
+use rb_policy::{
+    BETWEEN_READINGS, Entrance, Evidence, LONGEST_TABLE, address_for, announced_inet,
+    announced_inet6, binds_loopback6, evidence_of, forwards_inet, forwards_inet6, has_every_host,
+    host_asked, ip_of, is_bound, is_no_address, is_shown, lets_in_root_alone, looks_in, may_read,
+    origin_of, socket_of, somebody, trust_of, wait_for_reading, whole_text,
+};
+use std::net::{IpAddr, Ipv4Addr, Ipv6Addr, SocketAddr};
+use std::test::Fail;
+
+const INET: Host = Host::V4([127, 0, 0, 1]);
+
+const ANY: Host = Host::V4([0; 4]);
+
+const ANY6: Host = Host::V6([0; 16]);
+
+const LOOPBACK6: [u8; 16] = [0, 0, 0, 0, 0, 0, 0, 0, 0, 0, 0, 0, 0, 0, 0, 1];
+
+const INET6: Host = Host::V6(LOOPBACK6);
+
+// 192.0.2.1 and 2001:db8::1, of the documentation (RFC 5737, RFC 3849)
+const OCTETS: [u8; 4] = [192, 0, 2, 1];
+
+const OCTETS6: [u8; 16] = [0x20, 0x01, 0x0d, 0xb8, 0, 0, 0, 0, 0, 0, 0, 0, 0, 0, 0, 1];
+
+const ELSEWHERE: Host = Host::V4(OCTETS);
+
+const ELSEWHERE6: Host = Host::V6(OCTETS6);
+
+fn at(host: Host) -> Peer {
+    Peer::new(host, 900)
+}
+
+/// Each row of the table: where a caller comes in and what is shown of it there, and how far it is trusted.
+fn table_of_trust() -> [(Entrance, Trust); 12] {
+    let nobody = Trust::Local(Owner::Unknown);
+    [
+        (Entrance::RootSocket, Trust::Local(Owner::Uid(0))),
+        (Entrance::OpenSocket, nobody),
+        (
+            Entrance::Tcp(at(INET), Evidence::Found(65_534)),
+            Trust::Local(Owner::Uid(65_534)),
+        ),
+        (
+            Entrance::Tcp(at(INET6), Evidence::Found(0)),
+            Trust::Local(Owner::Uid(0)),
+        ),
+        (Entrance::Tcp(at(INET), Evidence::NotFound), nobody),
+        (Entrance::Tcp(at(INET6), Evidence::Unread), nobody),
+        (Entrance::Udp(at(INET)), nobody),
+        (Entrance::Udp(at(INET6)), nobody),
+        (
+            Entrance::Tcp(at(ELSEWHERE), Evidence::Found(0)),
+            Trust::Stranger,
+        ),
+        (
+            Entrance::Tcp(at(ELSEWHERE6), Evidence::NotFound),
+            Trust::Stranger,
+        ),
+        (Entrance::Udp(at(ELSEWHERE)), Trust::Stranger),
+        (Entrance::Udp(at(ELSEWHERE6)), Trust::Stranger),
+    ]
+}
+
+#[test]
+fn callers_are_trusted(rt: HostRuntime) {
+    for (entrance, trust) in table_of_trust() {
+        assert_eq!(rt; trust_of(false, entrance), trust, "{entrance:?}");
+        assert_eq!(rt; trust_of(true, entrance), Trust::Claims);
+    }
+}
+
+// Who may write to a socket's file may connect (unix(7)).
+#[test]
+fn modes_let_in_root_alone(rt: HostRuntime) {
+    for mode in [0o600, 0o200, 0o644, 0o755] {
+        assert!(rt; lets_in_root_alone(mode), "{mode:o}");
+    }
+    for mode in [0o666, 0o660, 0o602, 0o620, 0o777] {
+        assert!(rt; !lets_in_root_alone(mode), "{mode:o}");
+    }
+}
+
+#[test]
+fn tables_are_looked_at(rt: HostRuntime) {
+    assert!(rt; is_shown(false, at(INET)) && is_shown(false, at(INET6)));
+    assert!(rt; !is_shown(false, at(ELSEWHERE)) && !is_shown(true, at(INET)));
+    for found in [Evidence::Found(0), Evidence::Unread] {
+        assert!(rt; !looks_in(Family::Inet6, Family::Inet, found));
+    }
+    let nothing = Evidence::NotFound;
+    assert!(rt; looks_in(Family::Inet, Family::Inet, nothing));
+    assert!(rt; !looks_in(Family::Inet, Family::Inet6, nothing));
+    assert!(rt; looks_in(Family::Inet6, Family::Inet, nothing));
+    assert!(rt; looks_in(Family::Inet6, Family::Inet6, nothing));
+}
+
+/// What the kernel showed of two clients at 127.0.0.1, of uid 65534 and closed.
+#[test]
+fn tables_are_evidence(rt: HostRuntime) -> Result<(), Fail> {
+    let text = table_at(rt.alloc(), &AT_31112)?;
+    let ours = Peer::new(INET, AT_31112.port);
+    let [first, second, ..] = AT_31112.clients;
+    let first = Peer::new(INET, first);
+    let second = Peer::new(INET, second);
+    let table = Some(text.as_slice());
+    assert_eq!(rt;
+        evidence_of(Family::Inet, table, &first, &ours),
+        Evidence::Found(65_534)
+    );
+    assert_eq!(rt;
+        evidence_of(Family::Inet, table, &second, &ours),
+        Evidence::NotFound
+    );
+    assert_eq!(rt;
+        evidence_of(Family::Inet6, table, &first, &ours),
+        Evidence::NotFound
+    );
+    assert_eq!(rt;
+        evidence_of(Family::Inet, None, &first, &ours),
+        Evidence::Unread
+    );
+    Ok(())
+}
+
+/// A table of 1 MiB is read, and one of a byte more is not.
+#[test]
+fn long_tables_are_unread(rt: HostRuntime) -> Result<(), Fail> {
+    assert_eq!(rt; LONGEST_TABLE, 1_048_576);
+    assert_eq!(rt; whole_text(b"table", 3), Some(b"tab".as_slice()));
+    let mut room = Vec::new(rt.alloc());
+    room.resize(LONGEST_TABLE + 1, b' ')?;
+    let whole = whole_text(&room, LONGEST_TABLE).ok_or("unread")?;
+    assert_eq!(rt; whole.len(), LONGEST_TABLE);
+    assert!(rt; whole_text(&room, LONGEST_TABLE + 1).is_none());
+    Ok(())
+}
+
+/// Twenty milliseconds lie between two readings.
+#[test]
+fn readings_wait(rt: HostRuntime) {
+    assert_eq!(rt; BETWEEN_READINGS, 20);
+    assert!(rt; may_read(1000, None));
+    assert!(rt; !may_read(1019, Some(1000)));
+    assert!(rt; may_read(1020, Some(1000)));
+    assert!(rt; !may_read(999, Some(1000)));
+    assert_eq!(rt; wait_for_reading(1000, None, 50), 0);
+    assert_eq!(rt; wait_for_reading(1005, Some(1000), 50), 15);
+    assert_eq!(rt; wait_for_reading(1005, Some(1000), 10), 10);
+    assert_eq!(rt; wait_for_reading(2000, Some(1000), 50), 0);
+}
+
+#[test]
+fn every_host_has_both_families(rt: HostRuntime) {
+    let every = [ELSEWHERE, ANY6];
+    assert!(rt; has_every_host(&every) && !has_every_host(&[ANY, ELSEWHERE6]));
+    assert!(rt; is_bound(&every, ELSEWHERE) && !is_bound(&[ANY, ANY6], ANY));
+    assert!(rt; is_bound(&[ANY, ELSEWHERE6], ANY));
+    assert!(rt; binds_loopback6(&[INET], true) && !binds_loopback6(&[INET], false));
+    assert!(rt; !binds_loopback6(&every, true) && !binds_loopback6(&[INET6], true));
+}
+
+#[test]
+fn hosts_are_announced(rt: HostRuntime) {
+    let hosts = [ELSEWHERE6, ELSEWHERE, INET];
+    assert_eq!(rt; announced_inet(None, &hosts), Some(OCTETS));
+    assert_eq!(rt;
+        announced_inet(Some([10, 0, 0, 1]), &hosts),
+        Some([10, 0, 0, 1])
+    );
+    assert_eq!(rt; announced_inet(Some(OCTETS), &[ELSEWHERE6]), None);
+    assert_eq!(rt; announced_inet(None, &[ANY6]), Some([0; 4]));
+    assert_eq!(rt; announced_inet6(None, &hosts, true), Some(OCTETS6));
+    assert_eq!(rt;
+        announced_inet6(Some([7; 16]), &hosts, false),
+        Some([7; 16])
+    );
+    assert_eq!(rt; announced_inet6(None, &[INET], true), Some(LOOPBACK6));
+    assert_eq!(rt; announced_inet6(Some(OCTETS6), &[INET], false), None);
+    assert!(rt; is_no_address(ANY) && is_no_address(ANY6));
+    assert!(rt; !is_no_address(ELSEWHERE) && !is_no_address(INET6));
+}
+
+#[test]
+fn calls_are_forwarded_from_hosts(rt: HostRuntime) {
+    let hosts = [ELSEWHERE6, ELSEWHERE, INET];
+    assert_eq!(rt; forwards_inet(&hosts), ELSEWHERE);
+    assert_eq!(rt; forwards_inet(&[ELSEWHERE6]), INET);
+    assert_eq!(rt; forwards_inet(&[ANY6]), ANY);
+    assert_eq!(rt; forwards_inet6(&hosts, false), Some(ELSEWHERE6));
+    assert_eq!(rt; forwards_inet6(&[INET], true), Some(INET6));
+    assert_eq!(rt; forwards_inet6(&[INET], false), None);
+}
+
+#[test]
+fn hosts_are_asked(rt: HostRuntime) {
+    assert_eq!(rt; host_asked(ELSEWHERE, Family::Inet), ELSEWHERE);
+    assert_eq!(rt; host_asked(INET6, Family::Inet6), INET6);
+    assert_eq!(rt; host_asked(ANY6, Family::Inet6), ANY6);
+    assert_eq!(rt; host_asked(ANY6, Family::Inet), ANY);
+    let bound = [ELSEWHERE, INET, INET6];
+    assert_eq!(rt; socket_of(&bound, INET), Some(1));
+    assert_eq!(rt; socket_of(&bound, INET6), Some(2));
+    assert_eq!(rt; socket_of(&bound, ANY), None);
+    assert_eq!(rt; socket_of(&[INET, ANY6], ANY), Some(1));
+    assert_eq!(rt; socket_of(&[INET, ANY6], ANY6), Some(1));
+}
+
+#[test]
+fn sources_have_origins(rt: HostRuntime) {
+    let local = origin_of(Source::Local);
+    assert!(rt; local.is_local && local.host == INET);
+    let here = origin_of(Source::Inet(at(INET6)));
+    assert!(rt; here.is_local && here.host == INET6);
+    let elsewhere = origin_of(Source::Inet(at(ELSEWHERE)));
+    assert!(rt; !elsewhere.is_local && elsewhere.host == ELSEWHERE);
+}
+
+#[test]
+fn peers_are_somebody(rt: HostRuntime) {
+    for host in [INET, INET6, ELSEWHERE, ELSEWHERE6] {
+        assert_eq!(rt; somebody(at(host)), Some(at(host)));
+        assert_eq!(rt; somebody(Peer::new(host, 0)), None);
+    }
+    for host in [ANY, ANY6, Host::V4([0, 0, 0, 7])] {
+        assert_eq!(rt; somebody(at(host)), None);
+    }
+}
+
+/// A socket of IPv6 sends to 192.0.2.1 as ::ffff:192.0.2.1.
+#[test]
+fn peers_have_addresses(rt: HostRuntime) {
+    let ipv4 = IpAddr::V4(Ipv4Addr::from(OCTETS));
+    let ipv6 = IpAddr::V6(Ipv6Addr::from([0x2001, 0xdb8, 0, 0, 0, 0, 0, 1]));
+    let mapped = IpAddr::V6(Ipv6Addr::from([0, 0, 0, 0, 0, 0xffff, 0xc000, 0x201]));
+    assert!(rt; ip_of(ELSEWHERE) == ipv4 && ip_of(ELSEWHERE6) == ipv6);
+    assert!(rt; address_for(ANY, at(ELSEWHERE)) == SocketAddr::new(ipv4, 900));
+    assert!(rt; address_for(ANY6, at(ELSEWHERE)) == SocketAddr::new(mapped, 900));
+    assert!(rt; address_for(ANY6, at(ELSEWHERE6)) == SocketAddr::new(ipv6, 900));
+}
