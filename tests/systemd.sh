@@ -11,7 +11,7 @@ set -u
 cd "$(dirname "$0")/.." || exit 1
 
 longest=180 # how many seconds a boot takes at most, with its checks
-packages=systemd,systemd-sysv,rpcbind,nfs-common
+packages=systemd,systemd-sysv,rpcbind,nfs-common,netbase # whose /etc/services has the port that a libtirpc looks for
 
 skip() {
     echo "skipped: $*"
