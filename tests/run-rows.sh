@@ -441,16 +441,16 @@ local-mode:1000:a mode from 0 to 777 in octal digits
 local-mode:+6:a mode from 0 to 777 in octal digits
 record-limit:999:a number from 1000 to 16777216
 record-limit:16777217:a number from 1000 to 16777216
-bind:localhost:an IPv4 address as 192.0.2.1
+bind:localhost:an address as 192.0.2.1 or 2001:db8::1
 from:localhost:a network as 192.0.2.0/24, with no bit set behind its length,
 from:192.0.2.0/33:a network as 192.0.2.0/24, with no bit set behind its length,
 from:192.0.2.1/24:a network as 192.0.2.0/24, with no bit set behind its length,
 from:192.0.2.0/255.255.255.0:a network as 192.0.2.0/24, with no bit set behind its length,
 END
-    echo "error: invalid value '::' for '--bind': an IPv4 address as 192.0.2.1 is wanted" > "$work/wanted"
-    run /dev/null serve --bind 127.0.0.1 --bind ::
+    echo "error: invalid value 'fe80::1%lo' for '--bind': an address as 192.0.2.1 or 2001:db8::1 is wanted" > "$work/wanted"
+    run /dev/null serve --bind 127.0.0.1 --bind fe80::1%lo
     as_wanted /dev/null "$work/wanted" 2
-    judge $? "--bind '::' can't be read"
+    judge $? "--bind 'fe80::1%lo' can't be read"
     echo "error: invalid value '2001:db8::1/32' for '--from': a network as 192.0.2.0/24, with no bit set behind its length, is wanted" > "$work/wanted"
     run /dev/null serve --from 2001:db8::/32 --from 2001:db8::1/32
     as_wanted /dev/null "$work/wanted" 2
@@ -685,7 +685,7 @@ ask_form() {
 # The forms that ask over sockets, of the daemon on 127.0.0.1, [::1] and a local socket. Their answers are the daemon's own
 # rows, and that procedure 0 of its versions answers; 20112 is 78 times 256, and 144.
 run_rpcinfo_over_sockets() {
-    local local_socket=$work/asked.sock each two three four daemon
+    local local_socket=$work/asked.sock each two three four rows daemon
     each=('program 100000 version '{2,3,4}' ready')
     two=${each[0]} three=${each[1]} four=${each[2]}
     start_daemon "$work/listening" --port 20112 --loopback6 --local "$local_socket"
@@ -698,9 +698,12 @@ run_rpcinfo_over_sockets() {
     echo 'portmapper 100000 sunrpc' > "$work/programs"
     ask_form "--programs $work/programs -t 127.0.0.1 portmapper 2" "$two"
     ask_form "--programs $work/programs -T udp 127.0.0.1 sunrpc 3" "$three"
-    ask_form "127.0.0.1" '100000 '{4,3,2}' tcp 0.0.0.0.78.144 superuser' '100000 '{4,3,2}' udp 0.0.0.0.78.144 superuser'
-    ask_form "-s ::1" '100000 '{4,3,2}' tcp' '100000 '{4,3,2}' udp'
-    ask_form "-s --local $local_socket" '100000 '{4,3,2}' tcp' '100000 '{4,3,2}' udp'
+    ask_form "127.0.0.1" '100000 '{4,3}' tcp6 ::.78.144 superuser' '100000 '{4,3}' udp6 ::.78.144 superuser' \
+        '100000 '{4,3,2}' tcp 0.0.0.0.78.144 superuser' '100000 '{4,3,2}' udp 0.0.0.0.78.144 superuser' \
+        '100000 '{4,3}" local $local_socket superuser"
+    rows=('100000 '{4,3}' tcp6' '100000 '{4,3}' udp6' '100000 '{4,3,2}' tcp' '100000 '{4,3,2}' udp' '100000 '{4,3}' local')
+    ask_form "-s ::1" "${rows[@]}"
+    ask_form "-s --local $local_socket" "${rows[@]}"
     echo 'rpcinfo: nobody listens on the socket' > "$work/wanted"
     run_rpcinfo /dev/null --port 20112 --local "$local_socket.misspelt" -s
     as_wanted /dev/null "$work/wanted" 1
@@ -709,8 +712,9 @@ run_rpcinfo_over_sockets() {
         '{"program":100000,"version":'{4,3,2}',"protocol":17,"port":20112}'
     ask_form "--programs $work/programs --summary 127.0.0.1" \
         '   program version(s) netid(s)                         service     owner' \
-        '    100000  2,3,4     udp,tcp                          portmapper  superuser'
-    ask_form "-l 127.0.0.1 100000 4" "tcp 127.0.0.1.78.144 3 inet tcp" "udp 127.0.0.1.78.144 1 inet udp"
+        '    100000  2,3,4     local,udp,tcp,udp6,tcp6          portmapper  superuser'
+    ask_form "-l 127.0.0.1 100000 4" "tcp6 ::1.78.144 3 inet6 tcp" "udp6 ::1.78.144 1 inet6 udp" \
+        "tcp 127.0.0.1.78.144 3 inet tcp" "udp 127.0.0.1.78.144 1 inet udp" "local $local_socket 3 loopback -"
     echo "rpcinfo: there is no such row, or it is another user's" > "$work/wanted-stderr"
     echo 'not removed' > "$work/wanted"
     run_rpcinfo /dev/null --port 20112 -d -T tcp 200001 1
