@@ -45,6 +45,11 @@ def opaque(content):
     return number(len(content)) + content + bytes(-len(content) % 4)
 
 
+def netbuf(content):
+    """The length that it may have, and what it has (RFC 1833 section 2.1)."""
+    return number(len(content)) + opaque(content)
+
+
 def text(word):
     return opaque(b"" if word == "-" else word.encode())
 
@@ -73,7 +78,7 @@ def arguments_of(version, procedure, words):
     if procedure == "uaddr2taddr":
         return text(*words)
     if procedure == "taddr2uaddr":
-        return opaque(raw(*words))
+        return netbuf(raw(*words))
     return mapping(*words) if version == 2 else rpcb(*words)
 
 

@@ -439,6 +439,12 @@ run_bad_words_of_serve() {
 local-mode:8:a mode from 0 to 777 in octal digits
 local-mode:1000:a mode from 0 to 777 in octal digits
 local-mode:+6:a mode from 0 to 777 in octal digits
+udp-lists:any:all or local
+forward-for:any:all or local
+udp-rate:0:a number from 1 to 1000, or two as 20,5,
+udp-rate:1001:a number from 1 to 1000, or two as 20,5,
+udp-rate:20,:a number from 1 to 1000, or two as 20,5,
+udp-rate:20,5,1:a number from 1 to 1000, or two as 20,5,
 record-limit:999:a number from 1000 to 16777216
 record-limit:16777217:a number from 1000 to 16777216
 bind:localhost:an address as 192.0.2.1 or 2001:db8::1
@@ -833,8 +839,8 @@ if [ -x "$program" ]; then
     run_bad_words_of_serve
     run_daemon_of_networks
     run_help_of '' help version
-    run_help_of serve bind from announce local local-mode loopback6 port conns rows forwards turns record record-limit help version
-    run_help_of replay announce port conns rows forwards check steps xid now help version
+    run_help_of serve bind from announce local local-mode loopback6 port conns rows forwards udp-lists forward-for udp-rate turns record record-limit help version
+    run_help_of replay announce port conns rows forwards udp-lists forward-for check steps xid now help version
     run_version_of '' rpcbind
     run_version_of serve rpcbind-serve
     run_version_of replay rpcbind-replay

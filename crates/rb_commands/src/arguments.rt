@@ -20,6 +20,8 @@ const ADDRESS: &str = "an address as 192.0.2.1 or 2001:db8::1";
 
 const NETWORK: &str = "a network as 192.0.2.0/24, with no bit set behind its length,";
 
+const WHOM: &str = "all or local";
+
 /// What a command line asks for.
 #[derive(Debug, Drop)]
 pub enum Words<'a> {
@@ -155,6 +157,9 @@ fn service_of<'a>(alloc: Global, matches: &ArgMatches<'a>) -> Result<Service<'a>
         conns: text_of(matches, "conns"),
         rows: text_of(matches, "rows"),
         forwards: text_of(matches, "forwards"),
+        udp_lists: text_of(matches, "udp-lists"),
+        forward_for: text_of(matches, "forward-for"),
+        udp_rate: matches.get_str("udp-rate"),
         turns: text_of(matches, "turns"),
         record_path: matches.get_str("record"),
         record_limit: text_of(matches, "record-limit"),
@@ -177,6 +182,8 @@ fn beginning_of<'a>(matches: &ArgMatches<'a>) -> Result<Beginning, BadValue<'a>>
         port: text_of(matches, "port"),
         xid: text_of(matches, "xid"),
         moment: text_of(matches, "now"),
+        udp_lists: text_of(matches, "udp-lists"),
+        forward_for: text_of(matches, "forward-for"),
         steps: matches.get_flag("steps"),
     };
     match read_beginning(&texts) {
@@ -199,6 +206,10 @@ fn bad_value<'a>(bad: Valued, matches: &ArgMatches<'a>) -> BadValue<'a> {
         Valued::Conns => ("conns", NUMBER),
         Valued::Rows => ("rows", NUMBER),
         Valued::Forwards => ("forwards", NUMBER),
+        Valued::UdpLists => ("udp-lists", WHOM),
+        Valued::ForwardFor => ("forward-for", WHOM),
+        Valued::ReplayForwardFor => ("forward-for", "any, all or local"),
+        Valued::UdpRate => ("udp-rate", "a number from 1 to 1000, or two as 20,5,"),
         Valued::Port => ("port", "a port from 1 to 65535"),
         Valued::Xid => ("xid", "a number from 0 to 4294967295"),
         Valued::Now => ("now", NUMBER),

@@ -5,6 +5,10 @@ use std::alloc::{AllocError, Global};
 
 const VERSION: &str = "0.1.0";
 
+/// What the help says of `--udp-lists`.
+const UDP_LISTS: &str =
+    "To whom replies over UDP may have more than twice the bytes of their calls: local, to this machine alone, or all";
+
 /// An option with a value. clap takes each value as a text; what is a number and what an address is said in rb_lines.
 fn option<'a>(alloc: Global, name: &'a str, value: &'a str, help: &'a str) -> Arg<'a> {
     Arg::new(alloc, name)
@@ -43,21 +47,43 @@ fn serve<'a>(alloc: Global) -> Result<Command<'a>, AllocError> {
         ))?;
     let command = besides(alloc, command)?;
     let command = recorded(alloc, command)?;
-    limited(
+    let command = limited(
         alloc,
         command,
         serve_default(Valued::Port),
         serve_default(Valued::Conns),
         serve_default(Valued::Rows),
         serve_default(Valued::Forwards),
-    )?
-    .arg(option(
+    )?;
+    let command = on_terms(alloc, command)?;
+    command.arg(option(
         alloc,
         "turns",
         "N",
         "End after N turns of at most 100 milliseconds; 0 never ends",
     )
     .default_value(serve_default(Valued::Turns)))
+}
+
+/// On which terms `serve` serves.
+fn on_terms<'a>(alloc: Global, command: Command<'a>) -> Result<Command<'a>, AllocError> {
+    command
+        .arg(option(alloc, "udp-lists", "WHOM", UDP_LISTS).default_value(serve_default(
+            Valued::UdpLists,
+        )))?
+        .arg(option(
+            alloc,
+            "forward-for",
+            "WHOM",
+            "For whom calls are forwarded where --forwards is above 0: local, for this machine alone, or all",
+        )
+        .default_value(serve_default(Valued::ForwardFor)))?
+        .arg(option(
+            alloc,
+            "udp-rate",
+            "N[,M]",
+            "Most datagrams a second, 1 to 1000, that are served of one network of others, IPv4 /24 or IPv6 /56, and of one host [default: any number]",
+        ))
 }
 
 /// Whom `serve` serves.
@@ -155,7 +181,15 @@ fn replay<'a>(alloc: Global) -> Result<Command<'a>, AllocError> {
             "MS",
             "First moment, in milliseconds since the start of 1970",
         )
-        .default_value("0"))
+        .default_value("0"))?
+        .arg(option(alloc, "udp-lists", "WHOM", UDP_LISTS).default_value("all"))?
+        .arg(option(
+            alloc,
+            "forward-for",
+            "WHOM",
+            "For whom calls are forwarded: any, to other hosts too; all; or local, for this machine alone",
+        )
+        .default_value("any"))
 }
 
 fn announce<'a>(alloc: Global, help: &'a str) -> Arg<'a> {

@@ -4,8 +4,8 @@ ghost use Rattle.rb_sockets.specs.Settings.{listener_of};
 ghost use Rattle.rb_commands.specs.Faults.{TellsFault};
 
 use rb_address::Host;
-use rb_lines::{Ending, Fault, Service, explain, explain_run};
-use rb_policy::{RecordAction, RecordState, binds_loopback6, is_no_address, record_action};
+use rb_lines::{Ending, Fault, Service, UdpRate, explain, explain_run};
+use rb_policy::{Rate, RecordAction, RecordState, binds_loopback6, is_no_address, record_action};
 use rb_proto::Announced;
 use rb_sockets::{DaemonFault, LocalSocket, Settings, Shortage, SocketFault, Step, open_files};
 use std::fs::{Files, OpenOptions};
@@ -36,6 +36,11 @@ pub fn settings_of<'a>(service: &'a Service<'a>) -> Settings<'a> {
         announce6: inet6,
         port: service.port,
         limits: service.limits,
+        terms: service.terms,
+        udp_rate: match service.udp_rate {
+            Some(UdpRate { network, host }) => Some(Rate { network, host }),
+            None => None,
+        },
         open_files: open_files(),
         record: match &service.recorded {
             Some(record) => record.limit,

@@ -20,3 +20,4 @@ pub mod GoingOn
 pub mod Settled
 pub mod IdleSlots
 pub mod ListsGoOn
+pub mod GivenCosts

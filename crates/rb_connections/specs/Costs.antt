@@ -1,15 +1,20 @@
 -- What a call on a connection, or on the table of connections, costs at most.
-use Rattle.std.specs.Prelude.{ℕ, ◌+◌, length, Option, Some, None, Result, Ok, Err}
+use Rattle.std.specs.Prelude.{ℕ, ◌+◌, length, is_some, Option, Some, None, Result, Ok, Err}
+use Rattle.rb_xdr.specs.Meter.{Meter, PaysAtMost}
 use Rattle.rb_registry.specs.Registry.{Registry, slots_of}
 use Rattle.rb_model.specs.declared.types.CoreFault.{CoreFault}
-use Rattle.rb_model.specs.Costs.{show_cost, listed_cost, given_cost, recount_cost, find_cost, take_cost, swap_cost}
+use Rattle.rb_model.specs.Connections.{live_connection}
+use Rattle.rb_model.specs.Costs.{walked, show_cost, listed_cost, given_cost, recount_cost, find_cost, take_cost, swap_cost, gave_cost}
+use Rattle.rb_model.specs.State.{Connections}
 use Rattle.rb_connections.specs.declared.giving.Rest.{Rest}
 use Rattle.rb_connections.specs.declared.giving.Rest.TheVariants as rests
 use Rattle.rb_model.specs.declared.served.Served.{Served}
 use Rattle.rb_model.specs.declared.served.Served.TheVariants.{Answered, Listed}
 use Rattle.rb_connections.specs.declared.slot.EndedRecord.{EndedRecord}
 use Rattle.rb_connections.specs.declared.slot.Received.{Received}
-use Rattle.rb_connections.specs.StandsFor.{Table}
+use Rattle.rb_connections.specs.declared.slot.Slot.{Slot}
+use Rattle.rb_connections.specs.Listings.{stamp_of_slot}
+use Rattle.rb_connections.specs.StandsFor.{Table, StandsForConnections}
 
 -- ---- on one connection
 
@@ -40,6 +45,10 @@ abbrev pub taken_cost : Result Received CoreFault → ℕ
 taken_cost (Ok got) = received_cost got + recount_cost
 taken_cost (Err fault) = 0
 
+-- what it costs to count bytes as given: only the next fragment of a list walks the rows
+abbrev pub slot_given_cost : Registry → Slot → ℕ
+slot_given_cost registry slot = given_cost (walked (is_some (stamp_of_slot slot)) (row_count registry))
+
 -- ---- on the table
 
 -- how many connections are there, and what it costs to look one of them up
@@ -53,6 +62,8 @@ look_cost table = find_cost (slot_count table)
 abbrev pub settling_cost : Table → Registry → Served → ℕ
 settling_cost table registry served = look_cost table + answered_cost registry served + recount_cost
 
--- or to count bytes as given on it
-abbrev pub giving_cost : Table → Registry → ℕ
-giving_cost table registry = look_cost table + (given_cost (row_count registry) + recount_cost)
+-- or to count bytes as given on it, by the connections that the table stands for
+abbrev pub PaysToGive : Table → Registry → ℕ → Meter → Meter → Type 0
+PaysToGive table registry id before now =
+    (x : Connections) → StandsForConnections registry table x
+    → PaysAtMost before now (gave_cost (slot_count table) (row_count registry) (live_connection id x.all))

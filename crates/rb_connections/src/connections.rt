@@ -237,7 +237,7 @@ impl Connections {
     ghost use Rattle.rb_connections.specs.Standings.{TellsStanding, TellsReceived, IsStanding};
     ghost use Rattle.rb_connections.specs.Slots.{Finds, TableActs, TableGives, TableHasArguments, TableLends, TableShows, TakesWhole, KeepsWhole, StaysTable, IsDraft, IsEmptyDraft, empty_table, take_piece, HasBuffers};
     ghost use Rattle.rb_model.specs.Step.{pending_at};
-    ghost use Rattle.rb_connections.specs.Costs.{slot_count, look_cost, received_cost, taken_cost, settling_cost, giving_cost};
+    ghost use Rattle.rb_connections.specs.Costs.{slot_count, look_cost, received_cost, taken_cost, settling_cost, PaysToGive};
     ghost use Rattle.rb_model.specs.Costs.{pending_cost, oldest_cost, evict_cost};
     ghost use Rattle.rb_connections.specs.Awaits.{AwaitsIfForwarded, NoneIsFreed, OnlyIsFreed, EndedOn, EndsOnFree, GoOn, StayOpen};
     ghost use Rattle.rb_connections.specs.StandsFor.{held_in, most_charge};
@@ -433,7 +433,8 @@ impl Connections {
         ensures refused { OnErr result (self.new ≡ self.old) }
         ensures stays { StaysTable self.old self.new }
         ensures draft { IsEmptyDraft meter.old.tie draft.new }
-        ensures cost { PaysAtMost meter.old meter.new (giving_cost self.old registry.now) }
+        ensures same_meter { meter.new.tie ≡ meter.old.tie }
+        ensures cost { PaysToGive self.old registry.now id meter.old meter.new }
     {
         let Some(slot) = live_slot(&mut self.slots, &mut self.hints, &mut self.held, id, meter)
         else {

@@ -175,8 +175,8 @@ impl Slot {
     ghost use Rattle.rb_connections.specs.Settling.{SlotSettles};
     ghost use Rattle.rb_connections.specs.Giving.{SlotShowsNext};
     ghost use Rattle.rb_connections.specs.Awaits.{is_awaiting_stage, sender_on, EndsOnSlot, IsIdleAt};
-    ghost use Rattle.rb_connections.specs.Costs.{received_cost, next_cost, row_count, answered_cost};
-    ghost use Rattle.rb_model.specs.Costs.{given_cost, pending_cost};
+    ghost use Rattle.rb_connections.specs.Costs.{received_cost, next_cost, answered_cost, slot_given_cost};
+    ghost use Rattle.rb_model.specs.Costs.{pending_cost};
 
     #[tactic(auto, unfolding(crate::specs::Slots::is_wanted_slot))]
     pub fn is_wanted(&self, wanted: Wanted) -> bool
@@ -430,7 +430,7 @@ impl Slot {
         ensures lists { CanContinueSlot registry.now self.new }
         ensures stays { StaysSlot meter.old.tie self.old self.new }
         ensures draft { IsEmptyDraft meter.old.tie draft.new }
-        ensures cost { PaysAtMost meter.old meter.new (given_cost (row_count registry.now)) }
+        ensures cost { PaysAtMost meter.old meter.new (slot_given_cost registry.now self.old) }
     {
         let Stage::Owing(giving) = self.stage else {
             return;

@@ -1,5 +1,5 @@
 -- Each connection for which a call is forwarded awaits it, after a call too.
-use Rattle.std.proofs.Common.{◌≡◌, Bool, true, false, refl, sym, ◌∙◌}
+use Rattle.std.proofs.Common.{◌≡◌, ℕ, Bool, true, false, refl, sym, ◌∙◌}
 use Rattle.rb_address.specs.declared.who.Who.{Who}
 use Rattle.rb_rpc.specs.declared.caller.Caller.TheVariants.{Udp}
 use Rattle.rb_forward.specs.StandsFor.{Table as Entries, slots_of}
@@ -20,5 +20,5 @@ pub awaited_by_entries : (old new : Entries) (table : Table) → AreAwaited old 
 awaited_by_entries old new table are anew = λ id waits. are id (waited (is_waiting id (slots_of old)) (is_waiting id (slots_of new)) (anew id) waits)
 
 -- a caller over UDP is no connection
-pub awaited_by_udp : (old new : Entries) (who : Who) (table : Table) → AreAwaited old table → OnlyWaitsAnew (Udp who) (slots_of old) (slots_of new) → AreAwaited new table
-awaited_by_udp old new who table are anew = awaited_by_entries old new table are (λ id. anew id refl)
+pub awaited_by_udp : (old new : Entries) (who : Who) (longest : ℕ) (table : Table) → AreAwaited old table → OnlyWaitsAnew (Udp who longest) (slots_of old) (slots_of new) → AreAwaited new table
+awaited_by_udp old new who longest table are anew = awaited_by_entries old new table are (λ id. anew id refl)

@@ -1,6 +1,6 @@
 -- What a call pays is within the bound on its steps.
 use Rattle.std.specs.Prelude.{IfSome}
-use Rattle.std.proofs.Common.{◌≡◌, ◌≤◌, ℕ, ◌+◌, ◌*◌, max, cond, true, false, eqb, List, [], ◌∷◌, ◌++◌, length, Option, Some, None, Result, Ok, Err, refl, sym, ap, ◌∙◌, arith}
+use Rattle.std.proofs.Common.{◌≡◌, ◌≤◌, ℕ, ◌+◌, ◌*◌, max, Bool, cond, true, false, eqb, List, [], ◌∷◌, ◌++◌, length, Option, Some, None, Result, Ok, Err, refl, sym, ap, ◌∙◌, arith}
 use Rattle.std.proofs.lemmas.List.{length-take}
 use Rattle.rb_xdr.specs.Meter.{Meter, PaysAtMost}
 use Rattle.rb_xdr.specs.Ordered.{looks}
@@ -22,7 +22,7 @@ use Rattle.rb_model.specs.Step.Event.{Bytes, Datagram}
 use Rattle.rb_model.specs.Costs.{Sizes, asks_for_rows, sizes_for, find_cost, pending_cost, take_cost, recount_cost, gave_cost, close_cost, ended_cost, datagram_cost, bytes_cost, count_taken, record_cost}
 use Rattle.rb_model.specs.Laws.{NoRecordEnds}
 use Rattle.rb_model.specs.Bounds.{steps_bound}
-use Rattle.rb_model.proofs.CostBounds.{looks_few, message_most, answer_most}
+use Rattle.rb_model.proofs.CostBounds.{looks_few, message_most, answer_most, gave_most}
 use Rattle.rb_laws.proofs.EntriesKept.{step-follows}
 use Rattle.rb_laws.proofs.Room.{reached-room}
 use Rattle.rb_laws.proofs.StepBounds.{taken-counts}
@@ -31,17 +31,17 @@ use Rattle.rb_connections.specs.Slots.{Acts}
 use Rattle.rb_connections.specs.Costs.{look_cost, slot_count}
 use Rattle.rb_core.specs.StandsFor.{Held, StandsFor}
 use Rattle.rb_model.specs.Exchanges.{without_front, exchange}
-use Rattle.rb_core.specs.CallCosts.{sizes_of, PaysForBytes, PaysForDatagram}
+use Rattle.rb_core.specs.CallCosts.{announced_in, may_register_in, sizes_of, PaysForBytes, PaysForDatagram, PaysToGive}
 use Rattle.rb_core.specs.Events.{StaysCheapIfQuiet, StaysWithinSteps, length_taken}
 use Rattle.rb_core.proofs.Outputs.{datagram_shown, same_state}
 use Rattle.rb_core.proofs.Spending.{at_most, connections_held, rows_held}
 
 -- where no record ends, there is none to be answered
-no_record : (sizes : Sizes) (c : Connection) (piece : List ℕ) → IfSome (fed_in c.phase) (λ fed. first_record (fed ++ piece) ≡ None) → record_cost sizes (taking_of c.phase piece) ≡ 0
+no_record : (may : Bool) (sizes : Sizes) (c : Connection) (piece : List ℕ) → IfSome (fed_in c.phase) (λ fed. first_record (fed ++ piece) ≡ None) → record_cost may sizes (taking_of c.phase piece) ≡ 0
 unfolding taking_of
-no_record sizes c piece none = by_fed (fed_in c.phase) piece none
+no_record may sizes c piece none = by_fed (fed_in c.phase) piece none
   where
-    by_fed : (o : Option (List ℕ)) (xs : List ℕ) → IfSome o (λ fed. first_record (fed ++ xs) ≡ None) → record_cost sizes (taking_behind o xs) ≡ 0
+    by_fed : (o : Option (List ℕ)) (xs : List ℕ) → IfSome o (λ fed. first_record (fed ++ xs) ≡ None) → record_cost may sizes (taking_behind o xs) ≡ 0
     by_fed None xs e = refl
     by_fed (Some fed) [] e = refl
     by_fed (Some fed) (x ∷ xs) e = rw e refl
@@ -76,8 +76,13 @@ module _ (core : Held) (a b : Meter) where
   pub pending_within : (given : ℕ) → PaysAtMost a b (look_cost core.connections + pending_cost) → StaysWithinSteps core 0 given a b
   pending_within given pays = record { within = λ s h reached. at_most a b (look_cost core.connections + pending_cost) _ (omega (arith, few_connections s h reached)) pays }
 
-  pub gave_within : (given : ℕ) → PaysAtMost a b (gave_cost (sizes_of core core)) → StaysWithinSteps core 0 given a b
-  gave_within given pays = record { within = λ s h reached. at_most a b (gave_cost (sizes_of core core)) _ (omega (arith, few_connections s h reached, few_rows s h)) pays }
+  pub gave_within : (id given : ℕ) → PaysToGive core id a b → StaysWithinSteps core 0 given a b
+  gave_within id given pays = record {
+    within = λ s h reached.
+        let most = gave_most (length core.connections.slots) (length (slots_of core.books.registry)) (live_connection id s.connections.all) in
+        at_most a b (gave_cost (length core.connections.slots) (length (slots_of core.books.registry)) (live_connection id s.connections.all)) _
+        (omega (arith, few_connections s h reached, few_rows s h, most)) (pays s h);
+  }
 
   pub closed_within : PaysAtMost a b (close_cost (sizes_of core core)) → StaysWithinSteps core 0 0 a b
   closed_within pays = record { within = λ s h reached. at_most a b (close_cost (sizes_of core core)) _ (omega (arith, few_connections s h reached, entries s h)) pays }
@@ -104,14 +109,15 @@ module _ (core : Held) (a b : Meter) where
       omega (arith, limit, rows_held new t k)
 
   pub datagram_within : (new : Held) (now : ℕ) (who : Who) (content : List ℕ) (given : Outcome) → Acts StandsFor (λ s. datagram s now who content) core new given
-      → PaysForDatagram core new content a b → StaysWithinSteps core (length content) 0 a b
+      → PaysForDatagram core new who content a b → StaysWithinSteps core (length content) 0 a b
   unfolding step longest_reply longest_kept buffer_size longest_args
   datagram_within new now who content given acts pays = record {
     within = λ s h reached.
         let shows = datagram_shown core new (λ t. datagram t now who content) given acts s h in
         let left = rows_left new s _ h shows.1 (step-follows s (Datagram now who content)).setting in
-        let most = message_most (asks_for_rows (message_of content)) (sizes_of core new) (length content) (length new.reply) in
-        at_most a b (datagram_cost (sizes_for (message_of content) (sizes_of core new)) (length content) (length new.reply)) _
+        let may : Bool = may_register_in core who in
+        let most = message_most (asks_for_rows may (message_of content)) (sizes_of core new) (length content) (length new.reply) in
+        at_most a b (datagram_cost (sizes_for may (message_of content) (sizes_of core new)) (length content) (length new.reply)) _
         (omega (arith, few_connections s h reached, few_rows s h, few_looks s h, left, shows.1.short, most)) pays;
   }
 
@@ -140,7 +146,7 @@ module _ (core : Held) (a b : Meter) where
         same_taken taken (when_taken (at_moment now s) id piece c (taking_of c.phase piece)).0 same ∙ taken-counts (at_moment now s) id piece c (taking_of c.phase piece)
 
     pub exchange_within : (new : Held) (room n more : ℕ) (result : Result Taken CoreFault) (given : List ℕ) → Acts StandsFor (exchange now id piece room) core new (result, given) → more ≤ n + 2
-        → ((s : State) → StandsFor core s → PaysAtMost a b (bytes_cost (sizes_of core new) piece (live_connection id s.connections.all) + more)) → StaysWithinSteps core (length_taken result) n a b
+        → ((s : State) → StandsFor core s → PaysAtMost a b (bytes_cost (announced_in core) (sizes_of core new) piece (live_connection id s.connections.all) + more)) → StaysWithinSteps core (length_taken result) n a b
     unfolding step longest_reply longest_kept buffer_size longest_args
     exchange_within new room n more result given acts few pays = record { within = λ s h reached. by_there s h reached (live_connection id s.connections.all) refl (pays s h) }
       where
@@ -151,25 +157,25 @@ module _ (core : Held) (a b : Meter) where
             ∙ ap (λ (t : State). t.setting) (sym (same_state show_taken (bytes s now id piece))) ∙ (step-follows s (Bytes now id piece)).setting in
             rows_left new s _ h (acts.stands s h) same
 
-        by_taking : (s : State) → StandsFor core s → IsReached s → (t : Taking) → length_taken result ≡ count_taken piece t
-            → PaysAtMost a b (find_cost (length core.connections.slots) + take_cost (count_taken piece t) + recount_cost + record_cost (sizes_of core new) t + more) → PaysAtMost a b (steps_bound core.setting.limits (length_taken result) n)
-        by_taking s h reached TakesNone k paid = at_most a b (find_cost (length core.connections.slots) + take_cost 0 + recount_cost + 0 + more) _ (omega (arith, few, few_connections s h reached)) paid
-        by_taking s h reached (GoesOn fed) k paid = at_most a b (find_cost (length core.connections.slots) + take_cost (length piece) + recount_cost + 0 + more) _ (omega (arith, few, few_connections s h reached, k)) paid
-        by_taking s h reached (Ends m content) k paid =
-            at_most a b (find_cost (length core.connections.slots) + take_cost m + recount_cost + record_cost (sizes_of core new) (Ends m content) + more) _
-            (omega (arith, few, few_connections s h reached, few_rows s h, few_looks s h, left s h, k, length-take longest_kept (arguments_of content), answer_most (asks_for_rows (message_of content)) (sizes_of core new) (length (kept_of content)))) paid
+        by_taking : (s : State) → StandsFor core s → IsReached s → (may : Bool) (t : Taking) → length_taken result ≡ count_taken piece t
+            → PaysAtMost a b (find_cost (length core.connections.slots) + take_cost (count_taken piece t) + recount_cost + record_cost may (sizes_of core new) t + more) → PaysAtMost a b (steps_bound core.setting.limits (length_taken result) n)
+        by_taking s h reached may TakesNone k paid = at_most a b (find_cost (length core.connections.slots) + take_cost 0 + recount_cost + 0 + more) _ (omega (arith, few, few_connections s h reached)) paid
+        by_taking s h reached may (GoesOn fed) k paid = at_most a b (find_cost (length core.connections.slots) + take_cost (length piece) + recount_cost + 0 + more) _ (omega (arith, few, few_connections s h reached, k)) paid
+        by_taking s h reached may (Ends m content) k paid =
+            at_most a b (find_cost (length core.connections.slots) + take_cost m + recount_cost + record_cost may (sizes_of core new) (Ends m content) + more) _
+            (omega (arith, few, few_connections s h reached, few_rows s h, few_looks s h, left s h, k, length-take longest_kept (arguments_of content), answer_most (asks_for_rows may (message_of content)) (sizes_of core new) (length (kept_of content)))) paid
 
-        by_there : (s : State) → StandsFor core s → IsReached s → (m : Option Connection) → live_connection id s.connections.all ≡ m → PaysAtMost a b (bytes_cost (sizes_of core new) piece m + more) → PaysAtMost a b (steps_bound core.setting.limits (length_taken result) n)
+        by_there : (s : State) → StandsFor core s → IsReached s → (m : Option Connection) → live_connection id s.connections.all ≡ m → PaysAtMost a b (bytes_cost (announced_in core) (sizes_of core new) piece m + more) → PaysAtMost a b (steps_bound core.setting.limits (length_taken result) n)
         by_there s h reached None there paid = at_most a b (find_cost (length core.connections.slots) + more) _ (omega (arith, few, few_connections s h reached)) paid
-        by_there s h reached (Some c) there paid = by_taking s h reached (taking_of c.phase piece) (counts s c result there (ap (λ (x : Result Taken CoreFault × List ℕ). x.0) (acts.gives s h))) paid
+        by_there s h reached (Some c) there paid = by_taking s h reached (may_register_in core c.who) (taking_of c.phase piece) (counts s c result there (ap (λ (x : Result Taken CoreFault × List ℕ). x.0) (acts.gives s h))) paid
 
     -- where no record ends, a piece costs a step for each byte that is taken, two for each connection, and 9
     pub cheap_within : (new : Held) (result : Result Taken CoreFault) → Acts StandsFor (λ s. bytes s now id piece) core new result → PaysForBytes core new id piece a b → StaysCheapIfQuiet core id piece result a b
     cheap_within new result acts pays = λ s h reached none. by_there s h reached none (live_connection id s.connections.all) refl (pays s h)
       where
-        by_there : (s : State) → StandsFor core s → IsReached s → NoRecordEnds s id piece → (m : Option Connection) → live_connection id s.connections.all ≡ m → PaysAtMost a b (bytes_cost (sizes_of core new) piece m)
+        by_there : (s : State) → StandsFor core s → IsReached s → NoRecordEnds s id piece → (m : Option Connection) → live_connection id s.connections.all ≡ m → PaysAtMost a b (bytes_cost (announced_in core) (sizes_of core new) piece m)
             → PaysAtMost a b (8 * length_taken result + 64 * core.setting.limits.conns + 64)
         by_there s h reached none None there paid = at_most a b (find_cost (length core.connections.slots)) _ (omega (arith, few_connections s h reached)) paid
         by_there s h reached none (Some c) there paid =
-            let quiet : record_cost (sizes_of core new) (taking_of c.phase piece) ≡ 0 = no_record (sizes_of core new) c piece (rw there at none) in
-            at_most a b (bytes_cost (sizes_of core new) piece (Some c)) _ (omega (arith, few_connections s h reached, quiet, counts s c result there (acts.gives s h))) paid
+            let quiet : record_cost (may_register_in core c.who) (sizes_of core new) (taking_of c.phase piece) ≡ 0 = no_record (may_register_in core c.who) (sizes_of core new) c piece (rw there at none) in
+            at_most a b (bytes_cost (announced_in core) (sizes_of core new) piece (Some c)) _ (omega (arith, few_connections s h reached, quiet, counts s c result there (acts.gives s h))) paid

@@ -22,11 +22,11 @@ use Rattle.rb_model.specs.declared.message.Message.{Message}
 use Rattle.rb_model.specs.declared.types.CoreFault.{CoreFault}
 use Rattle.rb_model.specs.declared.types.CoreFault.TheVariants.{Gone}
 use Rattle.rb_model.specs.Calls.{Outcome, outcome, message_with, message_of, is_no_call, reply_in, longest_reply, kept_of}
-use Rattle.rb_model.specs.State.{State, Phase, Connection, Connections, at_moment}
+use Rattle.rb_model.specs.State.{Setting, State, Phase, Connection, Connections, at_moment}
 use Rattle.rb_model.specs.State.Phase.{Idle, Reading, Owing, Awaiting, Lost}
 use Rattle.rb_model.specs.Connections.{Taking, taking_of, keep_reading, settle, is_lost, is_live, live_connection, change_first, changed_at, on_live, open_in_table, close_in_table, give}
 use Rattle.rb_model.specs.Connections.Taking.{TakesNone, GoesOn, Ends}
-use Rattle.rb_model.specs.Step.{context_in, with_ledger, with_reply, settle_on, serve_message, serve, serve_record, with_count, when_taken, bytes_to, bytes, datagram, gave, open_connection, close_connection, unless_refused, dropped_with, unsent_call, sent_call}
+use Rattle.rb_model.specs.Step.{longest_to, sender, context_in, with_ledger, with_reply, settle_on, serve_message, serve, serve_record, with_count, when_taken, bytes_to, bytes, datagram, gave, open_connection, close_connection, unless_refused, dropped_with, unsent_call, sent_call}
 use Rattle.rb_model.specs.declared.types.Taken.{Taken}
 use Rattle.rb_model.specs.Laws.{is_owing}
 use Rattle.rb_model.specs.Losses.{stamp_in, removals_in_the_way, evict_early, evict, with_room}
@@ -231,15 +231,24 @@ module _ (old : Held) (now clock : ℕ) (who : Who) (content : List ℕ) (table 
   abbrev new_held : Held
   new_held = record old { clock = clock; connections = table; books = books; reply = reply; tie = tie }
 
-  abbrev roomy : State → State
-  roomy s = with_room (context_in (at_moment now s) (Udp who)) (message_of content) (at_moment now s)
+  -- the caller of the datagram, by what is held
+  abbrev pub datagram_caller : Caller
+  datagram_caller = Udp who (longest_to old.setting.listener.terms who (length content))
 
-  abbrev answered : State → Outcome × Ledger
-  answered s = outcome (context_in (at_moment now s) (Udp who)) (message_of content) (arguments_of content) s.ledger
+  abbrev roomy : Caller → State → State
+  roomy caller s = with_room (context_in (at_moment now s) caller) (message_of content) (at_moment now s)
+
+  abbrev answered : Caller → State → Outcome × Ledger
+  answered caller s = outcome (context_in (at_moment now s) caller) (message_of content) (arguments_of content) s.ledger
+
+  abbrev Answers : Outcome → Caller → State → Type 0
+  Answers given caller s =
+      (given ≡ (with_reply (with_ledger (roomy caller s) (answered caller s))).0)
+      × StandsFor new_held (with_reply (with_ledger (roomy caller s) (answered caller s))).1
 
   told_state : (given : Outcome) → SameFrame old.books books → StaysTable old.connections table → reply ≡ reply_in given → (s : State) → StandsFor old s
-      → StandsForConnections books.registry table (roomy s).connections → (o : Outcome × Ledger) → given ≡ o.0 → StandsForLedger books o.1
-      → (given ≡ (with_reply (with_ledger (roomy s) o)).0) × StandsFor new_held (with_reply (with_ledger (roomy s) o)).1
+      → StandsForConnections books.registry table (roomy datagram_caller s).connections → (o : Outcome × Ledger) → given ≡ o.0 → StandsForLedger books o.1
+      → (given ≡ (with_reply (with_ledger (roomy datagram_caller s) o)).0) × StandsFor new_held (with_reply (with_ledger (roomy datagram_caller s) o)).1
   told_state given frame stays holds s h left (told, l) e z = (
     e,
     record {
@@ -258,19 +267,24 @@ module _ (old : Held) (now clock : ℕ) (who : Who) (content : List ℕ) (table 
     },
   )
 
-  pub datagram_acts : (given : Outcome) → Served (context_of (record old { clock = clock }) (Udp who)) (record old { clock = clock }) (message_of content) (arguments_of content) table books given → reply ≡ reply_in given
+  pub datagram_acts : (given : Outcome) → Served (context_of (record old { clock = clock }) datagram_caller) (record old { clock = clock }) (message_of content) (arguments_of content) table books given → reply ≡ reply_in given
       → Acts StandsFor (λ s. datagram s now who content) old new_held given
   unfolding datagram serve
   datagram_acts given served holds = record { gives = λ s h. (goes s h).0; stands = λ s h. (goes s h).1 }
     where
-      goes : (s : State) → StandsFor old s → (given ≡ (with_reply (with_ledger (roomy s) (answered s))).0) × StandsFor new_held (with_reply (with_ledger (roomy s) (answered s))).1
+      -- the setting is the same, so the caller is
+      is_sender : (s : State) → StandsFor old s → datagram_caller ≡ sender s who content
+      is_sender s h = ap (λ (setting : Setting). Udp who (longest_to setting.listener.terms who (length content))) h.setting
+
+      goes : (s : State) → StandsFor old s → Answers given (sender s who content) s
       goes s h =
           let before : Held = record old { clock = clock } in
-          told_state given served.frame served.stays holds s h
-          (serve_connections before (Udp who) (message_of content) (arguments_of content) table books given served (at_moment now s) (moment s h))
-          (answered s)
-          (serve_gives before (Udp who) (message_of content) (arguments_of content) table books given served (at_moment now s) (moment s h))
-          (serve_stands before (Udp who) (message_of content) (arguments_of content) table books given served (at_moment now s) (moment s h))
+          subst (λ (caller : Caller). Answers given caller s) (is_sender s h)
+          (told_state given served.frame served.stays holds s h
+          (serve_connections before datagram_caller (message_of content) (arguments_of content) table books given served (at_moment now s) (moment s h))
+          (answered datagram_caller s)
+          (serve_gives before datagram_caller (message_of content) (arguments_of content) table books given served (at_moment now s) (moment s h))
+          (serve_stands before datagram_caller (message_of content) (arguments_of content) table books given served (at_moment now s) (moment s h)))
 
 -- ---- a piece of bytes
 

@@ -1,23 +1,29 @@
 -- What calls cost at most, by what is held.
-use Rattle.std.specs.Prelude.{◌≡◌, ℕ, ◌+◌, false, List, length, Option, Some, Result}
+use Rattle.std.specs.Prelude.{◌≡◌, ℕ, ◌+◌, Bool, false, List, length, Option, Some, Result}
 use Rattle.std.specs.Borrow.{Bor}
 use Rattle.rb_xdr.specs.Kept.{Kept}
 use Rattle.rb_xdr.specs.Meter.{Meter, PaysAtMost}
 use Rattle.rb_xdr.specs.Ordered.{looks}
 use Rattle.rb_rpc.specs.declared.call.Verdict.{Verdict}
 use Rattle.rb_forward.specs.Costs.{unsent_cost}
+use Rattle.rb_address.specs.declared.who.Who.{Who}
 use Rattle.rb_proto.specs.declared.books.Books.{Books}
+use Rattle.rb_proto.specs.declared.context.Context.{Context}
+use Rattle.rb_proto.specs.declared.listener.Announced.{Announced}
+use Rattle.rb_proto.specs.Answers.{comes_from_here}
+use Rattle.rb_proto.specs.Callers.{may_register}
 use Rattle.rb_model.specs.declared.types.CoreFault.{CoreFault}
 use Rattle.rb_model.specs.declared.message.Message.{Message}
 use Rattle.rb_model.specs.Calls.{message_with, message_of, kept_of}
-use Rattle.rb_model.specs.Costs.{Sizes, sizes_for, asks_for_rows, room_cost, message_cost, answer_cost, datagram_cost, bytes_cost, plain_cost, plain_record_cost}
+use Rattle.rb_model.specs.Costs.{Sizes, sizes_for, asks_for_rows, room_cost, message_cost, answer_cost, datagram_cost, bytes_cost, gave_cost, plain_cost, plain_record_cost}
 use Rattle.rb_model.specs.Connections.{taking_of, live_connection}
 use Rattle.rb_model.specs.Connections.Taking.{Ends}
 use Rattle.rb_model.specs.State.{State, Connection}
 use Rattle.rb_connections.specs.StandsFor.{Table}
+use Rattle.rb_connections.specs.declared.slot.EndedRecord.{EndedRecord}
 use Rattle.rb_connections.specs.Giving.{whole_cost}
 use Rattle.rb_connections.specs.Costs.{look_cost, slot_count, taken_cost}
-use Rattle.rb_serving.specs.Costs.{sizes_over}
+use Rattle.rb_serving.specs.Costs.{row_count_of, sizes_over}
 use Rattle.rb_core.specs.StandsFor.{Held, StandsFor}
 use Rattle.rb_core.specs.declared.calls.Piece.{Piece}
 use Rattle.rb_model.specs.declared.types.Exchanged.{Exchanged}
@@ -25,6 +31,10 @@ use Rattle.rb_core.specs.Core.{arguments_in, received_in}
 use Rattle.rb_model.specs.Exchanges.{count_given}
 
 -- ---- by what is kept
+
+-- the hosts by which its caller may register or not
+abbrev pub announced_in : Held → Announced
+announced_in held = held.setting.listener.announced
 
 -- what the costs of a call depend on; `old` and `new` are the books before and after it
 abbrev pub sizes : Table → Books → Books → Sizes
@@ -40,53 +50,70 @@ abbrev pub PaysForPiece : Table → Result Piece CoreFault → Meter → Meter �
 PaysForPiece table result before now = PaysAtMost before now (look_cost table + taken_cost (received_in result))
 
 -- to make room for the row of a message
-abbrev pub PaysForRoom : Message → Table → Books → Books → Meter → Meter → Type 0
-PaysForRoom message table old new before now =
-    PaysAtMost before now (room_cost (sizes_for message (sizes table old new)))
+abbrev pub PaysForRoom : Context → Message → Table → Books → Books → Meter → Meter → Type 0
+PaysForRoom context message table old new before now =
+    PaysAtMost before now (room_cost (sizes_for (comes_from_here context) message (sizes table old new)))
 
 -- to serve the message on which this is the verdict, with these arguments, whose reply is in this buffer, once there is
 -- room for its row
-abbrev pub PaysInRoom : Verdict → Table → Books → Books → List ℕ → Kept → Meter → Meter → Type 0
-PaysInRoom verdict table old new args out before now =
+abbrev pub PaysInRoom : Context → Verdict → Table → Books → Books → List ℕ → Kept → Meter → Meter → Type 0
+PaysInRoom context verdict table old new args out before now =
     PaysAtMost before now
-    (message_cost (sizes_for (message_with verdict args) (sizes table old new)) (length args) (length out.bytes))
+    (message_cost (sizes_for (comes_from_here context) (message_with verdict args) (sizes table old new))
+    (length args) (length out.bytes))
 
--- to answer a datagram
-abbrev pub PaysForDatagram : Held → Held → List ℕ → Meter → Meter → Type 0
-PaysForDatagram old new content before now =
+-- the caller may register
+abbrev pub may_register_in : Held → Who → Bool
+may_register_in held who = may_register (announced_in held) who
+
+-- to answer a datagram from this caller
+abbrev pub PaysForDatagram : Held → Held → Who → List ℕ → Meter → Meter → Type 0
+PaysForDatagram old new who content before now =
     PaysAtMost before now
-    (datagram_cost (sizes_for (message_of content) (sizes_of old new)) (length content) (length new.reply))
+    (datagram_cost (sizes_for (may_register_in old who) (message_of content) (sizes_of old new))
+    (length content) (length new.reply))
 
 -- to answer a record of this verdict with these arguments, of whose reply n bytes are given where there is this room
-abbrev pub PaysToAnswer : Verdict → Held → Held → Option (Bor (List ℕ)) → List ℕ → ℕ → Meter → Meter → Type 0
-PaysToAnswer verdict old new args room n before now =
+abbrev pub PaysToAnswer : EndedRecord → Held → Held → Option (Bor (List ℕ)) → List ℕ → ℕ → Meter → Meter → Type 0
+PaysToAnswer ended old new args room n before now =
     let lent : List ℕ = arguments_in args old.arguments in
     PaysAtMost before now
-    (answer_cost (sizes_for (message_with verdict lent) (sizes_of old new)) (length lent) + whole_cost (length room) n)
+    (answer_cost (sizes_for (may_register_in old ended.who) (message_with ended.verdict lent) (sizes_of old new)) (length lent)
+    + whole_cost (length room) n)
 
 -- for a piece of bytes on the connection of the number, from whatever state the core stood for
 abbrev pub PaysForBytes : Held → Held → ℕ → List ℕ → Meter → Meter → Type 0
 PaysForBytes old new id piece before now =
     (s : State) → StandsFor old s
-    → PaysAtMost before now (bytes_cost (sizes_of old new) piece (live_connection id s.connections.all))
+    → PaysAtMost before now
+    (bytes_cost (announced_in old) (sizes_of old new) piece (live_connection id s.connections.all))
 
 -- the same where a reply may be given at once, in this room
 abbrev pub PaysForExchange : Held → Held → ℕ → List ℕ → List ℕ → Result Exchanged CoreFault → Meter → Meter → Type 0
 PaysForExchange old new id piece room result before now =
     (s : State) → StandsFor old s
     → PaysAtMost before now
-    (bytes_cost (sizes_of old new) piece (live_connection id s.connections.all) + whole_cost (length room) (count_given result))
+    (bytes_cost (announced_in old) (sizes_of old new) piece (live_connection id s.connections.all)
+    + whole_cost (length room) (count_given result))
 
--- ---- what is paid where no rows are asked for, whatever is registered or retained
+-- to count bytes as given on the connection of the number, from whatever state the core stood for
+abbrev pub PaysToGive : Held → ℕ → Meter → Meter → Type 0
+PaysToGive old id before now =
+    (s : State) → StandsFor old s
+    → PaysAtMost before now
+    (gave_cost (slot_count old.connections) (row_count_of old.books) (live_connection id s.connections.all))
+
+-- ---- what is paid where no rows are asked for, and by a SET or an UNSET of a caller that may not register, whatever is
+-- registered or retained
 
 -- how many looks a search takes
 abbrev pub looks_in : Held → ℕ
 looks_in held = looks held.setting.limits.rows
 
--- to answer a datagram
-abbrev pub PaysForPlainDatagram : Held → Held → List ℕ → Meter → Meter → Type 0
-PaysForPlainDatagram old new content before now =
-    asks_for_rows (message_of content) ≡ false
+-- to answer a datagram from this caller
+abbrev pub PaysForPlainDatagram : Held → Held → Who → List ℕ → Meter → Meter → Type 0
+PaysForPlainDatagram old new who content before now =
+    asks_for_rows (may_register_in old who) (message_of content) ≡ false
     → PaysAtMost before now (plain_cost (looks_in old) (length content) (length new.reply))
 
 -- for a piece of bytes with which a record ends, and for so many steps more
@@ -94,7 +121,7 @@ abbrev pub PaysForPlainRecord : Held → ℕ → List ℕ → ℕ → Meter → 
 PaysForPlainRecord old id piece more before now =
     (s : State) (c : Connection) (n : ℕ) (content : List ℕ)
     → StandsFor old s → live_connection id s.connections.all ≡ Some c → taking_of c.phase piece ≡ Ends n content
-    → asks_for_rows (message_of content) ≡ false
+    → asks_for_rows (may_register_in old c.who) (message_of content) ≡ false
     → PaysAtMost before now (plain_record_cost (looks_in old) (slot_count old.connections) n (length (kept_of content)) + more)
 
 -- the same where its reply may be given at once, in this room

@@ -54,6 +54,7 @@ pub record IsCore (setting : Setting) (connections : Table) (books : Books) (rep
 abbrev pub context_of : Held → Caller → Context
 context_of held caller = record {
   announced = held.setting.listener.announced;
+  terms = held.setting.listener.terms;
   limit = held.setting.limits.rows;
   forwards = held.setting.limits.forwards;
   clock = held.clock;

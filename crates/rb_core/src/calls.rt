@@ -118,7 +118,7 @@ pub fn serve_verdict(
     ensures lists { CanContinueAll books.new.registry connections.new }
     ensures open { StayOpen connections.old connections.new }
     ensures listed { ListsIfAsked (message_with verdict.now arguments.now) result }
-    ensures cost { PaysInRoom verdict.now
+    ensures cost { PaysInRoom context.now verdict.now
         connections.old books.old books.new arguments.now out.new meter.old meter.new }
 {
     let called = match procedure_of(verdict) {

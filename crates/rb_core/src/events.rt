@@ -13,7 +13,7 @@ use rb_model::{
 };
 use rb_proto::{Books, Context, Listener, own_row_count};
 use rb_rpc::{Caller, LONGEST_FRAGMENT, read_call};
-use rb_serving::{arguments_behind, put_end};
+use rb_serving::{arguments_behind, longest_to, put_end};
 use rb_xdr::{Kept, Meter};
 use std::alloc::Global;
 use std::marker::Model;
@@ -179,9 +179,9 @@ impl Core {
     ghost use Rattle.rb_model.specs.Standings.{as_done, without_standing};
     ghost use Rattle.rb_core.specs.Standings.{StandsThen};
     ghost use Rattle.rb_core.specs.AtOnce.{AnswersGiving, CountsGiven, Exchanges, GivesAtOnce};
-    ghost use Rattle.rb_core.specs.CallCosts.{sizes_of, PaysForBytes, PaysForDatagram, PaysForExchange, PaysForPlainDatagram, PaysForPlainExchange, PaysForPlainRecord, PaysToAnswer, lending_cost};
+    ghost use Rattle.rb_core.specs.CallCosts.{sizes_of, PaysForBytes, PaysForDatagram, PaysForExchange, PaysForPlainDatagram, PaysForPlainExchange, PaysForPlainRecord, PaysToAnswer, PaysToGive, lending_cost};
     ghost use Rattle.rb_connections.specs.Costs.{look_cost, slot_count};
-    ghost use Rattle.rb_model.specs.Costs.{close_cost, ended_cost, gave_cost, tell_cost, pending_cost};
+    ghost use Rattle.rb_model.specs.Costs.{close_cost, ended_cost, tell_cost, pending_cost};
 
     /// Makes a core with the daemon's own rows alone, at the moment `now` (milliseconds since the start of 1970). It
     /// takes all its memory here. `first_xid` is the xid of the first call that it forwards. `BadLimits` where a limit is
@@ -246,6 +246,7 @@ impl Core {
     {
         Context {
             announced: self.listener.announced,
+            terms: self.listener.terms,
             limit: self.limits.rows,
             forwards: self.limits.forwards as u32,
             clock: self.clock,
@@ -264,13 +265,14 @@ impl Core {
         ensures begun { self.new.steps_before ≡ count_shown meter.old }
         ensures held { NeverPasses self.new }
         ensures short { length self.new.reply ≤ longest_reply }
-        ensures cost { PaysForDatagram self.old self.new content.now meter.old meter.new }
-        ensures plain { PaysForPlainDatagram self.old self.new content.now meter.old meter.new }
+        ensures cost { PaysForDatagram self.old self.new who content.now meter.old meter.new }
+        ensures plain { PaysForPlainDatagram self.old self.new who content.now meter.old meter.new }
         ensures bound { StaysWithinSteps self.old (length content.now) 0 meter.old meter.new }
     {
         self.steps_before = meter.count();
         self.clock = self.clock.max(now);
-        let context = self.context(Caller::Udp(who));
+        let longest = longest_to(&self.listener.terms, &who, content.len());
+        let context = self.context(Caller::Udp(who, longest));
         self.reply.clear(meter);
         let verdict = read_call(content);
         let arguments = arguments_behind(verdict, content);
@@ -441,7 +443,7 @@ impl Core {
         ensures count { GivesAtOnce room.old id ended arguments.entry self.old result.1 }
         ensures tie { self.new.tie ≡ self.old.tie }
         ensures begun { self.new.steps_before ≡ self.old.steps_before }
-        ensures cost { PaysToAnswer ended.verdict
+        ensures cost { PaysToAnswer ended
             self.old self.new arguments.entry room.old result.1 meter.old meter.new }
     {
         let context = self.context(Caller::Tcp(id, ended.who));
@@ -499,7 +501,7 @@ impl Core {
     /// Records that `n` pending bytes were given at the moment `now`, or all if fewer are pending, and returns where
     /// the connection stands then: the next fragment is pending, or it takes the next record. `Gone` where there is no
     /// such connection, or it is Lost.
-    #[tactic(auto, using(crate::proofs::HeldBytes::never_passes, crate::proofs::CallBounds::gave_within))]
+    #[tactic(auto, using(crate::proofs::HeldBytes::never_passes))]
     pub fn gave(
         &mut self,
         now: u64,
@@ -514,7 +516,8 @@ impl Core {
         ensures tie { self.new.tie ≡ self.old.tie }
         ensures begun { self.new.steps_before ≡ count_shown meter.old }
         ensures held { NeverPasses self.new }
-        ensures cost { PaysAtMost meter.old meter.new (gave_cost (sizes_of self.old self.new)) }
+        ensures same_meter { meter.new.tie ≡ meter.old.tie }
+        ensures cost { PaysToGive self.old id meter.old meter.new }
         ensures bound { StaysWithinSteps self.old 0
             (length_given (as_done result) n) meter.old meter.new }
     {
@@ -718,7 +721,7 @@ impl Core {
                 );
                 Told::TcpReady(id)
             }
-            Caller::Udp(who) => {
+            Caller::Udp(who, _) => {
                 let outcome = put_end(ended, message, &mut self.reply, meter);
                 self.reply_len = self.reply.len(meter) as u64;
                 match outcome {

@@ -56,7 +56,7 @@ pub fn make_room(
     ensures forwards { books.new.forwards ≡ books.old.forwards }
     ensures frame { SameFrame books.old books.new }
     ensures fewer { row_count_of books.new ≤ row_count_of books.old }
-    ensures cost { PaysForRoom
+    ensures cost { PaysForRoom context.now
         message.now connections.old books.old books.new meter.old meter.new }
 {
     let Message::Asked(call) = message else {

@@ -68,7 +68,8 @@ impl<'a, R: Clock> Daemon<'a, R> {
         let (places, shortage) = places_of(settings, &sockets);
         let events = Events::with_capacity(alloc, EVENTS).map_err(DaemonFault::Memory)?;
         let most_due = limits.conns.saturating_add(limits.forwards);
-        let made = Serving::new(alloc, engine, sockets, places, most_due);
+        let udp_rate = settings.udp_rate;
+        let made = Serving::new(alloc, engine, sockets, places, most_due, udp_rate);
         let mut serving = made.map_err(DaemonFault::Memory)?;
         if let Err(error) = serving.register(poll.registry()) {
             return Err(DaemonFault::Socket(Step::Prepare.failed(error)));

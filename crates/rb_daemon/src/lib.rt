@@ -10,4 +10,6 @@ mod steps;
 
 pub use daemon::Daemon;
 pub use rb_model::Limits;
+pub use rb_policy::Rate;
+pub use rb_proto::{Forwarding, Terms};
 pub use rb_sockets::{DaemonFault, LocalSocket, Settings, Shortage, SocketFault, Step};

@@ -9,8 +9,9 @@ use rb_address::{Family, Peer, Who};
 use rb_forward::PATIENCE;
 use rb_links::{Places, Turn};
 use rb_policy::{
-    Admission, Again, Deadlines, Next, Round, SOCKET_CALLS, after_accept, after_all_calls,
-    after_receive, is_behind, may_read, origin_of, outcome_of, serves_another, wait_for_reading,
+    Admission, Again, Brake, Deadlines, Next, Rate, Round, SOCKET_CALLS, after_accept,
+    after_all_calls, after_receive, is_behind, may_read, origin_of, outcome_of, serves_another,
+    wait_for_reading,
 };
 use rb_sockets::{Shown, SocketFault, Sockets, Step, Stream, Table, Visitor};
 use std::alloc::{AllocError, Global};
@@ -33,6 +34,8 @@ pub(crate) struct Serving {
     /// As many things can be due at one moment: connections and forwarded calls.
     most_due: usize,
     datagram: Vec<u8>,
+    /// What drops datagrams of strangers that come too often, where that is asked for.
+    brake: Option<Brake>,
     /// The kernel's tables of connections, which show whose those from this host are.
     table: Table,
     /// The moment at which they were last read, in milliseconds, if they were.
@@ -45,14 +48,32 @@ pub(crate) struct Serving {
     awaited_until: u64,
 }
 
+/// The brake for a rate, if there is one.
+fn brake_of(alloc: Global, rate: Option<Rate>) -> Result<Option<Brake>, AllocError> {
+    match rate {
+        Some(rate) => Ok(Some(Brake::new(alloc, rate)?)),
+        None => Ok(None),
+    }
+}
+
+/// Whether a datagram of this caller is served that came at this moment: each one, where there is no brake.
+fn passes(brake: &mut Option<Brake>, now: u64, who: &Who) -> bool {
+    match brake {
+        Some(brake) => brake.passes(now, who),
+        None => true,
+    }
+}
+
 impl Serving {
-    /// With so many places for connections. An error where an allocation is refused.
+    /// With so many places for connections, and so many datagrams of strangers in a second where that is limited. An
+    /// error where an allocation is refused.
     pub(crate) fn new(
         alloc: Global,
         engine: Engine,
         sockets: Sockets,
         places: usize,
         most_due: usize,
+        udp_rate: Option<Rate>,
     ) -> Result<Serving, AllocError> {
         let mut datagram = Vec::with_capacity(alloc, LONGEST_DATAGRAM)?;
         datagram.resize(LONGEST_DATAGRAM, 0)?;
@@ -63,6 +84,7 @@ impl Serving {
             places: Places::new(alloc, places)?,
             most_due,
             datagram,
+            brake: brake_of(alloc, udp_rate)?,
             table,
             last_reading: None,
             turn: Turn {
@@ -224,14 +246,17 @@ impl Serving {
         after_all_calls(got_some)
     }
 
-    /// Answers the datagram of the first `len` bytes, which came on the socket of this number. A call that is
-    /// forwarded is sent at once.
+    /// Answers the datagram of the first `len` bytes, which came on the socket of this number, unless the brake drops it.
+    /// A call that is forwarded is sent at once.
     fn answer(&mut self, i: usize, len: usize, from: Option<Who>)
         requires { len ≤ length self.old.datagram.items }
     {
         let (Some(who), Some(calls)) = (from, self.sockets.calls.all.get(i)) else {
             return;
         };
+        if !passes(&mut self.brake, self.turn.moment, &who) {
+            return;
+        }
         let content = &self.datagram[..len];
         if self.engine.answer(who, content, &calls.socket) {
             self.awaited_until = self.turn.moment.saturating_add(PATIENCE);

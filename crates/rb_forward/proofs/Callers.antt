@@ -39,7 +39,7 @@ any-rest test first slots h = rw (any-first test first slots h) at h
 -- where the second is of no connection of the first, the first is of none of the second
 apart : (caller other : Caller) (rest : List Slot) (first : Slot) → first.forward.caller ≡ caller → IsNew other (first ∷ rest) → (slot : Slot) → slot.forward.caller ≡ other
     → (id : ℕ) (who : Who) → caller ≡ Tcp id who → is_connection id slot.forward.caller ≡ false
-apart caller (Udp p) rest first is new slot is_other id who tcp = rw is_other refl
+apart caller (Udp p longest) rest first is new slot is_other id who tcp = rw is_other refl
 apart caller (Tcp number p) rest first is new slot is_other id who tcp =
     let test : is_connection number first.forward.caller ≡ false = any-first (λ (s : Slot). is_connection number s.forward.caller) first rest new in
     let known : is_connection number (Tcp id who) ≡ false = rw (is, tcp) at test in
@@ -48,18 +48,18 @@ apart caller (Tcp number p) rest first is new slot is_other id who tcp =
 is_new-more : (caller : Caller) (slots : List Slot) (slot : Slot) → IsNew caller slots
     → ((id : ℕ) (who : Who) → caller ≡ Tcp id who → is_connection id slot.forward.caller ≡ false) → IsNew caller (slots ++ slot ∷ [])
 is_new-more (Tcp id who) slots slot new other = any-more (λ (s : Slot). is_connection id s.forward.caller) slots slot new (other id who refl)
-is_new-more (Udp who) slots slot new other = tt
+is_new-more (Udp who longest) slots slot new other = tt
 
 is_new-rest : (caller : Caller) (first : Slot) (slots : List Slot) → IsNew caller (first ∷ slots) → IsNew caller slots
 is_new-rest (Tcp id who) first slots new = any-rest (λ (s : Slot). is_connection id s.forward.caller) first slots new
-is_new-rest (Udp who) first slots new = tt
+is_new-rest (Udp who longest) first slots new = tt
 
 pub callers-more : (slots : List Slot) (slot : Slot) → AreOfDistinctCallers slots → IsNew slot.forward.caller slots → AreOfDistinctCallers (slots ++ slot ∷ [])
 callers-more [] slot d new = (nobody slot.forward.caller, tt)
   where
     nobody : (caller : Caller) → IsNew caller []
     nobody (Tcp id who) = refl
-    nobody (Udp who) = tt
+    nobody (Udp who longest) = tt
 callers-more (first ∷ slots) slot d new = (
   is_new-more first.forward.caller slots slot d.0 (apart first.forward.caller slot.forward.caller slots first refl new slot refl),
   callers-more slots slot d.1 (is_new-rest slot.forward.caller first slots new),
@@ -75,7 +75,7 @@ any-without test p (first ∷ slots) h =
 
 is_new-without : (caller : Caller) (p : Slot → Bool) (slots : List Slot) → IsNew caller slots → IsNew caller (without_first p slots)
 is_new-without (Tcp id who) p slots new = any-without (λ (s : Slot). is_connection id s.forward.caller) p slots new
-is_new-without (Udp who) p slots new = tt
+is_new-without (Udp who longest) p slots new = tt
 
 pub callers-without : (p : Slot → Bool) (slots : List Slot) → AreOfDistinctCallers slots → AreOfDistinctCallers (without_first p slots)
 callers-without p [] d = tt
@@ -97,8 +97,8 @@ alone-without p [] a d found = absurd (none_some a found)
 alone-without p (first ∷ slots) a d found = by_cases (p first) refl (alone-without p slots a d.1)
   where
     not_first : (caller other : Caller) → a.forward.caller ≡ caller → first.forward.caller ≡ other → find p slots ≡ Some a → IsNew other slots → IsNew caller (without_first p slots) → IsNew caller (first ∷ without_first p slots)
-    not_first (Udp who) other is is_other later new rest = tt
-    not_first (Tcp id who) (Udp q) is is_other later new rest = rw is_other rest
+    not_first (Udp who longest) other is is_other later new rest = tt
+    not_first (Tcp id who) (Udp q longest) is is_other later new rest = rw is_other rest
     not_first (Tcp id who) (Tcp number q) is is_other later new rest =
         let known : is_connection number a.forward.caller ≡ false = found-any (λ (s : Slot). is_connection number s.forward.caller) p slots a later new in
         let differ : eqb number id ≡ false = same_test number id ∙ (rw is at known) in
@@ -118,7 +118,7 @@ nobody_waits id (first ∷ slots) d = by_cases (is_connection id first.forward.c
   where
     alone : (caller : Caller) → first.forward.caller ≡ caller → IsNew caller slots → is_connection id caller ≡ true → is_waiting id slots ≡ false
     alone (Tcp number who) is new t = let same : number ≡ id = eqb-true number id t in rw (← same) new
-    alone (Udp who) is new t = absurd cc
+    alone (Udp who longest) is new t = absurd cc
 
     by_cases : (b : Bool) → is_connection id first.forward.caller ≡ b → is_waiting id (without_first (λ (s : Slot). is_connection id s.forward.caller) slots) ≡ false
         → is_waiting id (without_first (λ (s : Slot). is_connection id s.forward.caller) (first ∷ slots)) ≡ false
@@ -139,7 +139,7 @@ any-changed test p b (first ∷ slots) same = by_cases (p first) refl (any-chang
 is_new-changed : (caller : Caller) (p : Slot → Bool) (b : Slot) (slots : List Slot) → ((a : Slot) → find p slots ≡ Some a → b.forward ≡ a.forward) → IsNew caller slots → IsNew caller (change_first p (λ a. b) slots)
 is_new-changed (Tcp id who) p b slots same new =
     any-changed (λ (s : Slot). is_connection id s.forward.caller) p b slots (λ a found. ap (λ f. is_connection id f.caller) (same a found)) ∙ new
-is_new-changed (Udp who) p b slots same new = tt
+is_new-changed (Udp who longest) p b slots same new = tt
 
 pub callers-changed : (p : Slot → Bool) (b : Slot) (slots : List Slot) → ((a : Slot) → find p slots ≡ Some a → b.forward ≡ a.forward) → AreOfDistinctCallers slots → AreOfDistinctCallers (change_first p (λ a. b) slots)
 callers-changed p b [] same d = tt

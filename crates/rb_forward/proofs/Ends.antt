@@ -103,8 +103,8 @@ due_tested clock e h = le-leb e.deadline clock h
 
 pub of_means : (id : ℕ) (caller : Caller) → is_connection id caller ≡ true → IsOf id caller
 of_means id (Tcp number who) h = eqb-true number id h
-of_means id (Udp who) h = absurd cc
+of_means id (Udp who longest) h = absurd cc
 
 pub of_tested : (id : ℕ) (caller : Caller) → IsOf id caller → is_connection id caller ≡ true
 of_tested id (Tcp number who) h = eq-eqb number id h
-of_tested id (Udp who) h = absurd h
+of_tested id (Udp who longest) h = absurd h

@@ -50,7 +50,7 @@ DeadlinesEnd =
 
 abbrev pub IsOf : ℕ → Caller → Type 0
 IsOf id (Tcp number who) = number ≡ id
-IsOf id (Udp who) = ⊥
+IsOf id (Udp who longest) = ⊥
 
 abbrev pub ClosingsEnd : Type 0
 ClosingsEnd =

@@ -94,7 +94,7 @@ is_due clock e = nat_le e.deadline clock
 
 abbrev pub is_connection : ℕ → Caller → Bool
 is_connection id (Tcp number who) = number == id
-is_connection id (Udp who) = false
+is_connection id (Udp who longest) = false
 
 abbrev pub is_of_connection : ℕ → Entry → Bool
 is_of_connection id e = is_connection id e.forward.caller

@@ -83,7 +83,7 @@ is_waiting id slots = list_any (λ (slot : Slot). is_connection id slot.forward.
 -- none of the slots is of the connection of this caller, if it has one
 abbrev pub IsNew : Caller → List Slot → Type 0
 IsNew (Tcp id who) slots = is_waiting id slots ≡ false
-IsNew (Udp who) slots = ⊤
+IsNew (Udp who longest) slots = ⊤
 
 -- each connection of which one is now had one before
 abbrev pub NoneWaitsAnew : List Slot → List Slot → Type 0

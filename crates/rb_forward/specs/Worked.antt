@@ -43,7 +43,7 @@ indirect caller = record {
 }
 
 abbrev pub by_datagram : Caller
-by_datagram = Udp (who_at 900)
+by_datagram = Udp (who_at 900) 9000
 
 -- it comes at moment 1000, without arguments, and is sent
 abbrev pub one_unsent : Caller → Forwards

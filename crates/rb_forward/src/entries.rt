@@ -68,7 +68,7 @@ impl Slot {
             trust: Trust::Stranger,
         };
         let forward = Forward {
-            caller: Caller::Udp(who),
+            caller: Caller::Udp(who, 0),
             xid: 0,
             kind: Kind::Indirect,
             target: nobody,
@@ -104,7 +104,7 @@ impl Slot {
             Wanted::Due(clock) => self.deadline <= clock,
             Wanted::OfConnection(id) => match self.forward.caller {
                 Caller::Tcp(number, _) => number == id,
-                Caller::Udp(_) => false,
+                Caller::Udp(_, _) => false,
             },
         }
     }

@@ -46,7 +46,7 @@ trust-is s event trust b change a =
 
 -- ---- strangers
 
-no-stranger : (announced : Announced) (who : Who) → who.trust ≡ Stranger → may_register announced who ≡ true → ⊥
+pub no-stranger : (announced : Announced) (who : Who) → who.trust ≡ Stranger → may_register announced who ≡ true → ⊥
 no-stranger announced who e registers =
     let no : false ≡ true = ap (is_trusted announced who.source) (sym e) ∙ registers in
     absurd cc

@@ -7,7 +7,7 @@ use Rattle.std.proofs.lemmas.List.Elements.{All-head, All-tail}
 use Rattle.std.proofs.lemmas.Grind.{common_steps}
 use Rattle.rb_rpc.specs.Records.{first_record, data_of}
 use Rattle.rb_rpc.specs.declared.caller.Caller.{Caller}
-use Rattle.rb_rpc.specs.declared.caller.Caller.TheVariants.{Tcp, Udp}
+use Rattle.rb_rpc.specs.declared.caller.Caller.TheVariants.{Tcp}
 use Rattle.rb_address.specs.declared.who.Who.{Who}
 use Rattle.rb_feed.specs.Feeds.{arguments_of}
 use Rattle.rb_forward.specs.declared.types.Outcome.TheVariants.{Failed}
@@ -26,7 +26,7 @@ use Rattle.rb_model.specs.Sessions.{IsFinal}
 use Rattle.rb_model.specs.State.{State, Connection, Connections, at_moment}
 use Rattle.rb_model.specs.State.Phase.{Idle}
 use Rattle.rb_model.specs.Connections.{is_lost, has_number, is_live, live_connection, is_there, fed_in, change_first, changed_at, keep_reading, settle, give, without_number, close_in_table}
-use Rattle.rb_model.specs.Step.{Event, Output, context_in, with_reply, datagram, show_outcome, serve_message, serve, dropped_with, bytes, close_connection, output_or, show_taken, show_done, show_expired, step, IsReached}
+use Rattle.rb_model.specs.Step.{sender, Event, Output, context_in, with_reply, datagram, show_outcome, serve_message, serve, dropped_with, bytes, close_connection, output_or, show_taken, show_done, show_expired, step, IsReached}
 use Rattle.rb_model.specs.declared.types.Taken.{Taken}
 use Rattle.rb_model.specs.Step.Event.{Open, Bytes, Pending, Gave, Closed, NextLost, Datagram, Unsent, Sent, Forward, Expire}
 use Rattle.rb_model.specs.Laws.{IsLive, IsLeast}
@@ -303,7 +303,7 @@ module _ (s : State) (sound : IsSound s) (id : ℕ) (c : Connection) (there : fi
   unfolding without_number
   fate event output now (Stays q same) = Lives c (ap (λ (x : Connections). find (is_live id) x.all) same ∙ there)
   fate event output now (Evicts at who content is q same) =
-      subst (λ (ev : Event). Fate s id c ev now) (sym is) (gives-way (Datagram at who content) at (Udp who) content (refl, refl, refl) now same)
+      subst (λ (ev : Event). Fate s id c ev now) (sym is) (gives-way (Datagram at who content) at (sender s who content) content (refl, refl, refl) now same)
   fate event output now (Opens at who is out same) =
       Lives c (ap (λ (x : Connections). find (is_live id) x.all) same
       ∙ find-before (is_live id) s.connections.all c (record { number = s.connections.next; who = who; phase = Idle; since = max s.clock at }) there)
@@ -404,9 +404,9 @@ module _ (s : State) (reached : IsReached s) (id : ℕ) (c : Connection) (there 
   shown-leaves : (r : Outcome × State) → (show_outcome (with_reply r)).1.connections ≡ r.1.connections
   shown-leaves r = grind arith
 
-  after-datagram : (at : ℕ) (who : Who) (content : List ℕ) → (step s (Datagram at who content)).1.connections ≡ evict (crowd_at s at (Udp who) content) s.connections
+  after-datagram : (at : ℕ) (who : Who) (content : List ℕ) → (step s (Datagram at who content)).1.connections ≡ evict (crowd_at s at (sender s who content) content) s.connections
   unfolding step datagram serve
-  after-datagram at who content = shown-leaves (serve (at_moment at s) (Udp who) content)
+  after-datagram at who content = shown-leaves (serve (at_moment at s) (sender s who content) content)
 
   listing-elsewhere : (k n : ℕ) (d : Connection) (fed : List ℕ) → live_connection k s.connections.all ≡ Some d → fed_in d.phase ≡ Some fed → stamp_in c.phase ≡ Some n → (b : Bool) → eqb k id ≡ b → eqb k id ≡ false
   listing-elsewhere k n d fed here feeds lists b e = grind arith

@@ -58,9 +58,9 @@ unset-enters : (context : Context) (head : CallHead) (prog vers : ℕ) (o : Opti
 unfolding unset_rows
 unset-enters context head prog vers o l = grind arith
 
-getport-enters : (head : CallHead) (m : Mapping) (l : Ledger) → (getport head m l).1.forwards ≡ l.forwards
+getport-enters : (context : Context) (head : CallHead) (m : Mapping) (l : Ledger) → (getport context head m l).1.forwards ≡ l.forwards
 unfolding getport
-getport-enters head m l = grind arith
+getport-enters context head m l = grind arith
 
 refused-now : (kind : Kind) (status : ReplyStatus) → answers_later (refusal kind status) ≡ false
 refused-now kind status = grind arith
@@ -85,7 +85,7 @@ answer-enters : (context : Context) (head : CallHead) (request : Request) (argum
 unfolding getaddr getversaddr
 answer-enters context head (requests.Mapping mappings.Set m) arguments l = Same refl (set-enters context head _ l)
 answer-enters context head (requests.Mapping mappings.Unset m) arguments l = Same refl (unset-enters context head m.prog m.vers _ l)
-answer-enters context head (requests.Mapping mappings.Getport m) arguments l = Same refl (getport-enters head m l)
+answer-enters context head (requests.Mapping mappings.Getport m) arguments l = Same refl (getport-enters context head m l)
 answer-enters context head (requests.Rpcb rpcbs.Set r) arguments l = Same refl (set-enters context head _ l)
 answer-enters context head (requests.Rpcb rpcbs.Unset r) arguments l = Same refl (unset-enters context head r.prog r.vers _ l)
 answer-enters context head (requests.Rpcb rpcbs.Getaddr r) arguments l = Same refl refl

@@ -1,7 +1,7 @@
 -- While a connection is Awaiting, one entry is of it, and no other connection has one.
 use Rattle.std.specs.Prelude.{find, map, option_map, ◌&&◌}
 use Rattle.std.specs.List.{list_any, sum_by}
-use Rattle.std.proofs.Common.{◌≡◌, ◌≤◌, ℕ, ◌+◌, max, Bool, true, false, cond, eqb, Option, Some, None, Result, Ok, Err, List, [], ◌∷◌, ◌++◌, take, refl, sym, ap, subst, ◌∙◌, arith}
+use Rattle.std.proofs.Common.{◌≡◌, ◌≤◌, ℕ, ◌+◌, max, Bool, true, false, cond, eqb, Option, Some, None, Result, Ok, Err, List, [], ◌∷◌, ◌++◌, length, take, refl, sym, ap, subst, ◌∙◌, arith}
 use Rattle.std.proofs.lemmas.List.Sums.{sum_by_push}
 use Rattle.std.proofs.lemmas.Bool.{eqb-true, eq-eqb}
 use Rattle.std.proofs.lemmas.Grind.{common_steps}
@@ -31,7 +31,7 @@ use Rattle.rb_model.specs.State.Phase.{Awaiting}
 use Rattle.rb_model.specs.Laws.{is_awaiting}
 use Rattle.rb_model.specs.Connections.{is_live, live_connection, fed_in, with_given, give, keep_reading, settle, change_first, changed_at, on_found, is_there, without_number, close_in_table, opening_as, open_in_table, number_for, on_connection}
 use Rattle.rb_model.specs.Ending.{outcome_at_end, tell, tell_end, at_fresh_moment, forward_reply, expire}
-use Rattle.rb_model.specs.Step.{Event, Output, context_in, serve, bytes, unless_refused, gave, is_too_much, pending, pending_on, open_connection, dropped_with, close_connection, sent_call, with_reply, datagram, output_or, show_taken, show_done, show_outcome, show_end, show_expired, step, after, IsReached}
+use Rattle.rb_model.specs.Step.{longest_to, sender, Event, Output, context_in, serve, bytes, unless_refused, gave, is_too_much, pending, pending_on, open_connection, dropped_with, close_connection, sent_call, with_reply, datagram, output_or, show_taken, show_done, show_outcome, show_end, show_expired, step, after, IsReached}
 use Rattle.rb_model.specs.declared.types.Taken.{Taken}
 use Rattle.rb_model.specs.Step.Event.{Open, Bytes, Pending, Gave, Closed, NextLost, Datagram, Unsent, Sent, Forward, Expire}
 use Rattle.rb_model.specs.Step.Output.{Opened, TooMuch, IsPending}
@@ -294,8 +294,8 @@ module _ (s : State) (sound : IsSound s) (h : Await s) where
       by_number : (id : ℕ) (b : Bool) → eqb k id ≡ b → cond b 0 (present id s.ledger.forwards) ≡ awaits id (without k s.connections.all)
       by_number id bb n = grind (arith, common_steps, closed-other, eqb-true, closed-gone)
 
-  datagram-awaits : (context : Context) (who : Who) (changes : List ℕ) (t : State) (said : Outcome) → t.connections ≡ evict changes s.connections → context.caller ≡ Udp who → Entering context s.ledger.forwards t.ledger.forwards (is_forwarded said) → Keeps (show_outcome (with_reply (said, t)))
-  datagram-awaits context who changes t said same from enters = grind (arith, common_steps, room-awaits, pushed)
+  datagram-awaits : (context : Context) (who : Who) (longest : ℕ) (changes : List ℕ) (t : State) (said : Outcome) → t.connections ≡ evict changes s.connections → context.caller ≡ Udp who longest → Entering context s.ledger.forwards t.ledger.forwards (is_forwarded said) → Keeps (show_outcome (with_reply (said, t)))
+  datagram-awaits context who longest changes t said same from enters = grind (arith, common_steps, room-awaits, pushed)
 
   sent-await : (number : ℕ) (b : Bool) → Keeps (output_or show_done (cond b (Ok tt, record s { ledger = call_sent number s.ledger }) (Err Gone, s)))
   unfolding call_sent sent
@@ -315,7 +315,7 @@ module _ (s : State) (sound : IsSound s) (h : Await s) where
       counts x e id = sum-without test (one_at id) s.ledger.forwards.all x e ∙ ap (λ (f : Forwards). one_at id x + present id f) (sym left)
 
       by_caller : (x : Entry) → find test s.ledger.forwards.all ≡ Some x → (caller : Caller) → x.forward.caller ≡ caller → Await (tell caller (outcome_at_end message ended) (record (at_fresh_moment at s) { ledger = l })).1
-      by_caller x e (Udp who) from = λ id.
+      by_caller x e (Udp who longest) from = λ id.
           let none : one_at id x ≡ 0 = ap (λ (c : Caller). if_one (is_connection id c)) from in
           let count = counts x e id in
           let is = h id in
@@ -392,9 +392,9 @@ module _ (s : State) (sound : IsSound s) (h : Await s) where
   step-awaits (Closed id) = closed-await id (is_there id s.connections) refl
   step-awaits NextLost = h
   step-awaits (Datagram at who content) =
-      datagram-awaits (context_in (at_moment at s) (Udp who)) who (crowd_at s at (Udp who) content) (serve (at_moment at s) (Udp who) content).1 (serve (at_moment at s) (Udp who) content).0 (same at who content) refl (serve-enters (at_moment at s) (Udp who) content)
+      datagram-awaits (context_in (at_moment at s) (sender s who content)) who (longest_to s.setting.listener.terms who (length content)) (crowd_at s at (sender s who content) content) (serve (at_moment at s) (sender s who content) content).1 (serve (at_moment at s) (sender s who content) content).0 (same at who content) refl (serve-enters (at_moment at s) (sender s who content) content)
     where
-      same : (at : ℕ) (who : Who) (content : List ℕ) → (serve (at_moment at s) (Udp who) content).1.connections ≡ evict (crowd_at s at (Udp who) content) s.connections
+      same : (at : ℕ) (who : Who) (content : List ℕ) → (serve (at_moment at s) (sender s who content) content).1.connections ≡ evict (crowd_at s at (sender s who content) content) s.connections
       same at who content = refl
   step-awaits Unsent = h
   step-awaits (Sent number) = sent-await number (can_be_sent number s.ledger.forwards)

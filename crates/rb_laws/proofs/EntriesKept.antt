@@ -42,7 +42,7 @@ use Rattle.rb_model.specs.State.{Setting, State, Connection, Connections, at_mom
 use Rattle.rb_model.specs.Connections.{Taking, taking_of, live_connection, close_in_table}
 use Rattle.rb_model.specs.Connections.Taking.{TakesNone, GoesOn, Ends}
 use Rattle.rb_model.specs.Ending.{outcome_at_end, tell, tell_end, at_fresh_moment, forward_reply, expire_connection, expired_as, expire}
-use Rattle.rb_model.specs.Step.{Event, Output, context_in, serve, serve_record, unless_refused, when_taken, bytes_to, bytes, pending, gave, is_too_much, open_connection, dropped_with, close_connection, with_reply, datagram, sent_call, output_or, show_taken, show_done, show_outcome, show_end, show_expired, step, after, IsReached}
+use Rattle.rb_model.specs.Step.{sender, Event, Output, context_in, serve, serve_record, unless_refused, when_taken, bytes_to, bytes, pending, gave, is_too_much, open_connection, dropped_with, close_connection, with_reply, datagram, sent_call, output_or, show_taken, show_done, show_outcome, show_end, show_expired, step, after, IsReached}
 use Rattle.rb_model.specs.Step.Event.{Open, Bytes, Pending, Gave, Closed, NextLost, Datagram, Unsent, Sent, Forward as ForwardCame, Expire}
 use Rattle.rb_model.specs.Step.Output.{Opened, TooMuch, IsPending}
 use Rattle.rb_model.proofs.AskedArgs.{message_has}
@@ -64,9 +64,9 @@ unset-stays : (cap : ℕ) (context : Context) (head : CallHead) (prog vers : ℕ
 unfolding unset_rows
 unset-stays cap context head prog vers o l = grind arith
 
-getport-stays : (cap : ℕ) (head : CallHead) (m : Mapping) (l : Ledger) → Goes cap l.forwards (getport head m l).1.forwards
+getport-stays : (cap : ℕ) (context : Context) (head : CallHead) (m : Mapping) (l : Ledger) → Goes cap l.forwards (getport context head m l).1.forwards
 unfolding getport
-getport-stays cap head m l = grind arith
+getport-stays cap context head m l = grind arith
 
 args-short : (remote : RemoteCall) (arguments : List ℕ) → HasContent remote arguments → length (args_of remote arguments) ≤ longest_forwarded
 args-short remote arguments has = let few = length-take (16 + remote.count - 16) (drop 16 arguments) in omega (arith, few, has.few)
@@ -90,7 +90,7 @@ answer-goes : (context : Context) (head : CallHead) (request : Request) (argumen
 unfolding getaddr getversaddr
 answer-goes context head (requests.Mapping mappings.Set m) arguments l has = set-stays context.forwards context head _ l
 answer-goes context head (requests.Mapping mappings.Unset m) arguments l has = unset-stays context.forwards context head m.prog m.vers _ l
-answer-goes context head (requests.Mapping mappings.Getport m) arguments l has = getport-stays context.forwards head m l
+answer-goes context head (requests.Mapping mappings.Getport m) arguments l has = getport-stays context.forwards context head m l
 answer-goes context head (requests.Rpcb rpcbs.Set r) arguments l has = set-stays context.forwards context head _ l
 answer-goes context head (requests.Rpcb rpcbs.Unset r) arguments l has = unset-stays context.forwards context head r.prog r.vers _ l
 answer-goes context head (requests.Rpcb rpcbs.Getaddr r) arguments l has = Same refl
@@ -158,7 +158,7 @@ closed-follows s id (Err fault, c) = stays s
 
 tell-follows : (s u : State) (caller : Caller) (said : Outcome) → Follows s u → Follows s (tell caller said u).1
 tell-follows s u (Tcp id who) said f = record { setting = f.setting; goes = f.goes }
-tell-follows s u (Udp who) said f = record { setting = f.setting; goes = f.goes }
+tell-follows s u (Udp who longest) said f = record { setting = f.setting; goes = f.goes }
 
 told-follows : (message : List ℕ) (s u : State) (o : Option Ended) (ledger : Ledger) → u.setting ≡ s.setting → Goes s.setting.limits.forwards s.ledger.forwards ledger.forwards → Follows s (tell_end message u (o, ledger)).1
 told-follows message s u None ledger same goes = record { setting = same; goes = goes }
@@ -185,7 +185,7 @@ step-follows s (Pending id) = shown-follows s IsPending (pending s id) s (stays 
 step-follows s (Gave now id n) = either s (is_too_much n (pending s id)) (TooMuch, s) (output_or show_done (gave s now id n)) (stays s) (moved-follows s now show_done _)
 step-follows s (Closed id) = closed-follows s id (close_in_table id s.connections)
 step-follows s NextLost = stays s
-step-follows s (Datagram now who content) = outcome-follows s (serve (at_moment now s) (Udp who) content) (serve-follows s now (Udp who) content)
+step-follows s (Datagram now who content) = outcome-follows s (serve (at_moment now s) (sender s who content) content) (serve-follows s now (sender s who content) content)
 step-follows s Unsent = stays s
 step-follows s (Sent number) = by_there (can_be_sent number s.ledger.forwards)
   where

@@ -23,7 +23,7 @@ use Rattle.rb_model.specs.State.{State, Connection, Connections, at_moment}
 use Rattle.rb_model.specs.Connections.{fed_in, taking_of, taking_up_to, keep_reading, settle, give, pending_in, live_connection, changed_at, on_found, number_for, with_new, opening_as, open_in_table, is_there, without_number, close_in_table}
 use Rattle.rb_model.specs.Ending.{outcome_at_end, tell, tell_end, at_fresh_moment, forward_reply, expired_as, expire}
 use Rattle.rb_model.specs.Losses.{removals_in_the_way, evict, is_due as connection_is_due, lose}
-use Rattle.rb_model.specs.Step.{Event, Output, context_in, serve, serve_record, unless_refused, when_taken, bytes_to, bytes, pending, pending_on, gave, is_too_much, open_connection, dropped_with, close_connection, next_lost, with_reply, datagram, unsent_call, sent_call, output_or, show_taken, show_done, show_outcome, show_told, show_end, show_expired, on_connection, step}
+use Rattle.rb_model.specs.Step.{sender, Event, Output, context_in, serve, serve_record, unless_refused, when_taken, bytes_to, bytes, pending, pending_on, gave, is_too_much, open_connection, dropped_with, close_connection, next_lost, with_reply, datagram, unsent_call, sent_call, output_or, show_taken, show_done, show_outcome, show_told, show_end, show_expired, on_connection, step}
 use Rattle.rb_model.specs.declared.types.Taken.{Taken}
 use Rattle.rb_model.specs.Step.Event.{Open, Bytes, Pending, Gave, Closed, NextLost, Datagram, Unsent, Sent, Forward, Expire}
 use Rattle.rb_model.specs.Step.Output.{Opened, Refused, TooMuch, Took, IsPending, Done, LostIs, Replied, Forwarded, Silent, UnsentIs, Nothing, ConnectionClosed}
@@ -98,7 +98,7 @@ crowd_at s at caller content = removals_in_the_way (context_in (at_moment at s) 
 
 pub data Happening (s : State) (event : Event) (output : Output) (now : Connections) : Type 0 where
   Stays : IsQuiet s event output → now ≡ s.connections → Happening s event output now
-  Evicts : (at : ℕ) (who : Who) (content : List ℕ) → event ≡ Datagram at who content → IsQuiet s event output → now ≡ evict (crowd_at s at (Udp who) content) s.connections → Happening s event output now
+  Evicts : (at : ℕ) (who : Who) (content : List ℕ) → event ≡ Datagram at who content → IsQuiet s event output → now ≡ evict (crowd_at s at (sender s who content) content) s.connections → Happening s event output now
   Opens : (at : ℕ) (who : Who) → event ≡ Open at who → output ≡ Opened s.connections.next → now ≡ with_new who (max s.clock at) s.connections → Happening s event output now
   Reads : (at id : ℕ) (piece : List ℕ) (c : Connection) (fed : List ℕ) → event ≡ Bytes at id piece
       → live_connection id s.connections.all ≡ Some c → fed_in c.phase ≡ Some fed → first_record (fed ++ piece) ≡ None
@@ -182,7 +182,7 @@ module _ (s : State) where
   close-happens id true e = Closes id refl refl e refl
   close-happens id false e = Stays (quiet (Closed id) (Refused Gone) refl refl (λ k. refl)) refl
 
-  outcome-happens : (at : ℕ) (who : Who) (content : List ℕ) (r : Outcome × State) → r.1.connections ≡ evict (crowd_at s at (Udp who) content) s.connections → Happens (Datagram at who content) (show_outcome (with_reply r))
+  outcome-happens : (at : ℕ) (who : Who) (content : List ℕ) (r : Outcome × State) → r.1.connections ≡ evict (crowd_at s at (sender s who content) content) s.connections → Happens (Datagram at who content) (show_outcome (with_reply r))
   outcome-happens at who content (outcomes.NoCall, t) same = Evicts at who content refl (quiet (Datagram at who content) Silent refl refl (λ k. refl)) same
   outcome-happens at who content (outcomes.Reply reply began, t) same = Evicts at who content refl (quiet (Datagram at who content) (Replied reply) refl refl (λ k. refl)) same
   outcome-happens at who content (outcomes.Forwarded, t) same = Evicts at who content refl (quiet (Datagram at who content) Forwarded refl refl (λ k. refl)) same
@@ -215,7 +215,7 @@ module _ (s : State) where
       after caller = let x : Told × State = tell caller (outcome_at_end message ended) (record (at_fresh_moment at s) { ledger = l }) in (Some x.0, x.1)
 
       by_caller : (caller : Caller) → ended.forward.caller ≡ caller → Happens event (show (after caller))
-      by_caller (Udp who) e = Stays (shows.is_quiet _) (shows.leaves _)
+      by_caller (Udp who longest) e = Stays (shows.is_quiet _) (shows.leaves _)
       by_caller (Tcp id who) e =
           let of : is_connection id ended.forward.caller ≡ true = ap (is_connection id) e ∙ eq-eqb id id refl in
           Tells at id (outcome_at_end message ended) is (shows.is_quiet _) (told-final message ended)
@@ -235,7 +235,7 @@ module _ (s : State) where
       after caller = tell caller (outcome_at_end [] (end_of e)) (record (at_fresh_moment at s) { ledger = ledger })
 
       by_caller : (caller : Caller) → e.forward.caller ≡ caller → Happens (Expire at) (show_expired (expired_as (Some (after caller).0, (after caller).1)))
-      by_caller (Udp who) same = Stays (told-quiet (Expire at) (after (Udp who)).1.reply (after (Udp who)).0) refl
+      by_caller (Udp who longest) same = Stays (told-quiet (Expire at) (after (Udp who longest)).1.reply (after (Udp who longest)).0) refl
       by_caller (Tcp id who) same =
           let of : is_connection id e.forward.caller ≡ true = ap (is_connection id) same ∙ eq-eqb id id refl in
           Tells at id (outcome_at_end [] (end_of e)) refl (told-quiet (Expire at) (after (Tcp id who)).1.reply (after (Tcp id who)).0) (told-final [] (end_of e))
@@ -251,7 +251,7 @@ module _ (s : State) where
   happening (Closed id) = close-happens id (is_there id s.connections) refl
   happening NextLost = Stays (quiet NextLost (LostIs (next_lost s)) refl refl (λ k. refl)) refl
   happening (Datagram at who content) =
-      outcome-happens at who content (serve (at_moment at s) (Udp who) content) (served-connections at (Udp who) content)
+      outcome-happens at who content (serve (at_moment at s) (sender s who content) content) (served-connections at (sender s who content) content)
   happening Unsent = Stays (quiet Unsent (UnsentIs (unsent_call s)) refl refl (λ k. refl)) refl
   happening (Sent number) = sent-happens number (can_be_sent number s.ledger.forwards)
   happening (Forward at from message) =

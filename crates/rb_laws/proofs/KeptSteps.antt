@@ -7,7 +7,7 @@ use Rattle.std.proofs.lemmas.Grind.{common_steps}
 use Rattle.rb_rpc.specs.declared.call.CallHead.{CallHead}
 use Rattle.rb_address.specs.declared.who.Who.{Who}
 use Rattle.rb_rpc.specs.declared.caller.Caller.{Caller}
-use Rattle.rb_rpc.specs.declared.caller.Caller.TheVariants.{Tcp, Udp}
+use Rattle.rb_rpc.specs.declared.caller.Caller.TheVariants.{Tcp}
 use Rattle.rb_rpc.specs.Records.{data_of}
 use Rattle.rb_feed.specs.Feeds.{arguments_of}
 use Rattle.rb_registry.specs.declared.row.Row.{Row}
@@ -43,7 +43,7 @@ use Rattle.rb_model.specs.State.{Setting, State, opening, Connection, Connection
 use Rattle.rb_model.specs.Connections.{change_first, is_live, live_connection, with_given, give, keep_reading, settle, on_found, number_for, opening_as, open_in_table, is_there, without_number, close_in_table}
 use Rattle.rb_model.specs.Losses.{asks_room, list_stamps, removals_in_the_way, evict_early, is_needed_for, needed_removals, lose, removals_by, expire_first}
 use Rattle.rb_model.specs.Ending.{outcome_at_end, tell_end, at_fresh_moment, expire_connection, expired_as, forward_reply, expire}
-use Rattle.rb_model.specs.Step.{Event, Output, context_in, serve, bytes, pending, gave, is_too_much, unless_refused, open_connection, dropped_with, close_connection, with_reply, datagram, sent_call, output_or, show_taken, show_done, show_outcome, show_end, show_expired, step, after, IsReached}
+use Rattle.rb_model.specs.Step.{sender, Event, Output, context_in, serve, bytes, pending, gave, is_too_much, unless_refused, open_connection, dropped_with, close_connection, with_reply, datagram, sent_call, output_or, show_taken, show_done, show_outcome, show_end, show_expired, step, after, IsReached}
 use Rattle.rb_model.specs.declared.types.Taken.{Taken}
 use Rattle.rb_model.specs.Step.Event.{Open, Bytes, Pending, Gave, Closed, NextLost, Datagram, Unsent, Sent, Forward, Expire}
 use Rattle.rb_model.specs.Step.Output.{Opened, TooMuch, IsPending}
@@ -80,9 +80,9 @@ unset-effect context head prog vers (Some which) l = by_test (accepts_removal co
     by_test true = Unset prog vers which (owner_in context head) refl refl
     by_test false = Same refl refl
 
-getport-effect : (head : CallHead) (m : Mapping) (l : Ledger) → Effect false l (getport head m l).1
+getport-effect : (context : Context) (head : CallHead) (m : Mapping) (l : Ledger) → Effect false l (getport context head m l).1
 unfolding getport
-getport-effect head m l = grind arith
+getport-effect context head m l = grind arith
 
 forward-effect : (context : Context) (xid : ℕ) (kind : Kind) (remote : RemoteCall) (arguments : List ℕ) (l : Ledger) → Effect false l (forward_call context xid kind remote arguments l).1
 unfolding forward_call
@@ -93,7 +93,7 @@ answer-effect : (context : Context) (head : CallHead) (request : Request) (argum
 unfolding getaddr getversaddr
 answer-effect context head (requests.Mapping mappings.Set m) arguments l = set-effect context head _ l
 answer-effect context head (requests.Mapping mappings.Unset m) arguments l = unset-effect context head m.prog m.vers _ l
-answer-effect context head (requests.Mapping mappings.Getport m) arguments l = getport-effect head m l
+answer-effect context head (requests.Mapping mappings.Getport m) arguments l = getport-effect context head m l
 answer-effect context head (requests.Rpcb rpcbs.Set r) arguments l = set-effect context head _ l
 answer-effect context head (requests.Rpcb rpcbs.Unset r) arguments l = unset-effect context head r.prog r.vers _ l
 answer-effect context head (requests.Rpcb rpcbs.Getaddr r) arguments l = Same refl refl
@@ -289,7 +289,7 @@ module _ (s : State) (fits : Fits s) where
   step-fits (Gave now id n) = either-fits (is_too_much n (pending s id)) (TooMuch, s) (output_or show_done (gave s now id n)) fits (gave-fits now id n (live_connection id s.connections.all))
   step-fits (Closed id) = closed-fits id (is_there id s.connections)
   step-fits NextLost = fits
-  step-fits (Datagram now who content) = outcome-fits (serve (at_moment now s) (Udp who) content) (serve-fits now (Udp who) content)
+  step-fits (Datagram now who content) = outcome-fits (serve (at_moment now s) (sender s who content) content) (serve-fits now (sender s who content) content)
   step-fits Unsent = fits
   step-fits (Sent number) = sent-fits number (can_be_sent number s.ledger.forwards)
   step-fits (Forward now from message) = end-fits _ (told-fits now message (target_replied s.setting.first_xid (max s.clock now) from message s.ledger) refl refl)

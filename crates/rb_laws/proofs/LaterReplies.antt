@@ -37,32 +37,32 @@ module _ (s : State) (now : ℕ) (message : List ℕ) where
   ends show test outcome found =
       (show (tell_end message (at_fresh_moment now s) (noted_end (option_map (ended_by outcome) found, record s.ledger.forwards { all = without_first test s.ledger.forwards.all }) s.ledger))).0
 
-  shown : (l : Ledger) (said : Outcome) (who : Who) → (show_end (Some (tell (Udp who) said (record (at_fresh_moment now s) { ledger = l })).0, (tell (Udp who) said (record (at_fresh_moment now s) { ledger = l })).1)).0 ≡ later_output who said
-  shown l said who = grind arith
+  shown : (l : Ledger) (said : Outcome) (who : Who) (longest : ℕ) → (show_end (Some (tell (Udp who longest) said (record (at_fresh_moment now s) { ledger = l })).0, (tell (Udp who longest) said (record (at_fresh_moment now s) { ledger = l })).1)).0 ≡ later_output who said
+  shown l said who longest = grind arith
 
-  shown-for : (l : Ledger) (said : Outcome) (caller : Caller) (who : Who) → caller ≡ Udp who
+  shown-for : (l : Ledger) (said : Outcome) (caller : Caller) (who : Who) (longest : ℕ) → caller ≡ Udp who longest
       → (show_end (Some (tell caller said (record (at_fresh_moment now s) { ledger = l })).0, (tell caller said (record (at_fresh_moment now s) { ledger = l })).1)).0 ≡ later_output who said
-  shown-for l said caller who udp = grind (arith, common_steps, shown l said who)
+  shown-for l said caller who longest udp = grind (arith, common_steps, shown l said who longest)
 
-  ended-shown : (test : Entry → Bool) (outcome : target.Outcome) (found : Option Entry) (e : Entry) (who : Who) → found ≡ Some e → e.forward.caller ≡ Udp who
+  ended-shown : (test : Entry → Bool) (outcome : target.Outcome) (found : Option Entry) (e : Entry) (who : Who) (longest : ℕ) → found ≡ Some e → e.forward.caller ≡ Udp who longest
       → ends show_end test outcome found ≡ later_output who (outcome_at_end message (ended_by outcome e))
-  ended-shown test outcome found e who is udp = rw is (shown-for (noted_end (Some (ended_by outcome e), record s.ledger.forwards { all = without_first test s.ledger.forwards.all }) s.ledger).1 (outcome_at_end message (ended_by outcome e)) e.forward.caller who udp)
+  ended-shown test outcome found e who longest is udp = rw is (shown-for (noted_end (Some (ended_by outcome e), record s.ledger.forwards { all = without_first test s.ledger.forwards.all }) s.ledger).1 (outcome_at_end message (ended_by outcome e)) e.forward.caller who longest udp)
 
 replies-told : (s : State) (now : ℕ) (from : Peer) (message : List ℕ)
     → TellsOverUdp (IsReplyTo s.setting.first_xid (max s.clock now) from message) (said_by message) s (Forward now from message)
 unfolding step forward_reply target_replied reply
-replies-told s now from message e rest who first udp =
+replies-told s now from message e rest who longest first udp =
     let test : Entry → Bool = counts_for s.setting.first_xid (max s.clock now) from message in
-    ended-shown s now message test (outcome_of message) (find test s.ledger.forwards.all) e who
+    ended-shown s now message test (outcome_of message) (find test s.ledger.forwards.all) e who longest
     (first-found (IsReplyTo s.setting.first_xid (max s.clock now) from message) test (reply_means s.setting.first_xid (max s.clock now) from message) (reply_tested s.setting.first_xid (max s.clock now) from message) s.ledger.forwards.all e rest first)
     udp
 
 deadlines-told : (s : State) (now : ℕ) → TellsOverUdp (EntryIsDue (max s.clock now)) said_at_deadline s (Expire now)
 unfolding step expire fell_due due
-deadlines-told s now e rest who first udp =
+deadlines-told s now e rest who longest first udp =
     let test : Entry → Bool = is_due (max s.clock now) in
     let found = first-found (EntryIsDue (max s.clock now)) test (due_means (max s.clock now)) (due_tested (max s.clock now)) s.ledger.forwards.all e rest first in
-    rw found (shown-for s now [] (noted_end (Some (ended_by Failed e), record s.ledger.forwards { all = without_first test s.ledger.forwards.all }) s.ledger).1 (said_at_deadline e) e.forward.caller who udp)
+    rw found (shown-for s now [] (noted_end (Some (ended_by Failed e), record s.ledger.forwards { all = without_first test s.ledger.forwards.all }) s.ledger).1 (said_at_deadline e) e.forward.caller who longest udp)
 
 pub udp_callers_are_told : (s : State) → UdpCallersAreTold s
 udp_callers_are_told s = record { replies = replies-told s; deadlines = deadlines-told s }

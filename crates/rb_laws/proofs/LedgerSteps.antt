@@ -1,6 +1,5 @@
 -- What each event leaves of the ledger.
 use Rattle.std.proofs.Common.{◌≡◌, ℕ, max, Bool, true, false, cond, Option, Some, None, Result, Ok, Err, List, [], refl, ◌∙◌, arith}
-use Rattle.rb_rpc.specs.declared.caller.Caller.TheVariants.{Udp}
 use Rattle.rb_feed.specs.Feeds.{arguments_of}
 use Rattle.rb_forward.specs.declared.types.Ended.{Ended as EntryEnd}
 use Rattle.rb_forward.specs.Forwards.{can_be_sent}
@@ -15,7 +14,7 @@ use Rattle.rb_model.specs.Ending.{tell_end, at_fresh_moment, forward_reply, lost
 use Rattle.rb_model.specs.State.{State, Connection, Connections, at_moment}
 use Rattle.rb_model.specs.Connections.{Taking, taking_of, live_connection, is_there, without_number, close_in_table}
 use Rattle.rb_model.specs.Connections.Taking.{TakesNone, GoesOn, Ends}
-use Rattle.rb_model.specs.Step.{Event, Output, context_in, serve, serve_record, when_taken, bytes_to, bytes, dropped_with, sent_call, show_end, show_expired, unless_refused, pending, gave, is_too_much, open_connection, close_connection, with_reply, datagram, output_or, show_taken, show_done, show_outcome, step}
+use Rattle.rb_model.specs.Step.{sender, Event, Output, context_in, serve, serve_record, when_taken, bytes_to, bytes, dropped_with, sent_call, show_end, show_expired, unless_refused, pending, gave, is_too_much, open_connection, close_connection, with_reply, datagram, output_or, show_taken, show_done, show_outcome, step}
 use Rattle.rb_model.specs.Step.Event.{Open, Bytes, Pending, Gave, Closed, NextLost, Datagram, Unsent, Sent, Forward, Expire}
 use Rattle.rb_model.specs.Step.Output.{Opened, TooMuch, IsPending}
 use Rattle.rb_model.specs.ChangeLaws.{Brought, record_in, record_on}
@@ -29,7 +28,7 @@ ledger_from s (Some m) = (outcome (context_in (at_moment m.now s) m.caller) (mes
 
 -- a message is answered, a forwarded call ends or was sent, or nothing changes
 abbrev pub ledger_left : State → Event → Ledger
-ledger_left s (Datagram now who content) = ledger_from s (Some (record { now = now; caller = Udp who; content = content }))
+ledger_left s (Datagram now who content) = ledger_from s (Some (record { now = now; caller = sender s who content; content = content }))
 ledger_left s (Bytes now id piece) = ledger_from s (record_on now id piece (live_connection id s.connections.all))
 ledger_left s (Forward now from message) = (target_replied s.setting.first_xid (max s.clock now) from message s.ledger).1
 ledger_left s (Expire now) = (fell_due (max s.clock now) s.ledger).1
@@ -98,7 +97,7 @@ step-ledger s (Pending id) = shown-ledger s IsPending (pending s id)
 step-ledger s (Gave now id n) = gave-ledger s (is_too_much n (pending s id)) (output_or show_done (gave s now id n)) (moved-ledger s now show_done _)
 step-ledger s (Closed id) = closed-ledger s id (is_there id s.connections)
 step-ledger s NextLost = refl
-step-ledger s (Datagram now who content) = outcome-ledger (serve (at_moment now s) (Udp who) content)
+step-ledger s (Datagram now who content) = outcome-ledger (serve (at_moment now s) (sender s who content) content)
 step-ledger s Unsent = refl
 step-ledger s (Sent number) = sent-ledger s number (can_be_sent number s.ledger.forwards)
 step-ledger s (Forward now from message) =

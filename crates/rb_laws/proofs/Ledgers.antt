@@ -4,7 +4,6 @@ use Rattle.std.proofs.Common.{◌≡◌, ℕ, ◌≤◌, max, Bool, true, false,
 use Rattle.std.proofs.lemmas.List.Elements.{All-push}
 use Rattle.std.proofs.lemmas.Grind.{common_steps}
 use Rattle.rb_rpc.specs.declared.caller.Caller.{Caller}
-use Rattle.rb_rpc.specs.declared.caller.Caller.TheVariants.{Udp}
 use Rattle.rb_address.specs.declared.peer.Peer.{Peer}
 use Rattle.rb_rpc.specs.declared.call.CallHead.{CallHead}
 use Rattle.rb_feed.specs.Feeds.{arguments_of}
@@ -46,7 +45,7 @@ use Rattle.rb_model.specs.declared.types.Limits.{Limits}
 use Rattle.rb_model.specs.Calls.{Outcome, Outcome as outcomes, message_of, outcome}
 use Rattle.rb_model.specs.State.{State, Connections, at_moment, opening, are_good}
 use Rattle.rb_model.specs.Connections.{close_in_table}
-use Rattle.rb_model.specs.Step.{Event, Output, context_in, serve, dropped_with, sent_call, show_end, show_expired, unless_refused, bytes, pending, gave, is_too_much, open_connection, close_connection, with_reply, datagram, output_or, show_taken, show_done, show_outcome, step, after, IsReached}
+use Rattle.rb_model.specs.Step.{sender, Event, Output, context_in, serve, dropped_with, sent_call, show_end, show_expired, unless_refused, bytes, pending, gave, is_too_much, open_connection, close_connection, with_reply, datagram, output_or, show_taken, show_done, show_outcome, step, after, IsReached}
 use Rattle.rb_model.specs.declared.types.Taken.{Taken}
 use Rattle.rb_model.specs.Step.Event.{Open, Bytes, Pending, Gave, Closed, NextLost, Datagram, Unsent, Sent, Forward, Expire}
 use Rattle.rb_model.specs.Step.Output.{Opened, TooMuch, IsPending}
@@ -98,9 +97,9 @@ unset-grows context head prog vers (Some which) l =
     change-grows context.limit (removal_of context head prog vers which) (WasUnset (version_of head.vers)) l (accepts_removal context l (removal_of context head prog vers which))
     (λ e. (both (comes_from_here context) (removes_some (rows_in l) (length l.changes) (removal_of context head prog vers which)) e).1) (λ e. tt)
 
-getport-grows : (limit : ℕ) (head : CallHead) (m : Mapping) (l : Ledger) → Grows limit l (getport head m l).1
+getport-grows : (context : Context) (head : CallHead) (m : Mapping) (l : Ledger) → Grows context.limit l (getport context head m l).1
 unfolding getport
-getport-grows limit head m l = grind arith
+getport-grows context head m l = grind arith
 
 forward-grows : (context : Context) (xid : ℕ) (kind : Kind) (remote : RemoteCall) (arguments : List ℕ) (l : Ledger) → Grows context.limit l (forward_call context xid kind remote arguments l).1
 unfolding forward_call
@@ -110,7 +109,7 @@ answer-grows : (context : Context) (head : CallHead) (request : Request) (argume
 unfolding getaddr getversaddr
 answer-grows context head (requests.Mapping mappings.Set m) arguments l = set-grows context head _ l
 answer-grows context head (requests.Mapping mappings.Unset m) arguments l = unset-grows context head m.prog m.vers _ l
-answer-grows context head (requests.Mapping mappings.Getport m) arguments l = getport-grows context.limit head m l
+answer-grows context head (requests.Mapping mappings.Getport m) arguments l = getport-grows context head m l
 answer-grows context head (requests.Rpcb rpcbs.Set r) arguments l = set-grows context head _ l
 answer-grows context head (requests.Rpcb rpcbs.Unset r) arguments l = unset-grows context head r.prog r.vers _ l
 answer-grows context head (requests.Rpcb rpcbs.Getaddr r) arguments l = Same refl refl
@@ -215,7 +214,7 @@ step-follows s (Gave now id n) = either s (is_too_much n (pending s id)) (TooMuc
 step-follows s (Closed id) = closed-follows s id (close_in_table id s.connections)
 step-follows s NextLost = stays s
 step-follows s (Datagram now who content) =
-    outcome-follows s (serve (at_moment now s) (Udp who) content) (serve-follows s now (Udp who) content)
+    outcome-follows s (serve (at_moment now s) (sender s who content) content) (serve-follows s now (sender s who content) content)
 step-follows s Unsent = stays s
 step-follows s (Sent number) = sent-follows s number (can_be_sent number s.ledger.forwards)
 step-follows s (Forward now from message) = grind (arith, common_steps, replied-ends, end-follows s, tell-follows s now message)

@@ -35,9 +35,12 @@ pub mod RepliesShown
 pub mod KeptLengths
 pub mod Waiting
 pub mod WholeRuns
+pub mod OutsiderCosts
 pub mod LedgerSteps
 pub mod Changes
 pub mod Callers
 pub mod History
 pub mod Restoring
+pub mod Strangers
+pub mod Reflections
 pub mod Spelling

@@ -2,11 +2,10 @@
 use Rattle.std.proofs.Common.{◌≡◌, ℕ, max, Bool, true, false, eqb, Some, List, ◌++◌, map, refl, sym, ap, ◌∙◌, ◌⊎◌, inl, inr, arith}
 use Rattle.std.proofs.lemmas.Grind.{common_steps}
 use Rattle.std.proofs.lemmas.Bool.{eqb-true}
-use Rattle.rb_rpc.specs.declared.caller.Caller.TheVariants.{Udp}
 use Rattle.rb_model.specs.State.{State, Connection, Connections}
 use Rattle.rb_model.specs.State.Phase.{Idle}
 use Rattle.rb_model.specs.Connections.{is_live, live_connection, fed_in, change_first, changed_at, keep_reading, settle, give, without_number}
-use Rattle.rb_model.specs.Step.{Event, Output, step}
+use Rattle.rb_model.specs.Step.{sender, Event, Output, step}
 use Rattle.rb_model.specs.Laws.{IsLive, is_owing, gives_or_closes, OwedRepliesStay}
 use Rattle.rb_model.specs.Losses.{evict_early, evict, lose}
 use Rattle.rb_laws.proofs.Crowds.{live_or_lost, lost_stays}
@@ -50,7 +49,7 @@ module _ (s : State) (waits : Await s) (event : Event) (id : ℕ) (c : Connectio
   by_case : (output : Output) (now : Connections) → gives_or_closes id event ≡ false → Happening s event output now → (live_connection id now.all ≡ Some c) ⊎ (lost_in id now.all ≡ true)
   unfolding live_connection keep_reading settle without_number
   by_case output now not_it (Stays q same) = inl (ap (λ (x : Connections). live_connection id x.all) same ∙ there)
-  by_case output now not_it (Evicts at who content e q same) = in-the-way (crowd_at s at (Udp who) content) now same
+  by_case output now not_it (Evicts at who content e q same) = in-the-way (crowd_at s at (sender s who content) content) now same
   by_case output now not_it (Opens at who e out same) =
       inl (ap (λ (x : Connections). live_connection id x.all) same
       ∙ find-before (is_live id) s.connections.all c (record { number = s.connections.next; who = who; phase = Idle; since = max s.clock at }) there)

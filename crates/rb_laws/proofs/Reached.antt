@@ -3,13 +3,12 @@ use Rattle.std.specs.Prelude.{find, filter}
 use Rattle.std.proofs.Common.{◌≡◌, ◌<◌, ◌≤◌, ℕ, ◌+◌, max, Bool, not, eqb, Some, None, List, [], ◌∷◌, ◌++◌, length, map, refl, sym, subst, arith}
 use Rattle.std.proofs.lemmas.Grind.{common_steps}
 use Rattle.rb_rpc.specs.Records.{first_record}
-use Rattle.rb_rpc.specs.declared.caller.Caller.TheVariants.{Udp}
 use Rattle.rb_model.specs.Calls.{Outcome}
 use Rattle.rb_model.specs.State.{State, Phase, Connection, Connections}
 use Rattle.rb_model.specs.State.Phase.{Idle, Reading, Owing, Awaiting, Lost}
 use Rattle.rb_model.specs.Connections.{is_live, live_connection, change_first, without_number, keep_reading, settle, with_given, give}
 use Rattle.rb_model.specs.Losses.{lose, evict_early}
-use Rattle.rb_model.specs.Step.{Event, Output, step, after, IsReached}
+use Rattle.rb_model.specs.Step.{sender, Event, Output, step, after, IsReached}
 use Rattle.rb_model.specs.Laws.{IsLive}
 use Rattle.rb_model.proofs.Fragments.{some-marked}
 use Rattle.rb_laws.proofs.Happenings.{Happening, happening, crowd_at}
@@ -96,7 +95,7 @@ pub happening-sound : (s : State) (event : Event) (output : Output) (now : Conne
 unfolding without_number
 happening-sound s event output now sound (Stays q same) = subst SoundIn (sym same) sound
 happening-sound s event output now sound (Evicts at who content is q same) =
-    subst SoundIn (sym same) (mapped (evict_early (crowd_at s at (Udp who) content)) (evicted-keeps _) 0 s.connections.next s.connections.all sound)
+    subst SoundIn (sym same) (mapped (evict_early (crowd_at s at (sender s who content) content)) (evicted-keeps _) 0 s.connections.next s.connections.all sound)
 happening-sound s event output now sound (Opens at who is out same) =
     subst SoundIn (sym same) (one_more 0 s.connections.next s.connections.all (record { number = s.connections.next; who = who; phase = Idle; since = max s.clock at }) refl tt sound)
 happening-sound s event output now sound (Reads at id piece c fed is there feeds none out same) =

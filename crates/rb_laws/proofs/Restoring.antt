@@ -8,6 +8,7 @@ use Rattle.std.proofs.Math.Seq.{drop-append_seam}
 use Rattle.std.proofs.lemmas.List.Elements.{All-nil, All-head, All-tail, All-same, All-push, All-cons}
 use Rattle.rb_xdr.specs.Xdr.{IsContent, boolean}
 use Rattle.rb_rpc.specs.declared.call.Verdict.TheVariants as verdicts
+use Rattle.rb_rpc.specs.declared.caller.Caller.{Caller}
 use Rattle.rb_rpc.specs.declared.caller.Caller.TheVariants.{Udp}
 use Rattle.rb_rpc.specs.CallBytes.{call_bytes}
 use Rattle.rb_rpc.specs.Grammar.{IsHead}
@@ -43,12 +44,12 @@ use Rattle.rb_model.specs.declared.message.Message.TheVariants as says
 use Rattle.rb_model.specs.declared.types.Limits.{Limits}
 use Rattle.rb_model.specs.Calls.{Outcome as outcomes, is_served, request_of, call_of, message_of, outcome, success}
 use Rattle.rb_model.specs.State.{State, at_moment, are_good, opening}
-use Rattle.rb_model.specs.Step.{Event, context_in, serve, datagram, step, run, after, IsReached}
-use Rattle.rb_model.specs.ChangeLaws.{credential_for, MayBeMade, ChangesAtMostOnce, set_rows, RowsCanBeSet, IsSpelled, this_machine, set_head, rpcb_for, set_bytes, set_call, set_calls, SaysTrue, Sets, kept_calls, opened_again}
+use Rattle.rb_model.specs.Step.{longest_to, sender, Event, context_in, serve, datagram, step, run, after, IsReached}
+use Rattle.rb_model.specs.ChangeLaws.{credential_for, MayBeMade, ChangesAtMostOnce, set_rows, RowsCanBeSet, IsSpelled, this_machine, set_head, rpcb_for, set_bytes, set_call, set_calls, SaysTrue, Sets, kept_calls, opened_again, true_reply}
 use Rattle.rb_model.specs.ChangeLaws.ChangesAtMostOnce.{Same, OneMore}
 use Rattle.rb_laws.proofs.Grammar.{by_verdict_again}
 use Rattle.rb_laws.proofs.Ledgers.{settable-short, step-own, step-setting, are-own, own-distinct, ledgers_are_well_kept}
-use Rattle.rb_laws.proofs.Changes.{shown-replied, at-most-once}
+use Rattle.rb_laws.proofs.Changes.{FitsTrue, sender-hears, true-fits, shown-replied, at-most-once}
 use Rattle.rb_laws.proofs.LedgerSteps.{step-ledger}
 
 -- ---- the bytes of a call are read back
@@ -108,46 +109,56 @@ owned : (owner : Owner) → owner_named (credential_for owner) ≡ owner
 owned Unknown = refl
 owned (Uid uid) = refl
 
-row-again : (context : Context) (row : Row) → context.caller ≡ Udp this_machine → row_of_rpcb (owner_in context (set_head row)) (rpcb_for row) ≡ Some row
+row-again : (context : Context) (row : Row) (longest : ℕ) → context.caller ≡ Udp this_machine longest → row_of_rpcb (owner_in context (set_head row)) (rpcb_for row) ≡ Some row
 unfolding row_of_rpcb
-row-again context row e = rw (e, named row.netid, owned row.owner) refl
+row-again context row longest e = rw (e, named row.netid, owned row.owner) refl
 
-from-here : (context : Context) → context.caller ≡ Udp this_machine → comes_from_here context ≡ true
+from-here : (context : Context) (longest : ℕ) → context.caller ≡ Udp this_machine longest → comes_from_here context ≡ true
 unfolding comes_from_here is_local is_loopback
-from-here context e = rw e refl
+from-here context longest e = rw e refl
 
 -- such a caller may set rows up to the limit
-shared : (context : Context) (rows : List Row) (count : ℕ) (row : Row) → context.caller ≡ Udp this_machine → has_place context.limit rows count row ≡ true → has_share context rows ≡ true
+shared : (context : Context) (rows : List Row) (count : ℕ) (row : Row) (longest : ℕ) → context.caller ≡ Udp this_machine longest → has_place context.limit rows count row ≡ true → has_share context rows ≡ true
 unfolding has_share has_place
-shared context rows count row e place =
+shared context rows count row longest e place =
     let free = (and_parts (not (list_any (is_of_key row) rows) && nat_lt (length rows) context.limit) (is_change_left count) place).0 in
     rw e (and_parts (not (list_any (is_of_key row) rows)) (nat_lt (length rows) context.limit) free).1
 
-sets : (context : Context) (row : Row) (arguments : List ℕ) (l : Ledger) → context.caller ≡ Udp this_machine → can_be_set row ≡ true → has_place context.limit (rows_in l) (length l.changes) row ≡ true
+sets : (context : Context) (row : Row) (arguments : List ℕ) (l : Ledger) (longest : ℕ) → context.caller ≡ Udp this_machine longest → can_be_set row ≡ true → has_place context.limit (rows_in l) (length l.changes) row ≡ true
     → (outcome context (says.Asked (call_for row)) arguments l).1.changes ≡ l.changes ++ Added row ∷ []
 unfolding outcome answer with_call_noted set_row accepts_row
-sets context row arguments l here may place = rw (row-again context row here, from-here context here, may, shared context (rows_in l) (length l.changes) row here place, place) refl
+sets context row arguments l longest here may place = rw (row-again context row longest here, from-here context longest here, may, shared context (rows_in l) (length l.changes) row longest here place, place) refl
 
-told-true : (context : Context) (row : Row) (arguments : List ℕ) (l : Ledger) → context.caller ≡ Udp this_machine → can_be_set row ≡ true → has_place context.limit (rows_in l) (length l.changes) row ≡ true
-    → (outcome context (says.Asked (call_for row)) arguments l).0 ≡ outcomes.Reply (success 0 (boolean true)) None
+told-true : (context : Context) (row : Row) (arguments : List ℕ) (l : Ledger) (longest : ℕ) → context.caller ≡ Udp this_machine longest → can_be_set row ≡ true → has_place context.limit (rows_in l) (length l.changes) row ≡ true
+    → (outcome context (says.Asked (call_for row)) arguments l).0 ≡ outcomes.Reply (success context.caller 0 (boolean true)) None
 unfolding outcome answer with_call_noted set_row accepts_row result_bytes
-told-true context row arguments l here may place = rw (row-again context row here, from-here context here, may, shared context (rows_in l) (length l.changes) row here place, place) refl
+told-true context row arguments l longest here may place = rw (row-again context row longest here, from-here context longest here, may, shared context (rows_in l) (length l.changes) row longest here place, place) refl
+
+-- from whom it comes
+abbrev set_caller : State → Row → Caller
+set_caller t row = sender t this_machine (set_bytes row)
+
+set-hears : (t : State) (row : Row) → FitsTrue (set_caller t row)
+unfolding comes_from_here
+set-hears t row =
+    sender-hears t this_machine (set_bytes row) (from-here (context_in t (set_caller t row)) (longest_to t.setting.listener.terms this_machine (length (set_bytes row))) refl)
 
 set-step : (t : State) (now : ℕ) (row : Row) → IsSpelled row → can_be_set row ≡ true → has_place t.setting.limits.rows (rows_in t.ledger) (length t.ledger.changes) row ≡ true
     → (step t (set_call now row)).1.ledger.changes ≡ t.ledger.changes ++ Added row ∷ []
 set-step t now row is may place =
     ap (λ (l : Ledger). l.changes) (step-ledger t (set_call now row))
-    ∙ ap (λ (m : Message). (outcome (context_in (at_moment now t) (Udp this_machine)) m (arguments_of (set_bytes row)) t.ledger).1.changes) (read-again row is may)
-    ∙ sets (context_in (at_moment now t) (Udp this_machine)) row (arguments_of (set_bytes row)) t.ledger refl may place
+    ∙ ap (λ (m : Message). (outcome (context_in (at_moment now t) (set_caller t row)) m (arguments_of (set_bytes row)) t.ledger).1.changes) (read-again row is may)
+    ∙ sets (context_in (at_moment now t) (set_caller t row)) row (arguments_of (set_bytes row)) t.ledger (longest_to t.setting.listener.terms this_machine (length (set_bytes row))) refl may place
 
 set-says : (t : State) (now : ℕ) (row : Row) → IsSpelled row → can_be_set row ≡ true → has_place t.setting.limits.rows (rows_in t.ledger) (length t.ledger.changes) row ≡ true
     → SaysTrue (step t (set_call now row)).0
 unfolding step datagram serve
 set-says t now row is may place =
-    shown-replied (success 0 (boolean true)) (serve (at_moment now t) (Udp this_machine) (set_bytes row))
+    shown-replied (true_reply 0) (serve (at_moment now t) (set_caller t row) (set_bytes row))
     (
-    ap (λ (m : Message). (outcome (context_in (at_moment now t) (Udp this_machine)) m (arguments_of (set_bytes row)) t.ledger).0) (read-again row is may)
-    ∙ told-true (context_in (at_moment now t) (Udp this_machine)) row (arguments_of (set_bytes row)) t.ledger refl may place)
+    ap (λ (m : Message). (outcome (context_in (at_moment now t) (set_caller t row)) m (arguments_of (set_bytes row)) t.ledger).0) (read-again row is may)
+    ∙ told-true (context_in (at_moment now t) (set_caller t row)) row (arguments_of (set_bytes row)) t.ledger (longest_to t.setting.listener.terms this_machine (length (set_bytes row))) refl may place
+    ∙ ap (λ (reply : List ℕ). outcomes.Reply reply None) (true-fits (set_caller t row) 0 (set-hears t row)))
 
 -- ---- all of them
 

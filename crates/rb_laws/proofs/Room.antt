@@ -5,7 +5,6 @@ use Rattle.std.proofs.lemmas.List.{length-map}
 use Rattle.std.proofs.lemmas.Grind.{common_steps}
 use Rattle.rb_address.specs.declared.who.Who.{Who}
 use Rattle.rb_rpc.specs.declared.caller.Caller.{Caller}
-use Rattle.rb_rpc.specs.declared.caller.Caller.TheVariants.{Udp}
 use Rattle.rb_forward.specs.declared.types.Ended.{Ended}
 use Rattle.rb_forward.specs.Forwards.{can_be_sent}
 use Rattle.rb_proto.specs.Ledger.{Ledger}
@@ -19,7 +18,7 @@ use Rattle.rb_model.specs.Calls.{Outcome, message_of}
 use Rattle.rb_model.specs.State.{State, Connection, at_moment}
 use Rattle.rb_model.specs.Connections.{change_first, live_connection, give, on_found, number_for, open_in_table, is_there, without_number, close_in_table}
 use Rattle.rb_model.specs.Ending.{tell, tell_end, at_fresh_moment, forward_reply, expire}
-use Rattle.rb_model.specs.Step.{Event, Output, context_in, serve, serve_record, unless_refused, bytes_to, bytes, pending, gave, is_too_much, open_connection, dropped_with, close_connection, with_reply, datagram, sent_call, output_or, show_taken, show_done, show_outcome, show_end, show_expired, step, after, IsReached}
+use Rattle.rb_model.specs.Step.{sender, Event, Output, context_in, serve, serve_record, unless_refused, bytes_to, bytes, pending, gave, is_too_much, open_connection, dropped_with, close_connection, with_reply, datagram, sent_call, output_or, show_taken, show_done, show_outcome, show_end, show_expired, step, after, IsReached}
 use Rattle.rb_model.specs.Step.Event.{Open, Bytes, Pending, Gave, Closed, NextLost, Datagram, Unsent, Sent, Forward as ForwardCame, Expire}
 use Rattle.rb_model.specs.Step.Output.{TooMuch, IsPending}
 use Rattle.rb_laws.proofs.EntriesKept.{step-follows}
@@ -104,7 +103,7 @@ step-few s (Gave now id n) few =
     within s _ few (either s (is_too_much n (pending s id)) (TooMuch, s) (output_or show_done (gave s now id n)) (omega arith) (gave-few s now id n (live_connection id s.connections.all)))
 step-few s (Closed id) few = within s _ few (closed-few s id (is_there id s.connections))
 step-few s NextLost few = few
-step-few s (Datagram now who content) few = within s _ few (outcome-few s (serve (at_moment now s) (Udp who) content) (serve-few s now (Udp who) content))
+step-few s (Datagram now who content) few = within s _ few (outcome-few s (serve (at_moment now s) (sender s who content) content) (serve-few s now (sender s who content) content))
 step-few s Unsent few = few
 step-few s (Sent number) few = within s _ few (sent-few s number (can_be_sent number s.ledger.forwards))
 step-few s (ForwardCame now from message) few = grind (arith, common_steps, within s, end-few s (forward_reply s now from message), told-few s message (at_fresh_moment now s))

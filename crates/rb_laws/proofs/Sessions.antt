@@ -10,7 +10,7 @@ use Rattle.std.proofs.lemmas.Grind.{common_steps}
 use Rattle.rb_xdr.specs.Xdr.{AreBytes}
 use Rattle.rb_rpc.specs.Records.{first_record, data_of}
 use Rattle.rb_rpc.specs.RecordLaws.{Records}
-use Rattle.rb_rpc.specs.declared.caller.Caller.TheVariants.{Tcp, Udp}
+use Rattle.rb_rpc.specs.declared.caller.Caller.TheVariants.{Tcp}
 use Rattle.rb_rpc.proofs.RecordCuts.{ends_later}
 use Rattle.rb_model.specs.Calls.{Outcome, is_no_call}
 use Rattle.rb_model.specs.Calls.Outcome.{NoCall}
@@ -18,7 +18,7 @@ use Rattle.rb_model.specs.State.{State, Phase, Connection, Connections, at_momen
 use Rattle.rb_model.specs.State.Phase.{Idle, Reading, Owing, Awaiting, Lost}
 use Rattle.rb_model.specs.Connections.{is_live, live_connection, fed_in, change_first, changed_at, keep_reading, settle, give, with_given, pending_in, without_number}
 use Rattle.rb_model.specs.Laws.{is_awaiting, owed_bytes, number_given, owed_in, IsGiven}
-use Rattle.rb_model.specs.Step.{Event, Output, pending, show_taken, step}
+use Rattle.rb_model.specs.Step.{sender, Event, Output, pending, show_taken, step}
 use Rattle.rb_model.specs.declared.types.Taken.{Taken}
 use Rattle.rb_model.specs.Step.Event.{Bytes, Gave}
 use Rattle.rb_model.specs.Step.Output.{Opened, Took, TookAndClosed, Done}
@@ -387,7 +387,7 @@ module _ (id : ℕ) (s : State) (t : Session) (h : Holds id s.connections t) whe
       (subst (λ (x : Connections). FitsIn id x.all t) (sym same) h.live)
   by_case event output now goes (Evicts at who content is q same) none =
       quiet event output now goes (ap (λ (n : ℕ). take n (piece_to id event)) q.no_count) (q.none_given id)
-      (subst (λ (x : Connections). FitsIn id x.all t) (sym same) (evicted-fits id (crowd_at s at (Udp who) content) s.connections.next s.connections.all t h.sound h.live))
+      (subst (λ (x : Connections). FitsIn id x.all t) (sym same) (evicted-fits id (crowd_at s at (sender s who content) content) s.connections.next s.connections.all t h.sound h.live))
   by_case event output now goes (Opens at who is out same) none =
       subst (λ (o : Output). Holds id now (with_event event o)) (sym out)
       (quiet event (Opened s.connections.next) now goes refl refl (subst (λ (x : Connections). FitsIn id x.all t) (sym same) (opened-fits id s.connections (record { number = s.connections.next; who = who; phase = Idle; since = max s.clock at }) t h refl refl)))

@@ -14,7 +14,6 @@ use Rattle.rb_rpc.specs.declared.call.CallHead.{CallHead}
 use Rattle.rb_rpc.specs.declared.call.Credential.{Credential}
 use Rattle.rb_rpc.specs.declared.call.Credential.TheVariants as credentials
 use Rattle.rb_rpc.specs.declared.caller.Caller.{Caller}
-use Rattle.rb_rpc.specs.declared.caller.Caller.TheVariants.{Udp}
 use Rattle.rb_rpc.specs.Records.{is_last, fragment_end, first_record, data_in, data_of}
 use Rattle.rb_rpc.specs.Grammar.{SaysCaller, IsCaller}
 use Rattle.rb_rpc.specs.Messages.{auth, auth_none}
@@ -53,7 +52,7 @@ use Rattle.rb_model.specs.State.Phase.{Idle, Reading, Owing, Awaiting, Lost}
 use Rattle.rb_model.specs.Connections.{Taking, taking_up_to, taking_behind, taking_of, fed_in, is_live, live_connection, change_first, without_number, keep_reading, settle, with_given, give}
 use Rattle.rb_model.specs.Connections.Taking.{TakesNone, GoesOn, Ends as EndsAt}
 use Rattle.rb_model.specs.Losses.{lose, evict_early}
-use Rattle.rb_model.specs.Step.{Event, Output, step, after}
+use Rattle.rb_model.specs.Step.{sender, Event, Output, step, after}
 use Rattle.rb_model.specs.Step.Event.{Open, Bytes, Pending, Gave, Closed, NextLost, Datagram, Unsent, Sent, Forward, Expire}
 use Rattle.rb_model.specs.ChangeLaws.{change_for, change_asked, credential_for, Brought, record_in, record_on, brought_by, ChangesAtMostOnce, set_rows, IsSpelled, IsTrust, BringsBytes, RowsAreSpelled, RowsCanBeSetAgain, KeptRowsAreRestored, set_head, rpcb_for, HasShortCall, KeptCallsAreShort}
 use Rattle.rb_model.specs.ChangeLaws.ChangesAtMostOnce.{Same, OneMore}
@@ -257,7 +256,7 @@ happening-fed : (s : State) (event : Event) (output : Output) (now : Connections
 unfolding without_number
 happening-fed s event output now a brings (Stays q same) = subst FedAmong (sym same) a
 happening-fed s event output now a brings (Evicts at who content is q same) =
-    subst FedAmong (sym same) (mapped-fed (evict_early (crowd_at s at (Udp who) content)) (evicted-fed _) s.connections.all a)
+    subst FedAmong (sym same) (mapped-fed (evict_early (crowd_at s at (sender s who content) content)) (evicted-fed _) s.connections.all a)
 happening-fed s event output now a brings (Opens at who is out same) =
     subst FedAmong (sym same) (more-fed s.connections.all (record { number = s.connections.next; who = who; phase = Idle; since = max s.clock at }) (subst BringsBytes is brings, tt) a)
 happening-fed s event output now a brings (Reads at id piece c fed is there feeds none out same) =

@@ -7,7 +7,6 @@ use Rattle.std.proofs.lemmas.Grind.{common_steps}
 use Rattle.rb_address.specs.declared.peer.Peer.{Peer}
 use Rattle.rb_address.specs.declared.who.Who.{Who}
 use Rattle.rb_rpc.specs.declared.caller.Caller.{Caller}
-use Rattle.rb_rpc.specs.declared.caller.Caller.TheVariants.{Udp}
 use Rattle.rb_forward.specs.declared.types.Ended.{Ended}
 use Rattle.rb_forward.specs.Forwards.{can_be_sent}
 use Rattle.rb_proto.specs.Ledger.{Ledger}
@@ -21,7 +20,7 @@ use Rattle.rb_model.specs.State.{State, Connection, at_moment}
 use Rattle.rb_model.specs.Connections.{settle, change_first, is_live, with_given, give, on_found, number_for, opening_as, open_in_table, is_there, without_number, close_in_table, phase_after, live_connection}
 use Rattle.rb_model.specs.Losses.{stamp_in, removals_in_the_way, evict_early, lose}
 use Rattle.rb_model.specs.Ending.{tell, tell_end, at_fresh_moment, forward_reply, expire}
-use Rattle.rb_model.specs.Step.{Output, context_in, serve, serve_record, unless_refused, pending, gave, is_too_much, open_connection, dropped_with, close_connection, with_reply, datagram, sent_call, output_or, show_done, show_outcome, show_end, show_expired, step}
+use Rattle.rb_model.specs.Step.{sender, Output, context_in, serve, serve_record, unless_refused, pending, gave, is_too_much, open_connection, dropped_with, close_connection, with_reply, datagram, sent_call, output_or, show_done, show_outcome, show_end, show_expired, step}
 use Rattle.rb_model.specs.Step.Event.{Open, Pending, Gave, Closed, Datagram, Sent, Forward as ForwardCame, Expire}
 use Rattle.rb_model.specs.Step.Output.{Opened, TooMuch, IsPending}
 use Rattle.rb_model.specs.WholeRuns.{args_in, args_waiting}
@@ -151,7 +150,7 @@ module _ (s : State) where
 
   pub datagram-waits : (now : ℕ) (who : Who) (content : List ℕ) → waiting (step s (Datagram now who content)).1 ≤ waiting s
   unfolding step datagram
-  datagram-waits now who content = outcome-waits (serve (at_moment now s) (Udp who) content) (serve-waits now (Udp who) content)
+  datagram-waits now who content = outcome-waits (serve (at_moment now s) (sender s who content) content) (serve-waits now (sender s who content) content)
 
   pub send-waits : (number : ℕ) → waiting (step s (Sent number)).1 ≤ waiting s
   unfolding step sent_call

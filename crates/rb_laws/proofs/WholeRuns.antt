@@ -8,6 +8,7 @@ use Rattle.rb_rpc.specs.Records.{first_record, data_of}
 use Rattle.rb_rpc.proofs.RecordCuts.{ends_later}
 use Rattle.rb_xdr.specs.Ordered.{looks}
 use Rattle.rb_feed.specs.Feeds.{arguments_of}
+use Rattle.rb_proto.specs.Callers.{may_register}
 use Rattle.rb_model.specs.Calls.{longest_reply, longest_kept, kept_of, message_of}
 use Rattle.rb_model.specs.State.{Setting, State, Phase, Connection, at_moment, are_good}
 use Rattle.rb_model.specs.Connections.{Taking, taking_of, fed_in, taking_up_to, live_connection, keep_reading}
@@ -18,7 +19,7 @@ use Rattle.rb_model.specs.Bounds.{count_in, bytes_in, bytes_out}
 use Rattle.rb_model.specs.Costs.{sizes_in, asks_for_rows, sizes_for, answer_cost, count_taken, record_cost, bytes_cost, find_cost, event_cost, run_cost}
 use Rattle.rb_model.specs.WholeRuns.{args_in, args_waiting, total_in, total_out, bytes_reported, event_allowance, EventsArePaidAhead, WholeRunsAreBounded}
 use Rattle.rb_model.specs.Losses.{stamp_in}
-use Rattle.rb_model.proofs.CostBounds.{answer_most}
+use Rattle.rb_model.proofs.CostBounds.{answer_most, gave_most}
 use Rattle.rb_laws.proofs.ExactTaking.{fed-none}
 use Rattle.rb_laws.proofs.Reached.{live-sound}
 use Rattle.rb_laws.proofs.Ledgers.{step-setting}
@@ -80,14 +81,14 @@ module _ (s : State) (reached : IsReached s) (good : are_good s.setting.limits s
 
   module _ (now id : ℕ) (piece : List ℕ) where
     -- a record costs no more than one that asks for rows
-    ended_most : (content : List ℕ) → answer_cost (sizes_for (message_of content) (sizes_in s)) (length (kept_of content)) ≤ answer_cost (sizes_in s) (length (kept_of content))
-    ended_most content = answer_most (asks_for_rows (message_of content)) (sizes_in s) (length (kept_of content))
+    ended_most : (may : Bool) (content : List ℕ) → answer_cost (sizes_for may (message_of content) (sizes_in s)) (length (kept_of content)) ≤ answer_cost (sizes_in s) (length (kept_of content))
+    ended_most may content = answer_most (asks_for_rows may (message_of content)) (sizes_in s) (length (kept_of content))
 
     -- by the connection that there is
     abbrev IsPaid : Option Connection → Type 0
     IsPaid m =
         let end : Output × State = output_or show_taken (bytes_to s now id piece m) in
-        bytes_cost (sizes_in s) piece m + 2 * waiting end.1 ≤ 2 * waiting s + 16 * count_in end.0 + event_allowance s.setting.limits
+        bytes_cost s.setting.listener.announced (sizes_in s) piece m + 2 * waiting end.1 ≤ 2 * waiting s + 16 * count_in end.0 + event_allowance s.setting.limits
 
     piece_paid : (m : Option Connection) → live_connection id s.connections.all ≡ m → IsPaid m
     unfolding live_connection longest_reply
@@ -97,7 +98,7 @@ module _ (s : State) (reached : IsReached s) (good : are_good s.setting.limits s
         (shows s reached good now id piece (when_taken (at_moment now s) id piece c (taking_of c.phase piece)).0 ∙ taken-counts (at_moment now s) id piece c (taking_of c.phase piece))
       where
         by_taking : (t : Taking) → taking_of c.phase piece ≡ t → IsWithin c.phase piece t → count_in (show_taken (when_taken (at_moment now s) id piece c t).0) ≡ count_taken piece t
-            → find_cost (length s.connections.all) + (count_taken piece t + 1) + 4 + record_cost (sizes_in s) t + 2 * waiting (when_taken (at_moment now s) id piece c t).1
+            → find_cost (length s.connections.all) + (count_taken piece t + 1) + 4 + record_cost (may_register s.setting.listener.announced c.who) (sizes_in s) t + 2 * waiting (when_taken (at_moment now s) id piece c t).1
             ≤ 2 * waiting s + 16 * count_in (show_taken (when_taken (at_moment now s) id piece c t).0) + event_allowance s.setting.limits
         by_taking bb is within k = grind (arith, common_steps, few, few_looks, ended_most, found-waiting, read_args, answering-waits, no_list, counted)
 
@@ -109,10 +110,10 @@ module _ (s : State) (reached : IsReached s) (good : are_good s.setting.limits s
   event_paid (Open now who) = let kept = open-waits s now who in omega (arith, kept)
   event_paid (Bytes now id piece) = let paid = piece_paid now id piece (live_connection id s.connections.all) refl in omega (arith, paid)
   event_paid (Pending id) = let kept = pending-waits s id in omega (arith, few, kept)
-  event_paid (Gave now id n) = let kept = give-waits s now id n in omega (arith, few, kept)
+  event_paid (Gave now id n) = let kept = give-waits s now id n in let most = gave_most (length s.connections.all) s.setting.limits.rows (live_connection id s.connections.all) in omega (arith, few, kept, most)
   event_paid (Closed id) = let kept = close-waits s id in omega (arith, few, kept)
   event_paid NextLost = omega (arith, few)
-  event_paid (Datagram now who content) = let kept = datagram-waits s now who content in let shown = datagram-shown s now who content in let most = datagram_most s reached good content (length content) (length (step s (Datagram now who content)).1.reply) in omega (arith, few, few_looks, kept, shown, most)
+  event_paid (Datagram now who content) = let kept = datagram-waits s now who content in let shown = datagram-shown s now who content in let most = datagram_most s reached good (may_register s.setting.listener.announced who) content (length content) (length (step s (Datagram now who content)).1.reply) in omega (arith, few, few_looks, kept, shown, most)
   event_paid Unsent = let lent = unsent-shown s in omega (arith, lent)
   event_paid (Sent number) = let kept = send-waits s number in omega (arith, kept)
   event_paid (Forward now from message) = let kept = forward-waits s now from message in let shown = forward-shown s now from message in omega (arith, few, kept, shown)

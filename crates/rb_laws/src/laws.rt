@@ -3,7 +3,8 @@ ghost use Rattle.rb_model.specs.Grammar.{AskedMessagesAreOfTheGrammar, RefusedMe
 ghost use Rattle.rb_model.specs.State.{State};
 ghost use Rattle.rb_model.specs.Laws.{RunsAppend, StatesAppend, RefusedEventsChangeNothing, NumbersNeverRecur, CutsDoNotMatter, NextLostIsLeast, BytesAreTakenExactly, RepliesAreGivenWhole, OwedRepliesStay, LedgersAreWellKept};
 ghost use Rattle.rb_model.specs.ChangeLaws.{ChangesAreAccepted, ChangesAreThoseAccepted, RowsCanBeSet, RowsAreSpelled, KeptCallsAreShort, RowsCanBeSetAgain, KeptRowsAreRestored};
-ghost use Rattle.rb_model.specs.CallerLaws.{StrangersChangeNothing, LocalOwnersKeepTheirs};
+ghost use Rattle.rb_model.specs.Reflections.{RepliesAreAtMostTwice, StrangersAreSentAtMostTwice};
+ghost use Rattle.rb_model.specs.CallerLaws.{StrangersChangeNothing, StrangersBringNoKeys, LocalOwnersKeepTheirs};
 ghost use Rattle.rb_model.specs.HistoryLaws.{EventsAreNoted, HistoryIsOfItsEvents};
 ghost use Rattle.rb_model.specs.Closings.{ConnectionsCloseExactly};
 ghost use Rattle.rb_model.specs.ForwardLaws.{ConnectionsAwait, RepliesEndTheirOwn, DeadlinesEndOne, UdpCallersAreTold, EventsChangeAtMostOne, EntriesEndOnce};
@@ -12,6 +13,7 @@ ghost use Rattle.rb_model.specs.DeadlineLaws.{ExpireDoesOneThing, NothingIsDueSo
 ghost use Rattle.rb_model.specs.NextDeadlines.{NextDeadlinesAreExact};
 ghost use Rattle.rb_model.specs.BoundLaws.{StepsAreBounded, RunsAreBounded};
 ghost use Rattle.rb_model.specs.WholeRuns.{EventsArePaidAhead, WholeRunsAreBounded};
+ghost use Rattle.rb_model.specs.OutsiderCosts.{OutsidersCostFew, OutsidersDatagramsCostFew};
 
 /// For each connection in each run: the bytes taken on it are the marked records of its calls and an unfinished rest;
 /// those given on it, and then those still owed, are the marked replies to these calls, joined in order; and no byte is
@@ -144,6 +146,15 @@ pub fn whole_runs_are_bounded()
     ensures runs { WholeRunsAreBounded }
 {}
 
+/// In each state that a run reaches at good limits, an event of a caller that may not register, and that is for no list of
+/// rows, costs at most 16 steps for each byte that it takes, lends or reports as given, and 34,000, whatever is registered,
+/// retained, open or forwarded; SETs and UNSETs are among them. A datagram costs at most a step for each of its bytes, two
+/// for each of its reply's, and 2,048.
+pub fn outsiders_cost_few()
+    ensures events { OutsidersCostFew }
+    ensures datagrams { OutsidersDatagramsCostFew }
+{}
+
 /// From every state, an event leaves the accepted changes, or appends one: the SET or UNSET of a whole call that it brings,
 /// from a caller that may register, which is answered TRUE. Each that is answered so is appended. In every run from an opening,
 /// the changes are those of its calls, in order.
@@ -152,11 +163,21 @@ pub fn changes_are_accepted()
     ensures runs { ChangesAreThoseAccepted }
 {}
 
-/// From every state, a call of a stranger's leaves the accepted changes. In each state that a run reaches, a call of a caller
-/// that is known as an owner other than uid 0 leaves the rows of all other owners, whatever its credential says.
+/// From every state, a call of a stranger's leaves the accepted changes, and brings no key into the statistics but those
+/// of live rows. In each state that a run reaches, a call of a caller that is known as an owner other than uid 0 leaves
+/// the rows of all other owners, whatever its credential says.
 pub fn callers_change_their_own()
     ensures strangers { StrangersChangeNothing }
     ensures owners { LocalOwnersKeepTheirs }
+    ensures notes { StrangersBringNoKeys }
+{}
+
+/// Where replies over UDP are held to that, from every state, the reply to a stranger's datagram has at most twice its
+/// bytes. In every run that begins so, strangers are sent over UDP, at once and at the end of forwarded calls, at most
+/// twice the bytes that came in their names: all of them together, those at one host, or each alone.
+pub fn strangers_are_sent_at_most_twice()
+    ensures replies { RepliesAreAtMostTwice }
+    ensures runs { StrangersAreSentAtMostTwice }
 {}
 
 /// From every state, an event appends to the history its notes and nothing else: a whole call that it brings counts as

@@ -22,7 +22,10 @@ use Rattle.rb_address.proofs.HostTexts.{IsWithout}
 use Rattle.rb_address.proofs.Words.{numeral_without}
 use Rattle.rb_address.proofs.CallerWords.{low_outside, bare_without, source_without, peer_without, who_without}
 use Rattle.rb_forward.specs.Forwards.{Unsent as UnsentCall}
+use Rattle.rb_proto.specs.declared.listener.Forwarding.{Forwarding}
+use Rattle.rb_proto.specs.declared.listener.Forwarding.TheVariants.{Anywhere, ForAll, ForLocal}
 use Rattle.rb_proto.specs.declared.listener.Listener.{Listener}
+use Rattle.rb_proto.specs.declared.listener.Terms.{Terms}
 use Rattle.rb_model.specs.declared.types.Limits.{Limits}
 use Rattle.rb_model.specs.declared.types.CoreFault.{CoreFault}
 use Rattle.rb_model.specs.declared.types.CoreFault.TheVariants.{NoMemory, BadLimits, Full, Spent, Gone}
@@ -31,7 +34,7 @@ use Rattle.rb_model.specs.Step.{Event, Output, step, run}
 use Rattle.rb_model.specs.Step.Event.{Datagram, Open, Bytes, Pending, Gave, Closed, NextLost, Unsent, Sent, Forward, Expire}
 use Rattle.rb_model.specs.Step.Output.{Opened, Refused, TooMuch, Took, TookAndClosed, IsPending, Done, LostIs, Replied, Forwarded, Silent, UnsentIs, Ignored, Nothing, ConnectionClosed, Ready, RepliedTo}
 use Rattle.rb_record.specs.Printing.{hex_text, refusal_text, bytes_line, peer_line, source_line, output_text}
-use Rattle.rb_record.specs.Entries.{event_text, entry_text, run_entries, run_text, limits_text, announce_text, inet_text, inet6_text, local_text, listener_text, options_text}
+use Rattle.rb_record.specs.Entries.{event_text, entry_text, run_entries, run_text, limits_text, announce_text, inet_text, inet6_text, local_text, lists_text, forwarding_text, terms_text, listener_text, options_text}
 use Rattle.rb_record.specs.Tapes.{last_line}
 use Rattle.rb_lines.specs.Lines.{line, lines_of}
 use Rattle.rb_lines.specs.Lines.Line.{Skipped, Happens}
@@ -568,9 +571,22 @@ local_apart : (a : Option (List ℕ)) → IfSome a (λ path. is_path path ≡ tr
 local_apart None is = nothing
 local_apart (Some path) is = joined (codes " --local '") (path ++ codes "'") o_local (joined path (codes "'") (path_apart path (and_parts _ _ is).1) o_quote)
 
+terms_apart : (terms : Terms) → IsWithout 10 (terms_text terms)
+terms_apart terms = joined (lists_text terms.long_replies) (forwarding_text terms.forwarding) (lists_apart terms.long_replies) (forwarding_apart terms.forwarding)
+  where
+    lists_apart : (long : Bool) → IsWithout 10 (lists_text long)
+    lists_apart true = nothing
+    lists_apart false = apart (codes " --udp-lists local") refl
+
+    forwarding_apart : (whom : Forwarding) → IsWithout 10 (forwarding_text whom)
+    forwarding_apart Anywhere = nothing
+    forwarding_apart ForAll = apart (codes " --forward-for all") refl
+    forwarding_apart ForLocal = apart (codes " --forward-for local") refl
+
 listener_apart : (listener : Listener) → HasListenerText listener → IsWithout 10 (listener_text listener)
 listener_apart listener is =
-    let port = joined (decimal listener.port) (local_text listener.local) (number_apart listener.port (omega (arith, is.port))) (local_apart listener.local is.path) in
+    let path = joined (local_text listener.local) (terms_text listener.terms) (local_apart listener.local is.path) (terms_apart listener.terms) in
+    let port = joined (decimal listener.port) (local_text listener.local ++ terms_text listener.terms) (number_apart listener.port (omega (arith, is.port))) path in
     joined (inet_text listener.announced.inet) _ (inet_apart listener.announced.inet is.inet)
     (joined (inet6_text listener.announced.inet6) _ (inet6_apart listener.announced.inet6 is.inet6) (joined (codes " --port ") _ o_port port))
 

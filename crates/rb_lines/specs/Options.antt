@@ -1,5 +1,5 @@
 -- What the values of the options of `replay` mean.
-use Rattle.std.specs.Prelude.{ℕ, ◌^◌, ◌==◌, nat_le, not, Bool, ◌&&◌, if◌then◌else◌, List, [], ◌∷◌, length, is_some, Option, Some, None, option_map, Result, Ok, Err}
+use Rattle.std.specs.Prelude.{ℕ, ◌^◌, ◌==◌, nat_le, not, Bool, true, false, ◌&&◌, if◌then◌else◌, List, [], ◌∷◌, length, codes, bytes_eq, is_some, Option, Some, None, option_map, Result, Ok, Err}
 use Rattle.std.specs.List.{list_all}
 use Rattle.std.specs.Borrow.{Bor}
 use Rattle.rb_address.specs.declared.host.Host.{Host}
@@ -7,9 +7,11 @@ use Rattle.rb_address.specs.declared.host.Host.TheVariants.{V4, V6}
 use Rattle.rb_address.specs.Networks.{plain_host_of}
 use Rattle.rb_address.specs.Reading.{number_below}
 use Rattle.rb_proto.specs.declared.listener.Announced.{Announced}
+use Rattle.rb_proto.specs.declared.listener.Forwarding.{Forwarding}
+use Rattle.rb_proto.specs.declared.listener.Forwarding.TheVariants.{Anywhere, ForAll, ForLocal}
 use Rattle.rb_model.specs.declared.types.Limits.{Limits}
 use Rattle.rb_lines.specs.declared.options.Valued.{Valued}
-use Rattle.rb_lines.specs.declared.options.Valued.TheVariants.{Announce, Local, Conns, Rows, Forwards, Port, Xid, Now}
+use Rattle.rb_lines.specs.declared.options.Valued.TheVariants.{Announce, Local, Conns, Rows, Forwards, UdpLists, ReplayForwardFor, Port, Xid, Now}
 use Rattle.rb_lines.specs.declared.options.ReplayTexts.{ReplayTexts}
 use Rattle.rb_lines.specs.declared.options.Beginning.{Beginning}
 
@@ -87,6 +89,26 @@ limits_of conns rows forwards = do
   most_forwards ← value_of Forwards (number_below (2 ^ 64) forwards)
   Ok (record { conns = most_conns; rows = most_rows; forwards = most_forwards })
 
+-- ---- the terms
+
+-- whether replies over UDP may be long to strangers
+abbrev pub udp_lists : List ℕ → Option Bool
+udp_lists text =
+    if bytes_eq text (codes "all") then Some true
+    else if bytes_eq text (codes "local") then Some false
+    else None
+
+-- for whom `serve` forwards calls
+abbrev pub forward_for : List ℕ → Option Forwarding
+forward_for text =
+    if bytes_eq text (codes "all") then Some ForAll
+    else if bytes_eq text (codes "local") then Some ForLocal
+    else None
+
+-- the same of a replay, which knows one more
+abbrev pub forwarding_of : List ℕ → Option Forwarding
+forwarding_of text = if bytes_eq text (codes "any") then Some Anywhere else forward_for text
+
 -- what a replay begins with, or the first option whose value can't be read
 abbrev pub beginning_of : ReplayTexts → Result Beginning Valued
 beginning_of texts = do
@@ -96,4 +118,12 @@ beginning_of texts = do
   listens ← value_of Port (port texts.port.now)
   xid ← value_of Xid (number_below (2 ^ 32) texts.xid.now)
   moment ← value_of Now (number_below (2 ^ 64) texts.moment.now)
-  Ok (record { limits = limits; listener = record { announced = announced; port = listens; local = path }; first_xid = xid; moment = moment; steps = texts.steps })
+  lists ← value_of UdpLists (udp_lists texts.udp_lists.now)
+  whom ← value_of ReplayForwardFor (forwarding_of texts.forward_for.now)
+  Ok (record {
+    limits = limits;
+    listener = record { announced = announced; port = listens; local = path; terms = record { long_replies = lists; forwarding = whom } };
+    first_xid = xid;
+    moment = moment;
+    steps = texts.steps;
+  })

@@ -6,18 +6,21 @@ use Rattle.std.specs.Str.Parse.{digits_value}
 use Rattle.std.specs.Borrow.{Bor}
 use Rattle.rb_address.specs.declared.host.Host.{Host}
 use Rattle.rb_address.specs.declared.network.Network.{Network}
-use Rattle.rb_address.specs.Reading.{number_below}
+use Rattle.rb_address.specs.Reading.{cut, number_below}
 use Rattle.rb_address.specs.Networks.{network_of, plain_host_of}
 use Rattle.rb_proto.specs.declared.listener.Announced.{Announced}
+use Rattle.rb_proto.specs.declared.listener.Terms.{Terms}
 use Rattle.rb_model.specs.declared.types.Limits.{Limits}
 use Rattle.rb_lines.specs.declared.options.Valued.{Valued}
-use Rattle.rb_lines.specs.declared.options.Valued.TheVariants.{Announce, Bind, From, Local, LocalMode, Port, Conns, Rows, Forwards, Xid, Now, Turns, RecordLimit}
+use Rattle.rb_lines.specs.declared.options.Valued.TheVariants as valued
+use Rattle.rb_lines.specs.declared.options.Valued.TheVariants.{Announce, Bind, From, Local, LocalMode, Port, Conns, Rows, Forwards, UdpLists, ForwardFor, ReplayForwardFor, Xid, Now, Turns, RecordLimit}
 use Rattle.rb_lines.specs.declared.serving.ServeTexts.{ServeTexts}
 use Rattle.rb_lines.specs.declared.serving.ServeFault.{ServeFault}
 use Rattle.rb_lines.specs.declared.serving.ServeFault.TheVariants.{BadValue, NoMemory}
 use Rattle.rb_lines.specs.declared.serving.Record.{Record}
+use Rattle.rb_lines.specs.declared.serving.UdpRate.{UdpRate}
 use Rattle.rb_lines.specs.declared.serving.Service as code
-use Rattle.rb_lines.specs.Options.{◌>>=◌, value_of, announced_of, read_local, port, limits_of}
+use Rattle.rb_lines.specs.Options.{◌>>=◌, value_of, announced_of, read_local, port, limits_of, udp_lists, forward_for}
 
 -- what stands for an option that is not given
 abbrev pub default_of : Valued → List ℕ
@@ -27,11 +30,15 @@ default_of Port = codes "111"
 default_of Conns = codes "64"
 default_of Rows = codes "1024"
 default_of Forwards = codes "0"
+default_of UdpLists = codes "local"
+default_of ForwardFor = codes "local"
 default_of Turns = codes "0"
 default_of RecordLimit = codes "16000000"
 default_of (Announce place) = []
 default_of (From place) = []
 default_of Local = []
+default_of valued.UdpRate = []
+default_of ReplayForwardFor = []
 default_of Xid = []
 default_of Now = []
 
@@ -70,6 +77,37 @@ abbrev pub if_between : ℕ → ℕ → Option ℕ → Option ℕ
 if_between least most None = None
 if_between least most (Some n) = if nat_le least n && nat_le n most then Some n else None
 
+-- ---- how many datagrams are served in a second
+
+abbrev pub rate_number : List ℕ → Option ℕ
+rate_number text = if_between 1 1000 (number_below (2 ^ 64) text)
+
+-- two numbers, or one that is both
+abbrev pub rate_of_parts : Option (List ℕ × List ℕ) → List ℕ → Result UdpRate Valued
+rate_of_parts None text = do
+  most ← value_of valued.UdpRate (rate_number text)
+  Ok (record { network = most; host = most })
+rate_of_parts (Some parts) text = do
+  of_network ← value_of valued.UdpRate (rate_number parts.0)
+  of_host ← value_of valued.UdpRate (rate_number parts.1)
+  Ok (record { network = of_network; host = of_host })
+
+-- of one network and, behind a comma, of one host
+abbrev pub rate_of : List ℕ → Result UdpRate Valued
+rate_of text = rate_of_parts (cut 44 text) text
+
+abbrev pub udp_rate : Option (Bor (List ℕ)) → Result (Option UdpRate) Valued
+udp_rate None = Ok None
+udp_rate (Some text) = rate_of text.now >>= λ rate. Ok (Some rate)
+
+-- ---- the terms, and the record
+
+abbrev pub terms_of : List ℕ → List ℕ → Result Terms Valued
+terms_of lists whom = do
+  long ← value_of UdpLists (udp_lists lists)
+  served ← value_of ForwardFor (forward_for whom)
+  Ok (record { long_replies = long; forwarding = served })
+
 -- in bytes
 abbrev pub record_limit : List ℕ → Option ℕ
 record_limit text = if_between 1000 16777216 (number_below (2 ^ 64) text)
@@ -85,6 +123,8 @@ pub record Service : Type 0 where
   pub announce : Announced
   pub port : ℕ
   pub limits : Limits
+  pub terms : Terms
+  pub udp_rate : Option UdpRate
   pub turns : ℕ
   pub recorded : Option Record
 
@@ -95,6 +135,8 @@ rest_of given hosts networks texts = do
   bits ← value_of LocalMode (read_mode texts.local_mode.now)
   listens ← value_of Port (port texts.port.now)
   most ← limits_of texts.conns.now texts.rows.now texts.forwards.now
+  terms ← terms_of texts.udp_lists.now texts.forward_for.now
+  rate ← udp_rate texts.udp_rate
   ends ← value_of Turns (number_below (2 ^ 64) texts.turns.now)
   bytes ← value_of RecordLimit (record_limit texts.record_limit.now)
   Ok (record {
@@ -107,6 +149,8 @@ rest_of given hosts networks texts = do
     announce = given;
     port = listens;
     limits = most;
+    terms = terms;
+    udp_rate = rate;
     turns = ends;
     recorded = option_map (λ path. record { path = path; limit = bytes }) texts.record_path;
   })
@@ -132,6 +176,8 @@ service_view s = record {
   announce = s.announce;
   port = s.port;
   limits = s.limits;
+  terms = s.terms;
+  udp_rate = s.udp_rate;
   turns = s.turns;
   recorded = s.recorded;
 }

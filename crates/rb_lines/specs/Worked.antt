@@ -1,5 +1,5 @@
 -- Worked examples: what texts of event lines say, and what is printed for them.
-use Rattle.std.specs.Prelude.{◌≡◌, ◌^◌, ◌-◌, List, ℕ, [], ◌∷◌, ◌++◌, replicate, codes, Some, None, Ok, Err}
+use Rattle.std.specs.Prelude.{◌≡◌, ◌^◌, ◌-◌, List, ℕ, [], ◌∷◌, ◌++◌, replicate, codes, true, false, Some, None, Ok, Err}
 use Rattle.std.specs.List.{flat_map}
 use Rattle.std.specs.Int.{w32, to_be_bytes}
 use Rattle.rb_address.specs.declared.host.Host.TheVariants.{V4, V6}
@@ -10,6 +10,8 @@ use Rattle.rb_address.specs.declared.who.Trust.TheVariants as trusts
 use Rattle.rb_address.specs.declared.who.Who.{Who}
 use Rattle.rb_address.specs.Callers.{unknown_host}
 use Rattle.rb_address.specs.Reading.{number_below, peer}
+use Rattle.rb_proto.specs.declared.listener.Forwarding.TheVariants.{Anywhere, ForLocal}
+use Rattle.rb_proto.specs.declared.listener.Terms.{Terms}
 use Rattle.rb_model.specs.Step.Event.{Datagram, Open, Bytes, Pending, Gave, Closed, NextLost, Unsent, Sent, Forward, Expire}
 use Rattle.rb_model.specs.declared.types.CoreFault.TheVariants.{Full, Spent, Gone}
 use Rattle.rb_model.specs.Step.Output.{Replied, Silent, Opened, Refused, Took, TookAndClosed, IsPending, Done, TooMuch, LostIs, Forwarded, UnsentIs, Ignored, Nothing, Ready, RepliedTo}
@@ -190,13 +192,19 @@ CallersArePrinted =
     × (report_of (RepliedTo local_root (0 ∷ 0 ∷ 0 ∷ 15 ∷ []) ∷ []) ≡ with_line_feed (codes "datagram local 0000000f"))
     × (report_of (RepliedTo (record here { trust = trusts.Stranger }) (0 ∷ 0 ∷ 0 ∷ 15 ∷ []) ∷ []) ≡ with_line_feed (codes "datagram 127.0.0.1:900 0000000f"))
 
+-- terms that hold nobody back
+abbrev pub open_terms : Terms
+open_terms = record { long_replies = true; forwarding = Anywhere }
+
 -- The command in the first line of a record, of a daemon that serves both families and a local socket, and of one that
--- serves IPv6 alone.
+-- serves IPv6 alone; and where the terms hold somebody back.
 abbrev pub OptionsArePrinted : Type 0
 OptionsArePrinted =
-    (listener_text (record { announced = record { inet = Some (192 ∷ 0 ∷ 2 ∷ 1 ∷ []); inet6 = Some (replicate 15 0 ++ 1 ∷ []) }; port = 111; local = Some (codes "/run/rpcbind.sock") })
+    (listener_text (record { announced = record { inet = Some (192 ∷ 0 ∷ 2 ∷ 1 ∷ []); inet6 = Some (replicate 15 0 ++ 1 ∷ []) }; port = 111; local = Some (codes "/run/rpcbind.sock"); terms = open_terms })
     ≡ codes " --announce 192.0.2.1 --announce ::1 --port 111 --local '/run/rpcbind.sock'")
-    × (listener_text (record { announced = record { inet = None; inet6 = Some (replicate 15 0 ++ 1 ∷ []) }; port = 111; local = None }) ≡ codes " --announce ::1 --port 111")
+    × (listener_text (record { announced = record { inet = None; inet6 = Some (replicate 15 0 ++ 1 ∷ []) }; port = 111; local = None; terms = open_terms }) ≡ codes " --announce ::1 --port 111")
+    × (listener_text (record { announced = record { inet = None; inet6 = None }; port = 111; local = Some (codes "/run/rpcbind.sock"); terms = record { long_replies = false; forwarding = ForLocal } })
+    ≡ codes " --port 111 --local '/run/rpcbind.sock' --udp-lists local --forward-for local")
 
 -- The lines of peers of IPv6. Another spelling of the host, as one that is not shortened or has no brackets, makes a
 -- bad line.

@@ -18,6 +18,7 @@ pub use lines::{ReadFault, longest_input, read_events};
 pub use options::{Beginning, ReplayTexts, Valued, read_beginning};
 pub use printing::{WriteFailed, print_output, print_outputs, print_steps};
 pub use serving::{
-    MOST_HOSTS, MOST_NETWORKS, Record, ServeFault, ServeTexts, Service, read_service, serve_default,
+    MOST_HOSTS, MOST_NETWORKS, Record, ServeFault, ServeTexts, Service, UdpRate, read_service,
+    serve_default,
 };
 pub use worked::worked_examples;

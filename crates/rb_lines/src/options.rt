@@ -3,11 +3,11 @@ ghost use Rattle.std.specs.Prelude.{◌≡◌, ◌^◌};
 ghost use Rattle.std.specs.List.{list_all};
 ghost use Rattle.rb_address.specs.Reading.{number_below};
 ghost use Rattle.rb_address.specs.Networks.{plain_host_of};
-ghost use Rattle.rb_lines.specs.Options.{value_of, with_host, announce_at, announced_of, is_quotable, read_local, local_address, port, limits_of, beginning_of};
+ghost use Rattle.rb_lines.specs.Options.{value_of, with_host, announce_at, announced_of, is_quotable, read_local, local_address, port, limits_of, udp_lists, forward_for, forwarding_of, beginning_of};
 
 use rb_address::{Host, number_below};
 use rb_model::Limits;
-use rb_proto::{Announced, Listener};
+use rb_proto::{Announced, Forwarding, Listener, Terms};
 use rb_uaddr::AddressText;
 
 /// The longest path of a local socket, in bytes.
@@ -24,7 +24,8 @@ const UNANNOUNCED: Announced = Announced {
 pub struct Beginning {
     /// How many connections, rows and forwarded calls there may be.
     pub limits: Limits,
-    /// The announced host of each family that is served, the port, and the path of the local socket.
+    /// The announced host of each family that is served, the port, and the path of the local socket; and on which terms
+    /// callers are served.
     pub listener: Listener,
     /// The xid of the first forwarded call.
     pub first_xid: u32,
@@ -53,6 +54,14 @@ pub enum Valued {
     Rows,
     /// `--forwards N`
     Forwards,
+    /// `--udp-lists WHOM`
+    UdpLists,
+    /// `--forward-for WHOM` of `serve`.
+    ForwardFor,
+    /// `--forward-for WHOM` of `replay`, which has one word more.
+    ReplayForwardFor,
+    /// `--udp-rate N`
+    UdpRate,
     /// `--port N`
     Port,
     /// `--xid N`
@@ -85,6 +94,10 @@ pub struct ReplayTexts<'m, 'a> {
     pub xid: &'a str,
     /// The first moment, in milliseconds since the start of 1970.
     pub moment: &'a str,
+    /// `all` or `local`.
+    pub udp_lists: &'a str,
+    /// `any`, `all` or `local`.
+    pub forward_for: &'a str,
     /// Whether `--steps` is given.
     pub steps: bool,
 }
@@ -227,6 +240,40 @@ pub(crate) fn read_limits(conns: &str, rows: &str, forwards: &str) -> Result<Lim
     })
 }
 
+/// Whether a reply over UDP may be long to whomever: `all`, or `local`, where it may be to callers of this machine alone.
+pub(crate) fn read_udp_lists(text: &str) -> Result<bool, Valued>
+    ensures { result ≡ value_of Valued.UdpLists (udp_lists text.now) }
+{
+    match text {
+        "all" => Ok(true),
+        "local" => Ok(false),
+        _ => Err(Valued::UdpLists),
+    }
+}
+
+/// For whom calls are forwarded by `serve`: `all`, or `local`, for callers of this machine alone.
+pub(crate) fn read_forward_for(text: &str) -> Result<Forwarding, Valued>
+    ensures { result ≡ value_of Valued.ForwardFor (forward_for text.now) }
+{
+    match text {
+        "all" => Ok(Forwarding::ForAll),
+        "local" => Ok(Forwarding::ForLocal),
+        _ => Err(Valued::ForwardFor),
+    }
+}
+
+/// The same of `replay`, which also has `any`: for whomever, to programs of other hosts too.
+fn read_forwarding(text: &str) -> Result<Forwarding, Valued>
+    ensures { result ≡ value_of Valued.ReplayForwardFor (forwarding_of text.now) }
+{
+    match text {
+        "any" => Ok(Forwarding::Anywhere),
+        "all" => Ok(Forwarding::ForAll),
+        "local" => Ok(Forwarding::ForLocal),
+        _ => Err(Valued::ReplayForwardFor),
+    }
+}
+
 /// What a replay begins with, or the first option whose value can't be read, in the order of the fields.
 pub fn read_beginning(texts: &ReplayTexts<'_, '_>) -> Result<Beginning, Valued>
     ensures { result ≡ beginning_of texts.now }
@@ -237,12 +284,18 @@ pub fn read_beginning(texts: &ReplayTexts<'_, '_>) -> Result<Beginning, Valued>
     let port = read_port(texts.port)?;
     let first_xid = number32(Valued::Xid, texts.xid)?;
     let moment = number(Valued::Now, texts.moment)?;
+    let long_replies = read_udp_lists(texts.udp_lists)?;
+    let forwarding = read_forwarding(texts.forward_for)?;
     Ok(Beginning {
         limits,
         listener: Listener {
             announced,
             port,
             local,
+            terms: Terms {
+                long_replies,
+                forwarding,
+            },
         },
         first_xid,
         moment,

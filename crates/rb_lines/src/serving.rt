@@ -2,14 +2,15 @@
 ghost use Rattle.std.specs.Prelude.{◌≡◌};
 ghost use Rattle.std.specs.List.{list_all};
 ghost use Rattle.rb_lines.specs.Options.{value_of};
-ghost use Rattle.rb_lines.specs.Serving.{Serves, default_of, host_at, hosts_from, network_at, networks_from, is_octal, read_mode, record_limit, rest_of, service_of, service_view, result_view};
+ghost use Rattle.rb_lines.specs.Serving.{Serves, default_of, host_at, hosts_from, network_at, networks_from, is_octal, read_mode, rate_number, rate_of, udp_rate, terms_of, record_limit, rest_of, service_of, service_view, result_view};
 
 use crate::options::{
-    Valued, number, read_announced, read_host, read_limits, read_local, read_port,
+    Valued, number, read_announced, read_forward_for, read_host, read_limits, read_local,
+    read_port, read_udp_lists,
 };
-use rb_address::{Host, Network};
+use rb_address::{Host, Network, cut, number_below};
 use rb_model::Limits;
-use rb_proto::Announced;
+use rb_proto::{Announced, Terms};
 use std::alloc::Global;
 
 /// The most addresses of `--bind`.
@@ -44,6 +45,12 @@ pub struct ServeTexts<'m, 'a> {
     pub rows: &'a str,
     /// The most forwarded calls at a time.
     pub forwards: &'a str,
+    /// `all` or `local`.
+    pub udp_lists: &'a str,
+    /// `all` or `local`.
+    pub forward_for: &'a str,
+    /// One or two numbers from 1 to 1,000, with a comma between them.
+    pub udp_rate: Option<&'a str>,
     /// After how many turns it ends.
     pub turns: &'a str,
     /// Any path.
@@ -73,10 +80,23 @@ pub struct Service<'a> {
     pub port: u16,
     /// How many connections, rows and forwarded calls there may be.
     pub limits: Limits,
+    /// On which terms callers are served.
+    pub terms: Terms,
+    /// How many datagrams of strangers are served in a second, where that is limited.
+    pub udp_rate: Option<UdpRate>,
     /// After how many turns it ends; 0 never ends.
     pub turns: u64,
     /// The record of its events, where one is asked for.
     pub recorded: Option<Record<'a>>,
+}
+
+/// How many datagrams of strangers are served in a second, each from 1 to 1,000.
+#[derive(Clone, Copy, Debug, PartialEq, Eq)]
+pub struct UdpRate {
+    /// Of one network: of an IPv4 /24, or of an IPv6 /56.
+    pub network: u32,
+    /// Of one host.
+    pub host: u32,
 }
 
 /// A record of events.
@@ -109,9 +129,12 @@ pub fn serve_default(option: Valued) -> &'static str
         Valued::Conns => "64",
         Valued::Rows => "1024",
         Valued::Forwards => "0",
+        Valued::UdpLists => "local",
+        Valued::ForwardFor => "local",
         Valued::Turns => "0",
         Valued::RecordLimit => "16000000",
-        Valued::Announce(_) | Valued::From(_) | Valued::Local | Valued::Xid | Valued::Now => "",
+        Valued::Announce(_) | Valued::From(_) | Valued::Local => "",
+        Valued::UdpRate | Valued::ReplayForwardFor | Valued::Xid | Valued::Now => "",
     }
 }
 
@@ -196,6 +219,63 @@ fn read_mode(text: &str) -> Result<u32, Valued>
     }
 }
 
+/// A number of datagrams in a second.
+#[tactic(auto, unfolding(rb_address::specs::Reading::number_below))]
+fn read_rate_number(text: &[u8]) -> Result<u32, Valued>
+    ensures { result ≡ value_of Valued.UdpRate (rate_number text.now) }
+{
+    let Some(number) = number_below(text) else {
+        return Err(Valued::UdpRate);
+    };
+    if 1 <= number && number <= 1_000 {
+        Ok(number as u32)
+    } else {
+        Err(Valued::UdpRate)
+    }
+}
+
+/// How many of one network and of one host: as many of one host as of its network where there is one number.
+fn read_rate(text: &str) -> Result<UdpRate, Valued>
+    ensures { result ≡ rate_of text.now }
+{
+    let text = text.as_bytes();
+    match cut(text, b',') {
+        Some((network, host)) => Ok(UdpRate {
+            network: read_rate_number(network)?,
+            host: read_rate_number(host)?,
+        }),
+        None => {
+            let most = read_rate_number(text)?;
+            Ok(UdpRate {
+                network: most,
+                host: most,
+            })
+        }
+    }
+}
+
+/// The same, where it is given.
+fn read_udp_rate(text: Option<&str>) -> Result<Option<UdpRate>, Valued>
+    ensures { result ≡ udp_rate text.entry }
+{
+    match text {
+        Some(text) => Ok(Some(read_rate(text)?)),
+        None => Ok(None),
+    }
+}
+
+/// The terms.
+fn read_terms(udp_lists: &str, forward_for: &str) -> Result<Terms, Valued>
+    ensures { result ≡ terms_of udp_lists.now forward_for.now }
+{
+    let long_replies = read_udp_lists(udp_lists)?;
+    let forwarding = read_forward_for(forward_for)?;
+    Ok(Terms {
+        long_replies,
+        forwarding,
+    })
+}
+
 /// The most bytes of a record.
 #[tactic(auto, unfolding(rb_address::specs::Reading::number_below))]
 fn read_record_limit(text: &str) -> Result<usize, Valued>
@@ -222,6 +302,8 @@ fn read_rest<'a>(
     let local_mode = read_mode(texts.local_mode)?;
     let port = read_port(texts.port)?;
     let limits = read_limits(texts.conns, texts.rows, texts.forwards)?;
+    let terms = read_terms(texts.udp_lists, texts.forward_for)?;
+    let udp_rate = read_udp_rate(texts.udp_rate)?;
     let turns = number(Valued::Turns, texts.turns)?;
     let limit = read_record_limit(texts.record_limit)?;
     Ok(Service {
@@ -234,6 +316,8 @@ fn read_rest<'a>(
         announce,
         port,
         limits,
+        terms,
+        udp_rate,
         turns,
         recorded: match texts.record_path {
             Some(path) => Some(Record { path, limit }),

@@ -14,6 +14,6 @@ pub some_head : (xid : ℕ) (status : ReplyStatus) → 0 < length (reply_head xi
 unfolding reply_head number opaque
 some_head xid status = grind arith
 
-pub some_fitting : (xid : ℕ) (status : ReplyStatus) (results : List ℕ) → 0 < length (fitting_reply xid (reply_head xid status ++ results))
+pub some_fitting : (longest xid : ℕ) (status : ReplyStatus) (results : List ℕ) → 0 < length (fitting_reply longest xid (reply_head xid status ++ results))
 unfolding fitting_reply
-some_fitting xid status results = grind (arith, common_steps, length-append, some_head)
+some_fitting longest xid status results = grind (arith, common_steps, length-append, some_head)

@@ -1,5 +1,5 @@
 -- What a message says, by the order of refusals, and what it is answered with (RFC 5531 sections 8 and 9).
-use Rattle.std.specs.Prelude.{ℕ, ◌==◌, nat_lt, not, ◌||◌, Bool, true, false, if◌then◌else◌, List, [], ◌++◌, length, Option, Some, None, Result, Ok, Err, take}
+use Rattle.std.specs.Prelude.{ℕ, ◌==◌, nat_lt, min, max, not, ◌||◌, Bool, true, false, if◌then◌else◌, List, [], ◌++◌, length, Option, Some, None, Result, Ok, Err, take}
 use Rattle.rb_rpc.specs.declared.call.CallHead.{CallHead}
 use Rattle.rb_rpc.specs.declared.call.Verdict.{Verdict}
 use Rattle.rb_rpc.specs.declared.call.Verdict.TheVariants as verdicts
@@ -87,20 +87,29 @@ reply_in Silent = []
 unfoldable pub longest_reply : ℕ
 longest_reply = 9000
 
--- a reply that does not fit is SYSTEM_ERR
-unfoldable pub fitting_reply : ℕ → List ℕ → List ℕ
-fitting_reply xid reply = if nat_lt longest_reply (length reply) then reply_head xid replies.SystemErr else reply
+-- the length of a reply without results, which each call may be answered with
+abbrev pub shortest_reply : ℕ
+shortest_reply = 24
 
--- the reply with results
-abbrev pub success : ℕ → List ℕ → List ℕ
-success xid results = fitting_reply xid (reply_head xid replies.Success ++ results)
+-- the most bytes of a reply to this caller, but for a list that is streamed
+abbrev pub longest_for : Caller → ℕ
+longest_for (Tcp id who) = longest_reply
+longest_for (Udp who longest) = min (max longest shortest_reply) longest_reply
+
+-- a reply that has more bytes than the longest is SYSTEM_ERR
+unfoldable pub fitting_reply : ℕ → ℕ → List ℕ → List ℕ
+fitting_reply longest xid reply = if nat_lt longest (length reply) then reply_head xid replies.SystemErr else reply
+
+-- the reply with results to this caller
+abbrev pub success : Caller → ℕ → List ℕ → List ℕ
+success caller xid results = fitting_reply (longest_for caller) xid (reply_head xid replies.Success ++ results)
 
 -- Results of these bytes, after so many changes: a list of rows is streamed on a connection, of any length.
 abbrev pub results_outcome : Caller → ℕ → ℕ → List ℕ → Results → Outcome
 results_outcome (Tcp id who) count xid bytes (results.Rows list) = Reply (reply_head xid replies.Success ++ bytes) (Some count)
-results_outcome (Udp who) count xid bytes (results.Rows list) = Reply (success xid bytes) None
-results_outcome caller count xid bytes (results.Value value) = Reply (success xid bytes) None
-results_outcome caller count xid bytes results.Statistics = Reply (success xid bytes) None
+results_outcome (Udp who longest) count xid bytes (results.Rows list) = Reply (success (Udp who longest) xid bytes) None
+results_outcome caller count xid bytes (results.Value value) = Reply (success caller xid bytes) None
+results_outcome caller count xid bytes results.Statistics = Reply (success caller xid bytes) None
 
 -- the outcome of an answer to a caller after so many changes; `bytes_of` gives the bytes of results
 abbrev pub answer_outcome : Caller → ℕ → ℕ → (Results → List ℕ) → Answer → Outcome

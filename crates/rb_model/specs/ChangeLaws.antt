@@ -12,6 +12,8 @@ use Rattle.rb_address.specs.declared.who.Trust.{Trust}
 use Rattle.rb_address.specs.declared.who.Trust.TheVariants.{Claims, Local, Stranger}
 use Rattle.rb_address.specs.declared.who.Who.{Who}
 use Rattle.rb_rpc.specs.CallBytes.{call_bytes}
+use Rattle.rb_rpc.specs.declared.reply.ReplyStatus.TheVariants as replies
+use Rattle.rb_rpc.specs.Replies.{reply_head}
 use Rattle.rb_rpc.specs.Grammar.{IsCaller}
 use Rattle.rb_address.specs.declared.who.Owner.{Owner}
 use Rattle.rb_address.specs.declared.who.Owner.TheVariants.{Unknown, Uid}
@@ -35,13 +37,13 @@ use Rattle.rb_proto.specs.Answers.{row_of_mapping, row_of_rpcb, can_be_set}
 use Rattle.rb_model.specs.declared.message.Message.{Message}
 use Rattle.rb_model.specs.declared.message.Message.TheVariants as says
 use Rattle.rb_model.specs.declared.types.Limits.{Limits}
-use Rattle.rb_model.specs.Calls.{Outcome, message_of, success}
+use Rattle.rb_model.specs.Calls.{Outcome, message_of}
 use Rattle.rb_model.specs.Calls.Outcome.{NoCall, Reply, Forwarded, Silent}
 use Rattle.rb_model.specs.Connections.{Taking, taking_of, owed_of, live_connection}
 use Rattle.rb_model.specs.Connections.Taking.{TakesNone, GoesOn, Ends}
 use Rattle.rb_model.specs.State.{Connection, State, opening, are_good, at_moment}
 use Rattle.rb_model.specs.State.Phase.{Owing}
-use Rattle.rb_model.specs.Step.{serve, Event, Output, step, run, after, IsReached}
+use Rattle.rb_model.specs.Step.{sender, serve, Event, Output, step, run, after, IsReached}
 use Rattle.rb_model.specs.Step.Output.{Replied}
 use Rattle.rb_model.specs.Step.Event.{Open, Bytes, Datagram}
 
@@ -85,7 +87,7 @@ record_on now id piece (Some c) = record_in now id c.who (taking_of c.phase piec
 
 -- a datagram, or the record that ends in a piece of bytes
 abbrev pub brought_by : State → Event → Option Brought
-brought_by s (Datagram now who content) = Some (record { now = now; caller = Udp who; content = content })
+brought_by s (Datagram now who content) = Some (record { now = now; caller = sender s who content; content = content })
 brought_by s (Bytes now id piece) = record_on now id piece (live_connection id s.connections.all)
 brought_by s other = None
 
@@ -94,12 +96,16 @@ brought_by s other = None
 abbrev pub said_to : State → Brought → Outcome
 said_to s m = (serve (at_moment m.now s) m.caller m.content).0
 
+-- the reply with TRUE to a call of this xid
+abbrev pub true_reply : ℕ → List ℕ
+true_reply xid = reply_head xid replies.Success ++ boolean true
+
 -- a call of this xid is answered TRUE
 abbrev pub told_true : ℕ → Outcome
-told_true xid = Reply (success xid (boolean true)) None
+told_true xid = Reply (true_reply xid) None
 
 abbrev pub is_told_true : ℕ → Outcome → Bool
-is_told_true xid (Reply reply stamp) = bytes_eq reply (success xid (boolean true))
+is_told_true xid (Reply reply stamp) = bytes_eq reply (true_reply xid)
 is_told_true xid NoCall = false
 is_told_true xid Forwarded = false
 is_told_true xid Silent = false
@@ -149,7 +155,7 @@ pub record Owes (s : State) (id : ℕ) (reply : List ℕ) : Type 0 where
 
 -- the caller gets the reply: it is the output of the event, or the caller's connection owes it after the event
 abbrev pub GetsReply : State → Event → Caller → List ℕ → Type 0
-GetsReply s event (Udp who) reply = (step s event).0 ≡ Replied reply
+GetsReply s event (Udp who longest) reply = (step s event).0 ≡ Replied reply
 GetsReply s event (Tcp id who) reply = Owes (step s event).1 id reply
 
 -- the row that it adds may be set
@@ -166,7 +172,7 @@ pub record Accepts (s : State) (event : Event) (change : Change) : Type 0 where
   pub asked : Asks s event change
   pub registers : may_register s.setting.listener.announced (who_of asked.message.caller) ≡ true
   pub may : MayBeMade change
-  pub gets : GetsReply s event asked.message.caller (success asked.call.head.xid (boolean true))
+  pub gets : GetsReply s event asked.message.caller (true_reply asked.call.head.xid)
   pub appends : IsAppended s event change
 
 -- The event leaves the changes as they were, or appends one that it accepts.
@@ -260,7 +266,7 @@ set_calls now rows = map (set_call now) rows
 
 -- its output is TRUE
 abbrev pub SaysTrue : Output → Type 0
-SaysTrue output = output ≡ Replied (success 0 (boolean true))
+SaysTrue output = output ≡ Replied (true_reply 0)
 
 -- Each call is answered TRUE, and after them just these rows are set, in this order.
 pub record Sets (start : State) (calls : List Event) (rows : List Row) : Type 0 where

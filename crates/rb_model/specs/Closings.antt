@@ -1,7 +1,7 @@
 -- When a connection becomes Lost, and when it is gone.
 use Rattle.std.specs.Prelude.{◌≡◌, ◌⊎◌, ◌↔◌, ◌<◌, ◌≤◌, ℕ, ◌+◌, true, false, List, ◌++◌, length, take, All, Some}
 use Rattle.rb_rpc.specs.declared.caller.Caller.{Caller}
-use Rattle.rb_rpc.specs.declared.caller.Caller.TheVariants.{Tcp, Udp}
+use Rattle.rb_rpc.specs.declared.caller.Caller.TheVariants.{Tcp}
 use Rattle.rb_rpc.specs.Records.{first_record, data_of}
 use Rattle.rb_proto.specs.Ledger.{rows_in}
 use Rattle.rb_model.specs.declared.message.Message.TheVariants as says
@@ -9,7 +9,7 @@ use Rattle.rb_model.specs.Calls.{message_of}
 use Rattle.rb_model.specs.State.{Connection, State, at_moment}
 use Rattle.rb_model.specs.Connections.{fed_in, is_there}
 use Rattle.rb_model.specs.Losses.{is_due, stamp_in, needed_removals, asks_room}
-use Rattle.rb_model.specs.Step.{context_in, Event, step, IsReached}
+use Rattle.rb_model.specs.Step.{sender, context_in, Event, step, IsReached}
 use Rattle.rb_model.specs.Step.Event.{Bytes, Closed, Datagram, Expire}
 use Rattle.rb_model.specs.Laws.{IsLive, IsLost}
 use Rattle.rb_model.specs.DeadlineLaws.{clock_at, NoEntryIsDue}
@@ -46,7 +46,7 @@ pub record BringsEnd (s : State) (id : ℕ) (piece : List ℕ) (caller : Caller)
 
 -- the event brings this data of a datagram, or of a record, from this caller, at this moment
 abbrev pub Brings : State → Event → ℕ → Caller → List ℕ → Type 0
-Brings s (Datagram at who bytes) now caller content = (now ≡ at) × (caller ≡ Udp who) × (content ≡ bytes)
+Brings s (Datagram at who bytes) now caller content = (now ≡ at) × (caller ≡ sender s who bytes) × (content ≡ bytes)
 Brings s (Bytes at id piece) now caller content = (now ≡ at) × BringsEnd s id piece caller content
 Brings s other now caller content = ⊥
 

@@ -1,16 +1,19 @@
 -- What events cost at most, in counted steps.
-use Rattle.std.specs.Prelude.{ℕ, ◌+◌, ◌*◌, Bool, false, if◌then◌else◌, List, [], ◌∷◌, length, Option, Some, None}
+use Rattle.std.specs.Prelude.{ℕ, ◌+◌, ◌*◌, Bool, false, if◌then◌else◌, List, [], ◌∷◌, length, is_some, Option, Some, None}
 use Rattle.rb_xdr.specs.Ordered.{looks}
 use Rattle.rb_forward.specs.Costs.{end_cost, sent_cost, unsent_cost}
 use Rattle.rb_forward.specs.Forwards.{Unsent as UnsentCall}
 use Rattle.rb_proto.specs.Costs.{note_cost, forward_cost, statistics_cost}
 use Rattle.rb_proto.specs.ListReplies.{part_room}
-use Rattle.rb_proto.specs.Puts.{walks_rows}
+use Rattle.rb_proto.specs.Puts.{lists_rows, walks_rows}
+use Rattle.rb_proto.specs.declared.listener.Announced.{Announced}
+use Rattle.rb_proto.specs.Callers.{may_register}
 use Rattle.rb_model.specs.declared.message.Message.{Message}
 use Rattle.rb_model.specs.declared.message.Message.TheVariants as says
 use Rattle.rb_model.specs.Calls.{longest_reply, kept_of, message_of}
 use Rattle.rb_model.specs.State.{Connection, State}
 use Rattle.rb_model.specs.Connections.{Taking, taking_of, live_connection}
+use Rattle.rb_model.specs.Losses.{stamp_in}
 use Rattle.rb_model.specs.Connections.Taking.{TakesNone, GoesOn, Ends}
 use Rattle.rb_model.specs.Step.{Event, unsent_call, step}
 use Rattle.rb_model.specs.Step.Event.{Open, Bytes, Pending, Gave, Closed, NextLost, Datagram, Unsent, Sent, Forward, Expire}
@@ -45,12 +48,19 @@ sizes_in s = record {
   change = change_cost (looks s.setting.limits.rows) s.setting.limits.rows;
 }
 
--- the message is a SET, an UNSET or a call for a list of rows
-abbrev pub asks_for_rows : Message → Bool
-asks_for_rows (says.Asked call) = walks_rows call.request
-asks_for_rows says.NoCall = false
-asks_for_rows (says.Refused head) = false
-asks_for_rows (says.Garbage head) = false
+-- the message is a call for a list of rows
+abbrev pub asks_for_list : Message → Bool
+asks_for_list (says.Asked call) = lists_rows call.request
+asks_for_list says.NoCall = false
+asks_for_list (says.Refused head) = false
+asks_for_list (says.Garbage head) = false
+
+-- or a SET or an UNSET, where its caller may register
+abbrev pub asks_for_rows : Bool → Message → Bool
+asks_for_rows may (says.Asked call) = walks_rows may call.request
+asks_for_rows may says.NoCall = false
+asks_for_rows may (says.Refused head) = false
+asks_for_rows may (says.Garbage head) = false
 
 -- what a message costs by: no other one walks rows or lists
 abbrev pub walked : Bool → ℕ → ℕ
@@ -64,8 +74,9 @@ sizes_where walks sizes = record sizes {
   change = walked walks sizes.change;
 }
 
-abbrev pub sizes_for : Message → Sizes → Sizes
-sizes_for message sizes = sizes_where (asks_for_rows message) sizes
+-- for a message of a caller that may register or not
+abbrev pub sizes_for : Bool → Message → Sizes → Sizes
+sizes_for may message sizes = sizes_where (asks_for_rows may message) sizes
 
 -- ---- parts of calls
 
@@ -167,23 +178,30 @@ count_taken piece TakesNone = 0
 count_taken piece (GoesOn fed) = length piece
 count_taken piece (Ends n content) = n
 
--- to answer the record that ends with them, if one does
-abbrev pub record_cost : Sizes → Taking → ℕ
-record_cost sizes TakesNone = 0
-record_cost sizes (GoesOn fed) = 0
-record_cost sizes (Ends n content) =
-    swap_cost + answer_cost (sizes_for (message_of content) sizes) (length (kept_of content))
+-- to answer the record that ends with them, if one does, of a caller that may register or not
+abbrev pub record_cost : Bool → Sizes → Taking → ℕ
+record_cost may sizes TakesNone = 0
+record_cost may sizes (GoesOn fed) = 0
+record_cost may sizes (Ends n content) =
+    swap_cost + answer_cost (sizes_for may (message_of content) sizes) (length (kept_of content))
 
 -- to take bytes where this is the connection, if there is one
-abbrev pub bytes_cost : Sizes → List ℕ → Option Connection → ℕ
-bytes_cost sizes piece None = find_cost sizes.connections
-bytes_cost sizes piece (Some c) =
+abbrev pub bytes_cost : Announced → Sizes → List ℕ → Option Connection → ℕ
+bytes_cost announced sizes piece None = find_cost sizes.connections
+bytes_cost announced sizes piece (Some c) =
     find_cost sizes.connections + take_cost (count_taken piece (taking_of c.phase piece)) + recount_cost
-    + record_cost sizes (taking_of c.phase piece)
+    + record_cost (may_register announced c.who) sizes (taking_of c.phase piece)
 
--- to count bytes as given
-abbrev pub gave_cost : Sizes → ℕ
-gave_cost sizes = find_cost sizes.connections + given_cost sizes.rows + recount_cost
+-- a list is being given on the connection
+abbrev pub gives_list : Connection → Bool
+gives_list c = is_some (stamp_in c.phase)
+
+-- to count bytes as given where this is the connection, if there is one, of so many, beside so many rows: only the next
+-- fragment of a list walks them
+abbrev pub gave_cost : ℕ → ℕ → Option Connection → ℕ
+gave_cost connections rows None = find_cost connections
+gave_cost connections rows (Some c) =
+    find_cost connections + given_cost (walked (gives_list c) rows) + recount_cost
 
 -- to close a connection, and to end the call that was forwarded for it
 abbrev pub close_cost : Sizes → ℕ
@@ -215,13 +233,17 @@ unsent_count (Some unsent) = length unsent.call
 -- what an event costs from a state
 abbrev pub event_cost : State → Event → ℕ
 event_cost s (Open now who) = 4
-event_cost s (Bytes now id piece) = bytes_cost (sizes_in s) piece (live_connection id s.connections.all)
+event_cost s (Bytes now id piece) =
+    bytes_cost s.setting.listener.announced (sizes_in s) piece (live_connection id s.connections.all)
 event_cost s (Pending id) = find_cost (length s.connections.all) + pending_cost
-event_cost s (Gave now id n) = find_cost (length s.connections.all) + 1 + gave_cost (sizes_in s)
+event_cost s (Gave now id n) =
+    find_cost (length s.connections.all) + 1
+    + gave_cost (length s.connections.all) s.setting.limits.rows (live_connection id s.connections.all)
 event_cost s (Closed id) = close_cost (sizes_in s)
 event_cost s NextLost = find_cost (length s.connections.all)
 event_cost s (Datagram now who content) =
-    datagram_cost (sizes_for (message_of content) (sizes_in s)) (length content) (reply_count s (Datagram now who content))
+    datagram_cost (sizes_for (may_register s.setting.listener.announced who) (message_of content) (sizes_in s))
+    (length content) (reply_count s (Datagram now who content))
     + reply_cost s (Datagram now who content)
 event_cost s Unsent = unsent_cost s.setting.limits.forwards (unsent_count (unsent_call s))
 event_cost s (Sent number) = sent_cost s.setting.limits.forwards

@@ -42,7 +42,7 @@ outcome_of_failure forward status = refused_by forward.xid (refusal forward.kind
 -- what the caller is told where its forwarded call ended with this outcome; `message` is the datagram of the target,
 -- whose last bytes are the results
 abbrev pub outcome_of_end : Forward → List ℕ → target.Outcome → Outcome
-outcome_of_end forward message (Passed place) = Reply (success forward.xid (forwarded_bytes forward (drop place message))) None
+outcome_of_end forward message (Passed place) = Reply (success forward.caller forward.xid (forwarded_bytes forward (drop place message))) None
 outcome_of_end forward message (Refused status) = outcome_of_failure forward status
 outcome_of_end forward message Failed = outcome_of_failure forward replies.SystemErr
 outcome_of_end forward message Dropped = Silent
@@ -61,7 +61,7 @@ told_over_udp who Silent = told.Silent
 -- A caller is told this at the end of its call. A connection goes on with it; over UDP it is the last reply.
 abbrev pub tell : Caller → Outcome → State → Told × State
 tell (Tcp id who) said s = (TcpReady id, on_connection id (settle s.clock said) s)
-tell (Udp who) said s = (told_over_udp who said, record s { reply = reply_in said })
+tell (Udp who longest) said s = (told_over_udp who said, record s { reply = reply_in said })
 
 -- An entry has ended, if there is one, and this is the ledger after it: its caller is told how it ended. `message` is
 -- the datagram that ended it.

@@ -45,7 +45,7 @@ ConnectionsAwait =
 abbrev pub CallerGets : State → ℕ → Outcome → Caller → Told → State → Type 0
 CallerGets s clock said (Tcp id who) told after =
     (told ≡ TcpReady id) × (after.connections ≡ changed_at id (settle clock said) s.connections) × (after.reply ≡ [])
-CallerGets s clock said (Udp who) told after =
+CallerGets s clock said (Udp who longest) told after =
     (told ≡ told_over_udp who said) × (after.connections ≡ s.connections) × (after.reply ≡ reply_in said)
 
 -- The first entry for which `Is` holds ends, and is there no longer; its caller is told what `says`
@@ -104,7 +104,7 @@ later_output who Silent = outputs.Silent
 -- for it.
 abbrev pub TellsOverUdp : (Entry → Type 0) → (Entry → Outcome) → State → Event → Type 0
 TellsOverUdp Is says s event =
-    (e : Entry) (rest : List Entry) (who : Who) → IsFirst Is s.ledger.forwards.all e rest → e.forward.caller ≡ Udp who
+    (e : Entry) (rest : List Entry) (who : Who) (longest : ℕ) → IsFirst Is s.ledger.forwards.all e rest → e.forward.caller ≡ Udp who longest
     → (step s event).0 ≡ later_output who (says e)
 
 -- A caller over UDP gets what the datagram of its target says, or what the deadline says.

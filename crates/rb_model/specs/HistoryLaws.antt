@@ -1,7 +1,8 @@
 -- What statistics count: each call that reached its procedure, what it did there, and how each forwarded call ended (RFC 1833
 -- section 2.1, rpcb_stat).
-use Rattle.std.specs.Prelude.{◌≡◌, ℕ, max, is_some, Bool, true, false, if◌then◌else◌, List, [], ◌∷◌, ◌++◌, Option, Some, None}
+use Rattle.std.specs.Prelude.{◌≡◌, ℕ, max, is_some, false, if◌then◌else◌, List, [], ◌∷◌, ◌++◌, Option, Some, None}
 use Rattle.rb_rpc.specs.declared.call.CallHead.{CallHead}
+use Rattle.rb_rpc.specs.declared.caller.Caller.{Caller}
 use Rattle.rb_registry.specs.declared.row.Row.{Row}
 use Rattle.rb_address.specs.declared.netid.Transport.{Transport}
 use Rattle.rb_registry.specs.Rows.{find_exact, find_row}
@@ -17,7 +18,9 @@ use Rattle.rb_arguments.specs.declared.request.Request.{Request}
 use Rattle.rb_arguments.specs.declared.request.Request.TheVariants as requests
 use Rattle.rb_proto.specs.declared.context.Context.{Context}
 use Rattle.rb_proto.specs.declared.listener.Listener.{Listener}
-use Rattle.rb_proto.specs.Ledger.{rows_in, version_of}
+use Rattle.rb_proto.specs.Callers.{who_of}
+use Rattle.rb_proto.specs.Terms.{counts_look_up, counts_forward}
+use Rattle.rb_proto.specs.Ledger.{rows_in, version_of, notes_where}
 use Rattle.rb_proto.specs.Answers.{target_of, netid_asked}
 use Rattle.rb_proto.specs.Forwarding.{outcome_note, end_notes, target_replied, fell_due, caller_dropped}
 use Rattle.rb_model.specs.declared.message.Message.{Message}
@@ -37,36 +40,33 @@ use Rattle.rb_model.specs.ChangeLaws.{Brought, brought_by, said_to, is_told_true
 abbrev pub call_note : CallHead → Note
 call_note head = Called (version_of head.vers) head.proc
 
--- a SET or an UNSET counts once more where it is answered TRUE
-abbrev pub notes_where : Bool → Note → List Note
-notes_where true note = note ∷ []
-notes_where false note = []
-
--- a look-up of the target: whether it found a row
-abbrev pub lookup_notes : CallHead → Target → Option Row → List Note
-lookup_notes head target found = LookedUp (version_of head.vers) target (is_some found) ∷ []
+-- a look-up of the target: whether it found a row, where that counts
+abbrev pub lookup_notes : Context → CallHead → Target → Option Row → List Note
+lookup_notes context head target found =
+    notes_where (counts_look_up (who_of context.caller) target.vers found) (LookedUp (version_of head.vers) target (is_some found))
 
 -- GETPORT by a protocol that is of no transport looks nothing up
-abbrev pub getport_notes : CallHead → Mapping → List Row → Option Transport → List Note
-getport_notes head m rows None = []
-getport_notes head m rows (Some transport) =
-    lookup_notes head (record { prog = m.prog; vers = m.vers; netid = netid_of transport }) (find_row m.prog m.vers (netid_of transport) rows)
+abbrev pub getport_notes : Context → CallHead → Mapping → List Row → Option Transport → List Note
+getport_notes context head m rows None = []
+getport_notes context head m rows (Some transport) =
+    lookup_notes context head (record { prog = m.prog; vers = m.vers; netid = netid_of transport }) (find_row m.prog m.vers (netid_of transport) rows)
 
--- a call that is forwarded counts when it ends, one that could not be as a failure at once
-abbrev pub failure_notes : Outcome → Note → List Note
-failure_notes Forwarded failure = []
-failure_notes said failure = failure ∷ []
+-- a call that is forwarded counts when it ends, one that could not be as a failure at once, where that counts
+abbrev pub failure_notes : Caller → Outcome → Note → List Note
+failure_notes caller Forwarded failure = []
+failure_notes caller said failure = notes_where (counts_forward caller false) failure
 
--- what a call with this request did, by what it was answered and the rows that were live before it
+-- what a call with this request did, by what it was answered and the rows that were live before it: a SET or an UNSET counts
+-- once more where it is answered TRUE
 abbrev pub notes_done : Context → CallHead → Request → Outcome → List Row → List Note
 notes_done context head (requests.Mapping mappings.Set m) said rows = notes_where (is_told_true head.xid said) (WasSet (version_of head.vers))
 notes_done context head (requests.Mapping mappings.Unset m) said rows = notes_where (is_told_true head.xid said) (WasUnset (version_of head.vers))
-notes_done context head (requests.Mapping mappings.Getport m) said rows = getport_notes head m rows (transport_of_protocol m.prot)
+notes_done context head (requests.Mapping mappings.Getport m) said rows = getport_notes context head m rows (transport_of_protocol m.prot)
 notes_done context head (requests.Rpcb rpcbs.Set r) said rows = notes_where (is_told_true head.xid said) (WasSet (version_of head.vers))
 notes_done context head (requests.Rpcb rpcbs.Unset r) said rows = notes_where (is_told_true head.xid said) (WasUnset (version_of head.vers))
-notes_done context head (requests.Rpcb rpcbs.Getaddr r) said rows = lookup_notes head (target_of context r) (find_row r.prog r.vers (netid_asked context) rows)
-notes_done context head (requests.Rpcb rpcbs.Getversaddr r) said rows = lookup_notes head (target_of context r) (find_exact r.prog r.vers (netid_asked context) rows)
-notes_done context head (requests.Forward kind remote) said rows = failure_notes said (outcome_note kind context.caller remote.prog remote.vers remote.proc false)
+notes_done context head (requests.Rpcb rpcbs.Getaddr r) said rows = lookup_notes context head (target_of context r) (find_row r.prog r.vers (netid_asked context) rows)
+notes_done context head (requests.Rpcb rpcbs.Getversaddr r) said rows = lookup_notes context head (target_of context r) (find_exact r.prog r.vers (netid_asked context) rows)
+notes_done context head (requests.Forward kind remote) said rows = failure_notes context.caller said (outcome_note kind context.caller remote.prog remote.vers remote.proc false)
 notes_done context head _ said rows = []
 
 -- A message that is no call, or is refused before its procedure is known, counts as nothing. A call of a procedure counts as

@@ -19,9 +19,11 @@ pub mod ForwardLaws
 pub mod Closings
 pub mod WholeRuns
 pub mod ChangeLaws
-pub mod CallerLaws
 pub mod HistoryLaws
+pub mod CallerLaws
+pub mod Reflections
 pub mod BoundLaws
+pub mod OutsiderCosts
 pub mod Worked
 pub mod WorkedConnections
 pub mod WorkedForwards
@@ -31,3 +33,4 @@ pub mod WorkedBounds
 pub mod WorkedChanges
 pub mod WorkedHistory
 pub mod WorkedCallers
+pub mod WorkedStrangers

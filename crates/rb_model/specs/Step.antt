@@ -1,5 +1,5 @@
 -- The step of each event, and runs of events.
-use Rattle.std.specs.Prelude.{◌≡◌, ℕ, nat_lt, max, Bool, false, if◌then◌else◌, List, [], ◌∷◌, length, Option, Some, None, Result, Ok, Err}
+use Rattle.std.specs.Prelude.{◌≡◌, ℕ, ◌*◌, nat_lt, min, max, Bool, false, not, ◌||◌, if◌then◌else◌, List, [], ◌∷◌, length, Option, Some, None, Result, Ok, Err}
 use Rattle.rb_rpc.specs.declared.caller.Caller.{Caller}
 use Rattle.rb_address.specs.declared.peer.Peer.{Peer}
 use Rattle.rb_address.specs.declared.who.Who.{Who}
@@ -8,6 +8,8 @@ use Rattle.rb_feed.specs.Feeds.{arguments_of}
 use Rattle.rb_forward.specs.Forwards.{Unsent as UnsentCall, unsent, can_be_sent}
 use Rattle.rb_proto.specs.declared.context.Context.{Context}
 use Rattle.rb_proto.specs.declared.listener.Listener.{Listener}
+use Rattle.rb_proto.specs.declared.listener.Terms.{Terms}
+use Rattle.rb_proto.specs.Callers.{is_stranger}
 use Rattle.rb_proto.specs.Ledger.{Ledger}
 use Rattle.rb_proto.specs.Forwarding.{caller_dropped, call_sent}
 use Rattle.rb_model.specs.declared.message.Message.{Message}
@@ -19,7 +21,7 @@ use Rattle.rb_model.specs.declared.types.Expired.TheVariants.{Ended}
 use Rattle.rb_model.specs.declared.types.Expired.TheVariants as expiries
 use Rattle.rb_model.specs.declared.types.Limits.{Limits}
 use Rattle.rb_model.specs.State.{Connection, Connections, State, opening, at_moment}
-use Rattle.rb_model.specs.Calls.{message_of, Outcome, Outcome as outcomes, is_no_call, reply_in, outcome}
+use Rattle.rb_model.specs.Calls.{message_of, Outcome, Outcome as outcomes, is_no_call, reply_in, longest_reply, outcome}
 use Rattle.rb_model.specs.Losses.{with_room}
 use Rattle.rb_model.specs.Connections.{Taking, taking_of, keep_reading, settle, pending_in, give, live_connection, on_live, open_in_table, next_lost_in_table, close_in_table}
 use Rattle.rb_model.specs.Connections.Taking.{TakesNone, GoesOn, Ends}
@@ -33,6 +35,7 @@ pub use Rattle.rb_model.specs.Ending.{Told, Expired, forward_reply, expire}
 abbrev pub context_in : State → Caller → Context
 context_in s caller = record {
   announced = s.setting.listener.announced;
+  terms = s.setting.listener.terms;
   limit = s.setting.limits.rows;
   forwards = s.setting.limits.forwards;
   clock = s.clock;
@@ -134,8 +137,18 @@ next_lost s = next_lost_in_table s.connections
 abbrev pub with_reply : Outcome × State → Outcome × State
 with_reply (given, s) = (given, record s { reply = reply_in given })
 
+-- The most bytes of the reply to a datagram of so many: to a stranger at most twice as many, where replies over UDP are held
+-- to that.
+unfoldable pub longest_to : Terms → Who → ℕ → ℕ
+longest_to terms who count =
+    if terms.long_replies || not (is_stranger who) then longest_reply else min longest_reply (2 * count)
+
+-- the caller of a datagram of these bytes
+abbrev pub sender : State → Who → List ℕ → Caller
+sender s who content = Udp who (longest_to s.setting.listener.terms who (length content))
+
 unfoldable pub datagram : State → ℕ → Who → List ℕ → Outcome × State
-datagram s now who content = with_reply (serve (at_moment now s) (Udp who) content)
+datagram s now who content = with_reply (serve (at_moment now s) (sender s who content) content)
 
 -- ---- calls that are forwarded
 

@@ -7,6 +7,7 @@ use Rattle.rb_address.specs.declared.who.Source.TheVariants.{Inet}
 use Rattle.rb_address.specs.declared.who.Trust.TheVariants.{Claims}
 use Rattle.rb_address.specs.declared.who.Who.{Who}
 use Rattle.rb_proto.specs.declared.listener.Listener.{Listener}
+use Rattle.rb_proto.specs.Terms.{open_terms}
 use Rattle.rb_model.specs.State.{State, opening}
 use Rattle.rb_model.specs.Step.{Output, run}
 use Rattle.rb_model.specs.Step.Event.{Datagram}
@@ -25,6 +26,7 @@ listener = record {
   announced = record { inet = Some (192 ∷ 0 ∷ 2 ∷ 1 ∷ []); inet6 = None };
   port = 111;
   local = None;
+  terms = open_terms;
 }
 
 abbrev pub fresh : State

@@ -14,6 +14,7 @@ use Rattle.rb_address.specs.declared.who.Who.{Who}
 use Rattle.rb_registry.specs.declared.row.Row.{Row}
 use Rattle.rb_registry.specs.Rows.Change.{Added}
 use Rattle.rb_proto.specs.declared.listener.Listener.{Listener}
+use Rattle.rb_proto.specs.Terms.{open_terms}
 use Rattle.rb_proto.specs.Callers.{own_rows}
 use Rattle.rb_model.specs.State.{are_good, opening}
 use Rattle.rb_model.specs.Step.{Event, Output, run}
@@ -76,6 +77,7 @@ everywhere = record {
   announced = record { inet = Some (replicate 4 0); inet6 = Some (replicate 16 0) };
   port = 111;
   local = Some (codes "/run/rpcbind.sock");
+  terms = open_terms;
 }
 
 -- 2001:db8::1, or with another last byte

@@ -3,6 +3,7 @@ ghost use Rattle.rb_model.specs.WorkedConnections.{NoCallCloses, OtherRpcVersion
 ghost use Rattle.rb_model.specs.WorkedChanges.{ChangesOfSomeCalls, ChangesOfPieces, KeptCallsOfSomeCalls};
 ghost use Rattle.rb_model.specs.WorkedHistory.{HistoryOfSomeCalls, HistoryOfLookUps, HistoryOfForwards};
 ghost use Rattle.rb_model.specs.WorkedForwards.{ForwardWithoutRow, RefusedCallsAreCounted, ForwardUntilDeadline, IndirectPasses, CallitPasses, TargetRefuses, DeniedIsSystemErr, CallitIsSilent, GreatestResults, NoPlace, GreatestArguments, SilentOnTcp, ForwardPassesOnTcp, ForwardOnTcpIsWhole, ClosedCallerIsDropped, EachEndsInTurn};
+ghost use Rattle.rb_model.specs.WorkedStrangers.{StrangersLookUp, StrangersGetNoLists, StrangersCountForRows, MadeForThisMachine, MadeToThisHost, MountdIsNotAsked, StrangersAreToldShortly};
 ghost use Rattle.rb_model.specs.WorkedCallers.{KnownCallersSetAsTheyAre, StrangersAreRefused, LastQuarterIsKept, AskedHostIsTold, CallersOverIpv6AreTold, CallsOverIpv6AreForwarded, OwnRowsOfAllNetids, OwnRowsNeedRoom};
 ghost use Rattle.rb_model.specs.WorkedBounds.{BytesBounds, StepsBounds};
 ghost use Rattle.rb_model.specs.WorkedLists.{DumpSurvivesUnsetAndEvicts, OldReadersAreEvicted, FullTableRefuses, RowsThatCameAndWentAreNeeded, ListInTwoFragments, ListAsOfItsCall};
@@ -121,6 +122,17 @@ pub fn worked_callers()
     ensures forwarded_over_ipv6 { CallsOverIpv6AreForwarded }
     ensures own_rows_of_all_netids { OwnRowsOfAllNetids }
     ensures room_for_own_rows { OwnRowsNeedRoom }
+{}
+
+/// The definitions give what the worked examples of strangers say.
+pub fn worked_strangers()
+    ensures looked_up { StrangersLookUp }
+    ensures no_lists { StrangersGetNoLists }
+    ensures counted_for_rows { StrangersCountForRows }
+    ensures made_for_this_machine { MadeForThisMachine }
+    ensures made_to_this_host { MadeToThisHost }
+    ensures not_of_mountd { MountdIsNotAsked }
+    ensures told_shortly { StrangersAreToldShortly }
 {}
 
 /// The definitions give what the worked examples of the history of calls say.

@@ -1,4 +1,6 @@
 mod Asks
+mod BrakeLaws
+mod Brakes
 mod DoorLaws
 mod Doors
 mod Standings

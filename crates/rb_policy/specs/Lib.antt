@@ -10,6 +10,9 @@ pub mod Addresses
 pub mod Asked
 pub mod Evidence
 pub mod Trusts
+pub mod Recents
+pub mod Brake
+pub mod BrakeLaws
 pub mod Door
 pub mod Standings
 pub mod DoorLaws

@@ -1,6 +1,8 @@
-//! Laws of who has a place, of who may ask and is believed, and of the socket that was asked.
+//! Laws of who has a place, of who may ask and is believed, of the socket that was asked, and of how many datagrams are
+//! served.
 ghost use Rattle.rb_policy.specs.Trusts.{OthersNeedNoTable, OthersAreStrangers};
 ghost use Rattle.rb_policy.specs.Asked.{SocketsAreFound, EachHasItsOwn};
+ghost use Rattle.rb_policy.specs.BrakeLaws.{NeverMore, NeverHeldBack, HaveOnePlace, AreNetworks, StrangersCount, OneSecondIsServed};
 ghost use Rattle.rb_policy.specs.DoorLaws.{SharesAreKept, OneIsGivenUp};
 ghost use Rattle.rb_policy.specs.Networks.{WhoMayAsk, AskersOfOneNetwork};
 
@@ -28,4 +30,16 @@ pub fn asked_laws()
 pub fn trust_laws()
     ensures others { OthersAreStrangers }
     ensures tables { OthersNeedNoTable }
+{}
+
+/// In no second are more datagrams served of one network, or of one host, than the rate has. One is dropped only where so
+/// many were served within the second before it, of the place of its network or of its host, and neither has two places.
+/// The networks are those of 24 bits of IPv4, and of 56 of IPv6. Over UDP strangers count, and nobody else.
+pub fn brake_laws()
+    ensures more { NeverMore }
+    ensures back { NeverHeldBack }
+    ensures places { HaveOnePlace }
+    ensures networks { AreNetworks }
+    ensures strangers { StrangersCount }
+    ensures example { OneSecondIsServed }
 {}

@@ -3,6 +3,7 @@
 
 mod addresses;
 mod asked;
+mod brake;
 mod deadlines;
 mod door;
 mod evidence;
@@ -12,6 +13,7 @@ mod moments;
 mod networks;
 mod outcome;
 mod peers;
+mod recent;
 mod record_file;
 mod trust;
 mod turns;
@@ -21,6 +23,7 @@ pub use addresses::{
     forwards_inet6, has_every_host, is_bound, is_no_address,
 };
 pub use asked::{host_asked, socket_of};
+pub use brake::{Brake, Rate};
 pub use deadlines::{Deadlines, LATE, MOST_PUT_OFF, is_behind};
 pub use door::{
     ACTIVE, Admission, Holder, OWED, Origin, Phase, admit, ends_record, is_stuck, origin_of,
@@ -30,7 +33,7 @@ pub use evidence::{
     BETWEEN_READINGS, Evidence, LONGEST_TABLE, evidence_of, is_shown, looks_in, may_read,
     wait_for_reading, whole_text,
 };
-pub use laws::{asked_laws, door_laws, network_laws, trust_laws};
+pub use laws::{asked_laws, brake_laws, door_laws, network_laws, trust_laws};
 pub use local_file::{FileAction, FileState, file_action};
 pub use moments::Moments;
 pub use networks::{asker, may_ask};

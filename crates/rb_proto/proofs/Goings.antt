@@ -23,7 +23,8 @@ use Rattle.rb_arguments.specs.Remote.{args_of}
 use Rattle.rb_proto.specs.Ledger.{Ledger, rows_in}
 use Rattle.rb_proto.specs.Netids.{address_in}
 use Rattle.rb_proto.specs.Callers.{who_of}
-use Rattle.rb_proto.specs.Forwarding.{netid_to_forward, address_of_row, address_to_forward, address_asked, refusal, refuse, forward_of, forward_to, forward_call}
+use Rattle.rb_proto.specs.Terms.{may_go}
+use Rattle.rb_proto.specs.Forwarding.{netid_to_forward, address_of_row, address_to_forward, peer_of_address, if_may_go, address_asked, refusal, refuse, forward_of, forward_to, forward_call}
 use Rattle.rb_proto.specs.ForwardLaws.{IsRegisteredAt, AsksRegistered, ForwardsGoToRows}
 
 -- ---- the row
@@ -98,13 +99,25 @@ refusal_is_none Callit3 status e = absurd cc
 refusal_is_none Bcast status e = absurd cc
 refusal_is_none Indirect status e = absurd cc
 
+-- what may be called is where the call goes
+went : (context : Context) (remote : RemoteCall) (found : Option Uaddr) (address : Uaddr) → if_may_go context remote found ≡ Some address
+    → (may_go context remote (peer_of_address address).host ≡ true) × (found ≡ Some address)
+went context remote None address is = absurd (none-some address is)
+went context remote (Some other) address is = by_test (may_go context remote (peer_of_address other).host) refl is
+  where
+    by_test : (b : Bool) → may_go context remote (peer_of_address other).host ≡ b → cond b (Some other) None ≡ Some address
+        → (may_go context remote (peer_of_address address).host ≡ true) × (Some other ≡ Some address)
+    by_test true may is = let same : other ≡ address = same_Some other address is in (rw (← same) may, is)
+    by_test false may is = absurd (none-some address is)
+
 module _ (context : Context) (xid : ℕ) (kind : Kind) (remote : RemoteCall) (l : Ledger) where
   asks : (address : Uaddr) → address_asked context remote (rows_in l) ≡ Some address
       → AsksRegistered context (rows_in l) remote (forward_of context xid kind remote address)
   unfolding forward_of
   asks address is = record {
     address = address;
-    is_registered = registered (netid_to_forward (who_of context.caller).source) remote (rows_in l) address is;
+    may = goes.0;
+    is_registered = registered (netid_to_forward (who_of context.caller).source) remote (rows_in l) address goes.1;
     target = refl;
     shown = refl;
     prog = refl;
@@ -112,6 +125,12 @@ module _ (context : Context) (xid : ℕ) (kind : Kind) (remote : RemoteCall) (l 
     proc = refl;
     caller = refl;
   }
+    where
+      found : Option Uaddr
+      found = address_to_forward (netid_to_forward (who_of context.caller).source) remote.prog remote.vers (rows_in l)
+
+      goes : (may_go context remote (peer_of_address address).host ≡ true) × (found ≡ Some address)
+      goes = went context remote found address is
 
   -- what is told and left, as an entry of a row
   abbrev Goes : List ℕ → Answer × Ledger → Type 0

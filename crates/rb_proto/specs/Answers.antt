@@ -34,8 +34,9 @@ use Rattle.rb_arguments.specs.declared.procedure.VoidProcedure.TheVariants as vo
 use Rattle.rb_proto.specs.declared.answers.Listing.TheVariants.{Mappings, Rpcbs, Entries}
 use Rattle.rb_proto.specs.declared.answers.Value.TheVariants as values
 use Rattle.rb_proto.specs.Callers.{who_of, netid_of_caller, may_register, owner_of, share_in, hosts_in}
-use Rattle.rb_proto.specs.Ledger.{Ledger, rows_in, version_of, with_note}
+use Rattle.rb_proto.specs.Ledger.{Ledger, rows_in, version_of, note_where}
 use Rattle.rb_proto.specs.Netids.{which_of, address_in, is_address}
+use Rattle.rb_proto.specs.Terms.{counts_look_up}
 use Rattle.rb_proto.specs.Forwarding.{forward_call}
 pub use Rattle.rb_proto.specs.declared.answers.Answer.{Answer}
 pub use Rattle.rb_proto.specs.declared.answers.Results.{Results}
@@ -177,22 +178,23 @@ addr_told hosts row = option_map_or text_of (shown_address hosts row) row.addr
 abbrev pub addr_found : Hosts → Option Row → List ℕ
 addr_found hosts found = option_map_or (addr_told hosts) found []
 
--- a look-up of the target, in a call of this head, is noted with whether it found a row
-abbrev pub with_lookup : CallHead → Target → Option Row → Ledger → Ledger
-with_lookup head target found l = with_note (LookedUp (version_of head.vers) target (is_some found)) l
+-- a look-up of the target, in a call of this head, is noted with whether it found a row, where it counts
+abbrev pub with_lookup : Context → CallHead → Target → Option Row → Ledger → Ledger
+with_lookup context head target found l =
+    note_where (counts_look_up (who_of context.caller) target.vers found) (LookedUp (version_of head.vers) target (is_some found)) l
 
 -- the port of the row that was looked up
-abbrev pub port_told : CallHead → Target → Option Row → Ledger → ℕ × Ledger
-port_told head target found l = (port_found found, with_lookup head target found l)
+abbrev pub port_told : Context → CallHead → Target → Option Row → Ledger → ℕ × Ledger
+port_told context head target found l = (port_found found, with_lookup context head target found l)
 
-abbrev pub port_on : CallHead → Mapping → Option Transport → Ledger → ℕ × Ledger
-port_on head m None l = (0, l)
-port_on head m (Some transport) l =
-    port_told head (record { prog = m.prog; vers = m.vers; netid = netid_of transport }) (find_row m.prog m.vers (netid_of transport) (rows_in l)) l
+abbrev pub port_on : Context → CallHead → Mapping → Option Transport → Ledger → ℕ × Ledger
+port_on context head m None l = (0, l)
+port_on context head m (Some transport) l =
+    port_told context head (record { prog = m.prog; vers = m.vers; netid = netid_of transport }) (find_row m.prog m.vers (netid_of transport) (rows_in l)) l
 
 -- PMAPPROC_GETPORT: by the transport of prot; port is ignored. Where prot is of none, nothing is looked up.
-unfoldable pub getport : CallHead → Mapping → Ledger → ℕ × Ledger
-getport head m l = port_on head m (transport_of_protocol m.prot) l
+unfoldable pub getport : Context → CallHead → Mapping → Ledger → ℕ × Ledger
+getport context head m l = port_on context head m (transport_of_protocol m.prot) l
 
 -- the netid by which the call came
 abbrev pub netid_asked : Context → Netid
@@ -205,7 +207,7 @@ target_of context r = record { prog = r.prog; vers = r.vers; netid = netid_asked
 -- the address of the row that was looked up
 abbrev pub text_found : Context → CallHead → Rpcb → Option Row → Ledger → List ℕ × Ledger
 text_found context head r found l =
-    (addr_found (hosts_in context) found, with_lookup head (target_of context r) found l)
+    (addr_found (hosts_in context) found, with_lookup context head (target_of context r) found l)
 
 -- RPCBPROC_GETADDR
 unfoldable pub getaddr : Context → CallHead → Rpcb → Ledger → List ℕ × Ledger
@@ -258,7 +260,7 @@ abbrev pub answer_to : Context → CallHead → Request → List ℕ → Ledger 
 answer_to context head (requests.Void procedure) arguments l = (answers.Results (answer_void context procedure), l)
 answer_to context head (requests.Mapping mappings.Set m) arguments l = tell_done values.Bool (set_row context head (row_of_mapping (owner_in context head) m) l)
 answer_to context head (requests.Mapping mappings.Unset m) arguments l = tell_done values.Bool (unset_rows context head m.prog m.vers (Some Inet) l)
-answer_to context head (requests.Mapping mappings.Getport m) arguments l = tell_done values.Number (getport head m l)
+answer_to context head (requests.Mapping mappings.Getport m) arguments l = tell_done values.Number (getport context head m l)
 answer_to context head (requests.Rpcb rpcbs.Set r) arguments l = tell_done values.Bool (set_row context head (row_of_rpcb (owner_in context head) r) l)
 answer_to context head (requests.Rpcb rpcbs.Unset r) arguments l = tell_done values.Bool (unset_rows context head r.prog r.vers (which_of r.netid) l)
 answer_to context head (requests.Rpcb rpcbs.Getaddr r) arguments l = tell_done values.Text (getaddr context head r l)

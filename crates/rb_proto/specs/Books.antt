@@ -1,5 +1,5 @@
 -- What calls on the books say of the ledger, and what of the books stays.
-use Rattle.std.specs.Prelude.{◌≡◌, ◌<◌, ◌↔◌, ⊤, ℕ, ◌+◌, Bool, true, IsTrue, List, length, Option, Result, IsOk}
+use Rattle.std.specs.Prelude.{◌≡◌, ◌<◌, ◌↔◌, ⊤, ℕ, ◌+◌, Bool, true, IsTrue, if◌then◌else◌, List, [], ◌∷◌, ◌++◌, length, Option, Result, IsOk}
 use Rattle.std.specs.List.{filter_map}
 use Rattle.rb_rpc.specs.declared.caller.Caller.{Caller}
 use Rattle.rb_address.specs.declared.peer.Peer.{Peer}
@@ -7,6 +7,7 @@ use Rattle.rb_registry.specs.declared.row.Row.{Row}
 use Rattle.rb_registry.specs.Slots.{slots_from}
 use Rattle.rb_registry.specs.Registry.{Registry, rows_of, retained_count, removals_of}
 use Rattle.rb_stats.specs.Statistics.{Note}
+use Rattle.rb_stats.specs.Stats.{Stats, StandsForHistory}
 use Rattle.rb_forward.specs.StandsFor.{Table, slots_of}
 use Rattle.rb_forward.specs.Table.{OnlyWaitsAnew}
 use Rattle.rb_forward.specs.Forwards.{Unsent, unsent}
@@ -41,6 +42,11 @@ pub record ActsAs {A : Type 0} (act : Ledger → A × Ledger) (old new : Books) 
 -- From each ledger that the books stand for, this is what it shows.
 abbrev pub BooksShow : {A : Type 0} → (Ledger → A) → Books → A → Type 0
 BooksShow show books result = (l : Ledger) → StandsForLedger books l → result ≡ show l
+
+-- The history that the statistics stand for has the note behind it, where it counts, and else stays.
+abbrev pub HasNotedWhere : Bool → Note → Stats → Stats → Type 0
+HasNotedWhere counts note old new =
+    (notes : List Note) → StandsForHistory old notes → StandsForHistory new (if counts then notes ++ note ∷ [] else notes)
 
 -- Of each ledger that the books stand for, the result is Ok exactly where this holds of it.
 abbrev pub IsOkWhere : {A E : Type 0} → (Ledger → Bool) → Books → Result A E → Type 0

@@ -67,12 +67,21 @@ own_rows listener =
 
 abbrev pub who_of : Caller → Who
 who_of (callers.Tcp id who) = who
-who_of (callers.Udp who) = who
+who_of (callers.Udp who longest) = who
 
 -- the netid by which the call came
 abbrev pub netid_of_caller : Caller → Netid
 netid_of_caller (callers.Tcp id who) = netid_from transports.Tcp who.source
-netid_of_caller (callers.Udp who) = netid_from transports.Udp who.source
+netid_of_caller (callers.Udp who longest) = netid_from transports.Udp who.source
+
+-- nothing that it says is believed
+abbrev pub is_of_a_stranger : Trust → Bool
+is_of_a_stranger trusts.Claims = false
+is_of_a_stranger (trusts.Local owner) = false
+is_of_a_stranger trusts.Stranger = true
+
+abbrev pub is_stranger : Who → Bool
+is_stranger who = is_of_a_stranger who.trust
 
 -- ---- whether it may register, and as whom
 

@@ -1,5 +1,5 @@
 -- Laws of forwarded calls.
-use Rattle.std.specs.Prelude.{◌≡◌, ◌≢◌, ℕ, ◌+◌, Bool, true, false, List, length, Some, Contains}
+use Rattle.std.specs.Prelude.{◌≡◌, ◌≢◌, ℕ, ◌+◌, Bool, true, false, if◌then◌else◌, List, length, Option, Some, None, Contains}
 use Rattle.std.specs.List.{count_by}
 use Rattle.rb_address.specs.declared.peer.Peer.{Peer}
 use Rattle.rb_uaddr.specs.declared.address.Uaddr.{Uaddr}
@@ -10,7 +10,9 @@ use Rattle.rb_stats.specs.Statistics.{Note}
 use Rattle.rb_stats.specs.Statistics.Note.{Forwarded}
 use Rattle.rb_rpc.specs.declared.caller.Kind.{Kind}
 use Rattle.rb_forward.specs.declared.types.Forward.{Forward}
+use Rattle.rb_forward.specs.declared.types.Ended.{Ended}
 use Rattle.rb_forward.specs.Forwards.{with_next_entry}
+use Rattle.rb_proto.specs.declared.answers.Answer.{Answer}
 use Rattle.rb_proto.specs.declared.answers.Answer.TheVariants as answers
 use Rattle.rb_proto.specs.declared.context.Context.{Context}
 use Rattle.rb_arguments.specs.declared.remote.RemoteCall.{RemoteCall}
@@ -18,7 +20,8 @@ use Rattle.rb_arguments.specs.Remote.{args_of}
 use Rattle.rb_proto.specs.Ledger.{Ledger, rows_in}
 use Rattle.rb_proto.specs.Callers.{who_of, hosts_in}
 use Rattle.rb_proto.specs.Netids.{address_in}
-use Rattle.rb_proto.specs.Forwarding.{netid_to_forward, loopbacks, merged_peer, forward_call, target_replied, fell_due, caller_dropped, call_sent}
+use Rattle.rb_proto.specs.Terms.{may_go, counts_forward}
+use Rattle.rb_proto.specs.Forwarding.{netid_to_forward, peer_of_address, counts_end, loopbacks, merged_peer, forward_call, target_replied, fell_due, caller_dropped, call_sent}
 
 -- ---- where calls go
 
@@ -37,6 +40,7 @@ pub record IsRegisteredAt (netid : Netid) (rows : List Row) (remote : RemoteCall
 -- registered.
 pub record AsksRegistered (context : Context) (rows : List Row) (remote : RemoteCall) (forward : Forward) : Type 0 where
   pub address : Uaddr
+  pub may : may_go context remote (peer_of_address address).host ≡ true
   pub is_registered : IsRegisteredAt (netid_to_forward (who_of context.caller).source) rows remote address
   pub target : forward.target ≡ merged_peer loopbacks address
   pub shown : forward.shown ≡ merged_peer (hosts_in context) address
@@ -66,14 +70,29 @@ is_outcome _ = false
 abbrev pub asked_so_far : Ledger → ℕ
 asked_so_far l = count_by is_outcome l.history + length l.forwards.all
 
--- One more call counts where it comes, whether it is refused or waits, and none where one is sent or ends.
-pub record IsNotedOnce (l : Ledger) : Type 0 where
-  pub comes : (context : Context) (xid : ℕ) (kind : Kind) (remote : RemoteCall) (arguments : List ℕ) → asked_so_far (forward_call context xid kind remote arguments l).1 ≡ asked_so_far l + 1
-  pub is_sent : (number : ℕ) → asked_so_far (call_sent number l) ≡ asked_so_far l
-  pub is_answered : (first_xid clock : ℕ) (from : Peer) (message : List ℕ) → asked_so_far (target_replied first_xid clock from message l).1 ≡ asked_so_far l
-  pub falls_due : (clock : ℕ) → asked_so_far (fell_due clock l).1 ≡ asked_so_far l
-  pub is_dropped : (id : ℕ) → asked_so_far (caller_dropped id l).1 ≡ asked_so_far l
+-- 1 where this is the answer to a stranger's call that is not forwarded: it does not count
+abbrev pub uncounted_at_once : Context → Answer → ℕ
+uncounted_at_once context answers.Forwarded = 0
+uncounted_at_once context given = if counts_forward context.caller false then 0 else 1
 
--- Each call that asks for another is noted once, at its outcome.
+-- 1 where the entry that ended, if one did, was of a stranger's call and did not pass
+abbrev pub uncounted_at_end : Option Ended → ℕ
+uncounted_at_end None = 0
+uncounted_at_end (Some ended) = if counts_end ended then 0 else 1
+
+-- the calls that count after an act are those before it, but for the uncounted one
+abbrev pub CountsOn : {A : Type 0} → (A → ℕ) → ℕ → A × Ledger → Type 0
+CountsOn uncounted before after = asked_so_far after.1 + uncounted after.0 ≡ before
+
+-- One more call counts where it comes, whether it is refused or waits, and none where one is sent or ends; but a
+-- stranger's does not count where it is refused, and no longer where it ends and did not pass.
+pub record IsNotedOnce (l : Ledger) : Type 0 where
+  pub comes : (context : Context) (xid : ℕ) (kind : Kind) (remote : RemoteCall) (arguments : List ℕ) → CountsOn (uncounted_at_once context) (asked_so_far l + 1) (forward_call context xid kind remote arguments l)
+  pub is_sent : (number : ℕ) → asked_so_far (call_sent number l) ≡ asked_so_far l
+  pub is_answered : (first_xid clock : ℕ) (from : Peer) (message : List ℕ) → CountsOn uncounted_at_end (asked_so_far l) (target_replied first_xid clock from message l)
+  pub falls_due : (clock : ℕ) → CountsOn uncounted_at_end (asked_so_far l) (fell_due clock l)
+  pub is_dropped : (id : ℕ) → CountsOn uncounted_at_end (asked_so_far l) (caller_dropped id l)
+
+-- Each call that asks for another is noted once, at its outcome; a stranger's only where it passed.
 abbrev pub ForwardsAreNotedOnce : Type 0
 ForwardsAreNotedOnce = (l : Ledger) → IsNotedOnce l

@@ -38,7 +38,8 @@ use Rattle.rb_proto.specs.declared.answers.Answer.{Answer}
 use Rattle.rb_proto.specs.declared.answers.Answer.TheVariants as answers
 use Rattle.rb_proto.specs.Callers.{who_of, netid_of_caller, hosts_in}
 use Rattle.rb_proto.specs.Netids.{address_in}
-use Rattle.rb_proto.specs.Ledger.{Ledger, rows_in, with_note}
+use Rattle.rb_proto.specs.Ledger.{Ledger, rows_in, note_where, notes_where}
+use Rattle.rb_proto.specs.Terms.{may_go, counts_forward}
 use Rattle.rb_arguments.specs.Remote.{args_of}
 
 -- ---- what is noted
@@ -112,10 +113,10 @@ refusal Callit3 status = answers.Silent
 refusal Bcast status = answers.Silent
 refusal Indirect status = answers.Refused status
 
--- what is refused at once is noted as a failure
+-- what is refused at once is noted as a failure, where it counts
 abbrev pub refuse : Context → Kind → RemoteCall → ReplyStatus → Ledger → Answer × Ledger
 refuse context kind remote status l =
-    (refusal kind status, with_note (outcome_note kind context.caller remote.prog remote.vers remote.proc false) l)
+    (refusal kind status, note_where (counts_forward context.caller false) (outcome_note kind context.caller remote.prog remote.vers remote.proc false) l)
 
 -- a call of these arguments, to the registered address if there is one
 abbrev pub forward_to : Context → ℕ → Kind → RemoteCall → List ℕ → Option Uaddr → Ledger → Answer × Ledger
@@ -125,10 +126,16 @@ forward_to context xid kind remote args (Some registered) l =
     then (answers.Forwarded, record l { forwards = with_next_entry context.clock (forward_of context xid kind remote registered) args l.forwards })
     else refuse context kind remote replies.SystemErr l
 
+-- the address, where the call that is asked for may go to its host
+abbrev pub if_may_go : Context → RemoteCall → Option Uaddr → Option Uaddr
+if_may_go context remote None = None
+if_may_go context remote (Some registered) =
+    if may_go context remote (peer_of_address registered).host then Some registered else None
+
 -- where the call that is asked for goes, for this caller
 abbrev pub address_asked : Context → RemoteCall → List Row → Option Uaddr
 address_asked context remote rows =
-    address_to_forward (netid_to_forward (who_of context.caller).source) remote.prog remote.vers rows
+    if_may_go context remote (address_to_forward (netid_to_forward (who_of context.caller).source) remote.prog remote.vers rows)
 
 -- A call of this xid asks to have another one made: CALLIT, BCAST and INDIRECT.
 unfoldable pub forward_call : Context → ℕ → Kind → RemoteCall → List ℕ → Ledger → Answer × Ledger
@@ -147,9 +154,13 @@ unfoldable pub end_note : Ended → Note
 end_note ended =
     outcome_note ended.forward.kind ended.forward.caller ended.forward.prog ended.forward.vers ended.forward.proc (is_pass ended.outcome)
 
+abbrev pub counts_end : Ended → Bool
+counts_end ended = counts_forward ended.forward.caller (is_pass ended.outcome)
+
+-- where it counts
 abbrev pub end_notes : Option Ended → List Note
 end_notes None = []
-end_notes (Some ended) = end_note ended ∷ []
+end_notes (Some ended) = notes_where (counts_end ended) (end_note ended)
 
 -- the end of an entry, if one ends, and the ledger with its note and without the entry
 abbrev pub noted_end : Option Ended × Forwards → Ledger → Option Ended × Ledger

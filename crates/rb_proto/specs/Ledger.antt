@@ -1,5 +1,5 @@
 -- What the calls of procedures that were served left behind, and the books that stand for it.
-use Rattle.std.specs.Prelude.{ℕ, ◌==◌, if◌then◌else◌, List, [], ◌∷◌, ◌++◌}
+use Rattle.std.specs.Prelude.{ℕ, ◌==◌, Bool, true, false, if◌then◌else◌, List, [], ◌∷◌, ◌++◌}
 use Rattle.rb_rpc.specs.declared.call.CallHead.{CallHead}
 use Rattle.rb_registry.specs.declared.row.Row.{Row}
 use Rattle.rb_registry.specs.Rows.{Change, live}
@@ -37,6 +37,15 @@ version_of vers = if vers == 2 then Two else if vers == 3 then Three else Four
 -- a note behind the others
 abbrev pub with_note : Note → Ledger → Ledger
 with_note note l = record l { history = l.history ++ note ∷ [] }
+
+-- a note behind the others, where it counts
+abbrev pub note_where : Bool → Note → Ledger → Ledger
+note_where counts note l = record l { history = if counts then l.history ++ note ∷ [] else l.history }
+
+-- the note, where it counts
+abbrev pub notes_where : Bool → Note → List Note
+notes_where true note = note ∷ []
+notes_where false note = []
 
 -- a call of a procedure that its version has is noted before it is answered, whether its arguments can be read or not
 unfoldable pub with_call_noted : CallHead → Ledger → Ledger

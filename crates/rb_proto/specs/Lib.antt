@@ -1,5 +1,6 @@
 pub mod Netids
 pub mod Callers
+pub mod Terms
 pub mod Ledger
 pub mod Books
 pub mod Forwarding

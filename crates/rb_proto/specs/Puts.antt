@@ -1,5 +1,5 @@
 -- What answering and putting results costs.
-use Rattle.std.specs.Prelude.{ℕ, ◌+◌, ◌-◌, ◌*◌, Bool, true, false, IsTrue, length, Option, Some, None}
+use Rattle.std.specs.Prelude.{ℕ, ◌+◌, ◌-◌, ◌*◌, Bool, true, false, ◌&&◌, ◌||◌, if◌then◌else◌, IsTrue, length, Option, Some, None}
 use Rattle.rb_xdr.specs.Kept.{Kept}
 use Rattle.rb_xdr.specs.Ordered.{looks}
 use Rattle.rb_registry.specs.declared.row.Which.{Which}
@@ -18,6 +18,8 @@ use Rattle.rb_proto.specs.declared.answers.Results.{Results}
 use Rattle.rb_proto.specs.declared.answers.Results.TheVariants as results
 use Rattle.rb_proto.specs.declared.books.Books.{Books}
 use Rattle.rb_proto.specs.declared.call.Call.{Call}
+use Rattle.rb_proto.specs.declared.context.Context.{Context}
+use Rattle.rb_proto.specs.Answers.{comes_from_here}
 use Rattle.rb_proto.specs.Netids.{which_of}
 use Rattle.rb_proto.specs.Costs.{note_cost, forward_cost, statistics_cost}
 use Rattle.rb_proto.specs.ListReplies.{part_room}
@@ -47,23 +49,28 @@ removal_cost kept (Some which) = unset_cost kept which
 abbrev pub forwarding_cost : Books → ℕ → ℕ
 forwarding_cost books args = looks books.registry.limit + 3 + note_cost + forward_cost args
 
--- to do what a call asks for, with so many bytes of arguments; the rows of a list are walked when it is put
-abbrev pub request_cost : Books → Request → ℕ → ℕ
-request_cost books (requests.Void procedure) args = 0
-request_cost books (requests.Mapping mappings.Set m) args = set_cost books.registry + 1
-request_cost books (requests.Mapping mappings.Unset m) args = unset_cost books.registry Inet
-request_cost books (requests.Mapping mappings.Getport m) args = lookup_cost books
-request_cost books (requests.Rpcb rpcbs.Set r) args = set_cost books.registry + 1
-request_cost books (requests.Rpcb rpcbs.Unset r) args = removal_cost books.registry (which_of r.netid)
-request_cost books (requests.Rpcb rpcbs.Getaddr r) args = lookup_cost books
-request_cost books (requests.Rpcb rpcbs.Getversaddr r) args = lookup_cost books
-request_cost books (requests.Rpcb rpcbs.Getaddrlist r) args = 0
-request_cost books (requests.Uaddr2taddr text) args = 0
-request_cost books (requests.Taddr2uaddr netbuf) args = 0
-request_cost books (requests.Forward kind remote) args = forwarding_cost books args
+-- what a SET or an UNSET costs its caller: where that may not register, it is refused before anything is looked up
+abbrev pub registering_cost : Bool → ℕ → ℕ
+registering_cost may cost = if may then cost else 0
 
-abbrev pub cost_of : Books → Call → ℕ → ℕ
-cost_of books call args = request_cost books call.request args
+-- to do what a call of a caller asks for that may register or not, with so many bytes of arguments; the rows of a list are
+-- walked when it is put
+abbrev pub request_cost : Bool → Books → Request → ℕ → ℕ
+request_cost may books (requests.Void procedure) args = 0
+request_cost may books (requests.Mapping mappings.Set m) args = registering_cost may (set_cost books.registry + 1)
+request_cost may books (requests.Mapping mappings.Unset m) args = registering_cost may (unset_cost books.registry Inet)
+request_cost may books (requests.Mapping mappings.Getport m) args = lookup_cost books
+request_cost may books (requests.Rpcb rpcbs.Set r) args = registering_cost may (set_cost books.registry + 1)
+request_cost may books (requests.Rpcb rpcbs.Unset r) args = registering_cost may (removal_cost books.registry (which_of r.netid))
+request_cost may books (requests.Rpcb rpcbs.Getaddr r) args = lookup_cost books
+request_cost may books (requests.Rpcb rpcbs.Getversaddr r) args = lookup_cost books
+request_cost may books (requests.Rpcb rpcbs.Getaddrlist r) args = 0
+request_cost may books (requests.Uaddr2taddr text) args = 0
+request_cost may books (requests.Taddr2uaddr netbuf) args = 0
+request_cost may books (requests.Forward kind remote) args = forwarding_cost books args
+
+abbrev pub cost_of : Context → Books → Call → ℕ → ℕ
+cost_of context books call args = request_cost (comes_from_here context) books call.request args
 
 -- a search for a row, and one step for the number of the live ones
 abbrev pub room_cost : Books → ℕ
@@ -93,16 +100,24 @@ results_cost books results.Statistics old new = statistics_cost + 3 + put_cost o
 
 -- ---- which calls walk rows
 
--- a SET or an UNSET, which changes rows, or a list of them
-abbrev pub walks_rows : Request → Bool
-walks_rows (requests.Void voids.PmapDump) = true
-walks_rows (requests.Void voids.Dump) = true
-walks_rows (requests.Mapping mappings.Set m) = true
-walks_rows (requests.Mapping mappings.Unset m) = true
-walks_rows (requests.Rpcb rpcbs.Set r) = true
-walks_rows (requests.Rpcb rpcbs.Unset r) = true
-walks_rows (requests.Rpcb rpcbs.Getaddrlist r) = true
-walks_rows _ = false
+-- a list of rows is asked for
+abbrev pub lists_rows : Request → Bool
+lists_rows (requests.Void voids.PmapDump) = true
+lists_rows (requests.Void voids.Dump) = true
+lists_rows (requests.Rpcb rpcbs.Getaddrlist r) = true
+lists_rows _ = false
+
+-- a SET or an UNSET
+abbrev pub changes_rows : Request → Bool
+changes_rows (requests.Mapping mappings.Set m) = true
+changes_rows (requests.Mapping mappings.Unset m) = true
+changes_rows (requests.Rpcb rpcbs.Set r) = true
+changes_rows (requests.Rpcb rpcbs.Unset r) = true
+changes_rows _ = false
+
+-- A list walks rows, and so does a SET or an UNSET of a caller that may register: that of another is refused before.
+abbrev pub walks_rows : Bool → Request → Bool
+walks_rows may request = lists_rows request || may && changes_rows request
 
 -- rows are shown
 abbrev pub are_rows : Results → Bool
@@ -116,6 +131,6 @@ shows_rows (answers.Refused status) = false
 shows_rows answers.Forwarded = false
 shows_rows answers.Silent = false
 
--- a list answers such a call alone
+-- a list answers a call for one alone
 abbrev pub ListsIfAsked : Call → Answer → Type 0
-ListsIfAsked call given = IsTrue (shows_rows given) → IsTrue (walks_rows call.request)
+ListsIfAsked call given = IsTrue (shows_rows given) → IsTrue (lists_rows call.request)

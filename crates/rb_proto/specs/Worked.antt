@@ -24,6 +24,7 @@ use Rattle.rb_arguments.specs.Arguments.{read_request}
 use Rattle.rb_proto.specs.Callers.{own_rows}
 use Rattle.rb_proto.specs.Ledger.{Ledger, fresh_ledger, with_call_noted}
 use Rattle.rb_proto.specs.Answers.{Answer, Call, Context, answer}
+use Rattle.rb_proto.specs.Terms.{open_terms}
 use Rattle.rb_proto.specs.Results.{list_bytes, result_bytes, shown_of}
 
 -- ---- calls one after another
@@ -41,7 +42,7 @@ abbrev pub listener_host : List ℕ
 listener_host = 192 ∷ 0 ∷ 2 ∷ 1 ∷ []
 
 abbrev pub listener : Listener
-listener = record { announced = record { inet = Some listener_host; inet6 = None }; port = 111; local = None }
+listener = record { announced = record { inet = Some listener_host; inet6 = None }; port = 111; local = None; terms = open_terms }
 
 -- at this host, of which nothing is known but what it says
 abbrev pub who_at : List ℕ → Who
@@ -53,7 +54,7 @@ who_at host = record {
 
 -- in a datagram from this host
 abbrev pub from : List ℕ → Caller
-from host = Udp (who_at host)
+from host = Udp (who_at host) 9000
 
 abbrev pub loopback : List ℕ
 loopback = 127 ∷ 0 ∷ 0 ∷ 1 ∷ []
@@ -70,7 +71,7 @@ abbrev pub call_as : ℕ → ℕ → ℕ → List ℕ → Message
 call_as uid vers proc numbers = call_with (credentials.Sys uid) vers proc (words numbers)
 
 abbrev pub context_of : ℕ → Message → Context
-context_of limit m = record { announced = listener.announced; limit = limit; forwards = 4; clock = m.clock; caller = m.caller }
+context_of limit m = record { announced = listener.announced; terms = open_terms; limit = limit; forwards = 4; clock = m.clock; caller = m.caller }
 
 abbrev pub head_of : Message → CallHead
 head_of m = record { xid = 1; prog = rpcb_prog; vers = m.vers; proc = m.proc; cred = m.cred }

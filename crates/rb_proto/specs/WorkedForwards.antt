@@ -163,7 +163,7 @@ EndsWithNote kind caller outcome note given =
     )
 
 abbrev pub by_datagram : Caller
-by_datagram = Udp (who_at loopback)
+by_datagram = Udp (who_at loopback) 9000
 
 abbrev pub by_connection : Caller
 by_connection = Tcp 3 (who_at loopback)

@@ -76,7 +76,8 @@ pub fn answer(
     ensures floor { books.new.registry.floor ≡ books.old.registry.floor }
     ensures frame { SameFrame books.old books.new }
     ensures lists { ListsIfAsked call.now result }
-    ensures cost { PaysAtMost meter.old meter.new (cost_of books.old call.now (length arguments.now)) }
+    ensures cost { PaysAtMost meter.old meter.new
+        (cost_of context.now books.old call.now (length arguments.now)) }
 {
     let head = &call.head;
     match &call.request {
@@ -91,7 +92,7 @@ pub fn answer(
             told(Value::Bool(done))
         }
         Request::Mapping(MappingProcedure::Getport, mapping) => {
-            told(Value::Number(getport(books, head, mapping, meter)))
+            told(Value::Number(getport(books, context, head, mapping, meter)))
         }
         Request::Rpcb(RpcbProcedure::Set, rpcb) => {
             let row = row_of_rpcb(context.owner(head), rpcb);

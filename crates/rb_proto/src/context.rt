@@ -1,18 +1,21 @@
 //! What a call sees.
 ghost use Rattle.std.specs.Prelude.{◌≡◌, ◌≤◌};
-ghost use Rattle.rb_proto.specs.Callers.{who_of, netid_of_caller, is_here, may_register, owner_named, owner_of, is_superuser, share_of, share_in, hosts_in};
+ghost use Rattle.rb_proto.specs.Callers.{who_of, netid_of_caller, is_stranger, is_here, may_register, owner_named, owner_of, is_superuser, share_of, share_in, hosts_in};
 ghost use Rattle.rb_proto.specs.Answers.{comes_from_here, owner_in, netid_asked};
 
-use crate::listener::Announced;
+use crate::listener::{Announced, Terms};
 use rb_address::{Netid, Owner, Source, Transport, Trust, Who};
 use rb_rpc::{CallHead, Caller, Credential};
 use rb_uaddr::Hosts;
 
-/// What the answer to a call depends on beside the books: the announced hosts, the limits, the moment and the caller.
+/// What the answer to a call depends on beside the books: the announced hosts and the terms, the limits, the moment and
+/// the caller.
 #[derive(Clone, Copy, PartialEq, Eq, Debug)]
 pub struct Context {
     /// The families that are served, and the host of each.
     pub announced: Announced,
+    /// On which terms callers are served.
+    pub terms: Terms,
     /// The greatest number of rows.
     pub limit: usize,
     /// The greatest number of forwarded calls.
@@ -23,11 +26,21 @@ pub struct Context {
     pub caller: Caller,
 }
 
-fn who_of(caller: &Caller) -> Who
+pub(crate) fn who_of(caller: &Caller) -> Who
     ensures { result ≡ who_of caller.now }
 {
     match caller {
-        Caller::Tcp(_, who) | Caller::Udp(who) => *who,
+        Caller::Tcp(_, who) | Caller::Udp(who, _) => *who,
+    }
+}
+
+/// Whether nothing that the caller says is believed.
+pub fn is_stranger(who: &Who) -> bool
+    ensures { result ≡ is_stranger who.now }
+{
+    match who.trust {
+        Trust::Claims | Trust::Local(_) => false,
+        Trust::Stranger => true,
     }
 }
 
@@ -37,7 +50,7 @@ pub(crate) fn netid_of_caller(caller: &Caller) -> Netid
 {
     match caller {
         Caller::Tcp(_, who) => who.source.netid(Transport::Tcp),
-        Caller::Udp(who) => who.source.netid(Transport::Udp),
+        Caller::Udp(who, _) => who.source.netid(Transport::Udp),
     }
 }
 

@@ -3,12 +3,12 @@ ghost use Rattle.std.specs.Prelude.{◌≡◌, ◌+◌, ◌*◌, false, length};
 ghost use Rattle.rb_xdr.specs.Meter.{PaysAtMost};
 ghost use Rattle.rb_xdr.specs.Ordered.{looks};
 ghost use Rattle.rb_registry.specs.Registry.{rows_of};
-ghost use Rattle.rb_stats.specs.Counting.{HasNoted};
 ghost use Rattle.rb_forward.specs.StandsFor.{slots_of};
 ghost use Rattle.rb_forward.specs.Table.{IsNew};
-ghost use Rattle.rb_proto.specs.Books.{ActsAs, ForwardsAs, AreTied, OnlyCallerWaits, SameFrame, StayUnlessForwarded, note_asked};
+ghost use Rattle.rb_proto.specs.Books.{ActsAs, ForwardsAs, AreTied, HasNotedWhere, OnlyCallerWaits, SameFrame, StayUnlessForwarded, note_asked};
 ghost use Rattle.rb_arguments.specs.Remote.{HasContent};
-ghost use Rattle.rb_proto.specs.Forwarding.{version_of_kind, is_indirect, is_pass, netid_to_forward, address_of_row, address_asked, peer_of_address, merged_peer, uaddr_at, forward_of, refusal, refuse, end_note};
+ghost use Rattle.rb_proto.specs.Forwarding.{version_of_kind, is_indirect, is_pass, netid_to_forward, address_of_row, address_asked, peer_of_address, merged_peer, uaddr_at, forward_of, refusal, refuse, counts_end, end_note};
+ghost use Rattle.rb_proto.specs.Terms.{counts_forward};
 ghost use Rattle.rb_proto.specs.Costs.{note_cost};
 ghost use Rattle.rb_proto.specs.Puts.{forwarding_cost, shows_rows};
 
@@ -16,6 +16,7 @@ use crate::answers::Answer;
 use crate::books::Books;
 use crate::context::{Context, netid_of_caller};
 use crate::netids::address_in;
+use crate::terms::{counts_forward, may_go};
 use rb_address::{Host, Netid, Peer, Source, Transport};
 use rb_arguments::RemoteCall;
 use rb_forward::{Ended, Forward, Outcome};
@@ -51,14 +52,18 @@ struct Asked {
     proc: u32,
 }
 
-/// Notes a forwarded call at its outcome.
+/// Notes a forwarded call at its outcome, where that counts.
 #[tactic(auto, unfolding(crate::specs::Forwarding::outcome_note))]
 fn note_outcome(stats: &mut Stats, asked: Asked, passed: bool, meter: &mut Meter)
     requires { meter.old.tie ≡ stats.old.tie }
-    ensures history { HasNoted (note_asked asked passed) stats.old stats.new }
+    ensures history { HasNotedWhere
+        (counts_forward asked.caller passed) (note_asked asked passed) stats.old stats.new }
     ensures tie { stats.new.tie ≡ stats.old.tie }
     ensures cost { PaysAtMost meter.old meter.new (note_cost + 2) }
 {
+    if !counts_forward(&asked.caller, passed) {
+        return;
+    }
     let target = Target {
         prog: asked.prog,
         vers: asked.vers,
@@ -75,11 +80,12 @@ fn note_outcome(stats: &mut Stats, asked: Asked, passed: bool, meter: &mut Meter
     );
 }
 
-/// Notes how an entry ended.
+/// Notes how an entry ended, where that counts.
 #[tactic(auto, unfolding(crate::specs::Forwarding::end_note))]
 pub(crate) fn note_end(stats: &mut Stats, ended: &Ended, meter: &mut Meter)
     requires { meter.old.tie ≡ stats.old.tie }
-    ensures history { HasNoted (end_note ended.now) stats.old stats.new }
+    ensures history { HasNotedWhere
+        (counts_end ended.now) (end_note ended.now) stats.old stats.new }
     ensures tie { stats.new.tie ≡ stats.old.tie }
     ensures cost { PaysAtMost meter.old meter.new (note_cost + 2) }
 {
@@ -118,7 +124,7 @@ fn address_of_row(row: &Row) -> Option<Uaddr>
     address_in(row.netid, &row.addr)
 }
 
-/// Where the program's exact version is, for this caller. The portmapper itself is not called.
+/// Where the program's exact version is, for this caller, where the call may be made. The portmapper itself is not called.
 #[tactic(auto, unfolding(crate::specs::Forwarding::address_to_forward))]
 fn address_asked(
     registry: &Registry,
@@ -135,7 +141,12 @@ fn address_asked(
     }
     let netid = netid_to_forward(context.who().source);
     let row = registry.find_exact(remote.prog, remote.vers, netid, meter)?;
-    address_of_row(row)
+    let registered = address_of_row(row)?;
+    if may_go(context, remote, peer_of_address(registered).host()) {
+        Some(registered)
+    } else {
+        None
+    }
 }
 
 /// The peer at a universal address.
@@ -202,7 +213,7 @@ pub fn refusal(kind: Kind, status: ReplyStatus) -> Answer
     }
 }
 
-/// Refuses to forward a call, and notes that as a failure.
+/// Refuses to forward a call, and notes that as a failure, where it counts.
 fn refuse(
     books: &mut Books,
     context: &Context,

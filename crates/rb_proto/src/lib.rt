@@ -16,15 +16,16 @@ mod netids;
 mod put;
 mod rows;
 mod sets;
+mod terms;
 mod worked;
 
 pub use answers::{Answer, Listing, Results, Value};
 pub use books::Books;
 pub use call::{Call, answer};
-pub use context::Context;
+pub use context::{Context, is_stranger};
 pub use forwarding::refusal;
 pub use laws::{forwards_are_noted_once, forwards_go_to_rows, list_replies_go_on};
 pub use list_reply::{ListPart, ListReply};
-pub use listener::{Announced, Listener, own_row_count};
+pub use listener::{Announced, Forwarding, Listener, Terms, own_row_count};
 pub use put::{put_forwarded, put_results};
 pub use worked::{worked_examples, worked_forwards, worked_lists, worked_netids};

@@ -18,7 +18,35 @@ pub struct Announced {
     pub inet6: Option<[u8; 16]>,
 }
 
-/// Where the daemon listens.
+/// For which callers another call is made, and to what (RFC 1833 sections 2.2.1 and 3.1).
+#[derive(Clone, Copy, PartialEq, Eq, Debug)]
+pub enum Forwarding {
+    /// For every caller, to every program but the portmapper itself, at whichever host it is registered.
+    Anywhere,
+    /// For every caller, to programs of this host that do not go by the host of who calls them.
+    ForAll,
+    /// To these, for callers of this machine alone.
+    ForLocal,
+}
+
+/// On which terms callers are served.
+#[derive(Clone, Copy, PartialEq, Eq, Debug)]
+pub struct Terms {
+    /// Whether a reply over UDP to a stranger may have more than twice the bytes of its call.
+    pub long_replies: bool,
+    /// For which callers another call is made, and to what.
+    pub forwarding: Forwarding,
+}
+
+impl Terms {
+    /// Those that hold nobody back.
+    pub const OPEN: Terms = Terms {
+        long_replies: true,
+        forwarding: Forwarding::Anywhere,
+    };
+}
+
+/// Where the daemon listens, and on which terms it serves there.
 #[derive(Clone, PartialEq, Eq, Debug, Drop)]
 pub struct Listener {
     /// The families over which it is reached.
@@ -27,6 +55,8 @@ pub struct Listener {
     pub port: u16,
     /// The path of its local socket, where it has one.
     pub local: Option<AddressText>,
+    /// On which terms callers are served.
+    pub terms: Terms,
 }
 
 /// Names each field, so that a further one does not compile until it stands here. It belongs in the table of
@@ -36,8 +66,14 @@ fn layout(listener: &Listener) {
         announced,
         port,
         local,
+        terms,
     } = listener;
     let Announced { inet, inet6 } = *announced;
+    let Terms {
+        long_replies,
+        forwarding,
+    } = *terms;
+    let _: (bool, Forwarding) = (long_replies, forwarding);
     let _: (Option<[u8; 4]>, Option<[u8; 16]>) = (inet, inet6);
     let _: u16 = *port;
     let _: &Option<AddressText> = local;

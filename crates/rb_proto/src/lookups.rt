@@ -1,10 +1,11 @@
 //! The procedures that look something up, or turn an address into another form (RFC 1833 sections 2.2 and 3.2).
-ghost use Rattle.std.specs.Prelude.{◌≡◌, ◌+◌, option_copied};
+ghost use Rattle.std.specs.Prelude.{◌≡◌, ◌+◌, option_copied, is_some};
 ghost use Rattle.rb_xdr.specs.Meter.{PaysAtMost};
-ghost use Rattle.rb_proto.specs.Books.{ActsAs, AreTied, SameFrame};
+ghost use Rattle.rb_proto.specs.Books.{ActsAs, AreTied, HasNotedWhere, SameFrame};
+ghost use Rattle.rb_proto.specs.Callers.{who_of};
+ghost use Rattle.rb_proto.specs.Terms.{counts_look_up};
 ghost use Rattle.rb_proto.specs.Ledger.{version_of};
 ghost use Rattle.rb_stats.specs.Statistics.Note.{LookedUp};
-ghost use Rattle.rb_stats.specs.Counting.{HasNoted};
 ghost use Rattle.rb_proto.specs.Answers.{shown_address, shown_text, shown_port, port_found, is_replaced, addr_told, addr_found, getport, getaddr, getversaddr, target_of, seconds, taddr_of, uaddr_of};
 ghost use Rattle.rb_uaddr.specs.Uaddr.{text_of};
 ghost use Rattle.rb_proto.specs.Costs.{note_cost};
@@ -14,6 +15,7 @@ use crate::address_buf::AddressBuf;
 use crate::books::{Books, version_of};
 use crate::context::Context;
 use crate::netids::address_in;
+use crate::terms::counts_look_up;
 use rb_address::{Family, Netid, Transport};
 use rb_arguments::{LentNetbuf, LentRpcb, LentText, Mapping};
 use rb_registry::Row;
@@ -110,14 +112,25 @@ fn target_of(context: &Context, rpcb: &LentRpcb) -> Target
     }
 }
 
-/// Notes a look-up, in a call of this head, with whether it found a row.
-fn note_lookup(stats: &mut Stats, head: &CallHead, target: Target, found: bool, meter: &mut Meter)
+/// Notes a look-up, in a call of this head, with whether it found a row, where that counts.
+fn note_lookup(
+    stats: &mut Stats,
+    context: &Context,
+    head: &CallHead,
+    target: Target,
+    found: Option<&Row>,
+    meter: &mut Meter,
+)
     requires { meter.old.tie ≡ stats.old.tie }
-    ensures history { HasNoted (LookedUp (version_of head.now.vers) target found) stats.old stats.new }
+    ensures history { HasNotedWhere
+        (counts_look_up (who_of context.now.caller) target.vers (option_copied found.entry))
+        (LookedUp (version_of head.now.vers) target (is_some found.entry)) stats.old stats.new }
     ensures tie { stats.new.tie ≡ stats.old.tie }
     ensures cost { PaysAtMost meter.old meter.new (note_cost + 2) }
 {
-    stats.note_addr(version_of(head.vers), target, found, meter);
+    if counts_look_up(context, target.vers, found) {
+        stats.note_addr(version_of(head.vers), target, found.is_some(), meter);
+    }
 }
 
 /// PMAPPROC_GETPORT (RFC 1833 section 3.2): the port is ignored, and 0 says that there is no row. A look-up by the
@@ -125,12 +138,13 @@ fn note_lookup(stats: &mut Stats, head: &CallHead, target: Target, found: bool, 
 #[tactic(auto, unfolding(crate::specs::Answers::getport))]
 pub(crate) fn getport(
     books: &mut Books,
+    context: &Context,
     head: &CallHead,
     mapping: &Mapping,
     meter: &mut Meter,
 ) -> u32
     requires { AreTied meter.old.tie books.old }
-    ensures acts { ActsAs (getport head.now mapping.now) books.old books.new result }
+    ensures acts { ActsAs (getport context.now head.now mapping.now) books.old books.new result }
     ensures registry { books.new.registry ≡ books.old.registry }
     ensures forwards { books.new.forwards ≡ books.old.forwards }
     ensures frame { SameFrame books.old books.new }
@@ -149,7 +163,7 @@ pub(crate) fn getport(
         .registry
         .find(mapping.prog, mapping.vers, netid, meter);
     let port = port_found(found);
-    note_lookup(&mut books.stats, head, target, found.is_some(), meter);
+    note_lookup(&mut books.stats, context, head, target, found, meter);
     port
 }
 
@@ -175,7 +189,7 @@ pub(crate) fn getaddr(
         .find(rpcb.prog(), rpcb.vers(), context.netid(), meter);
     let addr = addr_found(&context.hosts(), found);
     let target = target_of(context, rpcb);
-    note_lookup(&mut books.stats, head, target, found.is_some(), meter);
+    note_lookup(&mut books.stats, context, head, target, found, meter);
     addr
 }
 
@@ -200,7 +214,7 @@ pub(crate) fn getversaddr(
         .find_exact(rpcb.prog(), rpcb.vers(), context.netid(), meter);
     let addr = addr_found(&context.hosts(), found);
     let target = target_of(context, rpcb);
-    note_lookup(&mut books.stats, head, target, found.is_some(), meter);
+    note_lookup(&mut books.stats, context, head, target, found, meter);
     addr
 }
 

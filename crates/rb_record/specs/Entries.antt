@@ -1,5 +1,5 @@
 -- Lines of events, as they are written, and what is written of a run.
-use Rattle.std.specs.Prelude.{ℕ, List, [], ◌∷◌, ◌++◌, Option, Some, None, codes}
+use Rattle.std.specs.Prelude.{ℕ, Bool, true, false, List, [], ◌∷◌, ◌++◌, Option, Some, None, codes}
 use Rattle.std.specs.Fmt.{decimal}
 use Rattle.std.specs.List.{concat}
 use Rattle.rb_address.specs.declared.host.Host.{Host}
@@ -7,7 +7,10 @@ use Rattle.rb_address.specs.declared.host.Host.TheVariants.{V4, V6}
 use Rattle.rb_address.specs.declared.who.Who.{Who}
 use Rattle.rb_address.specs.Callers.{who_text}
 use Rattle.rb_address.specs.Peers.{bare_host_text}
+use Rattle.rb_proto.specs.declared.listener.Forwarding.{Forwarding}
+use Rattle.rb_proto.specs.declared.listener.Forwarding.TheVariants.{Anywhere, ForAll, ForLocal}
 use Rattle.rb_proto.specs.declared.listener.Listener.{Listener}
+use Rattle.rb_proto.specs.declared.listener.Terms.{Terms}
 use Rattle.rb_model.specs.declared.types.Limits.{Limits}
 use Rattle.rb_model.specs.State.{State}
 use Rattle.rb_model.specs.Step.{Event, Output, step}
@@ -70,11 +73,25 @@ abbrev pub local_text : Option (List ℕ) → List ℕ
 local_text None = []
 local_text (Some path) = codes " --local '" ++ (path ++ codes "'")
 
--- the announced host of each family, the port, and the path of the local socket
+-- whether long replies go to strangers over UDP, where none do
+abbrev pub lists_text : Bool → List ℕ
+lists_text true = []
+lists_text false = codes " --udp-lists local"
+
+-- for whom calls are forwarded, where that is not for everybody to anywhere
+abbrev pub forwarding_text : Forwarding → List ℕ
+forwarding_text Anywhere = []
+forwarding_text ForAll = codes " --forward-for all"
+forwarding_text ForLocal = codes " --forward-for local"
+
+abbrev pub terms_text : Terms → List ℕ
+terms_text terms = lists_text terms.long_replies ++ forwarding_text terms.forwarding
+
+-- the announced host of each family, the port, the path of the local socket, and the terms
 abbrev pub listener_text : Listener → List ℕ
 listener_text listener =
     inet_text listener.announced.inet ++ (inet6_text listener.announced.inet6
-    ++ (codes " --port " ++ (decimal listener.port ++ local_text listener.local)))
+    ++ (codes " --port " ++ (decimal listener.port ++ (local_text listener.local ++ terms_text listener.terms))))
 
 -- the command that checks a record of a run from such an opening, in a comment
 abbrev pub options_text : Limits → Listener → ℕ → ℕ → List ℕ

@@ -1,14 +1,14 @@
 //! What a record is made of: the options of its replay, and events with what they gave.
 ghost use Rattle.std.specs.Prelude.{OnOk};
 ghost use Rattle.rb_record.specs.Printing.{Writes};
-ghost use Rattle.rb_record.specs.Entries.{entry_of, limits_text, announce_text, inet_text, inet6_text, local_text, listener_text, options_of};
+ghost use Rattle.rb_record.specs.Entries.{entry_of, limits_text, announce_text, inet_text, inet6_text, local_text, lists_text, forwarding_text, listener_text, options_of};
 
 use crate::happening::{Happening, write_event};
 use crate::printing::write_output;
 use crate::shown::Shown;
 use rb_address::Host;
 use rb_model::Limits;
-use rb_proto::Listener;
+use rb_proto::{Forwarding, Listener};
 use rb_uaddr::AddressText;
 use std::io;
 use std::io::Write;
@@ -19,7 +19,7 @@ pub struct Start<'a> {
     /// How many connections, rows and forwarded calls there may be.
     pub limits: Limits,
     /// Where the daemon listens: the announced host of each family that is served, the port, and the path of its local
-    /// socket.
+    /// socket; and on which terms it serves there.
     pub listener: &'a Listener,
     /// The xid of the first forwarded call.
     pub first_xid: u32,
@@ -99,6 +99,30 @@ fn write_local<W: Write>(local: &Option<AddressText>, writer: &mut W) -> io::Res
     }
 }
 
+/// Writes that no long replies go to strangers over UDP, where none do.
+#[tactic(auto, using(crate::proofs::Written::nothing))]
+fn write_lists<W: Write>(long_replies: bool, writer: &mut W) -> io::Result<()>
+    ensures { OnOk result (Writes W.contents writer.old writer.new (lists_text long_replies)) }
+{
+    if long_replies {
+        Ok(())
+    } else {
+        writer.write_all(b" --udp-lists local")
+    }
+}
+
+/// Writes for whom calls are forwarded, where that is not for everybody to anywhere.
+#[tactic(auto, using(crate::proofs::Written::nothing))]
+fn write_forwarding<W: Write>(forwarding: Forwarding, writer: &mut W) -> io::Result<()>
+    ensures { OnOk result (Writes W.contents writer.old writer.new (forwarding_text forwarding)) }
+{
+    match forwarding {
+        Forwarding::Anywhere => Ok(()),
+        Forwarding::ForAll => writer.write_all(b" --forward-for all"),
+        Forwarding::ForLocal => writer.write_all(b" --forward-for local"),
+    }
+}
+
 fn write_listener<W: Write>(listener: &Listener, writer: &mut W) -> io::Result<()>
     ensures { OnOk result (Writes W.contents writer.old writer.new (listener_text listener.now)) }
 {
@@ -106,11 +130,14 @@ fn write_listener<W: Write>(listener: &Listener, writer: &mut W) -> io::Result<(
         announced,
         port,
         local,
+        terms,
     } = listener;
     write_inet(announced.inet, writer)?;
     write_inet6(announced.inet6, writer)?;
     write!(writer, " --port {port}")?;
-    write_local(local, writer)
+    write_local(local, writer)?;
+    write_lists(terms.long_replies, writer)?;
+    write_forwarding(terms.forwarding, writer)
 }
 
 /// Writes a comment line: the command that checks a record of a run that begins so. An error where the writer fails;

@@ -1,12 +1,11 @@
 -- Every run from an opening is served, within the bounds of bytes and steps.
 use Rattle.std.proofs.Common.{◌≡◌, ◌≤◌, [], refl, subst}
-use Rattle.rb_rpc.specs.declared.caller.Caller.TheVariants.{Udp}
 use Rattle.rb_feed.specs.Feeds.{arguments_of}
 use Rattle.rb_proto.specs.Ledger.{Ledger}
 use Rattle.rb_model.specs.Calls.{Outcome, message_of, outcome}
 use Rattle.rb_model.specs.Calls.Outcome.{NoCall, Reply, Forwarded, Silent}
 use Rattle.rb_model.specs.State.{Setting, State, at_moment, opening}
-use Rattle.rb_model.specs.Step.{context_in, with_ledger, with_reply, serve, datagram, show_outcome, step, after, IsReached}
+use Rattle.rb_model.specs.Step.{sender, context_in, with_ledger, with_reply, serve, datagram, show_outcome, step, after, IsReached}
 use Rattle.rb_model.specs.Losses.{with_room}
 use Rattle.rb_model.specs.Costs.{event_cost}
 use Rattle.rb_model.specs.Bounds.{steps_bound, bytes_in, bytes_out}
@@ -21,10 +20,10 @@ use Rattle.rb_replay.proofs.StepBounds.{held_within_after}
 
 answers_datagrams : (s : State) → AnswersDatagrams s
 unfolding step datagram serve
-answers_datagrams s now who content = by_outcome (outcome (context_in (at_moment now s) (Udp who)) (message_of content) (arguments_of content) s.ledger)
+answers_datagrams s now who content = by_outcome (outcome (context_in (at_moment now s) (sender s who content)) (message_of content) (arguments_of content) s.ledger)
   where
     roomy : State
-    roomy = with_room (context_in (at_moment now s) (Udp who)) (message_of content) (at_moment now s)
+    roomy = with_room (context_in (at_moment now s) (sender s who content)) (message_of content) (at_moment now s)
 
     by_outcome : (r : Outcome × Ledger) → (show_outcome (with_reply (with_ledger roomy r))).0 ≡ shown_as r.0
     by_outcome (NoCall, ledger) = refl

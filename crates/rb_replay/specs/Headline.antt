@@ -1,14 +1,13 @@
 -- What is promised of every run from an opening, in one law.
 use Rattle.std.specs.Prelude.{◌≡◌, ◌≤◌, ℕ, true, List}
 use Rattle.rb_address.specs.declared.who.Who.{Who}
-use Rattle.rb_rpc.specs.declared.caller.Caller.TheVariants.{Udp}
 use Rattle.rb_feed.specs.Feeds.{arguments_of}
 use Rattle.rb_proto.specs.declared.listener.Listener.{Listener}
 use Rattle.rb_model.specs.declared.types.Limits.{Limits}
 use Rattle.rb_model.specs.Calls.{message_of, Outcome, outcome}
 use Rattle.rb_model.specs.Calls.Outcome.{NoCall, Reply, Forwarded, Silent}
 use Rattle.rb_model.specs.State.{State, are_good, opening, at_moment}
-use Rattle.rb_model.specs.Step.{context_in, Event, Output, Output as outputs, step, after}
+use Rattle.rb_model.specs.Step.{sender, context_in, Event, Output, Output as outputs, step, after}
 use Rattle.rb_model.specs.Step.Event.{Datagram}
 use Rattle.rb_model.specs.ChangeLaws.{changes_by}
 use Rattle.rb_model.specs.HistoryLaws.{history_by}
@@ -31,7 +30,7 @@ abbrev pub AnswersDatagrams : State → Type 0
 AnswersDatagrams s =
     (now : ℕ) (who : Who) (content : List ℕ)
     → (step s (Datagram now who content)).0
-    ≡ shown_as (outcome (context_in (at_moment now s) (Udp who)) (message_of content) (arguments_of content) s.ledger).0
+    ≡ shown_as (outcome (context_in (at_moment now s) (sender s who content)) (message_of content) (arguments_of content) s.ledger).0
 
 -- After these events, at these limits:
 pub record IsServedWithin (limits : Limits) (start : State) (events : List Event) : Type 0 where

@@ -47,11 +47,13 @@ fn listener_like(listener: &Listener) -> Listener
             announced: listener.announced,
             port: listener.port,
             local: Some(AddressText::new(path.as_slice())),
+            terms: listener.terms,
         },
         None => Listener {
             announced: listener.announced,
             port: listener.port,
             local: None,
+            terms: listener.terms,
         },
     }
 }

@@ -4,13 +4,13 @@ use rb_address::Who;
 /// The most bytes of arguments of a call that is forwarded: `args` of RFC 1833 sections 2.1 and 3.1.
 pub const LONGEST_FORWARDED: usize = 8_800;
 
-/// Where a call came from: a connection, by its number, or a datagram.
+/// Where a call came from: a connection, by its number, or a datagram, with the most bytes that its reply may have.
 #[derive(Clone, Copy, PartialEq, Eq, Debug)]
 pub enum Caller {
     /// A connection, by its number, and who is at its other end.
     Tcp(u64, Who),
-    /// A datagram, by its sender.
-    Udp(Who),
+    /// A datagram, by its sender, and the most bytes that its reply may have.
+    Udp(Who, usize),
 }
 
 /// By which procedure a caller has another call made for it. It says what is answered, and when.
@@ -33,8 +33,8 @@ fn layout(caller: &Caller) {
         Caller::Tcp(number, who) => {
             let _: (u64, Who) = (number, who);
         }
-        Caller::Udp(who) => {
-            let _: Who = who;
+        Caller::Udp(who, longest) => {
+            let _: (Who, usize) = (who, longest);
         }
     }
 }

@@ -1,6 +1,7 @@
 -- What serving a message costs, by what it asks for.
-use Rattle.std.specs.Prelude.{IsTrue, Option, Some, None}
+use Rattle.std.specs.Prelude.{IsTrue, ◌&&◌, Option, Some, None}
 use Rattle.std.proofs.Common.{◌≡◌, ◌≤◌, ℕ, ◌+◌, ◌*◌, Bool, true, false, List, length, refl, ap, ◌∙◌, arith}
+use Rattle.std.proofs.lemmas.Bool.{and_parts}
 use Rattle.rb_xdr.specs.Kept.{Kept}
 use Rattle.rb_xdr.specs.Meter.{Meter, PaysAtMost}
 use Rattle.rb_xdr.specs.Ordered.{looks}
@@ -20,10 +21,10 @@ use Rattle.rb_proto.specs.declared.answers.Results.TheVariants as results
 use Rattle.rb_proto.specs.declared.books.Books.{Books}
 use Rattle.rb_proto.specs.declared.call.Call.{Call}
 use Rattle.rb_proto.specs.declared.context.Context.{Context}
-use Rattle.rb_proto.specs.Answers.{row_asked, adds, adds_row, row_to_set}
+use Rattle.rb_proto.specs.Answers.{comes_from_here, owner_in, row_of_mapping, row_of_rpcb, can_be_set, has_share, row_asked, adds, adds_row, row_to_set}
 use Rattle.rb_proto.specs.Netids.{which_of}
 use Rattle.rb_proto.specs.Costs.{note_cost, forward_cost, statistics_cost}
-use Rattle.rb_proto.specs.Puts.{walks_rows, are_rows, shows_rows, put_cost, removal_cost, request_cost, cost_of, results_cost, ListsIfAsked as Lists}
+use Rattle.rb_proto.specs.Puts.{lists_rows, walks_rows, are_rows, shows_rows, put_cost, registering_cost, removal_cost, request_cost, cost_of, results_cost, ListsIfAsked as Lists}
 use Rattle.rb_model.specs.declared.message.Message.TheVariants as says
 use Rattle.rb_model.specs.Costs.{walked, change_cost}
 use Rattle.rb_serving.specs.Costs.{row_count_of, PaysForResults, PaysToServe}
@@ -53,20 +54,27 @@ module _ (kept : Registry) where
   removal_few (Some which) = unset_few which
 
 -- changes count where rows are asked for
-pub request_few : (books : Books) (request : Request) (args : ℕ) → request_cost books request args
-    ≤ 5 * walked (walks_rows request) (change_cost (looks books.registry.limit) (row_count_of books)) + 2 * looks books.registry.limit + 3 + note_cost + forward_cost args
-request_few books (requests.Void procedure) args = omega arith
-request_few books (requests.Mapping mappings.Set m) args = omega (arith, set_few books.registry)
-request_few books (requests.Mapping mappings.Unset m) args = omega (arith, unset_few books.registry Inet)
-request_few books (requests.Mapping mappings.Getport m) args = omega arith
-request_few books (requests.Rpcb rpcbs.Set r) args = omega (arith, set_few books.registry)
-request_few books (requests.Rpcb rpcbs.Unset r) args = omega (arith, removal_few books.registry (which_of r.netid))
-request_few books (requests.Rpcb rpcbs.Getaddr r) args = omega arith
-request_few books (requests.Rpcb rpcbs.Getversaddr r) args = omega arith
-request_few books (requests.Rpcb rpcbs.Getaddrlist r) args = omega arith
-request_few books (requests.Uaddr2taddr text) args = omega arith
-request_few books (requests.Taddr2uaddr netbuf) args = omega arith
-request_few books (requests.Forward kind remote) args = omega arith
+pub request_few : (may : Bool) (books : Books) (request : Request) (args : ℕ) → request_cost may books request args
+    ≤ 5 * walked (walks_rows may request) (change_cost (looks books.registry.limit) (row_count_of books)) + 2 * looks books.registry.limit + 3 + note_cost + forward_cost args
+request_few may books request args = by_request request
+  where
+    few : (cost size : ℕ) → cost ≤ 5 * size + 1 → registering_cost may cost ≤ 5 * walked (may && true) size + 2 * looks books.registry.limit + 3 + note_cost + forward_cost args
+    few cost size le = elim may as (λ b. registering_cost b cost ≤ 5 * walked (b && true) size + 2 * looks books.registry.limit + 3 + note_cost + forward_cost args) [ true ↦ omega (arith, le) | false ↦ omega arith ]
+
+    by_request : (request : Request) → request_cost may books request args
+        ≤ 5 * walked (walks_rows may request) (change_cost (looks books.registry.limit) (row_count_of books)) + 2 * looks books.registry.limit + 3 + note_cost + forward_cost args
+    by_request (requests.Void procedure) = omega arith
+    by_request (requests.Mapping mappings.Set m) = few (set_cost books.registry + 1) _ (omega (arith, set_few books.registry))
+    by_request (requests.Mapping mappings.Unset m) = few (unset_cost books.registry Inet) _ (omega (arith, unset_few books.registry Inet))
+    by_request (requests.Mapping mappings.Getport m) = omega arith
+    by_request (requests.Rpcb rpcbs.Set r) = few (set_cost books.registry + 1) _ (omega (arith, set_few books.registry))
+    by_request (requests.Rpcb rpcbs.Unset r) = few (removal_cost books.registry (which_of r.netid)) _ (omega (arith, removal_few books.registry (which_of r.netid)))
+    by_request (requests.Rpcb rpcbs.Getaddr r) = omega arith
+    by_request (requests.Rpcb rpcbs.Getversaddr r) = omega arith
+    by_request (requests.Rpcb rpcbs.Getaddrlist r) = omega arith
+    by_request (requests.Uaddr2taddr text) = omega arith
+    by_request (requests.Taddr2uaddr netbuf) = omega arith
+    by_request (requests.Forward kind remote) = omega arith
 
 -- ---- what is put
 
@@ -77,16 +85,21 @@ results_few books (results.Value value) old new = omega arith
 results_few books (results.Rows list) old new = omega arith
 results_few books results.Statistics old new = omega arith
 
+-- a list is among what walks rows
+pub lists_walk : (may : Bool) (request : Request) → IsTrue (lists_rows request) → IsTrue (walks_rows may request)
+lists_walk may request lists = rw lists refl
+
 -- a call is answered, and results are put
-pub asked_paid : (call : Call) (old mid new : Books) (given : Answer) (args : List ℕ) (out : Kept) (m0 m1 m2 : Meter) → mid.registry ≡ old.registry → Lists call given
-    → PaysAtMost m0 m1 (cost_of mid call (length args)) → PaysForResults (shows_rows given) new out m1 m2 → PaysToServe (says.Asked call) old new args out m0 m2
-asked_paid call old mid new given args out m0 m1 m2 same lists answered put =
-    let first : PaysAtMost m0 m1 (request_cost mid call.request (length args)) = answered in
-    let few = request_few mid call.request (length args) in
+pub asked_paid : (context : Context) (call : Call) (old mid new : Books) (given : Answer) (args : List ℕ) (out : Kept) (m0 m1 m2 : Meter) → mid.registry ≡ old.registry → Lists call given
+    → PaysAtMost m0 m1 (cost_of context mid call (length args)) → PaysForResults (shows_rows given) new out m1 m2 → PaysToServe context (says.Asked call) old new args out m0 m2
+asked_paid context call old mid new given args out m0 m1 m2 same lists answered put =
+    let may : Bool = comes_from_here context in
+    let first : PaysAtMost m0 m1 (request_cost may mid call.request (length args)) = answered in
+    let few = request_few may mid call.request (length args) in
     let limit : looks mid.registry.limit ≡ looks old.registry.limit = ap (λ (kept : Registry). looks kept.limit) same in
-    let change : walked (walks_rows call.request) (change_cost (looks mid.registry.limit) (row_count_of mid)) ≡ walked (walks_rows call.request) (change_cost (looks old.registry.limit) (row_count_of old)) =
-    ap (λ (kept : Registry). walked (walks_rows call.request) (change_cost (looks kept.limit) (length (slots_of kept)))) same in
-    let rows = walked_if (shows_rows given) (walks_rows call.request) (row_count_of new) lists in
+    let change : walked (walks_rows may call.request) (change_cost (looks mid.registry.limit) (row_count_of mid)) ≡ walked (walks_rows may call.request) (change_cost (looks old.registry.limit) (row_count_of old)) =
+    ap (λ (kept : Registry). walked (walks_rows may call.request) (change_cost (looks kept.limit) (length (slots_of kept)))) same in
+    let rows = walked_if (shows_rows given) (walks_rows may call.request) (row_count_of new) (λ shown. lists_walk may call.request (lists shown)) in
     record {
       steps = omega (arith, first.steps, few, limit, change, rows, put.steps);
       rises = omega (arith, first.rises, put.rises);
@@ -95,17 +108,24 @@ asked_paid call old mid new given args out m0 m1 m2 same lists answered put =
 
 -- ---- a row to set
 
--- a row is added where rows are asked for
-pub adding_asks : (context : Context) (call : Call) (rows : List Row) (count : ℕ) → adds_row context call rows count ≡ true → walks_rows call.request ≡ true
+-- a row is added where rows are asked for, by a caller that may register
+pub adding_asks : (context : Context) (call : Call) (rows : List Row) (count : ℕ) → adds_row context call rows count ≡ true → walks_rows (comes_from_here context) call.request ≡ true
 unfolding adds_row row_to_set
 adding_asks context call rows count is = by_request call.request is
   where
-    by_request : (request : Request) → adds context rows count (row_asked context call.head request) ≡ true → walks_rows request ≡ true
-    by_request (requests.Mapping mappings.Set m) t = refl
-    by_request (requests.Mapping mappings.Unset m) t = refl
+    by_row : (row : Option Row) → adds context rows count row ≡ true → (comes_from_here context && true) ≡ true
+    by_row None t = absurd cc
+    by_row (Some row) t =
+        let shared = (and_parts (comes_from_here context && can_be_set row && has_share context rows) _ t).0 in
+        let here = (and_parts (comes_from_here context) _ (and_parts (comes_from_here context && can_be_set row) _ shared).0).0 in
+        rw here refl
+
+    by_request : (request : Request) → adds context rows count (row_asked context call.head request) ≡ true → walks_rows (comes_from_here context) request ≡ true
+    by_request (requests.Mapping mappings.Set m) t = by_row (row_of_mapping (owner_in context call.head) m) t
+    by_request (requests.Mapping mappings.Unset m) t = absurd cc
     by_request (requests.Mapping mappings.Getport m) t = absurd cc
-    by_request (requests.Rpcb rpcbs.Set r) t = refl
-    by_request (requests.Rpcb rpcbs.Unset r) t = refl
+    by_request (requests.Rpcb rpcbs.Set r) t = by_row (row_of_rpcb (owner_in context call.head) r) t
+    by_request (requests.Rpcb rpcbs.Unset r) t = absurd cc
     by_request (requests.Rpcb rpcbs.Getaddr r) t = absurd cc
     by_request (requests.Rpcb rpcbs.Getversaddr r) t = absurd cc
     by_request (requests.Rpcb rpcbs.Getaddrlist r) t = refl

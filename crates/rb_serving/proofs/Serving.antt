@@ -1,6 +1,7 @@
 -- What a call leaves behind, from what its parts do to the books.
-use Rattle.std.proofs.Common.{◌≡◌, List, ℕ, [], ◌++◌, length, Some, None, refl, sym, ap, ◌∙◌, arith, append-nil}
+use Rattle.std.proofs.Common.{◌≡◌, ◌≤◌, List, ℕ, [], ◌++◌, length, Some, None, refl, sym, ap, ◌∙◌, arith, append-nil}
 use Rattle.std.proofs.lemmas.Bool.{cond-false, le-ltb}
+use Rattle.rb_xdr.specs.Xdr.{number, opaque}
 use Rattle.rb_rpc.specs.declared.call.CallHead.{CallHead}
 use Rattle.rb_rpc.specs.declared.caller.Caller.{Caller}
 use Rattle.rb_rpc.specs.declared.caller.Caller.TheVariants.{Tcp, Udp}
@@ -25,7 +26,7 @@ use Rattle.rb_proto.specs.declared.answers.Results.{Results}
 use Rattle.rb_proto.specs.declared.answers.Results.TheVariants as results
 use Rattle.rb_proto.specs.ListParts.{list_reply}
 use Rattle.rb_model.specs.declared.message.Message.TheVariants as says
-use Rattle.rb_model.specs.Calls.{Outcome, answer_outcome, results_outcome, reply_with, outcome, fitting_reply, success, longest_reply}
+use Rattle.rb_model.specs.Calls.{Outcome, answer_outcome, results_outcome, reply_with, outcome, fitting_reply, success, longest_reply, longest_for}
 use Rattle.rb_model.specs.Calls.Outcome.{Reply}
 use Rattle.rb_model.specs.declared.served.Served.TheVariants.{Listed}
 use Rattle.rb_model.specs.Served.{listing_outcome}
@@ -64,17 +65,22 @@ null_acts : (context : Context) (head : CallHead) (arguments : List ℕ) (books 
 unfolding answer
 null_acts context head arguments books = record { gives = λ l h. refl; stands = λ l h. h; kept = λ l h e. refl }
 
--- a head is no longer than a reply may be
-null_fits : (xid : ℕ) → success xid [] ≡ reply_head xid Success
-unfolding fitting_reply longest_reply
-null_fits xid =
+-- there is room for a head in a reply to each caller
+head_fits : (caller : Caller) (xid : ℕ) → length (reply_head xid Success) ≤ longest_for caller
+unfolding longest_reply reply_head number opaque
+head_fits (Tcp id who) xid = grind arith
+head_fits (Udp who longest) xid = grind arith
+
+null_fits : (caller : Caller) (xid : ℕ) → success caller xid [] ≡ reply_head xid Success
+unfolding fitting_reply
+null_fits caller xid =
     let same : reply_head xid Success ++ [] ≡ reply_head xid Success = append-nil (reply_head xid Success) in
-    rw same (cond-false _ _ _ (le-ltb 9000 (length (reply_head xid Success)) (omega (arith, short_head xid Success))))
+    rw same (cond-false _ _ _ (le-ltb (longest_for caller) (length (reply_head xid Success)) (head_fits caller xid)))
 
 null_told : (caller : Caller) (count xid : ℕ) (shown : Shown) → Reply (reply_head xid Success) None ≡ answer_outcome caller count xid (result_bytes shown) null_answer
 unfolding result_bytes
-null_told (Udp who) count xid shown = ap (λ (xs : List ℕ). Reply xs None) (sym (null_fits xid))
-null_told (Tcp id who) count xid shown = ap (λ (xs : List ℕ). Reply xs None) (sym (null_fits xid))
+null_told (Udp who longest) count xid shown = ap (λ (xs : List ℕ). Reply xs None) (sym (null_fits (Udp who longest) xid))
+null_told (Tcp id who) count xid shown = ap (λ (xs : List ℕ). Reply xs None) (sym (null_fits (Tcp id who) xid))
 
 -- A call of NULL is noted, and its reply is a head.
 pub null_served : (context : Context) (head : CallHead) (arguments : List ℕ) (old new : Books) → Notes head old new → ActsAs (outcome context (null_message head) arguments) old new (Reply (reply_head head.xid Success) None)
@@ -89,7 +95,7 @@ null_served context head arguments old new notes =
 pub listed : (caller : Caller) (given : Results) (xid : ℕ) (books : Books) (listing : Listing) (l : Ledger) → Some listing ≡ list_streamed caller given → StandsForLedger books l
     → listing_outcome books.registry xid listing ≡ results_outcome caller (length l.changes) xid (result_bytes (shown_of l) given) given
 unfolding result_bytes
-listed (Udp who) given xid books listing l e h = absurd cc
+listed (Udp who longest) given xid books listing l e h = absurd cc
 listed (Tcp id who) (results.Rows rows) xid books listing l e h =
     let same : listing ≡ rows = cc in
     let live : list_reply xid (rows_of books.registry) listing ≡ list_reply xid (rows_in l) listing = ap (λ (rows : List Row). list_reply xid rows listing) h.registry.rows in
@@ -98,5 +104,5 @@ listed (Tcp id who) (results.Value value) xid books listing l e h = absurd cc
 listed (Tcp id who) results.Statistics xid books listing l e h = absurd cc
 
 pub streamed_to : (caller : Caller) (given : Results) (xid : ℕ) (listing : Listing) → Some listing ≡ list_streamed caller given → IsStreamedTo caller (Listed xid listing)
-streamed_to (Udp who) given xid listing e = absurd cc
+streamed_to (Udp who longest) given xid listing e = absurd cc
 streamed_to (Tcp id who) given xid listing e = tt

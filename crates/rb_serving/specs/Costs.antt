@@ -6,11 +6,13 @@ use Rattle.rb_xdr.specs.Ordered.{looks}
 use Rattle.rb_registry.specs.Registry.{slots_of}
 use Rattle.rb_proto.specs.declared.answers.Answer.{Answer}
 use Rattle.rb_proto.specs.declared.books.Books.{Books}
+use Rattle.rb_proto.specs.declared.context.Context.{Context}
+use Rattle.rb_proto.specs.Answers.{comes_from_here}
 use Rattle.rb_proto.specs.Puts.{shows_rows}
 use Rattle.rb_model.specs.declared.message.Message.{Message}
 use Rattle.rb_model.specs.declared.served.Served.{Served}
 use Rattle.rb_model.specs.declared.served.Served.TheVariants.{Answered, Listed}
-use Rattle.rb_model.specs.Costs.{Sizes, change_cost, walked, sizes_for, asks_for_rows, results_cost, serve_cost}
+use Rattle.rb_model.specs.Costs.{Sizes, change_cost, walked, sizes_for, asks_for_list, results_cost, serve_cost}
 
 -- how many rows the books keep
 abbrev pub row_count_of : Books → ℕ
@@ -34,10 +36,11 @@ abbrev pub PaysForResults : Bool → Books → Kept → Meter → Meter → Type
 PaysForResults rows books out before now =
     PaysAtMost before now (results_cost (walked rows (row_count_of books)) (length out.bytes))
 
--- to serve a message with these arguments, whose reply is in this buffer
-abbrev pub PaysToServe : Message → Books → Books → List ℕ → Kept → Meter → Meter → Type 0
-PaysToServe message old new args out before now =
-    PaysAtMost before now (serve_cost (sizes_for message (sizes_over 0 old new)) (length args) (length out.bytes))
+-- to serve a message with these arguments in a context, whose reply is in this buffer
+abbrev pub PaysToServe : Context → Message → Books → Books → List ℕ → Kept → Meter → Meter → Type 0
+PaysToServe context message old new args out before now =
+    PaysAtMost before now
+    (serve_cost (sizes_for (comes_from_here context) message (sizes_over 0 old new)) (length args) (length out.bytes))
 
 -- ---- lists
 
@@ -50,6 +53,6 @@ is_listed (Listed xid listing) = true
 abbrev pub ListsAnswer : Answer → Served → Type 0
 ListsAnswer answer served = IsTrue (is_listed served) → IsTrue (shows_rows answer)
 
--- a list is given to a message that asks for rows alone
+-- a list is given to a message that asks for one alone
 abbrev pub ListsIfAsked : Message → Served → Type 0
-ListsIfAsked message served = IsTrue (is_listed served) → IsTrue (asks_for_rows message)
+ListsIfAsked message served = IsTrue (is_listed served) → IsTrue (asks_for_list message)

@@ -62,7 +62,7 @@ IsNoListIn (Listed xid listing) = ⊥
 -- a list is streamed on a connection alone
 abbrev pub IsStreamedTo : Caller → Served → Type 0
 IsStreamedTo (Tcp id who) served = ⊤
-IsStreamedTo (Udp who) served = IsNoListIn served
+IsStreamedTo (Udp who longest) served = IsNoListIn served
 
 -- ---- the buffer of a reply, and what stays
 
@@ -110,7 +110,7 @@ pub record LeavesBooks (context : Context) (old new : Books) (served : Served) (
 
 -- the list that is streamed to a caller, where results are one
 abbrev pub list_streamed : Caller → Results → Option Listing
-list_streamed (Udp who) given = None
+list_streamed (Udp who longest) given = None
 list_streamed (Tcp id who) (results.Rows listing) = Some listing
 list_streamed (Tcp id who) (results.Value value) = None
 list_streamed (Tcp id who) results.Statistics = None

@@ -4,9 +4,11 @@
 #![tactic(auto)]
 
 mod laws;
+mod lengths;
 mod message;
 mod replies;
 
 pub use laws::kept_bytes_say_the_record;
+pub use lengths::longest_to;
 pub use message::{Called, arguments_behind, kept_arguments, procedure_of};
 pub use replies::{put_end, serve, serve_null};

@@ -20,8 +20,9 @@ ghost use Rattle.rb_model.specs.Served.{kind_in, IsWritten};
 ghost use Rattle.rb_serving.specs.Costs.{PaysForResults, PaysToServe, ListsAnswer, ListsIfAsked};
 ghost use Rattle.rb_model.specs.Costs.{put_end_cost};
 
+use crate::lengths::longest_for;
 use rb_forward::{Ended, Forward, Outcome as End};
-use rb_model::{LONGEST_REPLY, Message, Outcome, Served};
+use rb_model::{Message, Outcome, Served};
 use rb_proto::{
     Answer, Books, Context, Listing, Results, answer, put_forwarded, put_results, refusal,
 };
@@ -68,12 +69,20 @@ fn put_system_err(xid: u32, out: &mut Kept, meter: &mut Meter)
     put_head(out, ReplyHead { xid, status }, meter);
 }
 
-/// Writes a whole reply into an empty buffer, or SYSTEM_ERR where it does not fit.
+/// Writes a whole reply to the caller into an empty buffer, or SYSTEM_ERR where it would be too long for it.
 #[tactic(auto, using(rb_model::proofs::ReplyHeads::some_fitting, crate::proofs::Costs::results_few), unfolding(rb_model::specs::Calls::fitting_reply, rb_model::specs::Calls::longest_reply))]
-fn put_reply_with(results: &Results, xid: u32, books: &Books, out: &mut Kept, meter: &mut Meter)
+fn put_reply_with(
+    results: &Results,
+    caller: &Caller,
+    xid: u32,
+    books: &Books,
+    out: &mut Kept,
+    meter: &mut Meter,
+)
     requires tied { AreTied meter.old.tie books.now }
     requires out { IsEmptyReply meter.old.tie out.old }
-    ensures written { out.new.bytes ≡ success xid (results_at books.now results.now) }
+    ensures written { out.new.bytes
+        ≡ success caller.now xid (results_at books.now results.now) }
     ensures out { WritesReply out.old out.new }
     ensures shows { (l : Ledger) → StandsForLedger books.now l
         → shown_in books.now ≡ shown_of l }
@@ -81,7 +90,7 @@ fn put_reply_with(results: &Results, xid: u32, books: &Books, out: &mut Kept, me
     ensures cost { PaysForResults (are_rows results.now) books.now out.new meter.old meter.new }
 {
     put_success(xid, out, meter);
-    if put_results(results, books, LONGEST_REPLY, out, meter).is_err() {
+    if put_results(results, books, longest_for(caller), out, meter).is_err() {
         put_system_err(xid, out, meter);
     }
 }
@@ -92,7 +101,7 @@ fn list_in(results: &Results, caller: Caller) -> Option<Listing>
     ensures { result ≡ list_streamed caller results.now }
 {
     match caller {
-        Caller::Udp(_) => None,
+        Caller::Udp(_, _) => None,
         Caller::Tcp(_, _) => match results {
             Results::Rows(listing) => Some(*listing),
             Results::Value(_) | Results::Statistics => None,
@@ -125,7 +134,7 @@ fn put_answer(
             if let Some(listing) = list_in(results, caller) {
                 return Served::Listed(xid, listing);
             }
-            put_reply_with(results, xid, books, out, meter);
+            put_reply_with(results, &caller, xid, books, out, meter);
             Served::Answered(Outcome::Reply)
         }
         Answer::Refused(status) => {
@@ -159,7 +168,7 @@ pub fn serve(
     ensures floor { books.new.registry.floor ≡ books.old.registry.floor }
     ensures leaves { LeavesBooks context.now books.old books.new result out.old out.new }
     ensures listed { ListsIfAsked message.now result }
-    ensures cost { PaysToServe message.now
+    ensures cost { PaysToServe context.now message.now
         books.old books.new arguments.now out.new meter.old meter.new }
 {
     match message {
@@ -202,18 +211,20 @@ pub fn serve_null(books: &mut Books, head: &CallHead, out: &mut Kept, meter: &mu
     Served::Answered(Outcome::Reply)
 }
 
-/// Writes the results that a target gave into an empty buffer, or SYSTEM_ERR where they do not fit.
+/// Writes the results that a target gave into an empty buffer, or SYSTEM_ERR where the reply would be too long for its
+/// caller.
 #[tactic(auto, using(rb_model::proofs::ReplyHeads::some_fitting), unfolding(rb_model::specs::Calls::fitting_reply, rb_model::specs::Calls::longest_reply, rb_rpc::specs::Forwarded::longest_forwarded, rb_forward::specs::Forwards::longest_results))]
 fn put_passed(forward: &Forward, results: &[u8], out: &mut Kept, meter: &mut Meter)
     requires results { length results.now ≤ longest_results }
     requires out { IsEmptyReply meter.old.tie out.old }
-    ensures writes { out.new.bytes ≡ success forward.now.xid (forwarded_bytes forward.now results.now) }
+    ensures writes { out.new.bytes ≡
+        success forward.now.caller forward.now.xid (forwarded_bytes forward.now results.now) }
     ensures out { WritesReply out.old out.new }
     ensures some { 0 < length out.new.bytes }
     ensures cost { PaysAtMost meter.old meter.new (put_end_cost (length out.new.bytes)) }
 {
     put_success(forward.xid, out, meter);
-    if put_forwarded(forward, results, LONGEST_REPLY, out, meter).is_err() {
+    if put_forwarded(forward, results, longest_for(&forward.caller), out, meter).is_err() {
         put_system_err(forward.xid, out, meter);
     }
 }

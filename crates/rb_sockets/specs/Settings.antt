@@ -19,4 +19,4 @@ announced_by s = record {
 }
 
 abbrev pub listener_of : Settings → Listener
-listener_of s = record { announced = announced_by s; port = s.port; local = path_of s.local }
+listener_of s = record { announced = announced_by s; port = s.port; local = path_of s.local; terms = s.terms }

@@ -5,8 +5,8 @@ ghost use Rattle.rb_sockets.specs.Settings.{path_of};
 use crate::addresses::{Addresses, LocalSocket};
 use rb_address::{Host, Network};
 use rb_model::Limits;
-use rb_policy::{announced_inet, announced_inet6};
-use rb_proto::{Announced, Listener};
+use rb_policy::{Rate, announced_inet, announced_inet6};
+use rb_proto::{Announced, Listener, Terms};
 use rb_uaddr::{AddressText, MAX_KEPT};
 
 /// What a daemon is started with.
@@ -31,6 +31,10 @@ pub struct Settings<'a> {
     pub port: u16,
     /// How many connections, rows and forwarded calls there may be.
     pub limits: Limits,
+    /// On which terms callers are served.
+    pub terms: Terms,
+    /// How many datagrams of strangers are served in a second, where that is limited.
+    pub udp_rate: Option<Rate>,
     /// The limit of open files.
     pub open_files: u64,
     /// The most bytes of a record of its events, its last line among them; 0 records nothing. It takes that much
@@ -64,7 +68,7 @@ impl<'a> Settings<'a> {
         }
     }
 
-    /// Where the core is told that it listens.
+    /// Where the core is told that it listens, and on which terms it serves there.
     pub fn listener(&self) -> Listener
         ensures { result ≡ listener_of self.now }
     {
@@ -72,6 +76,7 @@ impl<'a> Settings<'a> {
             announced: self.announced(),
             port: self.port,
             local: path_of(&self.local),
+            terms: self.terms,
         }
     }
 }

@@ -1,6 +1,6 @@
 //! The daemon of a test, whose turns the test itself takes, and whose clocks it sets.
 use rb_address::Host as Address;
-use rb_daemon::{Daemon, DaemonFault, Limits, LocalSocket, Settings, Shortage, SocketFault};
+use rb_daemon::{Daemon, DaemonFault, Limits, LocalSocket, Settings, Shortage, SocketFault, Terms};
 use std::cell::Cell;
 use std::fs::Files;
 use std::io;
@@ -107,6 +107,8 @@ pub(crate) fn plain(hosts: &[Address], conns: usize) -> Settings<'_> {
             rows: 300,
             forwards: 4,
         },
+        terms: Terms::OPEN,
+        udp_rate: None,
         open_files: u64::MAX,
         record: 0,
     }

@@ -2,7 +2,7 @@
 
 use rb_address::{Host, Peer, Source, Trust, Who};
 use rb_core::{Core, CoreFault, Limits, Listener};
-use rb_proto::Announced;
+use rb_proto::{Announced, Terms};
 use rb_xdr::Meter;
 use std::alloc::{AllocError, Global};
 
@@ -24,6 +24,7 @@ pub(crate) fn listener() -> Listener {
         },
         port: 111,
         local: None,
+        terms: Terms::OPEN,
     }
 }
 

@@ -2,7 +2,7 @@
 //! thread.
 use rb_address::{Host, Transport};
 use rb_course::{Aim, Answer, Course, End, Stage, asked, begin, called_at, next};
-use rb_daemon::{Daemon, Limits, LocalSocket, Settings};
+use rb_daemon::{Daemon, Limits, LocalSocket, Settings, Terms};
 use rb_show::{Ask, Form, HeldBytes, InfoFault, Shown, show_reply, write_call};
 use std::io::{Read, Write};
 use std::net::{Ipv4Addr, Ipv6Addr, SocketAddr, TcpStream, UdpSocket};
@@ -52,6 +52,8 @@ pub fn daemon_everywhere(rt: &HostRuntime) -> Option<Daemon<'_, HostRuntime>> {
             rows: 16,
             forwards: 1,
         },
+        terms: Terms::OPEN,
+        udp_rate: None,
         open_files: u64::MAX,
         record: 0,
     };

@@ -1,7 +1,7 @@
 //! A daemon and a client in one process, on port 20113 of 127.0.0.1. The client never waits: the test itself takes the
 //! daemon's turns.
 use rb_address::Host;
-use rb_daemon::{Daemon, Limits, Settings};
+use rb_daemon::{Daemon, Limits, Settings, Terms};
 use std::alloc::AllocError;
 use std::io::{Read, Write};
 use std::net::{Ipv4Addr, SocketAddr, TcpStream};
@@ -57,6 +57,8 @@ pub fn daemon_of(rt: &HostRuntime, port: u16, conns: usize) -> Option<Daemon<'_,
         announce6: None,
         port,
         limits,
+        terms: Terms::OPEN,
+        udp_rate: None,
         open_files: u64::MAX,
         record: 0,
     };

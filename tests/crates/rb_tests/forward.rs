@@ -12,7 +12,7 @@ fn loopback(port: u16) -> Peer {
 // Procedure 0 of program 200001, version 1, for a datagram of xid 15.
 fn forward() -> Forward {
     Forward {
-        caller: Caller::Udp(claims([127, 0, 0, 1], 900)),
+        caller: Caller::Udp(claims([127, 0, 0, 1], 900), 9_000),
         xid: 15,
         kind: Kind::Indirect,
         target: loopback(2049),

@@ -1,9 +1,9 @@
 //! Whom the daemon believes, row by row; which hosts it serves, announces and is asked at; and when it reads the kernel's
 //! tables.
 use crate::evidence::{AT_31112, table_at};
-use rb_address::{Family, Host, Owner, Peer, Source, Trust};
+use rb_address::{Family, Host, Owner, Peer, Source, Trust, Who};
 use rb_policy::{
-    BETWEEN_READINGS, Entrance, Evidence, LONGEST_TABLE, address_for, announced_inet,
+    BETWEEN_READINGS, Brake, Entrance, Evidence, LONGEST_TABLE, Rate, address_for, announced_inet,
     announced_inet6, binds_loopback6, evidence_of, forwards_inet, forwards_inet6, has_every_host,
     host_asked, ip_of, is_bound, is_no_address, is_shown, lets_in_root_alone, looks_in, may_read,
     origin_of, socket_of, somebody, trust_of, wait_for_reading, whole_text,
@@ -240,4 +240,80 @@ fn peers_have_addresses(rt: HostRuntime) {
     assert!(rt; address_for(ANY, at(ELSEWHERE)) == SocketAddr::new(ipv4, 900));
     assert!(rt; address_for(ANY6, at(ELSEWHERE)) == SocketAddr::new(mapped, 900));
     assert!(rt; address_for(ANY6, at(ELSEWHERE6)) == SocketAddr::new(ipv6, 900));
+}
+
+// two for each network, and one for each host
+const FEW: Rate = Rate {
+    network: 2,
+    host: 1,
+};
+
+// 192.0.N.M of the documentation's 192.0.2.0/24, or of the network beside it
+fn host_in(third: u8, last: u8) -> Host {
+    Host::V4([192, 0, third, last])
+}
+
+/// What comes within a second of as many is dropped, and is not counted.
+#[test]
+fn datagrams_are_braked(rt: HostRuntime) -> Result<(), Fail> {
+    let mut brake = Brake::new(rt.alloc(), FEW)?;
+    let came = [
+        (5000, host_in(2, 1), true),
+        (5000, host_in(2, 1), false),
+        (5200, host_in(2, 2), true),
+        (5999, host_in(2, 3), false),
+        (5999, host_in(3, 1), true),
+        (6000, host_in(2, 1), true),
+        (6000, host_in(2, 3), false),
+        (6200, host_in(2, 3), true),
+        // a moment before that is that
+        (0, host_in(3, 2), true),
+        (7199, host_in(3, 2), false),
+        (7200, host_in(3, 2), true),
+        (u64::MAX, ELSEWHERE6, true),
+        (u64::MAX, ELSEWHERE6, false),
+    ];
+    for (now, host, is_served) in came {
+        assert_eq!(rt; brake.admit(now, host), is_served, "{host} at {now}");
+    }
+    Ok(())
+}
+
+/// Hosts whose first seven bytes of sixteen are the same are of one network.
+#[test]
+fn networks_of_ipv6_are_braked(rt: HostRuntime) -> Result<(), Fail> {
+    let mut brake = Brake::new(rt.alloc(), FEW)?;
+    let mut served = 0u32;
+    for last in 1..=9 {
+        let mut octets = OCTETS6;
+        octets[7] = last;
+        octets[15] = last;
+        if brake.admit(5000, Host::V6(octets)) {
+            served += 1;
+        }
+    }
+    assert_eq!(rt; served, 2);
+    let mut octets = OCTETS6;
+    octets[6] = 1;
+    assert!(rt; brake.admit(5000, Host::V6(octets)));
+    Ok(())
+}
+
+/// Strangers alone are counted.
+#[test]
+fn others_are_not_braked(rt: HostRuntime) -> Result<(), Fail> {
+    let mut brake = Brake::new(rt.alloc(), FEW)?;
+    let stranger = Who {
+        source: Source::Inet(at(ELSEWHERE)),
+        asked: ANY,
+        trust: Trust::Stranger,
+    };
+    let others = [Trust::Claims, Trust::Local(Owner::Unknown)];
+    for trust in others {
+        let who = Who { trust, ..stranger };
+        assert!(rt; brake.passes(5000, &who) && brake.passes(5000, &who));
+    }
+    assert!(rt; brake.passes(5000, &stranger));
+    assert!(rt; !brake.passes(5000, &stranger));
+    Ok(())
 }

@@ -3,8 +3,8 @@ use rb_address::{Host, Peer};
 use rb_arguments::{ArgumentFault, read_args};
 use rb_forward::{Forward, FwdId};
 use rb_proto::{
-    Announced, Answer, Books, Call, Context, ListReply, Listener, Listing, answer, own_row_count,
-    put_forwarded, put_results, refusal,
+    Announced, Answer, Books, Call, Context, ListReply, Listener, Listing, Terms, answer,
+    own_row_count, put_forwarded, put_results, refusal,
 };
 use rb_registry::RegistryFault;
 use rb_rpc::{CallHead, Caller, Credential, Kind, ReplyStatus};
@@ -25,6 +25,7 @@ pub(crate) fn listener() -> Listener {
         announced: ANNOUNCED,
         port: 111,
         local: None,
+        terms: Terms::OPEN,
     }
 }
 
@@ -70,10 +71,11 @@ const CLOCK: u64 = 1_000_000_000_500;
 fn context() -> Context {
     Context {
         announced: ANNOUNCED,
+        terms: Terms::OPEN,
         limit: LIMIT,
         forwards: 1,
         clock: CLOCK,
-        caller: Caller::Udp(claims([127, 0, 0, 1], 900)),
+        caller: Caller::Udp(claims([127, 0, 0, 1], 900), 9_000),
     }
 }
 
@@ -243,7 +245,7 @@ fn forwarded_results_are_put(rt: HostRuntime) -> Result<(), Fail> {
     let mut meter = Meter::new();
     let mut out = Kept::new(rt.alloc(), 100, &mut meter)?;
     let forward = Forward {
-        caller: Caller::Udp(claims([127, 0, 0, 1], 2049)),
+        caller: Caller::Udp(claims([127, 0, 0, 1], 2049), 9_000),
         xid: 1,
         kind: Kind::Callit2,
         target: target(),
@@ -284,6 +286,7 @@ fn own_rows_have_room(rt: HostRuntime) -> Result<(), Fail> {
         announced: both,
         port: 111,
         local: Some(AddressText::new(b"/run/rpcbind.sock")),
+        terms: Terms::OPEN,
     };
     assert_eq!(rt; has_own_rows(rt.alloc(), &listener(), 6), Ok(true));
     assert_eq!(rt; has_own_rows(rt.alloc(), &over_ipv6, 4), Ok(true));

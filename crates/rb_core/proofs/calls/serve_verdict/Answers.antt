@@ -53,7 +53,7 @@ pub returns-in-Err-clause-listed : goal.returns-in-Err-clause-listed
 returns-in-Err-clause-listed c = rw (← c.in-Err.ensures.refuses c.args.arguments.now) c.serve.ensures.listed
 
 pub returns-in-Err-clause-cost : goal.returns-in-Err-clause-cost
-returns-in-Err-clause-cost c = rw (← c.in-Err.ensures.refuses c.args.arguments.now) (served_alone c.in-Err.message c.args.connections.now c.args.books.now c.serve.new.books c.args.arguments.now c.serve.new.out _ _ c.serve.ensures.cost)
+returns-in-Err-clause-cost c = rw (← c.in-Err.ensures.refuses c.args.arguments.now) (served_alone c.args.context.now c.in-Err.message c.args.connections.now c.args.books.now c.serve.new.books c.args.arguments.now c.serve.new.out _ _ c.serve.ensures.cost)
 
 pub returns-clause-listed : goal.returns-clause-listed
 returns-clause-listed c = rw (c.in-Ok.ensures.calls c.args.arguments.now ∙ sym c.message.ensures.message) c.serve-2.ensures.listed
@@ -61,5 +61,5 @@ returns-clause-listed c = rw (c.in-Ok.ensures.calls c.args.arguments.now ∙ sym
 pub returns-clause-cost : goal.returns-clause-cost
 returns-clause-cost c =
     rw (c.in-Ok.ensures.calls c.args.arguments.now ∙ sym c.message.ensures.message)
-    (served_in_room c.message.result c.args.connections.now c.args.books.now c.make_room.new.books c.serve-2.new.books c.args.arguments.now c.serve-2.new.out _ _ _
+    (served_in_room c.args.context.now c.message.result c.args.connections.now c.args.books.now c.make_room.new.books c.serve-2.new.books c.args.arguments.now c.serve-2.new.out _ _ _
     c.make_room.ensures.frame.limit c.make_room.ensures.fewer c.make_room.ensures.cost c.serve-2.ensures.cost)

@@ -1,5 +1,6 @@
 use Rattle.std.proofs.Common.{◌≡◌, ◌≤◌, ◌<◌, ◌+◌, true, false, ℕ, List, length, All, refl, sym, ap, ◌∙◌, arith, rules}
 use Rattle.rb_registry.specs.Registry.{rows_of, removals_of}
+use Rattle.rb_proto.specs.Answers.{comes_from_here}
 use Rattle.rb_proto.specs.Ledger.{rows_in}
 use Rattle.rb_proto.specs.Books.{wants_room_in}
 use Rattle.rb_model.specs.Losses.{asks_room, needed_removals, evict}
@@ -104,11 +105,11 @@ returns-clause-room c =
 pub returns-then-retained-context-clause-cost : goal.returns-then-retained-context-clause-cost
 returns-then-retained-context-clause-cost c =
     let wants : wants_room_in c.args.context.now c.in-Asked.call c.args.books.now.registry ≡ true = sym c.wants_room.ensures.wants ∙ c.if-not-wants_room.false in
-    let asks : asks_for_rows c.args.message.now ≡ true = rw c.in-Asked.is (adding_asks c.args.context.now c.in-Asked.call (rows_of c.args.books.now.registry) c.args.books.now.registry.stamp wants) in
+    let asks : asks_for_rows (comes_from_here c.args.context.now) c.args.message.now ≡ true = rw c.in-Asked.is (adding_asks c.args.context.now c.in-Asked.call (rows_of c.args.books.now.registry) c.args.books.now.registry.stamp wants) in
     rw asks (search rules)
 
 pub returns-clause-cost : goal.returns-clause-cost
 returns-clause-cost c =
     let wants : wants_room_in c.args.context.now c.in-Asked.call c.args.books.now.registry ≡ true = sym c.wants_room.ensures.wants ∙ c.if-not-wants_room.false in
-    let asks : asks_for_rows c.args.message.now ≡ true = rw c.in-Asked.is (adding_asks c.args.context.now c.in-Asked.call (rows_of c.args.books.now.registry) c.args.books.now.registry.stamp wants) in
+    let asks : asks_for_rows (comes_from_here c.args.context.now) c.args.message.now ≡ true = rw c.in-Asked.is (adding_asks c.args.context.now c.in-Asked.call (rows_of c.args.books.now.registry) c.args.books.now.registry.stamp wants) in
     rw asks (search rules)

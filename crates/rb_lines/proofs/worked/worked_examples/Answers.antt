@@ -62,7 +62,7 @@ returns-clause-callers_are_printed c = (refl, refl, refl, refl)
 
 pub returns-clause-options_are_printed : goal.returns-clause-options_are_printed
 unfolding digits hex hex_groups_text ipv6_host_text
-returns-clause-options_are_printed c = (refl, refl)
+returns-clause-options_are_printed c = (refl, refl, refl)
 
 pub returns-clause-ipv6_peers_are_read : goal.returns-clause-ipv6_peers_are_read
 unfolding hex_on_literals digits hex hex_groups_text read_number read_octet read_ipv4 read_segment read_segments read_ipv6 ipv6_host ipv6_host_text is_mapped printed_ipv6 cut number_below plain_number ipv4_host ipv4_peer ipv6_peer peer hex_bytes source printed_host asked trust claimant who datagram_line forward_line open_line bytes_line gave_line event lone_event line events_from lines_of longest_input read

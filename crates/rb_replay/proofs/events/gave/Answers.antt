@@ -1,5 +1,6 @@
 use Rattle.std.proofs.Common.{◌+◌, length, refl, sym, ◌∙◌, arith}
 use Rattle.rb_model.specs.Costs.{find_cost}
+use Rattle.rb_model.specs.Connections.{live_connection}
 use Rattle.rb_model.specs.Step.{step, show_done, gave}
 use Rattle.rb_replay.proofs.RunSteps.{done, refused, one_then_other}
 use Rattle.rb_replay.proofs.Prices.{by_count, gave_paid, sizes_stay}
@@ -19,16 +20,16 @@ pub returns-in-Ok : goal.returns-in-Ok
 unfolding step
 returns-in-Ok c = record {
   step = λ s h. rw (sym (c.is_too_much.ensures.value s h) ∙ c.if-is_too_much.false) (done show_done (λ t. gave t c.args.now c.args.id c.args.n) c.args.core.now c.gave.new.self tt c.in-Ok.ensures.acts s h);
-  cost = λ s h. gave_paid _ _ (sizes_stay c.args.core.now s h) _ _ (one_then_other _ _ _ _ _ c.is_too_much.ensures.cost c.in-Ok.ensures.cost);
+  cost = λ s h. gave_paid _ _ (sizes_stay c.args.core.now s h) _ _ (live_connection c.args.id s.connections.all) (one_then_other _ _ _ _ _ c.is_too_much.ensures.cost (c.in-Ok.ensures.cost s h));
   tie = c.in-Ok.ensures.tie;
-  meter = c.in-Ok.ensures.cost.tie ∙ c.is_too_much.ensures.cost.tie;
+  meter = c.in-Ok.ensures.same_meter ∙ c.is_too_much.ensures.cost.tie;
 }
 
 pub returns-in-Err : goal.returns-in-Err
 unfolding step
 returns-in-Err c = record {
   step = λ s h. rw (sym (c.is_too_much.ensures.value s h) ∙ c.if-is_too_much.false) (refused show_done (λ t. gave t c.args.now c.args.id c.args.n) c.args.core.now c.gave.new.self c.in-Err.fault c.in-Err.ensures.acts s h);
-  cost = λ s h. gave_paid _ _ (sizes_stay c.args.core.now s h) _ _ (one_then_other _ _ _ _ _ c.is_too_much.ensures.cost c.in-Err.ensures.cost);
+  cost = λ s h. gave_paid _ _ (sizes_stay c.args.core.now s h) _ _ (live_connection c.args.id s.connections.all) (one_then_other _ _ _ _ _ c.is_too_much.ensures.cost (c.in-Err.ensures.cost s h));
   tie = c.in-Err.ensures.tie;
-  meter = c.in-Err.ensures.cost.tie ∙ c.is_too_much.ensures.cost.tie;
+  meter = c.in-Err.ensures.same_meter ∙ c.is_too_much.ensures.cost.tie;
 }

@@ -15,5 +15,5 @@ returns-in-Asked-clause-listed c = rw c.in-Asked.is (λ listed. c.answer-given.e
 pub returns-in-Asked-clause-cost : goal.returns-in-Asked-clause-cost
 returns-in-Asked-clause-cost c =
     rw c.in-Asked.is
-    (asked_paid c.in-Asked.call c.args.books.now c.note_call-in-Asked.new.self c.answer-given.new.books c.answer-given.result c.args.arguments.now c.put_answer.new.out _ _ _
+    (asked_paid c.args.context.now c.in-Asked.call c.args.books.now c.note_call-in-Asked.new.self c.answer-given.new.books c.answer-given.result c.args.arguments.now c.put_answer.new.out _ _ _
     c.note_call-in-Asked.ensures.registry c.answer-given.ensures.lists c.answer-given.ensures.cost c.put_answer.ensures.cost)

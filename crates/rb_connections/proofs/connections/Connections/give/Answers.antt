@@ -1,13 +1,17 @@
 use Rattle.std.specs.Map.{values_of}
-use Rattle.std.proofs.Common.{◌≡◌, false, ap, sym, subst, ◌∙◌, arith}
+use Rattle.std.proofs.Common.{◌≡◌, ◌+◌, false, ap, sym, subst, ◌∙◌, arith, rules}
+use Rattle.rb_xdr.specs.Meter.{PaysAtMost}
 use Rattle.rb_xdr.proofs.PoolLemmas.{All-value_at}
 use Rattle.rb_model.specs.Connections.{on_live, give}
+use Rattle.rb_model.specs.Costs.{recount_cost}
+use Rattle.rb_connections.specs.Costs.{look_cost, slot_given_cost, PaysToGive}
 use Rattle.rb_connections.specs.contracts.connections.Connections.{the_view}
 use Rattle.rb_connections.specs.Slots.{HasBuffers}
 use Rattle.rb_connections.specs.Listings.{CanContinueSlot, CanContinueAll}
 use Rattle.rb_connections.specs.Awaits.{is_free}
 use Rattle.rb_connections.proofs.Holding.{stays_changed}
 use Rattle.rb_connections.proofs.Slots.{acts_from, gone_acts, live_acts}
+use Rattle.rb_connections.proofs.GivenCosts.{gone_pays, given_pays}
 use Rattle.rb_connections.proofs.Freed.{found_live, none_freed, freed_from}
 use Rattle.rb_connections.proofs.Listings.{lists_changed}
 use Rattle.rb_connections.proofs.ByHint.{distinct_numbers}
@@ -72,3 +76,19 @@ returns-clause-stands c =
     rw c.standing-standing.ensures
     (now_standing c.args.id _ c.in-Some.slot.now c.give.new.self (the_view c.self.inside) c.in-Some.ensures.found.there l.0 c.give.ensures.stays.number
     (distinct_numbers _ _ made.numbers))
+
+-- ---- what it costs
+
+pub returns-in_default-clause-cost : goal.returns-in_default-clause-cost
+returns-in_default-clause-cost c =
+    let registry = c.args.registry.now in
+    let look : PaysAtMost c.args.meter.now c.live_slot.new.meter (look_cost (the_view c.self.inside)) = search rules in
+    subst (λ t. PaysToGive t registry c.args.id c.args.meter.now c.live_slot.new.meter) c.self.view_is
+    (gone_pays registry c.args.id (the_view c.self.inside) c.args.meter.now c.live_slot.new.meter c.in_default.ensures.found look)
+
+pub returns-clause-cost : goal.returns-clause-cost
+returns-clause-cost c =
+    let registry = c.args.registry.now in
+    let paid : PaysAtMost c.args.meter.now c.charge.new.meter (look_cost (the_view c.self.inside) + slot_given_cost registry c.in-Some.slot.now + recount_cost) = search rules in
+    subst (λ t. PaysToGive t registry c.args.id c.args.meter.now c.charge.new.meter) c.self.view_is
+    (given_pays registry c.args.id (the_view c.self.inside) c.args.meter.now c.charge.new.meter _ c.in-Some.slot.now c.self.invariant.distinct c.in-Some.ensures.found.key c.in-Some.ensures.found.there paid)

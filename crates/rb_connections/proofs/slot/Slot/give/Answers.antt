@@ -1,10 +1,13 @@
 use Rattle.std.specs.Prelude.{min}
-use Rattle.std.proofs.Common.{◌≡◌, ℕ, refl, sym, ap, subst, arith}
+use Rattle.std.proofs.Common.{◌≡◌, ℕ, ◌+◌, refl, sym, ap, subst, arith, rules}
 use Rattle.rb_xdr.specs.Kept.{Kept}
+use Rattle.rb_xdr.specs.Meter.{PaysAtMost}
 use Rattle.rb_model.specs.State.Phase.{Owing}
 use Rattle.rb_model.specs.Connections.{phase_when_given}
 use Rattle.rb_connections.specs.declared.slot.Slot.{Slot}
+use Rattle.rb_connections.specs.Costs.{next_cost}
 use Rattle.rb_connections.specs.StandsFor.{StandsForPhase}
+use Rattle.rb_connections.proofs.GivenCosts.{shown_few}
 use Rattle.rb_connections.proofs.OneSlot.{none_given, some_given, goes_on_giving, is_given, nothing_pending, giving_phase}
 use Rattle.rb_connections.proofs.Progress.{pending_few, stays, moves, ends, slot_lists_on}
 use Rattle.rb_connections.proofs.slot.Slot.give.Goals as goal
@@ -53,3 +56,9 @@ returns-else-giving-clause-acts c =
 
 pub returns-else-giving-clause-lists : goal.returns-else-giving-clause-lists
 returns-else-giving-clause-lists c = slot_lists_on _ _ _ c.show.new.self c.show.ensures.shows
+
+pub returns-else-giving-clause-cost : goal.returns-else-giving-clause-cost
+returns-else-giving-clause-cost c =
+    let few = shown_few c.args.registry.now c.args.self.now c.in-Owing.giving c.in-Owing.is in
+    let paid : PaysAtMost c.args.meter.now c.show.new.meter (1 + next_cost c.args.registry.now c.in-Owing.giving.rest) = search rules in
+    record { steps = omega (arith, paid.steps, few); rises = paid.rises; tie = paid.tie }

@@ -28,11 +28,10 @@ use Rattle.rb_core.specs.Core.{arguments_in, serve_ended, context_of, without_ar
 use Rattle.rb_core.specs.Eviction.{ServesInRoom, ServesVerdict}
 use Rattle.rb_core.specs.AtOnce.{AnswersGiving, GivesAtOnce, IsGivenAtOnce, answer_and_give, count_when_answered}
 use Rattle.rb_xdr.specs.Meter.{Meter, PaysAtMost}
-use Rattle.rb_rpc.specs.declared.call.Verdict.{Verdict}
 use Rattle.rb_connections.specs.Giving.{whole_cost}
 use Rattle.rb_model.specs.Costs.{sizes_for, answer_cost}
-use Rattle.rb_core.specs.CallCosts.{sizes}
-use Rattle.rb_core.proofs.Spending.{pays_at_once, pays_and_begins}
+use Rattle.rb_core.specs.CallCosts.{may_register_in, sizes}
+use Rattle.rb_core.proofs.Spending.{registers_as, pays_at_once, pays_and_begins}
 use Rattle.rb_core.proofs.Answering.{sees}
 use Rattle.rb_core.proofs.AtOnce.{Leaves, leaves_none, leaves_all, answer_giving, answer_counts, counts_served, count_of}
 use Rattle.rb_core.proofs.Steps.{Served as ServedIn}
@@ -166,20 +165,20 @@ returns-clause-stands c = λ s h. c.settle-standing.ensures.standing _ s.connect
 -- ---- what it costs
 
 -- of a core by its other name, and of the arguments by theirs
-cost_from : (v : Verdict) (args : Option (Bor (List ℕ))) (lent : List ℕ) (view now : Held) → lent ≡ arguments_in args view.arguments → view ≡ now → (new : Books) (more : ℕ) (a b : Meter)
-    → PaysAtMost a b (answer_cost (sizes_for (message_with v lent) (sizes view.connections view.books new)) (length lent) + more)
-    → PaysAtMost a b (answer_cost (sizes_for (message_with v (arguments_in args now.arguments)) (sizes now.connections now.books new)) (length (arguments_in args now.arguments)) + more)
-cost_from v args lent view now all is new more a b pays =
-    subst (λ (held : Held). PaysAtMost a b (answer_cost (sizes_for (message_with v (arguments_in args held.arguments)) (sizes held.connections held.books new)) (length (arguments_in args held.arguments)) + more)) is
-    (subst (λ (xs : List ℕ). PaysAtMost a b (answer_cost (sizes_for (message_with v xs) (sizes view.connections view.books new)) (length xs) + more)) all pays)
+cost_from : (x : EndedRecord) (args : Option (Bor (List ℕ))) (lent : List ℕ) (view now : Held) → lent ≡ arguments_in args view.arguments → view ≡ now → (new : Books) (more : ℕ) (a b : Meter)
+    → PaysAtMost a b (answer_cost (sizes_for (may_register_in view x.who) (message_with x.verdict lent) (sizes view.connections view.books new)) (length lent) + more)
+    → PaysAtMost a b (answer_cost (sizes_for (may_register_in now x.who) (message_with x.verdict (arguments_in args now.arguments)) (sizes now.connections now.books new)) (length (arguments_in args now.arguments)) + more)
+cost_from x args lent view now all is new more a b pays =
+    subst (λ (held : Held). PaysAtMost a b (answer_cost (sizes_for (may_register_in held x.who) (message_with x.verdict (arguments_in args held.arguments)) (sizes held.connections held.books new)) (length (arguments_in args held.arguments)) + more)) is
+    (subst (λ (xs : List ℕ). PaysAtMost a b (answer_cost (sizes_for (may_register_in view x.who) (message_with x.verdict xs) (sizes view.connections view.books new)) (length xs) + more)) all pays)
 
 pub returns-then-given-gt0-clause-cost : goal.returns-then-given-gt0-clause-cost
 returns-then-given-gt0-clause-cost c =
     let lend = c.lend_arguments-arguments in
     let v = c.serve_verdict-served in
     let once = c.give_at_once-given in
-    cost_from c.args.ended.verdict c.args.arguments lend.result.now (the_view c.self.inside) c.args.self.now lend.ensures.value c.self.view_is v.new.books (whole_cost (length c.args.room.now) once.result) c.args.meter.now once.new.meter
-    (pays_at_once c.args.ended.verdict c.self.inside.connections c.self.inside.books v.new.books lend.result.now v.new.out c.args.room.now once.result v.ensures.leaves.reply.short
+    cost_from c.args.ended c.args.arguments lend.result.now (the_view c.self.inside) c.args.self.now lend.ensures.value c.self.view_is v.new.books (whole_cost (length c.args.room.now) once.result) c.args.meter.now once.new.meter
+    (pays_at_once c.context-context.result _ (registers_as c.context-context.result (the_view c.self.inside) _ (sees (the_view c.self.inside) c.args.self.now c.context-context.result _ c.self.view_is c.context-context.ensures)) c.args.ended.verdict c.self.inside.connections c.self.inside.books v.new.books lend.result.now v.new.out c.args.room.now once.result v.ensures.leaves.reply.short
     c.args.meter.now lend.new.meter v.new.meter c.clear.new.meter once.new.meter lend.ensures.cost v.ensures.cost c.clear.ensures.cost once.ensures.cost)
 
 pub returns-clause-cost : goal.returns-clause-cost
@@ -189,6 +188,6 @@ returns-clause-cost c =
     let once = c.give_at_once-given in
     let left = c.settle-standing in
     let given : PaysAtMost c.clear.new.meter once.new.meter (whole_cost (length c.args.room.now) 0) = rw (none_given c) at once.ensures.cost in
-    cost_from c.args.ended.verdict c.args.arguments lend.result.now (the_view c.self.inside) c.args.self.now lend.ensures.value c.self.view_is v.new.books (whole_cost (length c.args.room.now) 0) c.args.meter.now left.new.meter
-    (pays_and_begins c.args.ended.verdict c.self.inside.connections c.self.inside.books v.new.books lend.result.now v.new.out c.args.room.now 0 v.ensures.leaves.reply.short
+    cost_from c.args.ended c.args.arguments lend.result.now (the_view c.self.inside) c.args.self.now lend.ensures.value c.self.view_is v.new.books (whole_cost (length c.args.room.now) 0) c.args.meter.now left.new.meter
+    (pays_and_begins c.context-context.result _ (registers_as c.context-context.result (the_view c.self.inside) _ (sees (the_view c.self.inside) c.args.self.now c.context-context.result _ c.self.view_is c.context-context.ensures)) c.args.ended.verdict c.self.inside.connections c.self.inside.books v.new.books lend.result.now v.new.out c.args.room.now 0 v.ensures.leaves.reply.short
     c.args.meter.now lend.new.meter v.new.meter c.clear.new.meter once.new.meter lend.ensures.cost v.ensures.cost c.clear.ensures.cost given v.result v.new.connections left.new.meter v.ensures.listed v.ensures.open.as_many left.ensures.cost)

@@ -9,7 +9,7 @@ use Rattle.rb_connections.specs.StandsFor.{StandsForConnections}
 use Rattle.rb_connections.specs.Slots.{Acts, Shows, take_piece, arguments_on}
 use Rattle.rb_connections.specs.Giving.{whole_cost}
 use Rattle.rb_core.specs.contracts.events.Core.{the_view}
-use Rattle.rb_core.specs.CallCosts.{sizes_of}
+use Rattle.rb_core.specs.CallCosts.{announced_in, sizes_of}
 use Rattle.rb_core.specs.Core.{arguments_in}
 use Rattle.rb_core.specs.StandsFor.{Held, StandsFor}
 use Rattle.rb_core.proofs.Spending.{as_large, looked_paid, received_paid, answered_paid, plain_record_paid}
@@ -41,13 +41,13 @@ returns-in_err-got-clause-count c =
 
 -- a bound by what was held, of a core by its other name
 by_view : (view now new : Held) (id : ℕ) (piece : List ℕ) (s : State) (more : ℕ) (a b : Meter) → view ≡ now
-    → PaysAtMost a b (bytes_cost (sizes_of view new) piece (live_connection id s.connections.all) + more) → PaysAtMost a b (bytes_cost (sizes_of now new) piece (live_connection id s.connections.all) + more)
-by_view view now new id piece s more a b is pays = subst (λ (held : Held). PaysAtMost a b (bytes_cost (sizes_of held new) piece (live_connection id s.connections.all) + more)) is pays
+    → PaysAtMost a b (bytes_cost (announced_in view) (sizes_of view new) piece (live_connection id s.connections.all) + more) → PaysAtMost a b (bytes_cost (announced_in now) (sizes_of now new) piece (live_connection id s.connections.all) + more)
+by_view view now new id piece s more a b is pays = subst (λ (held : Held). PaysAtMost a b (bytes_cost (announced_in held) (sizes_of held new) piece (live_connection id s.connections.all) + more)) is pays
 
 pub returns-in_err-got-clause-cost : goal.returns-in_err-got-clause-cost
 returns-in_err-got-clause-cost c =
     let p = err_from_is_err_and c.from_residual.result c.from_residual.ensures.1 in
-    rw p.1 (λ s h. by_view (the_view c.self.inside) c.args.self.now (the_view c.self.inside) c.args.id c.args.piece.now s (whole_cost (length c.args.room.now) 0) _ _ c.self.view_is (looked_paid (sizes_of (the_view c.self.inside) (the_view c.self.inside)) c.args.piece.now _ _ (whole_cost (length c.args.room.now) 0) (live_connection c.args.id s.connections.all) c.in_err-got.ensures.cost))
+    rw p.1 (λ s h. by_view (the_view c.self.inside) c.args.self.now (the_view c.self.inside) c.args.id c.args.piece.now s (whole_cost (length c.args.room.now) 0) _ _ c.self.view_is (looked_paid (announced_in (the_view c.self.inside)) (sizes_of (the_view c.self.inside) (the_view c.self.inside)) c.args.piece.now _ _ (whole_cost (length c.args.room.now) 0) (live_connection c.args.id s.connections.all) c.in_err-got.ensures.cost))
 
 pub returns-in_err-got-clause-plain : goal.returns-in_err-got-clause-plain
 returns-in_err-got-clause-plain c =
@@ -95,7 +95,7 @@ returns-in_default-clause-cost c = λ s h.
     fed_by view c.args.now c.max-clock.result c.args.id c.args.piece.now c.max-clock.ensures c.take_piece.new.connections c.in_ok-got.ensures.goes_on.stays (arguments_in c.in_ok-got.got.arguments c.take_piece.new.arguments.bytes) (c.in_ok-got.ensures.arguments.shows view.books.registry)
     c.in_ok-got.got.received (c.in_ok-got.ensures.acts view.books.registry) s z in
     by_view (the_view c.self.inside) c.args.self.now (the_view c.self.inside) c.args.id c.args.piece.now s (whole_cost (length c.args.room.now) 0) c.args.meter.now c.take_piece.new.meter c.self.view_is
-    (rw f.there (received_paid (sizes_of (the_view c.self.inside) (the_view c.self.inside)) c.args.piece.now _ _ (whole_cost (length c.args.room.now) 0) f.connection c.in_ok-got.got.received f.gives c.in_ok-got.ensures.cost))
+    (rw f.there (received_paid (announced_in (the_view c.self.inside)) (sizes_of (the_view c.self.inside) (the_view c.self.inside)) c.args.piece.now _ _ (whole_cost (length c.args.room.now) 0) f.connection c.in_ok-got.got.received f.gives c.in_ok-got.ensures.cost))
 
 pub returns-in_default-clause-plain : goal.returns-in_default-clause-plain
 returns-in_default-clause-plain c =
@@ -143,7 +143,7 @@ returns-clause-cost c = λ s h.
     let kept = held_after view c.args.now c.max-clock.result c.args.id c.args.piece.now c.max-clock.ensures c.take_piece.new.connections c.in_ok-got.ensures.goes_on.stays arguments holds s f.connection _ z f.there refl in
     by_view (the_view c.self.inside) c.args.self.now c.answer-closed.new.self c.args.id c.args.piece.now s (whole_cost (length c.args.room.now) c.answer-closed.result.1) c.args.meter.now c.answer-closed.new.meter c.self.view_is
     (rw f.there (
-    answered_paid (sizes_of (the_view c.self.inside) c.answer-closed.new.self) c.args.piece.now _ _ (whole_cost (length c.args.room.now) c.answer-closed.result.1) c.answer-closed.new.meter _ (as_large (length c.take_piece.new.connections.slots) (length c.self.inside.connections.slots) c.self.inside.books c.answer-closed.new.self.books c.in_ok-got.ensures.as_many) f.connection got c.in-Some.ended _ arguments f.gives c.in-Some.is kept
+    answered_paid (announced_in (the_view c.self.inside)) (sizes_of (the_view c.self.inside) c.answer-closed.new.self) c.args.piece.now _ _ (whole_cost (length c.args.room.now) c.answer-closed.result.1) c.answer-closed.new.meter _ (as_large (length c.take_piece.new.connections.slots) (length c.self.inside.connections.slots) c.self.inside.books c.answer-closed.new.self.books c.in_ok-got.ensures.as_many) f.connection got c.in-Some.ended _ arguments f.gives c.in-Some.is kept
     c.in_ok-got.ensures.cost c.answer-closed.ensures.cost))
 
 pub returns-clause-plain : goal.returns-clause-plain

@@ -1,7 +1,11 @@
 use Rattle.std.proofs.lemmas.Result.{err_from_is_err_and}
+use Rattle.std.proofs.Common.{subst}
+use Rattle.rb_core.specs.CallCosts.{PaysToGive}
+use Rattle.rb_core.specs.StandsFor.{Held}
 use Rattle.rb_core.specs.contracts.events.Core.{the_view}
 use Rattle.rb_core.proofs.Steps.{gave_done, gave_refused}
 use Rattle.rb_core.proofs.Begun.{with_steps_before, acts_begun}
+use Rattle.rb_core.proofs.CallBounds.{gave_within}
 use Rattle.rb_core.proofs.events.Core.gave.Goals as goal
 
 pub returns-in_err-standing-clause-acts : goal.returns-in_err-standing-clause-acts
@@ -18,3 +22,19 @@ returns-clause-acts c =
 
 pub returns-clause-stands : goal.returns-clause-stands
 returns-clause-stands c = λ s h. c.in_ok-standing.ensures.stands _ s.connections h.connections
+
+-- ---- what it costs
+
+pub returns-in_err-standing-clause-cost : goal.returns-in_err-standing-clause-cost
+returns-in_err-standing-clause-cost c =
+    subst (λ (held : Held). PaysToGive held c.args.id c.args.meter.now c.give.new.meter) c.self.view_is (λ s h. c.in_err-standing.ensures.cost s.connections h.connections)
+
+pub returns-clause-cost : goal.returns-clause-cost
+returns-clause-cost c =
+    subst (λ (held : Held). PaysToGive held c.args.id c.args.meter.now c.give.new.meter) c.self.view_is (λ s h. c.in_ok-standing.ensures.cost s.connections h.connections)
+
+pub returns-in_err-standing-clause-bound : goal.returns-in_err-standing-clause-bound
+returns-in_err-standing-clause-bound c = gave_within c.args.self.now _ _ c.args.id _ (returns-in_err-standing-clause-cost c)
+
+pub returns-clause-bound : goal.returns-clause-bound
+returns-clause-bound c = gave_within c.args.self.now _ _ c.args.id _ (returns-clause-cost c)

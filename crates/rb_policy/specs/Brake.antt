@@ -1,0 +1,123 @@
+-- How many datagrams are served in a second: of one network, and of one host.
+use Rattle.std.specs.Prelude.{◌≡◌, ℕ, ◌+◌, ◌*◌, ◌%◌, ◌<◌, ◌≤◌, ◌==◌, nat_lt, max, Bool, true, ◌&&◌, Option, Some, None, if◌then◌else◌, List, [], ◌∷◌, ◌++◌, take, map, length, slice_index_or}
+use Rattle.std.specs.List.{fold, count_by, filter, AllByRecursion}
+use Rattle.rb_address.specs.declared.host.Host.{Host}
+use Rattle.rb_address.specs.declared.host.Host.TheVariants.{V4, V6}
+use Rattle.rb_address.specs.declared.who.Source.{Source}
+use Rattle.rb_address.specs.declared.who.Source.TheVariants.{Inet, Local}
+use Rattle.rb_address.specs.declared.who.Trust.{Trust}
+use Rattle.rb_address.specs.declared.who.Trust.TheVariants as Trusts
+use Rattle.rb_address.specs.declared.who.Trust.TheVariants.{Claims, Stranger}
+use Rattle.rb_address.specs.declared.who.Who.{Who}
+use Rattle.rb_address.specs.Hosts.{octets_of_host}
+use Rattle.rb_policy.specs.declared.recent.TheConstants.{SECOND, PLACES}
+use Rattle.rb_policy.specs.declared.brake.Rate.{Rate}
+use Rattle.rb_policy.specs.Recents.{RecentMoments, last_of}
+
+-- ---- places
+
+-- a place below 1,024 by some bytes
+abbrev pub place_by : List ℕ → ℕ
+place_by octets = fold (λ place octet. (place * 31 + octet) % PLACES) 0 octets
+
+-- the bytes that hosts of one network begin with: IPv4 /24, IPv6 /56
+abbrev pub network_octets : Host → List ℕ
+network_octets (V4 octets) = take 3 octets
+network_octets (V6 octets) = take 7 octets
+
+abbrev pub network_place : Host → ℕ
+network_place host = place_by (network_octets host)
+
+abbrev pub host_place : Host → ℕ
+host_place host = place_by (octets_of_host host)
+
+-- ---- what was served
+
+-- a datagram: its moment, in milliseconds, and the host that it came from
+pub record Datagram : Type 0 where
+  pub moment : ℕ
+  pub host : Host
+
+-- the latest moment of those that were served
+abbrev pub latest_of : List Datagram → ℕ
+latest_of [] = 0
+latest_of (datagram ∷ more) = max datagram.moment (latest_of more)
+
+-- a moment before that one counts as that one
+abbrev pub moment_of : List Datagram → ℕ → ℕ
+moment_of served now = max now (latest_of served)
+
+-- how many of one place were served within the second before a moment
+abbrev pub served_within : (Host → ℕ) → ℕ → ℕ → List Datagram → ℕ
+served_within place_of place now served = count_by (λ d. place_of d.host == place && nat_lt now (d.moment + SECOND)) served
+
+abbrev pub has_room_at : (Host → ℕ) → ℕ → List Datagram → ℕ → Host → Bool
+has_room_at place_of most served now host = nat_lt (served_within place_of (place_of host) now served) most
+
+abbrev pub admits_at : Rate → List Datagram → ℕ → Host → Bool
+admits_at rate served now host = has_room_at network_place rate.network served now host && has_room_at host_place rate.host served now host
+
+-- whether a datagram is served, after these that were
+unfoldable pub admits : Rate → List Datagram → ℕ → Host → Bool
+admits rate served now host = admits_at rate served (moment_of served now) host
+
+-- what was served then
+unfoldable pub admit : Rate → List Datagram → ℕ → Host → List Datagram
+admit rate served now host =
+    if admits rate served now host then served ++ (record { moment = moment_of served now; host = host } ∷ []) else served
+
+-- ---- whose datagrams count
+
+-- the host of a stranger
+abbrev pub host_counted : Trust → Source → Option Host
+host_counted Stranger (Inet peer) = Some peer.host
+host_counted Stranger Local = None
+host_counted Claims source = None
+host_counted (Trusts.Local owner) source = None
+
+-- a stranger's is served where it is admitted, and each other one
+abbrev pub passes_by : Rate → List Datagram → ℕ → Option Host → Bool
+passes_by rate served now None = true
+passes_by rate served now (Some host) = admits rate served now host
+
+abbrev pub passes : Rate → List Datagram → ℕ → Who → Bool
+passes rate served now who = passes_by rate served now (host_counted who.trust who.source)
+
+-- what was served of strangers then
+abbrev pub pass_by : Rate → List Datagram → ℕ → Option Host → List Datagram
+pass_by rate served now None = served
+pass_by rate served now (Some host) = admit rate served now host
+
+abbrev pub pass : Rate → List Datagram → ℕ → Who → List Datagram
+pass rate served now who = pass_by rate served now (host_counted who.trust who.source)
+
+-- ---- what a brake keeps of it
+
+-- the moments of what was served of one place
+abbrev pub moments_at : (Host → ℕ) → ℕ → List Datagram → List ℕ
+moments_at place_of place served = map (λ d. d.moment) (filter (λ d. place_of d.host == place) served)
+
+-- Each place has the moments of the last that were served of it.
+pub record IsTable (place_of : Host → ℕ) (most : ℕ) (table : List RecentMoments) (served : List Datagram) : Type 0 where
+  pub count : length table ≡ PLACES
+  pub each : (place : ℕ) (d : RecentMoments) → place < PLACES
+      → slice_index_or table place d ≡ record { most = most; moments = last_of most (moments_at place_of place served) }
+
+-- No moment is before an earlier one.
+abbrev pub AreInOrder : List ℕ → Type 0
+AreInOrder [] = Unit {0}
+AreInOrder (moment ∷ more) = AllByRecursion (λ later. moment ≤ later) more × AreInOrder more
+
+-- what a contract sees of a brake
+pub record BrakeTables : Type 0 where
+  pub rate : Rate
+  pub networks : List RecentMoments
+  pub hosts : List RecentMoments
+  pub latest : ℕ
+
+-- The brake has what it wants to know of these, and they are all that were served.
+pub record StandsForServed (brake : BrakeTables) (served : List Datagram) : Type 0 where
+  pub networks : IsTable network_place brake.rate.network brake.networks served
+  pub hosts : IsTable host_place brake.rate.host brake.hosts served
+  pub latest : brake.latest ≡ latest_of served
+  pub in_order : AreInOrder (map (λ d. d.moment) served)

@@ -1,0 +1,85 @@
+-- What follows of how many datagrams are served.
+use Rattle.std.specs.Prelude.{◌≡◌, ℕ, ◌+◌, ◌≤◌, ◌⊎◌, nat_lt, nat_le, Bool, true, false, ◌&&◌, ◌||◌, if◌then◌else◌, Some, None, List, [], ◌∷◌, take, bytes_eq}
+use Rattle.std.specs.List.{count_by}
+use Rattle.rb_address.specs.declared.host.Host.{Host}
+use Rattle.rb_address.specs.declared.host.Host.TheVariants.{V4, V6}
+use Rattle.rb_address.specs.declared.peer.Peer.{Peer}
+use Rattle.rb_address.specs.declared.who.Source.TheVariants.{Inet}
+use Rattle.rb_address.specs.Hosts.{is_same_host, is_loopback, IsBytesOf}
+use Rattle.rb_address.specs.Networks.{has_front}
+use Rattle.rb_policy.specs.declared.trust.Entrance.TheVariants.{Udp}
+use Rattle.rb_policy.specs.Trusts.{trust_of}
+use Rattle.rb_policy.specs.declared.recent.TheConstants.{SECOND}
+use Rattle.rb_policy.specs.declared.brake.Rate.{Rate}
+use Rattle.rb_policy.specs.Brake.{Datagram, network_place, host_place, moment_of, served_within, admits, admit, host_counted}
+
+-- what is served of datagrams that came in this order, after some that were
+abbrev pub serve_after : Rate → List Datagram → List Datagram → List Datagram
+serve_after rate served [] = served
+serve_after rate served (datagram ∷ more) = serve_after rate (admit rate served datagram.moment datagram.host) more
+
+abbrev pub serve : Rate → List Datagram → List Datagram
+serve rate came = serve_after rate [] came
+
+-- whether two hosts are of one network: IPv4 /24, IPv6 /56
+abbrev pub is_same_network : Host → Host → Bool
+is_same_network (V4 a) (V4 b) = bytes_eq (take 3 a) (take 3 b)
+is_same_network (V6 a) (V6 b) = bytes_eq (take 7 a) (take 7 b)
+is_same_network (V4 a) (V6 b) = false
+is_same_network (V6 a) (V4 b) = false
+
+-- how many of some hosts' were served in the second that begins at a moment
+abbrev pub served_in_second : (Host → Bool) → ℕ → List Datagram → ℕ
+served_in_second is_one since served =
+    count_by (λ d. is_one d.host && (nat_le since d.moment && nat_lt d.moment (since + SECOND))) served
+
+-- In no second are more served of one network, or of one host.
+pub record NeverMore : Type 0 where
+  pub network : (rate : Rate) (came : List Datagram) (since : ℕ) (host : Host)
+      → served_in_second (is_same_network host) since (serve rate came) ≤ rate.network
+  pub host : (rate : Rate) (came : List Datagram) (since : ℕ) (host : Host)
+      → served_in_second (is_same_host host) since (serve rate came) ≤ rate.host
+
+-- so many were served, of the place of its network or of its host, within the second before it
+abbrev pub WereServed : Rate → List Datagram → ℕ → Host → Type 0
+WereServed rate served now host =
+    (rate.network ≤ served_within network_place (network_place host) now served)
+    ⊎ (rate.host ≤ served_within host_place (host_place host) now served)
+
+-- One is dropped only where so many were.
+abbrev pub NeverHeldBack : Type 0
+NeverHeldBack =
+    (rate : Rate) (came : List Datagram) (now : ℕ) (host : Host) → admits rate (serve rate came) now host ≡ false
+    → WereServed rate (serve rate came) (moment_of (serve rate came) now) host
+
+-- Networks are not split over places, nor are hosts.
+pub record HaveOnePlace : Type 0 where
+  pub network : (a b : Host) → is_same_network a b ≡ true → network_place a ≡ network_place b
+  pub host : (a b : Host) → is_same_host a b ≡ true → host_place a ≡ host_place b
+
+abbrev pub network_bits : Host → ℕ
+network_bits (V4 octets) = 24
+network_bits (V6 octets) = 56
+
+-- They are the networks of 24 bits of IPv4, and of 56 of IPv6.
+abbrev pub AreNetworks : Type 0
+AreNetworks = (a b : Host) → IsBytesOf a → IsBytesOf b → has_front a (network_bits a) b ≡ is_same_network a b
+
+-- Over UDP those count whose claims are not believed and who are not of this machine, and nobody else.
+abbrev pub StrangersCount : Type 0
+StrangersCount =
+    (claims : Bool) (peer : Peer)
+    → host_counted (trust_of claims (Udp peer)) (Inet peer) ≡ (if claims || is_loopback peer.host then None else Some peer.host)
+
+-- ---- worked
+
+abbrev pub at : ℕ → ℕ → ℕ → Datagram
+at moment third last = record { moment = moment; host = V4 (192 ∷ 0 ∷ third ∷ last ∷ []) }
+
+-- With two for each network and one for each host, the second of 192.0.2.1 is dropped within the second, and so is the
+-- third of 192.0.2.0/24. 192.0.3.1 is of another network.
+abbrev pub OneSecondIsServed : Type 0
+OneSecondIsServed =
+    serve (record { network = 2; host = 1 })
+    (at 5000 2 1 ∷ at 5000 2 1 ∷ at 5200 2 2 ∷ at 5999 2 3 ∷ at 5999 3 1 ∷ at 6000 2 1 ∷ at 6000 2 3 ∷ at 6200 2 3 ∷ [])
+    ≡ at 5000 2 1 ∷ at 5200 2 2 ∷ at 5999 3 1 ∷ at 6000 2 1 ∷ at 6200 2 3 ∷ []

@@ -1,0 +1,150 @@
+//! How many datagrams of strangers are served in a second: of one network, and of one host.
+ghost use Rattle.std.specs.Prelude.{◌≡◌, ◌<◌, ◌&&◌, [], List, slice_index_or, IfOk};
+ghost use Rattle.rb_policy.specs.declared.recent.TheConstants.{PLACES};
+ghost use Rattle.rb_policy.specs.Recents.{RecentMoments, has_room};
+ghost use Rattle.rb_policy.specs.Brake.{place_by, network_place, host_place, Datagram, admits, admit, host_counted, passes, pass, StandsForServed};
+
+use crate::recent::{PLACES, Table};
+use rb_address::{Host, Source, Trust, Who};
+use std::alloc::{AllocError, Global};
+use std::marker::Model;
+
+/// How many datagrams are served in a second.
+#[derive(Clone, Copy, Debug, PartialEq, Eq)]
+pub struct Rate {
+    /// Of one network: of an IPv4 /24, or of an IPv6 /56.
+    pub network: u32,
+    /// Of one host.
+    pub host: u32,
+}
+
+/// What drops datagrams that come too often. Networks and hosts are told apart by their places in tables of 1,024 each,
+/// so those that share a place share what is served of it. `new` takes all of its memory: 8,192 bytes for each datagram
+/// of the rate, and about 130,000 bytes besides.
+#[derive(Drop)]
+pub struct Brake {
+    rate: Rate,
+    networks: Table,
+    hosts: Table,
+    /// The moment of the last that was served, in milliseconds.
+    latest: u64,
+}
+
+impl Model for Brake {
+    ghost use Rattle.rb_policy.specs.Brake.{BrakeTables};
+
+    ghost Value = { BrakeTables };
+
+    ghost view = { λ b. record {
+      rate = b.rate;
+      networks = b.networks;
+      hosts = b.hosts;
+      latest = b.latest;
+    } };
+}
+
+impl Brake {
+    /// Nothing was served. An error where an allocation is refused.
+    pub fn new(alloc: Global, rate: Rate) -> Result<Brake, AllocError>
+        ensures rate { IfOk result (λ brake. brake.rate ≡ rate) }
+        ensures stands { IfOk result (λ brake. StandsForServed brake []) }
+    {
+        Ok(Brake {
+            rate,
+            networks: Table::new(alloc, rate.network as usize)?,
+            hosts: Table::new(alloc, rate.host as usize)?,
+            latest: 0,
+        })
+    }
+
+    /// Whether a datagram from this host is served that came at this moment, in milliseconds. One that is served counts
+    /// from then on. A moment before the last one counts as that.
+    pub fn admit(&mut self, now: u64, host: Host) -> bool
+        ensures rate { self.new.rate ≡ self.old.rate }
+        ensures admits { (served : List Datagram) → StandsForServed self.old served
+            → result ≡ admits self.old.rate served now host }
+        ensures stands { (served : List Datagram) → StandsForServed self.old served
+            → StandsForServed self.new (admit self.old.rate served now host) }
+    {
+        let now = now.max(self.latest);
+        let network = network_place(host);
+        let place = host_place(host);
+        if !self.has_room(network, place, now) {
+            return false;
+        }
+        self.networks.note(network, now);
+        self.hosts.note(place, now);
+        self.latest = now;
+        true
+    }
+
+    /// Whether a datagram of this caller is served that came at this moment, in milliseconds: of a stranger where it is
+    /// admitted, and of anyone else.
+    pub fn passes(&mut self, now: u64, who: &Who) -> bool
+        ensures rate { self.new.rate ≡ self.old.rate }
+        ensures passes { (served : List Datagram) → StandsForServed self.old served
+            → result ≡ passes self.old.rate served now who.now }
+        ensures stands { (served : List Datagram) → StandsForServed self.old served
+            → StandsForServed self.new (pass self.old.rate served now who.now) }
+    {
+        match host_counted(who) {
+            Some(host) => self.admit(now, host),
+            None => true,
+        }
+    }
+
+    /// Whether one more may be served of the place of a network, and of that of a host, at this moment.
+    fn has_room(&self, network: usize, host: usize, now: u64) -> bool
+        requires network { network < PLACES }
+        requires host { host < PLACES }
+        ensures { (d : RecentMoments) → result
+            ≡ (has_room (slice_index_or self.now.networks network d) now
+            && has_room (slice_index_or self.now.hosts host d) now) }
+    {
+        self.networks.has_room(network, now) && self.hosts.has_room(host, now)
+    }
+}
+
+/// The host by which a datagram of this caller counts, if it is a stranger.
+fn host_counted(who: &Who) -> Option<Host>
+    ensures { result ≡ host_counted who.now.trust who.now.source }
+{
+    match (who.trust, who.source) {
+        (Trust::Stranger, Source::Inet(peer)) => Some(peer.host()),
+        (Trust::Stranger, Source::Local) | (Trust::Claims | Trust::Local(_), _) => None,
+    }
+}
+
+/// The place of a host's network: of all hosts that begin with the same three bytes of IPv4, or seven of IPv6.
+fn network_place(host: Host) -> usize
+    ensures place { result ≡ network_place host }
+    ensures below { result < PLACES }
+{
+    match host {
+        Host::V4(octets) => place_by(&octets[..3]),
+        Host::V6(octets) => place_by(&octets[..7]),
+    }
+}
+
+/// The place of a host.
+fn host_place(host: Host) -> usize
+    ensures place { result ≡ host_place host }
+    ensures below { result < PLACES }
+{
+    match host {
+        Host::V4(octets) => place_by(&octets),
+        Host::V6(octets) => place_by(&octets),
+    }
+}
+
+/// A place by some bytes. Two that differ in the last alone have different places.
+fn place_by(octets: &[u8]) -> usize
+    ensures place { result ≡ place_by octets.now }
+    ensures below { result < PLACES }
+{
+    let mut place = 0;
+    for octet in octets {
+        place = (place * 31 + usize::from(*octet)) % PLACES;
+    }
+    place
+}
