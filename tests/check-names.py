@@ -74,8 +74,8 @@ def source_names(text):
 
 CRATE = {name: Crate(name) for name in CRATES}
 ROWS = {f.stem for f in ROOT.glob("tests/rows*/*.*")} | set(
-    re.findall(r"[a-z]\w+", (ROOT / "tests" / "run-rows.sh").read_text())) | set(
-    re.findall(r"^def (\w+)", (ROOT / "tests" / "hostile" / "attacks.py").read_text(), re.MULTILINE))
+    re.findall(r"[a-z]\w+", (ROOT / "tests" / "run-rows.sh").read_text())) | {
+    name for f in ROOT.glob("tests/hostile/*.py") for name in re.findall(r"^def (\w+)", f.read_text(), re.MULTILINE)}
 TESTS = {n for c in CRATES for n in CRATE[c].functions}
 ALL_FUNCTIONS = {n for c in CRATES for n in CRATE[c].functions}
 ALL_DEFINITIONS = defaultdict(set)

@@ -6,6 +6,11 @@
 # tests/hostile/attacks.py has them. A daemon beside them stands still for 34 seconds, and must answer all 200 calls then
 # that were half sent before and whole in time.
 #
+# Three attacks want strangers, and so root; tests/hostile/strangers.py has them. `reflector` fails where more than twice
+# the bytes of a stranger's datagram come back to it, `primed_statistics` where a stranger's look-ups of what is not there
+# are in the statistics, and `flood_of_one_network`, beside which a good client calls too, where in any second more of a
+# network's or of a host's calls are answered than --udp-rate says.
+#
 # Where strace is installed, each call of the system that serves clients fails then for three seconds, with each error
 # that its manual names: tests/hostile/faults.py says what is wanted.
 #
@@ -17,11 +22,12 @@
 # The program may be another one: `PROGRAM=PATH make hostile`. Words are names of attacks or faults, in place of all: as
 # half_open_1500, accept4_EPERM, accept4 for all of its errors, and faults for all faults. As root it
 # runs in a network namespace of its own, where attackers and good client have addresses of their own; else on the
-# loopback, at high ports, where all of them are peers of this host. Wants python3. The last line is 'N passed, N
-# failed'; the status is 1 where one failed.
+# loopback, at high ports, where all of them are peers of this host and none is a stranger. Wants python3. The last line
+# is 'N passed, N failed'; the status is 1 where one failed.
 set -u
 here=$(cd "$(dirname "$0")" && pwd) || exit 1
 export PROGRAM=${PROGRAM:-$here/../crates/rpcbind/out/rpcbind}
+export PYTHONPATH=$here
 
 if [ "${1:-}" = --inside ]; then
     shift

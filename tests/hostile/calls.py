@@ -47,7 +47,7 @@ def success(xid):
 
 
 def udp_socket(host, port=0):
-    client = socket.socket(socket.AF_INET, socket.SOCK_DGRAM)
+    client = socket.socket(socket.AF_INET6 if ":" in host else socket.AF_INET, socket.SOCK_DGRAM)
     client.bind((host, port))
     return client
 
