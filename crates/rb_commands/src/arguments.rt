@@ -163,12 +163,32 @@ fn service_of<'a>(alloc: Global, matches: &ArgMatches<'a>) -> Result<Service<'a>
         turns: text_of(matches, "turns"),
         record_path: matches.get_str("record"),
         record_limit: text_of(matches, "record-limit"),
+        keep: matches.get_str("keep"),
+        keep_check: matches.get_flag("keep-check"),
+        log: matches.get_str("log"),
     };
     match read_service(alloc, &texts) {
-        Ok(service) => Ok(service),
+        Ok(service) => match kept_in_the_record(&service) {
+            Some(bad) => Err(Unread::BadValue(bad)),
+            None => Ok(service),
+        },
         Err(ServeFault::BadValue(bad)) => Err(Unread::BadValue(bad_value(bad, matches))),
         Err(ServeFault::NoMemory) => Err(Unread::NoMemory),
     }
+}
+
+/// What is wrong where the rows are to be kept in the file of the record: a start would remove them.
+fn kept_in_the_record<'a>(service: &Service<'a>) -> Option<BadValue<'a>> {
+    let keep = service.keep.as_ref()?;
+    let record = service.recorded.as_ref()?;
+    if keep.path != record.path {
+        return None;
+    }
+    Some(BadValue {
+        option: "keep",
+        value: keep.path,
+        wanted: "another file than that of --record",
+    })
 }
 
 /// What a replay begins with.
@@ -215,6 +235,8 @@ fn bad_value<'a>(bad: Valued, matches: &ArgMatches<'a>) -> BadValue<'a> {
         Valued::Now => ("now", NUMBER),
         Valued::Turns => ("turns", NUMBER),
         Valued::RecordLimit => ("record-limit", "a number from 1000 to 16777216"),
+        Valued::Keep => ("keep", "the path of a file"),
+        Valued::Log => ("log", "changes or all"),
     };
     BadValue {
         option,

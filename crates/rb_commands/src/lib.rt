@@ -3,10 +3,12 @@
 #![tactic(auto)]
 
 mod arguments;
+mod keep;
 mod options;
 mod service;
 mod words;
 
 pub use arguments::{Words, read_words};
+pub use keep::{read_keep, say_keep_fault, say_left_out};
 pub use service::{explain_fault, make_record, say_start, settings_of};
 pub use words::command_words;

@@ -47,6 +47,7 @@ fn serve<'a>(alloc: Global) -> Result<Command<'a>, AllocError> {
         ))?;
     let command = besides(alloc, command)?;
     let command = recorded(alloc, command)?;
+    let command = kept(alloc, command)?;
     let command = limited(
         alloc,
         command,
@@ -143,6 +144,29 @@ fn recorded<'a>(alloc: Global, command: Command<'a>) -> Result<Command<'a>, Allo
             "Most bytes of the record, 1000 to 16777216; it takes as much memory",
         )
         .default_value(serve_default(Valued::RecordLimit)))
+}
+
+/// What `serve` keeps over a restart, and what it tells while it serves.
+fn kept<'a>(alloc: Global, command: Command<'a>) -> Result<Command<'a>, AllocError> {
+    let keep_check = Arg::new(alloc, "keep-check")
+        .long("keep-check")
+        .help("Leave out kept rows of this host at whose port nobody answers")
+        .requires_arg("keep")?
+        .action(ArgAction::SetTrue);
+    command
+        .arg(option(
+            alloc,
+            "keep",
+            "FILE",
+            "Keep the rows in FILE, and set those that are in it at the start",
+        ))?
+        .arg(keep_check)?
+        .arg(option(
+            alloc,
+            "log",
+            "WHAT",
+            "Tell on standard error of changes: changes, or of refused calls and closed connections too: all [default: nothing]",
+        ))
 }
 
 fn replay<'a>(alloc: Global) -> Result<Command<'a>, AllocError> {

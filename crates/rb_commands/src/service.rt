@@ -4,17 +4,16 @@ ghost use Rattle.rb_sockets.specs.Settings.{listener_of};
 ghost use Rattle.rb_commands.specs.Faults.{TellsFault};
 
 use rb_address::Host;
-use rb_lines::{Ending, Fault, Service, UdpRate, explain, explain_run};
-use rb_policy::{Rate, RecordAction, RecordState, binds_loopback6, is_no_address, record_action};
+use rb_files::new_file;
+use rb_lines::{Ending, Fault, Log, Service, UdpRate, explain, explain_run};
+use rb_policy::{Rate, binds_loopback6, is_no_address};
 use rb_proto::Announced;
-use rb_sockets::{DaemonFault, LocalSocket, Settings, Shortage, SocketFault, Step, open_files};
-use std::fs::{Files, OpenOptions};
-use std::io::{ErrorKind, Write};
-use std::os::unix::fs::OpenOptionsExt;
-use std::{fs, io};
-
-/// The mode of a record's file: it has all that clients sent.
-const RECORD_MODE: u32 = 0o600;
+use rb_sockets::{
+    DaemonFault, LocalSocket, Logged, Settings, Shortage, SocketFault, Step, open_files,
+};
+use std::fs::Files;
+use std::io;
+use std::io::Write;
 
 /// The settings of the daemon for a service.
 pub fn settings_of<'a>(service: &'a Service<'a>) -> Settings<'a> {
@@ -45,6 +44,15 @@ pub fn settings_of<'a>(service: &'a Service<'a>) -> Settings<'a> {
         record: match &service.recorded {
             Some(record) => record.limit,
             None => 0,
+        },
+        keep: match &service.keep {
+            Some(keep) => Some(keep.path),
+            None => None,
+        },
+        log: match service.log {
+            Log::Nothing => Logged::Nothing,
+            Log::Changes => Logged::Changes,
+            Log::All => Logged::All,
         },
     }
 }
@@ -116,36 +124,6 @@ fn say_where(rt: &impl Print, settings: &Settings<'_>) -> io::Result<()> {
         println!(rt; "rpcbind: listening on {path}")?;
     }
     Ok(())
-}
-
-/// A new file at the path, which its owner alone may read. A plain file that is there goes; one of another kind stays, and
-/// no link is followed.
-fn new_file<R: Files>(rt: &R, path: &str) -> io::Result<R::File> {
-    match record_action(record_state(rt, path)?) {
-        RecordAction::Make => {}
-        RecordAction::RemoveAndMake => fs::remove_file(rt, path)?,
-        RecordAction::GiveUp => {
-            return Err(io::Error::new(
-                ErrorKind::AlreadyExists,
-                "what is there is no plain file, and stays",
-            ));
-        }
-    }
-    let mut options = OpenOptions::new();
-    options.write(true);
-    options.create_new(true);
-    options.mode(RECORD_MODE);
-    options.open(rt, path)
-}
-
-/// What is at the path of a record.
-fn record_state<R: Files>(rt: &R, path: &str) -> io::Result<RecordState> {
-    match fs::symlink_metadata(rt, path) {
-        Ok(found) if found.is_file() => Ok(RecordState::Plain),
-        Ok(_) => Ok(RecordState::Other),
-        Err(error) if error.kind() == ErrorKind::NotFound => Ok(RecordState::Absent),
-        Err(error) => Err(error),
-    }
 }
 
 /// Makes the file of the record, where one is asked for. Where it can't be made it is said why, and the error is the

@@ -11,6 +11,7 @@ use Rattle.rb_registry.specs.Registry.{slots_of}
 use Rattle.rb_forward.specs.Costs.{sent_cost, unsent_cost}
 use Rattle.rb_forward.specs.Deadlines.{soonest_cost}
 use Rattle.rb_rpc.specs.Forwarded.{longest_forwarded as longest_args}
+use Rattle.rb_proto.specs.Costs.{zero_cost}
 use Rattle.rb_model.specs.Calls.{Outcome, longest_reply, longest_kept, kept_of, message_of}
 use Rattle.rb_model.specs.State.{State, Setting, Connection, Connections, at_moment}
 use Rattle.rb_model.specs.declared.types.CoreFault.{CoreFault}
@@ -95,6 +96,9 @@ module _ (core : Held) (a b : Meter) where
 
   pub deadline_within : PaysAtMost a b (soonest_cost (slot_count core.connections) + soonest_cost core.books.forwards.cap) → StaysWithinSteps core 0 0 a b
   deadline_within pays = record { within = λ s h reached. at_most a b (soonest_cost (slot_count core.connections) + soonest_cost core.books.forwards.cap) _ (omega (arith, few_connections s h reached, entries s h)) pays }
+
+  pub zero_within : PaysAtMost a b zero_cost → StaysWithinSteps core 0 0 a b
+  zero_within pays = record { within = λ s h reached. at_most a b zero_cost _ (omega arith) pays }
 
   pub ending_within : (taken : ℕ) → PaysAtMost a b (ended_cost (sizes_of core core)) → StaysWithinSteps core taken 0 a b
   unfolding longest_reply longest_kept buffer_size longest_args

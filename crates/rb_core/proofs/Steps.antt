@@ -26,7 +26,7 @@ use Rattle.rb_model.specs.State.{Setting, State, Phase, Connection, Connections,
 use Rattle.rb_model.specs.State.Phase.{Idle, Reading, Owing, Awaiting, Lost}
 use Rattle.rb_model.specs.Connections.{Taking, taking_of, keep_reading, settle, is_lost, is_live, live_connection, change_first, changed_at, on_live, open_in_table, close_in_table, give}
 use Rattle.rb_model.specs.Connections.Taking.{TakesNone, GoesOn, Ends}
-use Rattle.rb_model.specs.Step.{longest_to, sender, context_in, with_ledger, with_reply, settle_on, serve_message, serve, serve_record, with_count, when_taken, bytes_to, bytes, datagram, gave, open_connection, close_connection, unless_refused, dropped_with, unsent_call, sent_call}
+use Rattle.rb_model.specs.Step.{longest_to, sender, context_in, with_ledger, with_reply, settle_on, serve_message, serve, serve_record, with_count, when_taken, bytes_to, bytes, datagram, gave, open_connection, close_connection, unless_refused, dropped_with, unsent_call, sent_call, zero_stats}
 use Rattle.rb_model.specs.declared.types.Taken.{Taken}
 use Rattle.rb_model.specs.Laws.{is_owing}
 use Rattle.rb_model.specs.Losses.{stamp_in, removals_in_the_way, evict_early, evict, with_room}
@@ -624,6 +624,28 @@ module _ (old : Held) (number : ℕ) (books : Books) where
     gives = λ s h. rw (cannot s.ledger h.ledger) refl;
     stands = λ s h. rw (cannot s.ledger h.ledger) h;
   }
+
+-- statistics begin anew
+pub zeroed : (old : Held) (books : Books) → books.registry ≡ old.books.registry → SameFrame old.books books → Becomes (λ (l : Ledger). record l { history = [] }) old.books books
+    → Acts StandsFor (λ s. (tt {0}, zero_stats s)) old (record old { books = books }) (tt {0})
+unfolding zero_stats
+zeroed old books same frame becomes = record {
+  gives = λ s h. refl;
+  stands = λ s h. record {
+    setting = h.setting;
+    clock = h.clock;
+    conns = h.conns;
+    within = h.within;
+    connections = same_registry old.books.registry books.registry old.connections s.connections same h.connections;
+    limit = frame.limit ∙ h.limit;
+    forwards = frame.cap ∙ h.forwards;
+    first_xid = frame.first_xid ∙ h.first_xid;
+    ledger = becomes s.ledger h.ledger;
+    reply = h.reply;
+    short = h.short;
+    arguments = h.arguments;
+  };
+}
 
 -- an entry ends, or none does
 module _ (old : Held) (now clock : ℕ) (is : clock ≡ max old.clock now) (message : List ℕ) (books : Books) (tie : ℕ) (act : Ledger → Option Ended × Ledger) (plain : State → Ledger → Option Ended × Ledger)

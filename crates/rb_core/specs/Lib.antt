@@ -6,5 +6,6 @@ pub mod Eviction
 pub mod Core
 pub mod CallCosts
 pub mod Events
+pub mod Looks
 pub mod WorkedHeld
 pub mod Standings

@@ -16,8 +16,9 @@ ghost use Rattle.rb_connections.specs.Listings.{CanContinueAll};
 ghost use Rattle.rb_connections.specs.Slots.{IsDraft};
 
 use crate::eviction::make_room;
+use crate::seen::{Seen, seen_of};
 use rb_connections::{Connections, EndedRecord, Received, give_whole};
-use rb_model::{CoreFault, Outcome, Served, Standing};
+use rb_model::{CoreFault, Message, Outcome, Served, Standing};
 use rb_proto::{Books, Context};
 use rb_rpc::{FRAGMENT_HEADER, Verdict, read_call};
 use rb_serving::{kept_arguments, procedure_of, serve, serve_null};
@@ -97,7 +98,7 @@ pub fn lend_arguments<'a>(piece: Option<&'a [u8]>, buffer: &'a Kept, meter: &mut
 /// streamed.
 ///
 /// A call of NULL is served by itself: it has no arguments, adds no row, and its reply is a head alone (RFC 1833
-/// sections 2.2 and 3.2).
+/// sections 2.2 and 3.2). `seen` is left as it was where nothing is to be told of the message.
 #[tactic(auto, unfolding(rb_model::specs::Calls::longest_reply))]
 pub fn serve_verdict(
     connections: &mut Connections,
@@ -105,6 +106,7 @@ pub fn serve_verdict(
     context: &Context,
     verdict: &Verdict,
     arguments: &[u8],
+    seen: &mut Option<Seen>,
     out: &mut Kept,
     meter: &mut Meter,
 ) -> Served
@@ -123,14 +125,28 @@ pub fn serve_verdict(
 {
     let called = match procedure_of(verdict) {
         Ok(called) => called,
-        Err(message) => return serve(books, context, &message, arguments, out, meter),
+        Err(message) => {
+            note(seen, context, &message, false);
+            return serve(books, context, &message, arguments, out, meter);
+        }
     };
     if called.is_null() {
         return serve_null(books, called.head, out, meter);
     }
     let message = &called.message(arguments);
     make_room(connections, books, context, message, meter);
-    serve(books, context, message, arguments, out, meter)
+    let stamp = books.registry.stamp();
+    let served = serve(books, context, message, arguments, out, meter);
+    let is_accepted = stamp < books.registry.stamp();
+    note(seen, context, message, is_accepted);
+    served
+}
+
+/// Notes what is to be told of a message, where anything is; `is_accepted` is whether it changed the rows.
+fn note(seen: &mut Option<Seen>, context: &Context, message: &Message, is_accepted: bool) {
+    if let Some(told) = seen_of(context, message, is_accepted) {
+        *seen = Some(told);
+    }
 }
 
 /// Writes the reply into `room`, with its header, where it is one fragment and `room` has place for the longest, and

@@ -5,6 +5,7 @@ ghost use Rattle.rb_model.specs.State.{are_good};
 ghost use Rattle.rb_model.specs.Bounds.{bytes_bound};
 
 use crate::calls::{Piece, give_at_once, lend_arguments, serve_verdict, take_piece};
+use crate::seen::Seen;
 use rb_address::{Peer, Who};
 use rb_connections::{BUFFER_SIZE, CONNECTION_CHARGE, Connections, EndedRecord, Received};
 use rb_forward::{ENTRY_CHARGE, Ended, FwdId, LONGEST_FORWARDED_CALL, Unsent, sooner};
@@ -32,9 +33,9 @@ pub struct Core {
     limits: Limits,
     listener: Listener,
     first_xid: u32,
-    clock: u64,
+    pub(crate) clock: u64,
     connections: Connections,
-    books: Books,
+    pub(crate) books: Books,
     /// The last reply over UDP, and how many bytes it has.
     reply: Kept,
     reply_len: u64,
@@ -46,6 +47,8 @@ pub struct Core {
     arguments: Kept,
     /// What the meter showed as the last event began.
     steps_before: u128,
+    /// What is to be told of the last whole call, if anything is. No answer depends on it.
+    seen: Option<Seen>,
 }
 
 /// Names each field, so that a further one does not compile until it stands here. It belongs in the table of
@@ -63,6 +66,7 @@ fn layout(core: &Core) {
         draft,
         arguments,
         steps_before,
+        seen,
     } = core;
     let _: Limits = *limits;
     let _: (u32, u64, u64, u128) = (*first_xid, *clock, *reply_len, *steps_before);
@@ -72,6 +76,7 @@ fn layout(core: &Core) {
     let _: &Kept = reply;
     let _: &Kept = draft;
     let _: &Kept = arguments;
+    let _: &Option<Seen> = seen;
 }
 
 impl Model for Core {
@@ -111,6 +116,7 @@ impl Drop for Core {
             draft,
             arguments,
             steps_before: _,
+            seen,
         } = self;
         drop(listener);
         drop(connections);
@@ -118,6 +124,7 @@ impl Drop for Core {
         drop(reply);
         drop(draft);
         drop(arguments);
+        drop(seen);
     }
 }
 
@@ -237,6 +244,7 @@ impl Core {
             draft,
             arguments,
             steps_before: meter.count(),
+            seen: None,
         })
     }
 
@@ -270,6 +278,7 @@ impl Core {
         ensures bound { StaysWithinSteps self.old (length content.now) 0 meter.old meter.new }
     {
         self.steps_before = meter.count();
+        self.seen = None;
         self.clock = self.clock.max(now);
         let longest = longest_to(&self.listener.terms, &who, content.len());
         let context = self.context(Caller::Udp(who, longest));
@@ -282,6 +291,7 @@ impl Core {
             &context,
             &verdict,
             arguments,
+            &mut self.seen,
             &mut self.reply,
             meter,
         );
@@ -396,6 +406,7 @@ impl Core {
         ensures bound { ExchangesWithinSteps self.old result meter.old meter.new }
     {
         self.steps_before = meter.count();
+        self.seen = None;
         let clock = self.clock.max(now);
         let buffer = &mut self.arguments;
         let got = take_piece(&mut self.connections, id, piece, clock, buffer, meter)?;
@@ -454,6 +465,7 @@ impl Core {
             &context,
             &ended.verdict,
             arguments,
+            &mut self.seen,
             &mut self.draft,
             meter,
         );
@@ -739,9 +751,28 @@ impl Core {
     ghost use Rattle.rb_forward.specs.Deadlines.{soonest_cost};
     ghost use Rattle.rb_model.specs.NextDeadlines.{next_deadline};
     ghost use Rattle.rb_connections.specs.Costs.{slot_count};
-    ghost use Rattle.rb_connections.specs.Slots.{Shows};
+    ghost use Rattle.rb_connections.specs.Slots.{Acts, Shows};
     ghost use Rattle.rb_core.specs.StandsFor.{StandsFor};
-    ghost use Rattle.rb_core.specs.Events.{BeginsAt, StaysWithinSteps};
+    ghost use Rattle.rb_proto.specs.Costs.{zero_cost};
+    ghost use Rattle.rb_model.specs.Step.{zero_stats};
+    ghost use Rattle.rb_core.specs.HeldBytes.{NeverPasses};
+    ghost use Rattle.rb_core.specs.Events.{count_shown, BeginsAt, StaysWithinSteps};
+
+    /// Statistics begin anew: nothing was called. Nothing else changes. It costs at most 2 steps for each of 192 keys,
+    /// and 1.
+    #[tactic(auto, using(crate::proofs::HeldBytes::never_passes, crate::proofs::CallBounds::zero_within))]
+    pub fn zero_stats(&mut self, meter: &mut Meter)
+        requires { meter.old.tie ≡ self.old.tie }
+        ensures acts { Acts StandsFor (λ s. (tt {0}, zero_stats s)) self.old self.new (tt {0}) }
+        ensures tie { self.new.tie ≡ self.old.tie }
+        ensures begun { self.new.steps_before ≡ count_shown meter.old }
+        ensures held { NeverPasses self.new }
+        ensures cost { PaysAtMost meter.old meter.new zero_cost }
+        ensures bound { StaysWithinSteps self.old 0 0 meter.old meter.new }
+    {
+        self.steps_before = meter.count();
+        self.books.clear_stats(meter);
+    }
 
     /// The moment from which `expire` finds something: the least deadline of the connections and of the forwarded
     /// calls. Before it `expire` finds nothing, nor ever where there is none. It changes nothing but the count from
@@ -759,5 +790,10 @@ impl Core {
         let of_connections = self.connections.next_deadline(meter);
         let of_forwards = self.books.forwards.next_deadline(meter);
         sooner(of_connections, of_forwards)
+    }
+
+    /// What is to be told of the call that the last `datagram`, `bytes` or `exchange` brought whole, if anything is.
+    pub fn seen(&self) -> Option<&Seen> {
+        self.seen.as_ref()
     }
 }

@@ -7,6 +7,8 @@ mod calls;
 mod events;
 mod eviction;
 mod laws;
+mod looks;
+mod seen;
 
 pub use events::{Core, MOST_KEYS};
 pub use laws::{held_bytes_are_bounded, worked_held};
@@ -14,4 +16,6 @@ pub use rb_address::{Peer, Who};
 pub use rb_forward::{FwdId, Unsent};
 pub use rb_model::{CoreFault, Exchanged, Expired, Limits, Outcome, Standing, Taken, Told};
 pub use rb_proto::Listener;
+pub use rb_registry::{Cursor, Row};
 pub use rb_xdr::NoMemory;
+pub use seen::{Asked, ChangeAsked, RefusedCall, RowNamed, Seen};

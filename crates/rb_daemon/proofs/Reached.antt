@@ -15,8 +15,8 @@ use Rattle.rb_model.specs.declared.types.Expired.TheVariants as expiries
 use Rattle.rb_model.specs.State.{State, opening}
 use Rattle.rb_model.specs.Calls.{Outcome, Outcome as outcomes}
 use Rattle.rb_model.specs.Ending.{forward_reply, expire}
-use Rattle.rb_model.specs.Step.{Event, Output, step, after, open_connection, pending, gave, close_connection, next_lost, datagram, unsent_call, sent_call, output_or, show_done, show_outcome, show_told, show_end, show_expired, is_too_much}
-use Rattle.rb_model.specs.Step.Event.{Open, Pending, Gave, Closed, NextLost, Datagram, Unsent, Sent, Forward, Expire}
+use Rattle.rb_model.specs.Step.{Event, Output, step, after, open_connection, pending, gave, close_connection, next_lost, datagram, zero_stats, unsent_call, sent_call, output_or, show_done, show_outcome, show_told, show_end, show_expired, is_too_much}
+use Rattle.rb_model.specs.Step.Event.{Open, Pending, Gave, Closed, NextLost, Datagram, Unsent, Sent, Forward, Expire, ZeroStats}
 use Rattle.rb_model.specs.Step.Output.{Opened, TooMuch, IsPending, Done, LostIs, Replied, Forwarded as OutForwarded, Silent, UnsentIs, Ignored, Nothing, ConnectionClosed}
 use Rattle.rb_laws.proofs.RunLaws.{after-append}
 use Rattle.rb_record.specs.Entries.{entry_text, run_entries, options_text}
@@ -169,6 +169,11 @@ datagram_served old new after_look n now who content given before later is acts 
     (λ s h. stands_begun new after_look n is _ (subst (StandsFor new) (sym (outcome_state (datagram s now who content))) (acts.stands s h)))
     (datagram_records old new now who content given before later acts records)
 
+-- a look at the core changes nothing that is served
+pub looked_served : (old new : Held) (n : ℕ) (tape : Tape) → new ≡ with_steps_before old n → ∥ IsServed old tape ∥₁ → ∥ IsServed new tape ∥₁
+looked_served old new n tape is held =
+    ∥∥₁_elim held squash₁ (λ h. ∣ record { state = h.state; stands = stands_begun old new n is h.state h.stands; reached = h.reached; recorded = h.recorded } ∣₁)
+
 -- so of one that is no call, or is not answered
 pub silent_records : (old new : Held) (now : ℕ) (who : Who) (content : List ℕ) (given : outcome.Outcome) (before later : Tape) → (given ≡ outcome_kinds.NoCall) ⊎ (given ≡ outcome_kinds.Silent) → ActsWithReply (λ s. datagram s now who content) old new given → Records (entry_text (Datagram now who content) Silent ∷ []) before later → (s : State) → StandsFor old s → Records (run_entries s (Datagram now who content ∷ [])) before later
 silent_records old new now who content given before later is acts records =
@@ -177,6 +182,17 @@ silent_records old new now who content given before later is acts records =
 pub silent_served : (old new : Held) (now : ℕ) (who : Who) (content : List ℕ) (given : outcome.Outcome) (before later : Tape) → (given ≡ outcome_kinds.NoCall) ⊎ (given ≡ outcome_kinds.Silent) → ActsWithReply (λ s. datagram s now who content) old new given → Records (entry_text (Datagram now who content) Silent ∷ []) before later → ∥ IsServed old before ∥₁ → ∥ IsServed new later ∥₁
 silent_served old new now who content given before later is acts records =
     datagram_served old new new new.steps_before now who content given before later refl acts (subst (λ (x : Output). Records (entry_text (Datagram now who content) x ∷ []) before later) (answer_silent given new.reply is) records)
+
+-- ---- statistics begin anew
+
+pub zeroed_records : (old : Held) (before later : Tape) → Records (entry_text ZeroStats Done ∷ []) before later → (s : State) → StandsFor old s → Records (run_entries s (ZeroStats ∷ [])) before later
+unfolding step
+zeroed_records old before later records s h = one_recorded s ZeroStats Done before later refl records
+
+pub zeroed_served : (old new : Held) (before later : Tape) → Acts StandsFor (λ s. (tt {0}, zero_stats s)) old new (tt {0}) → Records (entry_text ZeroStats Done ∷ []) before later → ∥ IsServed old before ∥₁ → ∥ IsServed new later ∥₁
+unfolding step
+zeroed_served old new before later acts records =
+    served_on old new before later (λ s. ZeroStats ∷ []) (λ s h. acts.stands s h) (zeroed_records old before later records)
 
 -- ---- the end of a forwarded call
 

@@ -1,8 +1,9 @@
 -- What holds of the daemon's core between two events, and what it gives to a writer.
-use Rattle.std.specs.Prelude.{◌≡◌, ◌≤◌, ⊤, ℕ, Bool, true, false, List, [], length, take, Option, Some, None, Result, Ok, Err}
+use Rattle.std.specs.Prelude.{◌≡◌, ◌≤◌, ⊤, ℕ, ◌==◌, Bool, true, false, not, List, [], length, take, Option, Some, None, Result, Ok, Err}
 use Rattle.std.specs.Io.KnownBytes.{Appends, Keeps}
 use Rattle.rb_address.specs.declared.peer.Peer.{Peer}
 use Rattle.rb_address.specs.declared.who.Who.{Who}
+use Rattle.rb_registry.specs.declared.row.Row.{Row}
 use Rattle.rb_forward.specs.Forwards.{Unsent}
 use Rattle.rb_model.specs.declared.types.CoreFault.{CoreFault}
 use Rattle.rb_model.specs.State.{State}
@@ -14,8 +15,11 @@ use Rattle.rb_model.specs.Ending.{forward_reply, expire}
 use Rattle.rb_model.specs.Calls.{Outcome}
 use Rattle.rb_model.specs.Calls.Outcome.{NoCall, Reply, Forwarded, Silent as SilentCall}
 use Rattle.rb_model.specs.Step.{datagram, gave, unsent_call, sent_call, IsReached}
+use Rattle.rb_model.specs.ChangeLaws.{this_machine, set_bytes}
 use Rattle.rb_record.specs.Tapes.{Tape}
 use Rattle.rb_core.specs.StandsFor.{Held, StandsFor}
+use Rattle.rb_daemon.specs.declared.engine.Answer.{Answer}
+use Rattle.rb_daemon.specs.declared.engine.Answer.TheVariants as answers
 use Rattle.rb_daemon.specs.declared.engine.Given.{Given}
 use Rattle.rb_daemon.specs.declared.engine.Given.TheVariants.{Nothing, Bytes, Failed, Over}
 use Rattle.rb_daemon.specs.declared.engine.Due.{Due}
@@ -45,19 +49,33 @@ after_giving s now id other = s
 
 -- ---- datagrams
 
--- whether the call of a message is forwarded
-abbrev pub is_forwarded : Outcome → Bool
-is_forwarded NoCall = false
-is_forwarded (Reply bytes stamp) = false
-is_forwarded Forwarded = true
-is_forwarded SilentCall = false
+-- what is done about it: a reply is sent, or the call is forwarded
+abbrev pub answer_of : Outcome → Answer
+answer_of NoCall = answers.Nothing
+answer_of (Reply bytes stamp) = answers.Reply
+answer_of Forwarded = answers.Forwarded
+answer_of SilentCall = answers.Nothing
 
-abbrev pub forwarded_after : Outcome × State → Bool × State
-forwarded_after (outcome, s) = (is_forwarded outcome, s)
+abbrev pub answered : Outcome × State → Answer × State
+answered (outcome, s) = (answer_of outcome, s)
 
 -- a datagram came from a caller
-abbrev pub answer_datagram : Who → List ℕ → State → ℕ → Bool × State
-answer_datagram who content s now = forwarded_after (datagram s now who content)
+abbrev pub answer_datagram : Who → List ℕ → State → ℕ → Answer × State
+answer_datagram who content s now = answered (datagram s now who content)
+
+-- ---- rows that were kept
+
+-- how many changes of rows were accepted
+abbrev pub change_count : State → ℕ
+change_count s = length s.ledger.changes
+
+-- one more change was accepted
+abbrev pub has_changed : State → State → Bool
+has_changed before later = not (change_count before == change_count later)
+
+-- A row is set again by the call that sets it; and whether it is set.
+abbrev pub set_again : Row → State → ℕ → Bool × State
+set_again row s now = let later : State = (datagram s now this_machine (set_bytes row)).1 in (has_changed s later, later)
 
 -- ---- forwarded calls
 

@@ -4,11 +4,13 @@ ghost use Rattle.rb_model.specs.State.{are_good};
 ghost use Rattle.rb_sockets.specs.Settings.{listener_of};
 
 use crate::engine::Engine;
+use crate::keeping::Keeper;
 use crate::serving::Serving;
 use mio::{Events, Poll};
 use rb_core::{CoreFault, Limits, Listener};
 use rb_policy::{Moments, place_count, wait_of};
-use rb_sockets::{BindFault, DaemonFault, Settings, Shortage, SocketFault, Sockets, Step};
+use rb_registry::Row;
+use rb_sockets::{BindFault, DaemonFault, Logged, Settings, Shortage, SocketFault, Sockets, Step};
 use std::alloc::{AllocError, Global};
 use std::fs::Files;
 use std::io::Write;
@@ -29,17 +31,20 @@ pub struct Daemon<'a, R: Clock> {
     events: Events,
     serving: Serving,
     shortage: Option<Shortage>,
+    /// Which of the rows that were kept are not set again.
+    left_out: Vec<usize>,
 }
 
 impl<'a, R: Clock> Daemon<'a, R> {
     /// A daemon that listens where the settings say: over TCP and UDP on each of their hosts, and besides on ::1 and on a
-    /// local socket where they are asked for. `Limits` where a limit is out of its range, or the rows have no room for
+    /// local socket where they are asked for. Before that it sets the rows again that were kept. `Limits` where a limit is out of its range, or the rows have no room for
     /// the own ones and two more; else `Memory` or `Socket`, whichever occurs first.
     pub fn new<H: Files + Net>(
         alloc: Global,
         host: &H,
         clock: &'a R,
         settings: &Settings<'_>,
+        kept: &[Row],
     ) -> Result<Daemon<'a, R>, DaemonFault>
         ensures bad { IsErrOf result DaemonFault.Limits
             ↔ IsTrue (not (are_good settings.now.limits (listener_of settings.now))) }
@@ -48,13 +53,17 @@ impl<'a, R: Clock> Daemon<'a, R> {
     {
         let limits = settings.limits;
         let listener = settings.listener();
-        let (engine, moments) = engine_of(
+        let (mut engine, moments) = engine_of(
             alloc,
             limits,
             listener,
             settings.record,
+            settings.log,
             read_clocks(clock),
         )?;
+        let left_out = restore(alloc, &mut engine, kept).map_err(DaemonFault::Memory)?;
+        let made = Keeper::new(alloc, settings.keep, limits.rows, engine.changes());
+        let keeper = made.map_err(DaemonFault::Memory)?;
         let poll = match Poll::new(host) {
             Ok(poll) => poll,
             Err(error) => return Err(DaemonFault::Socket(Step::Prepare.failed(error))),
@@ -69,7 +78,7 @@ impl<'a, R: Clock> Daemon<'a, R> {
         let events = Events::with_capacity(alloc, EVENTS).map_err(DaemonFault::Memory)?;
         let most_due = limits.conns.saturating_add(limits.forwards);
         let udp_rate = settings.udp_rate;
-        let made = Serving::new(alloc, engine, sockets, places, most_due, udp_rate);
+        let made = Serving::new(alloc, engine, keeper, sockets, places, most_due, udp_rate);
         let mut serving = made.map_err(DaemonFault::Memory)?;
         if let Err(error) = serving.register(poll.registry()) {
             return Err(DaemonFault::Socket(Step::Prepare.failed(error)));
@@ -81,12 +90,18 @@ impl<'a, R: Clock> Daemon<'a, R> {
             events,
             serving,
             shortage,
+            left_out,
         })
     }
 
     /// That the limit of open files leaves fewer places for connections than the settings ask for, where it does.
     pub fn shortage(&self) -> Option<Shortage> {
         self.shortage
+    }
+
+    /// Which of the rows that were kept are not set again, by their places, in order.
+    pub fn left_out(&self) -> &[usize] {
+        self.left_out.as_slice()
     }
 
     /// Waits for events once, at most `wait_ms` milliseconds, and not at all where something is left from the last
@@ -104,17 +119,18 @@ impl<'a, R: Clock> Daemon<'a, R> {
         for event in &self.events {
             self.serving.show(event);
         }
-        self.serving.answer_calls();
+        self.serving.answer_calls(host);
         self.serving.take_forward_replies();
         for event in &self.events {
-            self.serving.serve(event);
+            self.serving.serve(host, event);
         }
-        self.serving.serve_left();
+        self.serving.serve_left(host);
         self.serving
             .expire(now.saturating_sub(before), shown, EVENTS);
         self.serving.close_lost();
         self.serving.accept_all(self.poll.registry());
         self.serving.open_held(host, self.poll.registry());
+        self.serving.keep(host);
         Ok(())
     }
 
@@ -123,10 +139,22 @@ impl<'a, R: Clock> Daemon<'a, R> {
         self.serving.take_fault()
     }
 
+    /// The error of a write of the rows that are kept, once where more follow: the daemon goes on, and tries again at the next
+    /// change.
+    pub fn take_keep_fault(&mut self) -> Option<io::Error> {
+        self.serving.take_keep_fault()
+    }
+
     /// Writes what was recorded of the turns and not yet written (docs/EVENTS.md). After an error nothing more is
     /// recorded, and the daemon goes on.
     pub fn write_record<W: Write>(&mut self, writer: &mut W) -> io::Result<()> {
         self.serving.write_record(writer)
+    }
+
+    /// Writes the lines of the log that the turns added and that are not written yet (rpcbind(8), `--log`). Where that fails
+    /// they are lost, and the daemon goes on.
+    pub fn write_log<W: Write>(&mut self, writer: &mut W) -> io::Result<()> {
+        self.serving.write_log(writer)
     }
 
     /// Waits until something is ready, or for so many milliseconds at most. What came while a wait that showed nothing
@@ -179,7 +207,8 @@ impl<'a, R: Clock> Daemon<'a, R> {
     }
 }
 
-/// A descriptor is for one of the kernel's tables of connections, while that is read.
+/// A descriptor is for one of the kernel's tables of connections, while that is read, or for the file of the rows that are
+/// kept, while that is written.
 const TABLE: u64 = 1;
 
 /// How many places there are for connections, and the shortage, where they are fewer than the settings ask for.
@@ -201,6 +230,21 @@ fn places_of(settings: &Settings<'_>, sockets: &Sockets) -> (usize, Option<Short
         places,
     };
     (places, Some(shortage))
+}
+
+/// Sets the rows again that were kept, and begins the statistics anew behind them. Returns the places of those that are not
+/// set. An error where an allocation is refused.
+fn restore(alloc: Global, engine: &mut Engine, rows: &[Row]) -> Result<Vec<usize>, AllocError> {
+    let mut left_out = Vec::new(alloc);
+    for (place, row) in rows.iter().enumerate() {
+        if !engine.restore(row) {
+            left_out.push(place)?;
+        }
+    }
+    if !rows.is_empty() {
+        engine.zero_stats();
+    }
+    Ok(left_out)
 }
 
 /// What two clocks give, in milliseconds.
@@ -229,6 +273,7 @@ fn engine_of(
     limits: Limits,
     listener: Listener,
     record_limit: usize,
+    logged: Logged,
     first: io::Result<Times>,
 ) -> Result<(Engine, Moments), DaemonFault>
     ensures bad { IsErrOf result DaemonFault.Limits ↔ IsTrue (not (are_good limits listener)) }
@@ -239,7 +284,7 @@ fn engine_of(
         Ok(Times { wall, monotonic }) => (*wall, *monotonic),
         Err(_) => (0, 0),
     };
-    match Engine::new(alloc, limits, listener, wall, record_limit) {
+    match Engine::new(alloc, limits, listener, wall, record_limit, logged) {
         Ok(engine) => match first {
             Ok(_) => Ok((engine, Moments::new(wall, monotonic))),
             Err(error) => Err(DaemonFault::Socket(Step::Clock.failed(error))),

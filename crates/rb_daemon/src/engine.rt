@@ -6,11 +6,14 @@ ghost use Rattle.rb_record.specs.Tapes.{Records, empty_tape};
 ghost use Rattle.rb_daemon.specs.Recording.{end_entry};
 ghost use Rattle.rb_daemon.specs.Served.{IsServed, ready_of};
 
+use crate::log::Log;
 use crate::showing::{count_given, record_exchange, record_unsent, show_done, show_opened};
-use rb_address::{Peer, Who};
+use rb_address::{Peer, Source, Who};
 use rb_core::{Core, CoreFault, Exchanged, Expired, Limits, Listener, Outcome, Told};
+use rb_keep::{set_call, this_machine, write_rows};
 use rb_record::{Happening, Shown, Start, Tape};
-use rb_sockets::{CallSocket, CallSockets, ForwardSockets};
+use rb_registry::Row;
+use rb_sockets::{CallSocket, CallSockets, ForwardSockets, Logged};
 use rb_xdr::Meter;
 use std::alloc::Global;
 use std::io;
@@ -26,6 +29,8 @@ pub(crate) struct Engine {
     meter: Meter,
     moment: u64,
     tape: Tape,
+    /// What is told of the calls.
+    log: Log,
     ghost tied: { meter.tie ≡ core.tie },
     ghost served: { ∥ IsServed core tape ∥₁ },
 }
@@ -41,6 +46,17 @@ pub(crate) enum Given {
     Failed(ErrorKind),
     /// The writer takes no more, or there is no such connection.
     Over,
+}
+
+/// What is done about a datagram.
+#[derive(Clone, Copy, Debug, PartialEq, Eq)]
+pub(crate) enum Answer {
+    /// Nothing.
+    Nothing,
+    /// It has a reply, which is to be sent.
+    Reply,
+    /// It is a call that is forwarded, and so is to be sent.
+    Forwarded,
 }
 
 /// What was due.
@@ -103,25 +119,29 @@ impl Engine {
     ghost use Rattle.std.specs.Prelude.{◌≡◌, ◌≤◌, ◌↔◌, [], ◌∷◌, false, IsTrue, IsErrOf, length, not, IfOk, OnOk, OnErr};
     ghost use Rattle.rb_record.specs.Printing.{Writes};
     ghost use Rattle.rb_record.specs.Tapes.{unwritten_text};
-    ghost use Rattle.rb_model.specs.Step.Event.{Open, Closed, NextLost, Datagram, Forward, Expire};
+    ghost use Rattle.rb_model.specs.Step.Event.{Open, Closed, NextLost, Datagram, Forward, Expire, ZeroStats};
     ghost use Rattle.rb_daemon.specs.Recording.{exchange_events, give_events, send_events};
     ghost use Rattle.rb_model.specs.State.{State, are_good};
-    ghost use Rattle.rb_model.specs.Step.{open_connection, close_connection, next_lost};
+    ghost use Rattle.rb_model.specs.Step.{open_connection, close_connection, next_lost, zero_stats};
+    ghost use Rattle.rb_model.specs.ChangeLaws.{set_call};
+    ghost use Rattle.rb_keep.specs.Writing.{WritesKept};
+    ghost use Rattle.rb_connections.specs.Slots.{Shows};
     ghost use Rattle.rb_core.specs.StandsFor.{StandsFor};
     ghost use Rattle.rb_model.specs.Exchanges.{count_given};
     ghost use Rattle.rb_core.specs.AtOnce.{Exchanges};
-    ghost use Rattle.rb_daemon.specs.Served.{after_giving, answer_datagram, ready_of, take_forward_reply, expire_due, send_forward};
+    ghost use Rattle.rb_daemon.specs.Served.{after_giving, answer_datagram, change_count, set_again, ready_of, take_forward_reply, expire_due, send_forward};
     ghost use Rattle.rb_daemon.specs.Moves.{IsNewEngine, Moves, ActsNow, GivesPending, RecordsEvents, CountsGiven};
 
     /// A new core at this moment, which is the first. The xid of the first forwarded call is the low 32 bits of it.
-    /// Up to `record_limit` bytes of its events are recorded. `BadLimits` where a limit is out of its range, else
-    /// `NoMemory` where an allocation is refused.
+    /// Up to `record_limit` bytes of its events are recorded, and `logged` says of what the log has lines. `BadLimits`
+    /// where a limit is out of its range, else `NoMemory` where an allocation is refused.
     pub(crate) fn new(
         alloc: Global,
         limits: Limits,
         listener: Listener,
         moment: u64,
         record_limit: usize,
+        logged: Logged,
     ) -> Result<Engine, CoreFault>
         ensures made { IfOk result (IsNewEngine moment limits listener) }
         ensures record { IfOk result (λ engine. engine.tape.limit ≡ record_limit) }
@@ -136,13 +156,18 @@ impl Engine {
             moment,
         };
         let begun = begin_tape(alloc, record_limit, &start);
+        let log = Log::new(alloc, logged);
         let core = Core::new(alloc, limits, listener, first_xid, moment, &mut meter)?;
         let tape = begun?;
+        let Ok(log) = log else {
+            return Err(CoreFault::NoMemory);
+        };
         Ok(Engine {
             core,
             meter,
             moment,
             tape,
+            log,
         })
     }
 
@@ -166,6 +191,35 @@ impl Engine {
         ensures moment { self.new.moment ≡ self.old.moment }
     {
         self.tape.write_out(writer)
+    }
+
+    /// Tells the log of the call that the last `answer` or `exchange` brought, where that is to be told.
+    pub(crate) fn tell_call(&mut self)
+        ensures core { self.new.core ≡ self.old.core }
+        ensures moment { self.new.moment ≡ self.old.moment }
+        ensures tape { self.new.tape ≡ self.old.tape }
+    {
+        if let Some(seen) = self.core.seen() {
+            self.log.note_call(self.moment, seen);
+        }
+    }
+
+    /// Tells the log that a connection from there is given up.
+    pub(crate) fn tell_given_up(&mut self, source: Source)
+        ensures core { self.new.core ≡ self.old.core }
+        ensures moment { self.new.moment ≡ self.old.moment }
+        ensures tape { self.new.tape ≡ self.old.tape }
+    {
+        self.log.note_given_up(self.moment, source);
+    }
+
+    /// Writes the lines of the log that are not written yet. Where that fails they are lost.
+    pub(crate) fn write_log<W: Write>(&mut self, writer: &mut W) -> io::Result<()>
+        ensures core { self.new.core ≡ self.old.core }
+        ensures moment { self.new.moment ≡ self.old.moment }
+        ensures tape { self.new.tape ≡ self.old.tape }
+    {
+        self.log.write(self.moment, writer)
     }
 
     /// A connection was accepted. `Full` where all places of the core are taken, `Spent` where its numbers are.
@@ -262,9 +316,8 @@ impl Engine {
         lost
     }
 
-    /// Answers a datagram over the socket on which it came. A reply that the socket does not take is lost. Returns
-    /// whether the call is forwarded, and so is to be sent.
-    pub(crate) fn answer(&mut self, who: Who, content: &[u8], socket: &CallSocket) -> bool
+    /// Takes a datagram in. Where it has a reply, `reply` sends it.
+    pub(crate) fn answer(&mut self, who: Who, content: &[u8]) -> Answer
         ensures acts { ActsNow (answer_datagram who content.now) self.old self.new result }
         ensures recorded { RecordsEvents
             (λ s now. Datagram now who content.now ∷ []) self.old self.new }
@@ -277,19 +330,68 @@ impl Engine {
         {
             Outcome::Reply => {
                 let reply = self.core.udp_reply(&mut self.meter);
-                socket.reply(reply, who);
                 self.tape.record(&event, &Shown::Replied(reply));
-                false
+                Answer::Reply
             }
             Outcome::Forwarded => {
                 self.tape.record(&event, &Shown::Forwarded);
-                true
+                Answer::Forwarded
             }
             Outcome::NoCall | Outcome::Silent => {
                 self.tape.record(&event, &Shown::Silent);
-                false
+                Answer::Nothing
             }
         }
+    }
+
+    /// Sends the reply to the last datagram over the socket on which that came. One that the socket does not take is lost.
+    pub(crate) fn reply(&mut self, who: Who, socket: &CallSocket)
+        ensures stays { Moves (λ s now. s) self.old self.new }
+        ensures tape { self.new.tape ≡ self.old.tape }
+        ensures moment { self.new.moment ≡ self.old.moment }
+    {
+        let reply = self.core.udp_reply(&mut self.meter);
+        socket.reply(reply, who);
+    }
+
+    /// Sets a row again that was kept, as its owner's SET of version 4 from this machine does. Returns whether it is set.
+    pub(crate) fn restore(&mut self, row: &Row) -> bool
+        ensures acts { ActsNow (set_again row.now) self.old self.new result }
+        ensures recorded { RecordsEvents (λ s now. set_call now row.now ∷ []) self.old self.new }
+        ensures moment { self.new.moment ≡ self.old.moment }
+    {
+        let before = self.core.changes();
+        let call = set_call(row);
+        self.answer(this_machine(), call.as_slice());
+        before != self.core.changes()
+    }
+
+    /// Statistics begin anew.
+    pub(crate) fn zero_stats(&mut self)
+        ensures acts { Moves (λ s now. zero_stats s) self.old self.new }
+        ensures recorded { RecordsEvents (λ s now. ZeroStats ∷ []) self.old self.new }
+        ensures moment { self.new.moment ≡ self.old.moment }
+    {
+        self.core.zero_stats(&mut self.meter);
+        self.tape.record(&Happening::ZeroStats, &Shown::Done);
+    }
+
+    /// How many changes of rows were accepted.
+    pub(crate) fn changes(&self) -> u64
+        ensures changes { Shows StandsFor change_count self.now.core result }
+    {
+        self.core.changes()
+    }
+
+    /// Writes the lines of the rows that were set, in order.
+    pub(crate) fn write_rows<W: Write>(&mut self, writer: &mut W) -> io::Result<()>
+        ensures kept { OnOk result
+            (WritesKept self.old.core W.contents writer.old writer.new) }
+        ensures core { self.new.core ≡ self.old.core }
+        ensures tape { self.new.tape ≡ self.old.tape }
+        ensures moment { self.new.moment ≡ self.old.moment }
+    {
+        write_rows(&self.core, writer, &mut self.meter)
     }
 
     /// Takes a datagram in that came where forwarded calls are sent from. The answer is the connection that goes on.

@@ -3,6 +3,8 @@
 
 mod daemon;
 mod engine;
+mod keeping;
+mod log;
 mod outbox;
 mod serving;
 mod showing;
@@ -12,4 +14,4 @@ pub use daemon::Daemon;
 pub use rb_model::Limits;
 pub use rb_policy::Rate;
 pub use rb_proto::{Forwarding, Terms};
-pub use rb_sockets::{DaemonFault, LocalSocket, Settings, Shortage, SocketFault, Step};
+pub use rb_sockets::{DaemonFault, LocalSocket, Logged, Settings, Shortage, SocketFault, Step};

@@ -1,11 +1,12 @@
 //! The core with its sockets and connections, and what a turn does with them.
 ghost use Rattle.std.specs.Prelude.{◌≤◌, length};
 
-use crate::engine::{Due, Engine};
+use crate::engine::{Answer, Due, Engine};
+use crate::keeping::Keeper;
 use crate::steps::{Progress, serve};
 use mio::Registry;
 use mio::event::Event;
-use rb_address::{Family, Peer, Who};
+use rb_address::{Family, Peer, Source, Who};
 use rb_forward::PATIENCE;
 use rb_links::{Places, Turn};
 use rb_policy::{
@@ -29,8 +30,12 @@ const DATAGRAMS: usize = SOCKET_CALLS / 2;
 #[derive(Drop)]
 pub(crate) struct Serving {
     engine: Engine,
+    /// Where the rows are kept that were set.
+    keeper: Keeper,
     sockets: Sockets,
     places: Places,
+    /// Where the last connection at each place came from.
+    sources: Vec<Source>,
     /// As many things can be due at one moment: connections and forwarded calls.
     most_due: usize,
     datagram: Vec<u8>,
@@ -70,6 +75,7 @@ impl Serving {
     pub(crate) fn new(
         alloc: Global,
         engine: Engine,
+        keeper: Keeper,
         sockets: Sockets,
         places: usize,
         most_due: usize,
@@ -77,11 +83,15 @@ impl Serving {
     ) -> Result<Serving, AllocError> {
         let mut datagram = Vec::with_capacity(alloc, LONGEST_DATAGRAM)?;
         datagram.resize(LONGEST_DATAGRAM, 0)?;
+        let mut sources = Vec::with_capacity(alloc, places)?;
+        sources.resize(places, Source::Local)?;
         let table = Table::new(alloc, !sockets.are_claims_believed)?;
         Ok(Serving {
             engine,
+            keeper,
             sockets,
             places: Places::new(alloc, places)?,
+            sources,
             most_due,
             datagram,
             brake: brake_of(alloc, udp_rate)?,
@@ -105,6 +115,21 @@ impl Serving {
     /// Writes what was recorded and not yet written.
     pub(crate) fn write_record<W: Write>(&mut self, writer: &mut W) -> io::Result<()> {
         self.engine.write_record(writer)
+    }
+
+    /// Keeps what changed and is not kept yet.
+    pub(crate) fn keep<H: Files>(&mut self, host: &H) {
+        self.keeper.keep(host, &mut self.engine);
+    }
+
+    /// The error of a write of kept rows that is yet to be told.
+    pub(crate) fn take_keep_fault(&mut self) -> Option<io::Error> {
+        self.keeper.take_fault()
+    }
+
+    /// Writes the lines of the log that are not written yet.
+    pub(crate) fn write_log<W: Write>(&mut self, writer: &mut W) -> io::Result<()> {
+        self.engine.write_log(writer)
     }
 
     /// Whether the next turn has something to serve at once.
@@ -142,12 +167,12 @@ impl Serving {
     }
 
     /// Serves the connection that an event shows, or leaves it for the last round.
-    pub(crate) fn serve(&mut self, event: &Event) {
+    pub(crate) fn serve<H: Files>(&mut self, host: &H, event: &Event) {
         let Shown::Connection(key) = Sockets::shown_by(event.token()) else {
             return;
         };
         match self.places.round(key) {
-            Some(Round::First) => self.serve_at(key, event.is_read_closed()),
+            Some(Round::First) => self.serve_at(host, key, event.is_read_closed()),
             Some(Round::Last) => self.places.leave(key),
             None => {}
         }
@@ -155,7 +180,7 @@ impl Serving {
 
     /// The last round: serves connections that were left, by events of this turn or by the last turn, and those whose
     /// forwarded calls have ended. Those that are too many for it are the first of the next turn's.
-    pub(crate) fn serve_left(&mut self) {
+    pub(crate) fn serve_left<H: Files>(&mut self, host: &H) {
         let Some(first) = self.places.begin_last_round() else {
             return;
         };
@@ -168,14 +193,14 @@ impl Serving {
                 self.places.leave_from(key);
                 return;
             }
-            self.serve_at(key, true);
+            self.serve_at(host, key, true);
             served = served.saturating_add(1);
         }
     }
 
     /// Serves the connection at a place, at most once in a turn. `may_end` is whether its peer may have ended what it
     /// sends.
-    fn serve_at(&mut self, key: usize, may_end: bool) {
+    fn serve_at<H: Files>(&mut self, host: &H, key: usize, may_end: bool) {
         if !self.places.is_served_by(self.turn, key) {
             return;
         }
@@ -183,8 +208,10 @@ impl Serving {
             return;
         };
         match serve(
+            host,
             link,
             &mut self.engine,
+            &mut self.keeper,
             &self.sockets.forwards,
             &mut self.places.long_outbox,
             self.turn,
@@ -203,8 +230,16 @@ impl Serving {
         }
     }
 
+    /// Closes the connection at a place, which is given up, and tells the log so.
+    fn give_up(&mut self, key: usize) {
+        if let Some(source) = self.sources.get(key) {
+            self.engine.tell_given_up(*source);
+        }
+        self.close(key);
+    }
+
     /// Answers datagrams on each socket where calls come in.
-    pub(crate) fn answer_calls(&mut self) {
+    pub(crate) fn answer_calls<H: Files>(&mut self, host: &H) {
         for i in 0..self.sockets.calls.all.len() {
             let is_ready = self
                 .sockets
@@ -213,7 +248,7 @@ impl Serving {
                 .get(i)
                 .is_some_and(|calls| calls.is_ready());
             if is_ready {
-                let again = self.answer_calls_on(i);
+                let again = self.answer_calls_on(host, i);
                 if let Some(calls) = self.sockets.calls.all.get_mut(i) {
                     calls.leave(again);
                 }
@@ -222,7 +257,7 @@ impl Serving {
     }
 
     /// Answers datagrams on the socket of this number, and says when it is served again.
-    fn answer_calls_on(&mut self, i: usize) -> Again {
+    fn answer_calls_on<H: Files>(&mut self, host: &H, i: usize) -> Again {
         let mut got_some = false;
         for _ in 0..DATAGRAMS {
             let Some(calls) = self.sockets.calls.all.get(i) else {
@@ -234,7 +269,7 @@ impl Serving {
             {
                 Ok((len, from)) => {
                     got_some = true;
-                    self.answer(i, len, from);
+                    self.answer(host, i, len, from);
                 }
                 Err(error) => {
                     if after_receive(outcome_of(&error)) == Next::AwaitEvent {
@@ -246,9 +281,9 @@ impl Serving {
         after_all_calls(got_some)
     }
 
-    /// Answers the datagram of the first `len` bytes, which came on the socket of this number, unless the brake drops it.
-    /// A call that is forwarded is sent at once.
-    fn answer(&mut self, i: usize, len: usize, from: Option<Who>)
+    /// Answers the datagram of the first `len` bytes, which came on the socket of this number, unless the brake drops it:
+    /// what it changed is kept first. A call that is forwarded is sent at once.
+    fn answer<H: Files>(&mut self, host: &H, i: usize, len: usize, from: Option<Who>)
         requires { len ≤ length self.old.datagram.items }
     {
         let (Some(who), Some(calls)) = (from, self.sockets.calls.all.get(i)) else {
@@ -258,9 +293,18 @@ impl Serving {
             return;
         }
         let content = &self.datagram[..len];
-        if self.engine.answer(who, content, &calls.socket) {
-            self.awaited_until = self.turn.moment.saturating_add(PATIENCE);
-            self.engine.send_forward(&self.sockets.forwards);
+        let answer = self.engine.answer(who, content);
+        self.engine.tell_call();
+        match answer {
+            Answer::Reply => {
+                self.keeper.keep(host, &mut self.engine);
+                self.engine.reply(who, &calls.socket);
+            }
+            Answer::Forwarded => {
+                self.awaited_until = self.turn.moment.saturating_add(PATIENCE);
+                self.engine.send_forward(&self.sockets.forwards);
+            }
+            Answer::Nothing => {}
         }
     }
 
@@ -340,7 +384,7 @@ impl Serving {
         let now = self.turn.moment;
         for key in 0..self.places.count() {
             if self.places.is_stuck(key, now) {
-                self.close(key);
+                self.give_up(key);
             }
         }
     }
@@ -352,7 +396,7 @@ impl Serving {
                 return;
             };
             match self.places.key_of(id) {
-                Some(key) => self.close(key),
+                Some(key) => self.give_up(key),
                 None => self.engine.closed(id),
             }
         }
@@ -438,12 +482,15 @@ impl Serving {
         let key = match self.places.admit(&origin, self.turn.moment) {
             Admission::Take(key) => key,
             Admission::GiveUp(key) => {
-                self.close(key);
+                self.give_up(key);
                 key
             }
             Admission::Close => return,
         };
         self.places.give(key, stream, origin, self.turn.moment);
+        if let Some(source) = self.sources.get_mut(key) {
+            *source = visitor.source();
+        }
         match visitor {
             Visitor::Known(who) => self.open_at(registry, key, who),
             Visitor::Unknown(ends) => self.places.hold(key, ends),

@@ -1,11 +1,13 @@
 //! What is done with a connection that is ready: bytes go from its socket to the core, and replies from the core to its
 //! socket.
 use crate::engine::{Engine, Given};
+use crate::keeping::Keeper;
 use crate::outbox::exchange;
 use rb_core::Exchanged;
 use rb_links::{LONG_ROOM, Link, Outbox, READ_AHEAD, Turn};
 use rb_policy::{Next, SOCKET_CALLS};
 use rb_sockets::ForwardSockets;
+use std::fs::Files;
 
 /// The most exchanges with the core in one step: each but the last takes or gives a byte at least.
 const EXCHANGES: usize = READ_AHEAD + LONG_ROOM;
@@ -24,25 +26,29 @@ pub(crate) enum Progress {
 /// Hands in, takes over, writes and reads until the socket would block or has used up its calls of this turn.
 /// `may_end` is whether its peer may have ended what it sends. It has the long outbox meanwhile, where that is to spare,
 /// and longer where bytes are left in it.
-pub(crate) fn serve(
+pub(crate) fn serve<H: Files>(
+    host: &H,
     link: &mut Link,
     engine: &mut Engine,
+    keeper: &mut Keeper,
     forwards: &ForwardSockets,
     long_outbox: &mut Outbox,
     turn: Turn,
     may_end: bool,
 ) -> Progress {
     link.begin(turn, long_outbox);
-    let progress = serve_calls(link, engine, forwards, may_end);
+    let progress = serve_calls(host, link, engine, keeper, forwards, may_end);
     link.end(turn, long_outbox);
     progress
 }
 
 /// Makes socket calls until they are enough for a turn, or none is left to make. Where they were enough and none moved a
 /// byte, each was interrupted: the connection would keep turns from waiting, and is over.
-fn serve_calls(
+fn serve_calls<H: Files>(
+    host: &H,
     link: &mut Link,
     engine: &mut Engine,
+    keeper: &mut Keeper,
     forwards: &ForwardSockets,
     may_end: bool,
 ) -> Progress {
@@ -50,7 +56,7 @@ fn serve_calls(
         if link.is_cut_off(calls) {
             break;
         }
-        match step(link, engine, forwards, may_end) {
+        match step(host, link, engine, keeper, forwards, may_end) {
             Next::GoOn => {}
             Next::AwaitEvent | Next::AwaitTurn => return Progress::Blocked,
             Next::Close => return Progress::Over,
@@ -63,10 +69,19 @@ fn serve_calls(
     }
 }
 
-/// Exchanges bytes with the core, and makes at most one socket call. Replies are taken over only where the socket has
-/// taken all that were before.
-fn step(link: &mut Link, engine: &mut Engine, forwards: &ForwardSockets, may_end: bool) -> Next {
-    if link.outbox.is_empty() && !make_exchanges(link, engine, forwards) {
+/// Exchanges bytes with the core, and makes at most one socket call: what changed is kept first. Replies are taken over
+/// only where the socket has taken all that were before.
+fn step<H: Files>(
+    host: &H,
+    link: &mut Link,
+    engine: &mut Engine,
+    keeper: &mut Keeper,
+    forwards: &ForwardSockets,
+    may_end: bool,
+) -> Next {
+    let goes_on = !link.outbox.is_empty() || make_exchanges(link, engine, forwards);
+    keeper.keep(host, engine);
+    if !goes_on {
         let _ = link.write();
         return Next::Close;
     }
@@ -101,12 +116,9 @@ fn hand_in(link: &mut Link, engine: &mut Engine, forwards: &ForwardSockets) -> O
         return Some(0);
     }
     let id = link.id()?;
-    let Exchanged { taken, given, .. } = exchange(
-        engine,
-        id,
-        link.inbox.bytes(),
-        &mut link.outbox,
-    ).ok()?;
+    let done = exchange(engine, id, link.inbox.bytes(), &mut link.outbox);
+    engine.tell_call();
+    let Exchanged { taken, given, .. } = done.ok()?;
     if taken.closed {
         return None;
     }

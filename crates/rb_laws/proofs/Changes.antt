@@ -47,7 +47,7 @@ use Rattle.rb_model.specs.State.Phase.{Idle, Reading, Owing, Awaiting, Lost}
 use Rattle.rb_model.specs.Connections.{Taking, taking_of, settle, live_connection, is_there, changed_at}
 use Rattle.rb_model.specs.Connections.Taking.{TakesNone, GoesOn, Ends}
 use Rattle.rb_model.specs.Step.{longest_to, sender, Event, Output, context_in, serve, serve_record, when_taken, with_count, bytes_to, bytes, on_connection, with_reply, datagram, output_or, show_taken, show_outcome, step, after}
-use Rattle.rb_model.specs.Step.Event.{Open, Bytes, Pending, Gave, Closed, NextLost, Datagram, Unsent, Sent, Forward, Expire}
+use Rattle.rb_model.specs.Step.Event.{Open, Bytes, Pending, Gave, Closed, NextLost, Datagram, Unsent, Sent, Forward, Expire, ZeroStats}
 use Rattle.rb_model.specs.Step.Output.{Replied}
 use Rattle.rb_model.specs.ChangeLaws.{change_asked, change_where, change_told, true_reply, told_true, is_told_true, Brought, record_in, record_on, brought_by, said_to, change_from, change_by, changes_by, Asks, Owes, GetsReply, MayBeMade, ChangesAtMostOnce, ChangesAreAccepted, ChangesAreThoseAccepted}
 use Rattle.rb_model.specs.ChangeLaws.ChangesAtMostOnce.{Same, OneMore}
@@ -144,6 +144,7 @@ brought-hears s Unsent m brings = absurd cc
 brought-hears s (Sent number) m brings = absurd cc
 brought-hears s (Forward now from message) m brings = absurd cc
 brought-hears s (Expire now) m brings = absurd cc
+brought-hears s ZeroStats m brings = absurd cc
 
 -- a SET or an UNSET is TRUE alone where its caller may register
 
@@ -263,6 +264,7 @@ left-appends s (Sent number) = by_test (can_be_sent number s.ledger.forwards)
     by_test false = sym (append-nil s.ledger.changes)
 left-appends s (Forward now from message) = sym (append-nil s.ledger.changes)
 left-appends s (Expire now) = sym (append-nil s.ledger.changes)
+left-appends s ZeroStats = sym (append-nil s.ledger.changes)
 
 pub step-appends : (s : State) (event : Event) → Appends s.ledger (change_by s event) (step s event).1.ledger
 step-appends s event = subst (Appends s.ledger (change_by s event)) (sym (step-ledger s event)) (left-appends s event)
@@ -412,6 +414,7 @@ gets-reply s Unsent m reply brings is = absurd cc
 gets-reply s (Sent number) m reply brings is = absurd cc
 gets-reply s (Forward now from message) m reply brings is = absurd cc
 gets-reply s (Expire now) m reply brings is = absurd cc
+gets-reply s ZeroStats m reply brings is = absurd cc
 
 -- ---- the law of one event
 

@@ -28,7 +28,7 @@ use Rattle.rb_model.specs.State.Phase.{Idle}
 use Rattle.rb_model.specs.Connections.{is_lost, has_number, is_live, live_connection, is_there, fed_in, change_first, changed_at, keep_reading, settle, give, without_number, close_in_table}
 use Rattle.rb_model.specs.Step.{sender, Event, Output, context_in, with_reply, datagram, show_outcome, serve_message, serve, dropped_with, bytes, close_connection, output_or, show_taken, show_done, show_expired, step, IsReached}
 use Rattle.rb_model.specs.declared.types.Taken.{Taken}
-use Rattle.rb_model.specs.Step.Event.{Open, Bytes, Pending, Gave, Closed, NextLost, Datagram, Unsent, Sent, Forward, Expire}
+use Rattle.rb_model.specs.Step.Event.{Open, Bytes, Pending, Gave, Closed, NextLost, Datagram, Unsent, Sent, Forward, Expire, ZeroStats}
 use Rattle.rb_model.specs.Laws.{IsLive, IsLeast}
 use Rattle.rb_model.specs.DeadlineLaws.{NoEntryIsDue}
 use Rattle.rb_model.specs.declared.types.Expired.{Expired}
@@ -452,6 +452,7 @@ module _ (s : State) (reached : IsReached s) (id : ℕ) (c : Connection) (there 
   room-at (Sent number) now n caller content brings lists goes = absurd brings
   room-at (Forward at from message) now n caller content brings lists goes = absurd brings
   room-at (Expire at) now n caller content brings lists goes = absurd brings
+  room-at ZeroStats now n caller content brings lists goes = absurd brings
 
   lost-by-room : (event : Event) → EndsForRoom s c event → lost_in id (step s event).1.connections.all ≡ true
   lost-by-room event e = room-at event e.now e.stamp e.caller e.content e.brings e.lists (crowded-out e.now e.caller e.content e.asks e.full e.stamp e.lists e.before)

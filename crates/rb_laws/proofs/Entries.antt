@@ -31,9 +31,9 @@ use Rattle.rb_model.specs.State.Phase.{Awaiting}
 use Rattle.rb_model.specs.Laws.{is_awaiting}
 use Rattle.rb_model.specs.Connections.{is_live, live_connection, fed_in, with_given, give, keep_reading, settle, change_first, changed_at, on_found, is_there, without_number, close_in_table, opening_as, open_in_table, number_for, on_connection}
 use Rattle.rb_model.specs.Ending.{outcome_at_end, tell, tell_end, at_fresh_moment, forward_reply, expire}
-use Rattle.rb_model.specs.Step.{longest_to, sender, Event, Output, context_in, serve, bytes, unless_refused, gave, is_too_much, pending, pending_on, open_connection, dropped_with, close_connection, sent_call, with_reply, datagram, output_or, show_taken, show_done, show_outcome, show_end, show_expired, step, after, IsReached}
+use Rattle.rb_model.specs.Step.{longest_to, sender, Event, Output, context_in, serve, bytes, unless_refused, gave, is_too_much, pending, pending_on, open_connection, dropped_with, close_connection, sent_call, with_reply, datagram, output_or, show_taken, show_done, show_outcome, show_end, show_expired, step, after, IsReached, zero_stats}
 use Rattle.rb_model.specs.declared.types.Taken.{Taken}
-use Rattle.rb_model.specs.Step.Event.{Open, Bytes, Pending, Gave, Closed, NextLost, Datagram, Unsent, Sent, Forward, Expire}
+use Rattle.rb_model.specs.Step.Event.{Open, Bytes, Pending, Gave, Closed, NextLost, Datagram, Unsent, Sent, Forward, Expire, ZeroStats}
 use Rattle.rb_model.specs.Step.Output.{Opened, TooMuch, IsPending}
 use Rattle.rb_model.specs.Sessions.{IsFinal}
 use Rattle.rb_model.specs.ForwardLaws.{count_awaiting, ConnectionsAwait}
@@ -384,7 +384,7 @@ module _ (s : State) (sound : IsSound s) (h : Await s) where
   shown-pending r = grind arith
 
   pub step-awaits : (event : Event) → Await (step s event).1
-  unfolding step open_connection open_in_table pending gave close_connection close_in_table datagram sent_call forward_reply serve
+  unfolding step open_connection open_in_table pending gave close_connection close_in_table datagram sent_call forward_reply serve zero_stats
   step-awaits (Open at who) = open-awaits at who (number_for s.setting.limits.conns s.connections)
   step-awaits (Bytes at id piece) = bytes-await at id piece (bytes s at id piece) (arriving s at id piece)
   step-awaits (Pending id) = shown-pending (pending s id)
@@ -400,6 +400,7 @@ module _ (s : State) (sound : IsSound s) (h : Await s) where
   step-awaits (Sent number) = sent-await number (can_be_sent number s.ledger.forwards)
   step-awaits (Forward at from message) = shown-end _ (forward-awaits at from message)
   step-awaits (Expire at) = expire-awaits at (expire s at) (expiry s at)
+  step-awaits ZeroStats = h
 
 -- ---- runs
 

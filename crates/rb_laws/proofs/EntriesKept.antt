@@ -42,8 +42,8 @@ use Rattle.rb_model.specs.State.{Setting, State, Connection, Connections, at_mom
 use Rattle.rb_model.specs.Connections.{Taking, taking_of, live_connection, close_in_table}
 use Rattle.rb_model.specs.Connections.Taking.{TakesNone, GoesOn, Ends}
 use Rattle.rb_model.specs.Ending.{outcome_at_end, tell, tell_end, at_fresh_moment, forward_reply, expire_connection, expired_as, expire}
-use Rattle.rb_model.specs.Step.{sender, Event, Output, context_in, serve, serve_record, unless_refused, when_taken, bytes_to, bytes, pending, gave, is_too_much, open_connection, dropped_with, close_connection, with_reply, datagram, sent_call, output_or, show_taken, show_done, show_outcome, show_end, show_expired, step, after, IsReached}
-use Rattle.rb_model.specs.Step.Event.{Open, Bytes, Pending, Gave, Closed, NextLost, Datagram, Unsent, Sent, Forward as ForwardCame, Expire}
+use Rattle.rb_model.specs.Step.{sender, Event, Output, context_in, serve, serve_record, unless_refused, when_taken, bytes_to, bytes, pending, gave, is_too_much, open_connection, dropped_with, close_connection, with_reply, datagram, sent_call, output_or, show_taken, show_done, show_outcome, show_end, show_expired, step, after, IsReached, zero_stats}
+use Rattle.rb_model.specs.Step.Event.{Open, Bytes, Pending, Gave, Closed, NextLost, Datagram, Unsent, Sent, Forward as ForwardCame, Expire, ZeroStats}
 use Rattle.rb_model.specs.Step.Output.{Opened, TooMuch, IsPending}
 use Rattle.rb_model.proofs.AskedArgs.{message_has}
 
@@ -178,7 +178,7 @@ expired-follows s (None, u) f = by_found (expire_connection u) (record { setting
     by_found (e, t) g = elim e as (λ x. Follows s (show_expired (x, t)).1) [ expired.Nothing ↦ g | expired.Ended told ↦ g | expired.ConnectionClosed id ↦ g ]
 
 pub step-follows : (s : State) (event : Event) → Follows s (step s event).1
-unfolding step open_connection bytes gave close_connection datagram sent_call forward_reply expire target_replied fell_due call_sent reply due
+unfolding step open_connection bytes gave close_connection datagram sent_call forward_reply expire target_replied fell_due call_sent reply due zero_stats
 step-follows s (Open now who) = moved-follows s now Opened _
 step-follows s (Bytes now id piece) = bytes-follow s now id piece (live_connection id s.connections.all)
 step-follows s (Pending id) = shown-follows s IsPending (pending s id) s (stays s)
@@ -197,6 +197,7 @@ step-follows s (ForwardCame now from message) =
     (Ends1 (counts_for s.setting.first_xid (max s.clock now) from message) refl))
 step-follows s (Expire now) =
     expired-follows s _ (told-follows [] s (at_fresh_moment now s) (due (max s.clock now) s.ledger.forwards).0 _ refl (Ends1 (is_due (max s.clock now)) refl))
+step-follows s ZeroStats = record { setting = refl; goes = Same refl }
 
 -- ---- what holds of them
 

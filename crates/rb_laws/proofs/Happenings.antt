@@ -23,9 +23,9 @@ use Rattle.rb_model.specs.State.{State, Connection, Connections, at_moment}
 use Rattle.rb_model.specs.Connections.{fed_in, taking_of, taking_up_to, keep_reading, settle, give, pending_in, live_connection, changed_at, on_found, number_for, with_new, opening_as, open_in_table, is_there, without_number, close_in_table}
 use Rattle.rb_model.specs.Ending.{outcome_at_end, tell, tell_end, at_fresh_moment, forward_reply, expired_as, expire}
 use Rattle.rb_model.specs.Losses.{removals_in_the_way, evict, is_due as connection_is_due, lose}
-use Rattle.rb_model.specs.Step.{sender, Event, Output, context_in, serve, serve_record, unless_refused, when_taken, bytes_to, bytes, pending, pending_on, gave, is_too_much, open_connection, dropped_with, close_connection, next_lost, with_reply, datagram, unsent_call, sent_call, output_or, show_taken, show_done, show_outcome, show_told, show_end, show_expired, on_connection, step}
+use Rattle.rb_model.specs.Step.{sender, Event, Output, context_in, serve, serve_record, unless_refused, when_taken, bytes_to, bytes, pending, pending_on, gave, is_too_much, open_connection, dropped_with, close_connection, next_lost, with_reply, datagram, unsent_call, sent_call, output_or, show_taken, show_done, show_outcome, show_told, show_end, show_expired, on_connection, step, zero_stats}
 use Rattle.rb_model.specs.declared.types.Taken.{Taken}
-use Rattle.rb_model.specs.Step.Event.{Open, Bytes, Pending, Gave, Closed, NextLost, Datagram, Unsent, Sent, Forward, Expire}
+use Rattle.rb_model.specs.Step.Event.{Open, Bytes, Pending, Gave, Closed, NextLost, Datagram, Unsent, Sent, Forward, Expire, ZeroStats}
 use Rattle.rb_model.specs.Step.Output.{Opened, Refused, TooMuch, Took, IsPending, Done, LostIs, Replied, Forwarded, Silent, UnsentIs, Nothing, ConnectionClosed}
 use Rattle.rb_model.specs.declared.types.Expired.{Expired}
 use Rattle.rb_model.specs.Laws.{number_given}
@@ -243,7 +243,7 @@ module _ (s : State) where
           (find-any (is_due (max s.clock at)) (is_of_connection id) s.ledger.forwards.all e found of) refl
 
   pub happening : (event : Event) → Happening s event (step s event).0 (step s event).1.connections
-  unfolding step open_connection open_in_table pending gave close_connection close_in_table datagram sent_call forward_reply
+  unfolding step open_connection open_in_table pending gave close_connection close_in_table datagram sent_call forward_reply zero_stats
   happening (Open at who) = open-happens at who (number_for s.setting.limits.conns s.connections) refl
   happening (Bytes at id piece) = bytes-happen at id piece (bytes s at id piece) (arriving s at id piece)
   happening (Pending id) = pending-happens id (pending s id)
@@ -257,6 +257,7 @@ module _ (s : State) where
   happening (Forward at from message) =
       end-happens (Forward at from message) at message show_end (target_replied s.setting.first_xid (max s.clock at) from message s.ledger) refl (end-shows (Forward at from message)) (replied-there s (max s.clock at) from message) (λ k. refl)
   happening (Expire at) = expire-happens at (expire s at) (expiry s at)
+  happening ZeroStats = Stays (quiet ZeroStats Done refl refl (λ k. refl)) refl
 
 -- ---- what a connection is told by an event
 
@@ -286,6 +287,7 @@ module _ (s : State) where
   tells (Datagram at who content) id said told = absurd cc
   tells Unsent id said told = absurd cc
   tells (Sent number) id said told = absurd cc
+  tells ZeroStats id said told = absurd cc
 
 -- nothing is taken or given on a connection by it
 pub end-passes-none : (event : Event) → is_end event ≡ true → (id : ℕ) → (piece_to id event ≡ []) × (gave_to id event ≡ 0)

@@ -1,5 +1,6 @@
 -- What each event appends to the history.
-use Rattle.std.proofs.Common.{◌≡◌, ℕ, Bool, true, false, cond, is_some, Option, Some, None, List, [], ◌∷◌, ◌++◌, refl, sym, ap, subst, ◌∙◌, append-nil, append_assoc}
+use Rattle.std.proofs.Common.{◌≡◌, ℕ, Bool, true, false, cond, ◌||◌, is_some, Option, Some, None, List, [], ◌∷◌, ◌++◌, refl, sym, ap, ◌∙◌, append-nil, append_assoc}
+use Rattle.std.specs.List.{list_any}
 use Rattle.rb_rpc.specs.declared.call.CallHead.{CallHead}
 use Rattle.rb_uaddr.specs.declared.address.Uaddr.{Uaddr}
 use Rattle.rb_rpc.specs.declared.caller.Kind.{Kind}
@@ -37,9 +38,9 @@ use Rattle.rb_model.specs.Calls.{message_of, outcome, reply_with}
 use Rattle.rb_model.specs.Connections.{live_connection, is_there}
 use Rattle.rb_model.specs.State.{State, at_moment, opening}
 use Rattle.rb_model.specs.Step.{sender, Event, context_in, serve, step, after}
-use Rattle.rb_model.specs.Step.Event.{Open, Bytes, Pending, Gave, Closed, NextLost, Datagram, Unsent, Sent, Forward, Expire}
+use Rattle.rb_model.specs.Step.Event.{Open, Bytes, Pending, Gave, Closed, NextLost, Datagram, Unsent, Sent, Forward, Expire, ZeroStats}
 use Rattle.rb_model.specs.ChangeLaws.{is_told_true, Brought, record_on}
-use Rattle.rb_model.specs.HistoryLaws.{call_note, lookup_notes, getport_notes, failure_notes, notes_done, notes_of, notes_from, notes_by, history_by, EventsAreNoted, HistoryIsOfItsEvents}
+use Rattle.rb_model.specs.HistoryLaws.{call_note, lookup_notes, getport_notes, failure_notes, notes_done, notes_of, notes_from, notes_by, begins_anew, unless_anew, history_by, EventsAreNoted, HistoryIsOfItsEvents}
 use Rattle.rb_laws.proofs.Changes.{FitsTrue, Hears, told-true, brought-hears, set-here, unset-here}
 use Rattle.rb_laws.proofs.LedgerSteps.{ledger_from, ledger_left, step-ledger}
 
@@ -138,7 +139,8 @@ message-noted s (Some m) hears =
     outcome-noted (context_in (at_moment m.now s) m.caller) (message_of m.content) (arguments_of m.content) s.ledger (hears m refl)
     ∙ ap (λ (notes : List Note). s.ledger.history ++ notes) (sym (append-nil (notes_from s (Some m))))
 
-left-noted : (s : State) (event : Event) → Notes s.ledger (notes_by s event) (ledger_left s event)
+-- the ledger is left with these notes, behind the history, or behind nothing where statistics begin anew
+left-noted : (s : State) (event : Event) → (ledger_left s event).history ≡ unless_anew (begins_anew event) s.ledger.history ++ notes_by s event
 unfolding target_replied fell_due caller_dropped call_sent
 left-noted s (Open now who) = sym (append-nil s.ledger.history)
 left-noted s (Bytes now id piece) = message-noted s (record_on now id piece (live_connection id s.connections.all)) (brought-hears s (Bytes now id piece))
@@ -160,18 +162,36 @@ left-noted s (Sent number) = by_test (can_be_sent number s.ledger.forwards)
     by_test false = sym (append-nil s.ledger.history)
 left-noted s (Forward now from message) = refl
 left-noted s (Expire now) = refl
+left-noted s ZeroStats = refl
 
 pub events_are_noted : EventsAreNoted
-events_are_noted s event = subst (Notes s.ledger (notes_by s event)) (sym (step-ledger s event)) (left-noted s event)
+events_are_noted s event = ap (λ (l : Ledger). l.history) (step-ledger s event) ∙ left-noted s event
 
 -- ---- runs
 
-after-noted : (s : State) (events : List Event) → (after s events).ledger.history ≡ s.ledger.history ++ history_by s events
+-- what is left of a history and of notes behind it, by one event and by others behind it
+left-of : (one later : Bool) (history notes more : List Note)
+    → unless_anew later (unless_anew one history ++ notes) ++ more ≡ unless_anew (one || later) history ++ (unless_anew later notes ++ more)
+left-of true true history notes more = refl
+left-of true false history notes more = refl
+left-of false true history notes more = refl
+left-of false false history notes more = append_assoc history notes more
+
+after-noted : (s : State) (events : List Event)
+    → (after s events).ledger.history ≡ unless_anew (list_any begins_anew events) s.ledger.history ++ history_by s events
 after-noted s [] = sym (append-nil s.ledger.history)
 after-noted s (event ∷ events) =
+    let later : Bool = list_any begins_anew events in
+    let rest : List Note = history_by (step s event).1 events in
     after-noted (step s event).1 events
-    ∙ ap (λ (history : List Note). history ++ history_by (step s event).1 events) (events_are_noted s event)
-    ∙ append_assoc s.ledger.history (notes_by s event) (history_by (step s event).1 events)
+    ∙ ap (λ (history : List Note). unless_anew later history ++ rest) (events_are_noted s event)
+    ∙ left-of (begins_anew event) later s.ledger.history (notes_by s event) rest
 
 pub history_is_of_its_events : HistoryIsOfItsEvents
-history_is_of_its_events limits listener first_xid now events = after-noted (opening limits listener first_xid now) events
+history_is_of_its_events limits listener first_xid now events =
+    let start : State = opening limits listener first_xid now in
+    after-noted start events ∙ ap (λ (kept : List Note). kept ++ history_by start events) (none-before (list_any begins_anew events))
+  where
+    none-before : (anew : Bool) → unless_anew anew [] ≡ []
+    none-before true = refl
+    none-before false = refl

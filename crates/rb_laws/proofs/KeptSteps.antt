@@ -43,9 +43,9 @@ use Rattle.rb_model.specs.State.{Setting, State, opening, Connection, Connection
 use Rattle.rb_model.specs.Connections.{change_first, is_live, live_connection, with_given, give, keep_reading, settle, on_found, number_for, opening_as, open_in_table, is_there, without_number, close_in_table}
 use Rattle.rb_model.specs.Losses.{asks_room, list_stamps, removals_in_the_way, evict_early, is_needed_for, needed_removals, lose, removals_by, expire_first}
 use Rattle.rb_model.specs.Ending.{outcome_at_end, tell_end, at_fresh_moment, expire_connection, expired_as, forward_reply, expire}
-use Rattle.rb_model.specs.Step.{sender, Event, Output, context_in, serve, bytes, pending, gave, is_too_much, unless_refused, open_connection, dropped_with, close_connection, with_reply, datagram, sent_call, output_or, show_taken, show_done, show_outcome, show_end, show_expired, step, after, IsReached}
+use Rattle.rb_model.specs.Step.{sender, Event, Output, context_in, serve, bytes, pending, gave, is_too_much, unless_refused, open_connection, dropped_with, close_connection, with_reply, datagram, sent_call, output_or, show_taken, show_done, show_outcome, show_end, show_expired, step, after, IsReached, zero_stats}
 use Rattle.rb_model.specs.declared.types.Taken.{Taken}
-use Rattle.rb_model.specs.Step.Event.{Open, Bytes, Pending, Gave, Closed, NextLost, Datagram, Unsent, Sent, Forward, Expire}
+use Rattle.rb_model.specs.Step.Event.{Open, Bytes, Pending, Gave, Closed, NextLost, Datagram, Unsent, Sent, Forward, Expire, ZeroStats}
 use Rattle.rb_model.specs.Step.Output.{Opened, TooMuch, IsPending}
 use Rattle.rb_laws.proofs.Closings.{asks-within}
 use Rattle.rb_laws.proofs.Crowding.{none_evicted, not_crowded, crowded}
@@ -282,7 +282,7 @@ module _ (s : State) (fits : Fits s) where
   expired-fits r f = grind (arith, common_steps, one-fits, lost-keeps)
 
   step-fits : (event : Event) → Fits (step s event).1
-  unfolding step open_connection open_in_table gave close_connection close_in_table datagram sent_call forward_reply expire target_replied fell_due
+  unfolding step open_connection open_in_table gave close_connection close_in_table datagram sent_call forward_reply expire target_replied fell_due zero_stats
   step-fits (Open now who) = opened-fits now who (number_for s.setting.limits.conns s.connections)
   step-fits (Bytes now id piece) = bytes-fit now id piece (bytes s now id piece) (arriving s now id piece)
   step-fits (Pending id) = output-fits IsPending (pending s id) s fits
@@ -294,6 +294,7 @@ module _ (s : State) (fits : Fits s) where
   step-fits (Sent number) = sent-fits number (can_be_sent number s.ledger.forwards)
   step-fits (Forward now from message) = end-fits _ (told-fits now message (target_replied s.setting.first_xid (max s.clock now) from message s.ledger) refl refl)
   step-fits (Expire now) = expired-fits _ (told-fits now [] (fell_due (max s.clock now) s.ledger) refl refl)
+  step-fits ZeroStats = fits
 
 after-fits : (s : State) (events : List Event) → Fits s → Fits (after s events)
 after-fits s [] fits = fits

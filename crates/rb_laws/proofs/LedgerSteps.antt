@@ -14,8 +14,8 @@ use Rattle.rb_model.specs.Ending.{tell_end, at_fresh_moment, forward_reply, lost
 use Rattle.rb_model.specs.State.{State, Connection, Connections, at_moment}
 use Rattle.rb_model.specs.Connections.{Taking, taking_of, live_connection, is_there, without_number, close_in_table}
 use Rattle.rb_model.specs.Connections.Taking.{TakesNone, GoesOn, Ends}
-use Rattle.rb_model.specs.Step.{sender, Event, Output, context_in, serve, serve_record, when_taken, bytes_to, bytes, dropped_with, sent_call, show_end, show_expired, unless_refused, pending, gave, is_too_much, open_connection, close_connection, with_reply, datagram, output_or, show_taken, show_done, show_outcome, step}
-use Rattle.rb_model.specs.Step.Event.{Open, Bytes, Pending, Gave, Closed, NextLost, Datagram, Unsent, Sent, Forward, Expire}
+use Rattle.rb_model.specs.Step.{sender, Event, Output, context_in, serve, serve_record, when_taken, bytes_to, bytes, dropped_with, sent_call, show_end, show_expired, unless_refused, pending, gave, is_too_much, open_connection, close_connection, with_reply, datagram, output_or, show_taken, show_done, show_outcome, step, zero_stats}
+use Rattle.rb_model.specs.Step.Event.{Open, Bytes, Pending, Gave, Closed, NextLost, Datagram, Unsent, Sent, Forward, Expire, ZeroStats}
 use Rattle.rb_model.specs.Step.Output.{Opened, TooMuch, IsPending}
 use Rattle.rb_model.specs.ChangeLaws.{Brought, record_in, record_on}
 
@@ -26,7 +26,7 @@ abbrev pub ledger_from : State → Option Brought → Ledger
 ledger_from s None = s.ledger
 ledger_from s (Some m) = (outcome (context_in (at_moment m.now s) m.caller) (message_of m.content) (arguments_of m.content) s.ledger).1
 
--- a message is answered, a forwarded call ends or was sent, or nothing changes
+-- a message is answered, a forwarded call ends or was sent, statistics begin anew, or nothing changes
 abbrev pub ledger_left : State → Event → Ledger
 ledger_left s (Datagram now who content) = ledger_from s (Some (record { now = now; caller = sender s who content; content = content }))
 ledger_left s (Bytes now id piece) = ledger_from s (record_on now id piece (live_connection id s.connections.all))
@@ -34,6 +34,7 @@ ledger_left s (Forward now from message) = (target_replied s.setting.first_xid (
 ledger_left s (Expire now) = (fell_due (max s.clock now) s.ledger).1
 ledger_left s (Closed id) = cond (is_there id s.connections) (caller_dropped id s.ledger).1 s.ledger
 ledger_left s (Sent number) = cond (can_be_sent number s.ledger.forwards) (call_sent number s.ledger) s.ledger
+ledger_left s ZeroStats = record s.ledger { history = [] }
 ledger_left s event = s.ledger
 
 -- ---- that it is
@@ -90,7 +91,7 @@ expired-ledger (None, t) = by_found (first_due t.clock t.connections)
     by_found (Some id) = refl
 
 pub step-ledger : (s : State) (event : Event) → (step s event).1.ledger ≡ ledger_left s event
-unfolding step bytes open_connection gave close_connection close_in_table datagram serve sent_call forward_reply expire
+unfolding step bytes open_connection gave close_connection close_in_table datagram serve sent_call forward_reply expire zero_stats
 step-ledger s (Open now who) = moved-ledger s now Opened _
 step-ledger s (Bytes now id piece) = bytes-ledger s now id piece (live_connection id s.connections.all)
 step-ledger s (Pending id) = shown-ledger s IsPending (pending s id)
@@ -106,3 +107,4 @@ step-ledger s (Forward now from message) =
 step-ledger s (Expire now) =
     let ended = fell_due (max s.clock now) s.ledger in
     expired-ledger (tell_end [] (at_fresh_moment now s) ended) ∙ tell-ledger (at_fresh_moment now s) [] ended
+step-ledger s ZeroStats = refl

@@ -45,9 +45,9 @@ use Rattle.rb_model.specs.declared.types.Limits.{Limits}
 use Rattle.rb_model.specs.Calls.{Outcome, Outcome as outcomes, message_of, outcome}
 use Rattle.rb_model.specs.State.{State, Connections, at_moment, opening, are_good}
 use Rattle.rb_model.specs.Connections.{close_in_table}
-use Rattle.rb_model.specs.Step.{sender, Event, Output, context_in, serve, dropped_with, sent_call, show_end, show_expired, unless_refused, bytes, pending, gave, is_too_much, open_connection, close_connection, with_reply, datagram, output_or, show_taken, show_done, show_outcome, step, after, IsReached}
+use Rattle.rb_model.specs.Step.{sender, Event, Output, context_in, serve, dropped_with, sent_call, show_end, show_expired, unless_refused, bytes, pending, gave, is_too_much, open_connection, close_connection, with_reply, datagram, output_or, show_taken, show_done, show_outcome, step, after, IsReached, zero_stats}
 use Rattle.rb_model.specs.declared.types.Taken.{Taken}
-use Rattle.rb_model.specs.Step.Event.{Open, Bytes, Pending, Gave, Closed, NextLost, Datagram, Unsent, Sent, Forward, Expire}
+use Rattle.rb_model.specs.Step.Event.{Open, Bytes, Pending, Gave, Closed, NextLost, Datagram, Unsent, Sent, Forward, Expire, ZeroStats}
 use Rattle.rb_model.specs.Step.Output.{Opened, TooMuch, IsPending}
 use Rattle.rb_model.specs.Laws.{LedgersAreWellKept}
 use Rattle.rb_laws.proofs.KeptRows.{total-is}
@@ -206,7 +206,7 @@ either s true x y left right = left
 either s false x y left right = right
 
 step-follows : (s : State) (event : Event) → Follows s (step s event).1
-unfolding step open_connection gave close_connection datagram sent_call forward_reply expire
+unfolding step open_connection gave close_connection datagram sent_call forward_reply expire zero_stats
 step-follows s (Open now who) = moved-follows s now Opened _
 step-follows s (Bytes now id piece) = bytes-follow s now id piece (bytes s now id piece) (arriving s now id piece)
 step-follows s (Pending id) = shown-follows s IsPending (pending s id) s (stays s)
@@ -221,6 +221,7 @@ step-follows s (Forward now from message) = grind (arith, common_steps, replied-
 step-follows s (Expire now) =
     expired-follows s (tell_end [] (at_fresh_moment now s) (fell_due (max s.clock now) s.ledger))
     (tell-follows s now [] (fell_due (max s.clock now) s.ledger) (due-ends s.ledger (max s.clock now)))
+step-follows s ZeroStats = record { setting = refl; grows = Same refl refl }
 
 -- no event changes the setting
 pub step-setting : (s : State) (event : Event) → (step s event).1.setting ≡ s.setting

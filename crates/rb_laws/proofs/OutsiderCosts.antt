@@ -16,7 +16,7 @@ use Rattle.rb_model.specs.State.{State, Connection, at_moment, are_good}
 use Rattle.rb_model.specs.Connections.{Taking, taking_of, live_connection}
 use Rattle.rb_model.specs.Connections.Taking.{TakesNone, GoesOn, Ends}
 use Rattle.rb_model.specs.Step.{when_taken, Event, bytes_to, bytes, output_or, show_taken, step, IsReached}
-use Rattle.rb_model.specs.Step.Event.{Open, Bytes, Pending, Gave, Closed, NextLost, Datagram, Unsent, Sent, Forward, Expire}
+use Rattle.rb_model.specs.Step.Event.{Open, Bytes, Pending, Gave, Closed, NextLost, Datagram, Unsent, Sent, Forward, Expire, ZeroStats}
 use Rattle.rb_model.specs.Calls.{longest_reply, longest_kept, message_of}
 use Rattle.rb_model.specs.Bounds.{count_in, bytes_in}
 use Rattle.rb_model.specs.WholeRuns.{bytes_reported}
@@ -110,6 +110,7 @@ module _ (s : State) (reached : IsReached s) (good : are_good s.setting.limits s
   event_few (Sent number) outsider plain = absurd cc
   event_few (Forward now from message) outsider plain = absurd cc
   event_few (Expire now) outsider plain = absurd cc
+  event_few ZeroStats outsider plain = absurd cc
 
 pub outsiders_cost_few : OutsidersCostFew
 outsiders_cost_few = event_few

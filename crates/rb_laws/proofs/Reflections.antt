@@ -44,7 +44,7 @@ use Rattle.rb_model.specs.Connections.Taking.{TakesNone, GoesOn, Ends}
 use Rattle.rb_model.specs.Losses.{first_due, with_lost, expire_first}
 use Rattle.rb_model.specs.Ending.{outcome_of_failure, outcome_of_end, outcome_at_end, tell, tell_end, at_fresh_moment, forward_reply, lost_as, expire_connection, expired_as, expire}
 use Rattle.rb_model.specs.Step.{longest_to, sender, Event, Output, context_in, serve, pending, gave, is_too_much, with_reply, datagram, open_connection, bytes, close_connection, sent_call, output_or, show_taken, show_done, show_outcome, show_told, show_end, show_expired, step, run}
-use Rattle.rb_model.specs.Step.Event.{Open, Bytes, Pending, Gave, Closed, NextLost, Datagram, Unsent, Sent, Forward, Expire}
+use Rattle.rb_model.specs.Step.Event.{Open, Bytes, Pending, Gave, Closed, NextLost, Datagram, Unsent, Sent, Forward, Expire, ZeroStats}
 use Rattle.rb_model.specs.Step.Output.{Opened, TooMuch, IsPending, RepliedTo}
 use Rattle.rb_model.specs.ChangeLaws.{record_in, record_on}
 use Rattle.rb_model.specs.WholeRuns.{total_of}
@@ -280,6 +280,7 @@ module _ (test : Who → Bool) where
     others-quiet (Sent number) is = quiet-or show_done (λ u. refl) (sent_call s number)
     others-quiet (Forward now from message) is = absurd cc
     others-quiet (Expire now) is = absurd cc
+    others-quiet ZeroStats is = refl
 
     -- a record on a connection is answered
     record-left : (now id : ℕ) (who : Who) (content : List ℕ)
@@ -398,6 +399,7 @@ module _ (test : Who → Bool) where
           let one = sent-left number (can_be_sent number s.ledger.forwards) in omega (arith, left, one)
       other-paid (Forward now from message) is = absurd cc
       other-paid (Expire now) is = absurd cc
+      other-paid ZeroStats is = let left = ap (λ (l : Ledger). owing l.forwards) (step-ledger s ZeroStats) in omega (arith, left)
 
       abbrev IsPaid : Event → Type 0
       IsPaid event = bytes_to test event (step s event).0 + left_by event ≤ owing before + 2 * bytes_from test event (step s event).0
@@ -420,6 +422,7 @@ module _ (test : Who → Bool) where
       event-paid NextLost = quiet-paid NextLost refl refl
       event-paid Unsent = quiet-paid Unsent refl refl
       event-paid (Sent number) = quiet-paid (Sent number) refl refl
+      event-paid ZeroStats = quiet-paid ZeroStats refl refl
 
   -- ---- runs
 

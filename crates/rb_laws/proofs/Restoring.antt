@@ -44,7 +44,8 @@ use Rattle.rb_model.specs.declared.message.Message.TheVariants as says
 use Rattle.rb_model.specs.declared.types.Limits.{Limits}
 use Rattle.rb_model.specs.Calls.{Outcome as outcomes, is_served, request_of, call_of, message_of, outcome, success}
 use Rattle.rb_model.specs.State.{State, at_moment, are_good, opening}
-use Rattle.rb_model.specs.Step.{longest_to, sender, Event, context_in, serve, datagram, step, run, after, IsReached}
+use Rattle.rb_model.specs.Step.Event.{ZeroStats}
+use Rattle.rb_model.specs.Step.{longest_to, sender, Event, context_in, serve, datagram, step, run, after, IsReached, zero_stats}
 use Rattle.rb_model.specs.ChangeLaws.{credential_for, MayBeMade, ChangesAtMostOnce, set_rows, RowsCanBeSet, IsSpelled, this_machine, set_head, rpcb_for, set_bytes, set_call, set_calls, SaysTrue, Sets, kept_calls, opened_again, true_reply}
 use Rattle.rb_model.specs.ChangeLaws.ChangesAtMostOnce.{Same, OneMore}
 use Rattle.rb_laws.proofs.Grammar.{by_verdict_again}
@@ -274,3 +275,10 @@ restored s r good are =
     ∙ ap (live (own_rows s.setting.listener)) end.changes_are
     ∙ ap (λ (rows : List Row). own_rows s.setting.listener ++ rows) (all_left (set_rows s))
     ∙ ap (λ (own : List Row). own ++ set_rows s) (sym k.own)
+
+-- where statistics begin anew behind some events, the rows are those after the events, and nothing was called
+pub begun-anew : (s : State) (events : List Event) → let left : State = after s (events ++ ZeroStats ∷ []) in
+    (rows_in left.ledger ≡ rows_in (after s events).ledger) × (left.ledger.history ≡ [])
+unfolding step zero_stats
+begun-anew s [] = (refl, refl)
+begun-anew s (event ∷ events) = begun-anew (step s event).1 events

@@ -18,8 +18,8 @@ use Rattle.rb_model.specs.Calls.{Outcome, message_of}
 use Rattle.rb_model.specs.State.{State, Connection, at_moment}
 use Rattle.rb_model.specs.Connections.{change_first, live_connection, give, on_found, number_for, open_in_table, is_there, without_number, close_in_table}
 use Rattle.rb_model.specs.Ending.{tell, tell_end, at_fresh_moment, forward_reply, expire}
-use Rattle.rb_model.specs.Step.{sender, Event, Output, context_in, serve, serve_record, unless_refused, bytes_to, bytes, pending, gave, is_too_much, open_connection, dropped_with, close_connection, with_reply, datagram, sent_call, output_or, show_taken, show_done, show_outcome, show_end, show_expired, step, after, IsReached}
-use Rattle.rb_model.specs.Step.Event.{Open, Bytes, Pending, Gave, Closed, NextLost, Datagram, Unsent, Sent, Forward as ForwardCame, Expire}
+use Rattle.rb_model.specs.Step.{sender, Event, Output, context_in, serve, serve_record, unless_refused, bytes_to, bytes, pending, gave, is_too_much, open_connection, dropped_with, close_connection, with_reply, datagram, sent_call, output_or, show_taken, show_done, show_outcome, show_end, show_expired, step, after, IsReached, zero_stats}
+use Rattle.rb_model.specs.Step.Event.{Open, Bytes, Pending, Gave, Closed, NextLost, Datagram, Unsent, Sent, Forward as ForwardCame, Expire, ZeroStats}
 use Rattle.rb_model.specs.Step.Output.{TooMuch, IsPending}
 use Rattle.rb_laws.proofs.EntriesKept.{step-follows}
 use Rattle.rb_laws.proofs.DueThings.{Expiry, expiry}
@@ -95,7 +95,7 @@ within : (s : State) (n : ℕ) → HasRoom s → n ≤ count s → n ≤ s.setti
 within s n few less = omega (arith, few, less)
 
 step-few : (s : State) (event : Event) → HasRoom s → count (step s event).1 ≤ s.setting.limits.conns
-unfolding step bytes gave close_connection close_in_table datagram sent_call forward_reply
+unfolding step bytes gave close_connection close_in_table datagram sent_call forward_reply zero_stats
 step-few s (Open now who) few = opened-room s now who few
 step-few s (Bytes now id piece) few = within s _ few (bytes-few s now id piece (live_connection id s.connections.all))
 step-few s (Pending id) few = within s _ few (output-few s IsPending (pending s id) s (omega arith))
@@ -108,6 +108,7 @@ step-few s Unsent few = few
 step-few s (Sent number) few = within s _ few (sent-few s number (can_be_sent number s.ledger.forwards))
 step-few s (ForwardCame now from message) few = grind (arith, common_steps, within s, end-few s (forward_reply s now from message), told-few s message (at_fresh_moment now s))
 step-few s (Expire now) few = within s _ few (expired-few s (expire s now) (expire-few s now (expire s now) (expiry s now)))
+step-few s ZeroStats few = few
 
 step-room : (s : State) (event : Event) → HasRoom s → HasRoom (step s event).1
 step-room s event few = rw ((step-follows s event).setting) (step-few s event few)

@@ -2,7 +2,7 @@
 use Rattle.std.specs.Prelude.{⊤, All, find, filter, option_map, decimal, replicate, slice_range, nat_le}
 use Rattle.std.specs.Str.{IsAscii}
 use Rattle.std.specs.List.{AllByRecursion, join_with_byte}
-use Rattle.std.proofs.Common.{◌≡◌, ℕ, zero, suc, ◌-◌, ◌/◌, ◌%◌, ◌<◌, ◌≤◌, max, Bool, true, false, cond, not, eqb, Option, Some, None, List, [], ◌∷◌, ◌++◌, length, map, take, drop, refl, sym, subst, arith, get_or, length-append}
+use Rattle.std.proofs.Common.{◌≡◌, ℕ, zero, suc, ◌-◌, ◌/◌, ◌%◌, ◌<◌, ◌≤◌, max, Bool, true, false, cond, not, eqb, Option, Some, None, List, [], ◌∷◌, ◌++◌, length, map, take, drop, refl, sym, subst, ◌∙◌, arith, get_or, length-append}
 use Rattle.std.proofs.lemmas.Bool.{leb-true}
 use Rattle.std.proofs.lemmas.Option.{same_Some}
 use Rattle.std.proofs.lemmas.Str.{IsAscii-append}
@@ -53,14 +53,14 @@ use Rattle.rb_model.specs.Connections.{Taking, taking_up_to, taking_behind, taki
 use Rattle.rb_model.specs.Connections.Taking.{TakesNone, GoesOn, Ends as EndsAt}
 use Rattle.rb_model.specs.Losses.{lose, evict_early}
 use Rattle.rb_model.specs.Step.{sender, Event, Output, step, after}
-use Rattle.rb_model.specs.Step.Event.{Open, Bytes, Pending, Gave, Closed, NextLost, Datagram, Unsent, Sent, Forward, Expire}
-use Rattle.rb_model.specs.ChangeLaws.{change_for, change_asked, credential_for, Brought, record_in, record_on, brought_by, ChangesAtMostOnce, set_rows, IsSpelled, IsTrust, BringsBytes, RowsAreSpelled, RowsCanBeSetAgain, KeptRowsAreRestored, set_head, rpcb_for, HasShortCall, KeptCallsAreShort}
+use Rattle.rb_model.specs.Step.Event.{Open, Bytes, Pending, Gave, Closed, NextLost, Datagram, Unsent, Sent, Forward, Expire, ZeroStats}
+use Rattle.rb_model.specs.ChangeLaws.{change_for, change_asked, credential_for, Brought, record_in, record_on, brought_by, ChangesAtMostOnce, set_rows, IsSpelled, IsTrust, BringsBytes, RowsAreSpelled, RowsCanBeSetAgain, KeptRowsAreRestored, KeptRowsAreInNoStatistics, opened_again, kept_calls, set_head, rpcb_for, HasShortCall, KeptCallsAreShort}
 use Rattle.rb_model.specs.ChangeLaws.ChangesAtMostOnce.{Same, OneMore}
 use Rattle.rb_laws.proofs.Happenings.{Happening, happening, crowd_at}
 use Rattle.rb_laws.proofs.Happenings.Happening.{Stays, Evicts, Opens, Reads, Ends, Gives, Closes, Tells, TimesOut}
 use Rattle.rb_laws.proofs.Grammar.{asked_messages}
 use Rattle.rb_laws.proofs.Changes.{at-most-once}
-use Rattle.rb_laws.proofs.Restoring.{rpcb_fits, all-left, rows_can_be_set, sets-again, restored}
+use Rattle.rb_laws.proofs.Restoring.{rpcb_fits, all-left, rows_can_be_set, sets-again, restored, begun-anew}
 
 -- ---- texts of addresses
 
@@ -331,6 +331,7 @@ brought-bytes s Unsent m a brings e = absurd cc
 brought-bytes s (Sent number) m a brings e = absurd cc
 brought-bytes s (Forward now from message) m a brings e = absurd cc
 brought-bytes s (Expire now) m a brings e = absurd cc
+brought-bytes s ZeroStats m a brings e = absurd cc
 
 -- ---- runs
 
@@ -434,3 +435,7 @@ rows_can_be_set_again s r limits listener good room first_xid opened now = sets-
 
 pub kept_rows_are_restored : KeptRowsAreRestored
 kept_rows_are_restored s r good = restored s r.reached good (rows_are_spelled s r)
+
+pub kept_rows_are_in_no_statistics : KeptRowsAreInNoStatistics
+kept_rows_are_in_no_statistics s r good =
+    let anew = begun-anew (opened_again s) (kept_calls s) in (anew.0 ∙ kept_rows_are_restored s r good, anew.1)

@@ -9,7 +9,7 @@ use Rattle.rb_model.specs.State.{State, Connection, at_moment, opening, are_good
 use Rattle.rb_model.specs.Connections.{Taking, taking_of, live_connection}
 use Rattle.rb_model.specs.Connections.Taking.{TakesNone, GoesOn, Ends}
 use Rattle.rb_model.specs.Step.{when_taken, Event, Output, bytes_to, bytes, output_or, show_taken, step, after, IsReached}
-use Rattle.rb_model.specs.Step.Event.{Open, Bytes, Pending, Gave, Closed, NextLost, Datagram, Unsent, Sent, Forward, Expire}
+use Rattle.rb_model.specs.Step.Event.{Open, Bytes, Pending, Gave, Closed, NextLost, Datagram, Unsent, Sent, Forward, Expire, ZeroStats}
 use Rattle.rb_model.specs.declared.types.Taken.{Taken}
 use Rattle.rb_model.specs.Costs.{sizes_in, asks_for_rows, sizes_for, datagram_cost, count_taken, record_cost, bytes_cost, find_cost, event_cost}
 use Rattle.rb_model.specs.Calls.{longest_reply, longest_kept, kept_of, message_of}
@@ -83,6 +83,7 @@ module _ (s : State) (reached : IsReached s) (good : are_good s.setting.limits s
   event_within (Sent number) = omega arith
   event_within (Forward now from message) = omega (arith, conns_few, forward-shown s now from message)
   event_within (Expire now) = omega (arith, conns_few, expiry-shown s now)
+  event_within ZeroStats = omega arith
 
 pub steps_are_bounded : StepsAreBounded
 steps_are_bounded s reached good event = event_within s reached good event

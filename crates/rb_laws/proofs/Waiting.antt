@@ -20,8 +20,8 @@ use Rattle.rb_model.specs.State.{State, Connection, at_moment}
 use Rattle.rb_model.specs.Connections.{settle, change_first, is_live, with_given, give, on_found, number_for, opening_as, open_in_table, is_there, without_number, close_in_table, phase_after, live_connection}
 use Rattle.rb_model.specs.Losses.{stamp_in, removals_in_the_way, evict_early, lose}
 use Rattle.rb_model.specs.Ending.{tell, tell_end, at_fresh_moment, forward_reply, expire}
-use Rattle.rb_model.specs.Step.{sender, Output, context_in, serve, serve_record, unless_refused, pending, gave, is_too_much, open_connection, dropped_with, close_connection, with_reply, datagram, sent_call, output_or, show_done, show_outcome, show_end, show_expired, step}
-use Rattle.rb_model.specs.Step.Event.{Open, Pending, Gave, Closed, Datagram, Sent, Forward as ForwardCame, Expire}
+use Rattle.rb_model.specs.Step.{sender, Output, context_in, serve, serve_record, unless_refused, pending, gave, is_too_much, open_connection, dropped_with, close_connection, with_reply, datagram, sent_call, output_or, show_done, show_outcome, show_end, show_expired, step, zero_stats}
+use Rattle.rb_model.specs.Step.Event.{Open, Pending, Gave, Closed, Datagram, Sent, Forward as ForwardCame, Expire, ZeroStats}
 use Rattle.rb_model.specs.Step.Output.{Opened, TooMuch, IsPending}
 use Rattle.rb_model.specs.WholeRuns.{args_in, args_waiting}
 use Rattle.rb_laws.proofs.Crowds.{plain_lives}
@@ -163,3 +163,7 @@ module _ (s : State) where
   pub expiry-waits : (now : ℕ) → waiting (step s (Expire now)).1 ≤ waiting s
   unfolding step
   expiry-waits now = expired-waits (expire s now) (expire-waits now (expire s now) (expiry s now))
+
+  pub zero-waits : waiting (step s ZeroStats).1 ≤ waiting s
+  unfolding step zero_stats
+  zero-waits = omega arith

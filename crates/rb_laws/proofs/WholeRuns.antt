@@ -14,7 +14,7 @@ use Rattle.rb_model.specs.State.{Setting, State, Phase, Connection, at_moment, a
 use Rattle.rb_model.specs.Connections.{Taking, taking_of, fed_in, taking_up_to, live_connection, keep_reading}
 use Rattle.rb_model.specs.Connections.Taking.{TakesNone, GoesOn, Ends}
 use Rattle.rb_model.specs.Step.{Event, Output, with_count, when_taken, bytes_to, bytes, output_or, show_taken, step, run, after, IsReached}
-use Rattle.rb_model.specs.Step.Event.{Open, Bytes, Pending, Gave, Closed, NextLost, Datagram, Unsent, Sent, Forward, Expire}
+use Rattle.rb_model.specs.Step.Event.{Open, Bytes, Pending, Gave, Closed, NextLost, Datagram, Unsent, Sent, Forward, Expire, ZeroStats}
 use Rattle.rb_model.specs.Bounds.{count_in, bytes_in, bytes_out}
 use Rattle.rb_model.specs.Costs.{sizes_in, asks_for_rows, sizes_for, answer_cost, count_taken, record_cost, bytes_cost, find_cost, event_cost, run_cost}
 use Rattle.rb_model.specs.WholeRuns.{args_in, args_waiting, total_in, total_out, bytes_reported, event_allowance, EventsArePaidAhead, WholeRunsAreBounded}
@@ -26,7 +26,7 @@ use Rattle.rb_laws.proofs.Ledgers.{step-setting}
 use Rattle.rb_laws.proofs.KeptLengths.{kept_few}
 use Rattle.rb_laws.proofs.RepliesShown.{unsent-shown, datagram-shown, forward-shown, expiry-shown}
 use Rattle.rb_laws.proofs.StepBounds.{taken-counts, reached-step, conns_few, rows_looks, datagram_most, shows}
-use Rattle.rb_laws.proofs.Waiting.{waiting, found-waiting, answering-waits, open-waits, give-waits, pending-waits, close-waits, datagram-waits, send-waits, forward-waits, expiry-waits}
+use Rattle.rb_laws.proofs.Waiting.{waiting, found-waiting, answering-waits, open-waits, give-waits, pending-waits, close-waits, datagram-waits, send-waits, forward-waits, expiry-waits, zero-waits}
 
 -- ---- a piece that is taken
 
@@ -118,6 +118,7 @@ module _ (s : State) (reached : IsReached s) (good : are_good s.setting.limits s
   event_paid (Sent number) = let kept = send-waits s number in omega (arith, kept)
   event_paid (Forward now from message) = let kept = forward-waits s now from message in let shown = forward-shown s now from message in omega (arith, few, kept, shown)
   event_paid (Expire now) = let kept = expiry-waits s now in let shown = expiry-shown s now in omega (arith, few, kept, shown)
+  event_paid ZeroStats = let kept = zero-waits s in omega (arith, kept)
 
 -- what is told of a refused call counts besides
 out_told : (event : Event) (output : Output) → bytes_out event output ≤ bytes_reported event output

@@ -2,7 +2,7 @@
 ghost use Rattle.rb_model.specs.Grammar.{AskedMessagesAreOfTheGrammar, RefusedMessagesAreOfTheGrammar, GarbageMessagesAreOfTheGrammar, NoCallsAreOfTheGrammar};
 ghost use Rattle.rb_model.specs.State.{State};
 ghost use Rattle.rb_model.specs.Laws.{RunsAppend, StatesAppend, RefusedEventsChangeNothing, NumbersNeverRecur, CutsDoNotMatter, NextLostIsLeast, BytesAreTakenExactly, RepliesAreGivenWhole, OwedRepliesStay, LedgersAreWellKept};
-ghost use Rattle.rb_model.specs.ChangeLaws.{ChangesAreAccepted, ChangesAreThoseAccepted, RowsCanBeSet, RowsAreSpelled, KeptCallsAreShort, RowsCanBeSetAgain, KeptRowsAreRestored};
+ghost use Rattle.rb_model.specs.ChangeLaws.{ChangesAreAccepted, ChangesAreThoseAccepted, RowsCanBeSet, RowsAreSpelled, KeptCallsAreShort, RowsCanBeSetAgain, KeptRowsAreRestored, KeptRowsAreInNoStatistics};
 ghost use Rattle.rb_model.specs.Reflections.{RepliesAreAtMostTwice, StrangersAreSentAtMostTwice};
 ghost use Rattle.rb_model.specs.CallerLaws.{StrangersChangeNothing, StrangersBringNoKeys, LocalOwnersKeepTheirs};
 ghost use Rattle.rb_model.specs.HistoryLaws.{EventsAreNoted, HistoryIsOfItsEvents};
@@ -181,8 +181,9 @@ pub fn strangers_are_sent_at_most_twice()
 {}
 
 /// From every state, an event appends to the history its notes and nothing else: a whole call that it brings counts as
-/// called where it reaches its procedure, and as what it did there; a forwarded call that it ends counts by its outcome. In
-/// every run from an opening, the history is the notes of its events, in order.
+/// called where it reaches its procedure, and as what it did there; a forwarded call that it ends counts by its outcome. Where
+/// statistics begin anew the history is empty. In every run from an opening, the history is the notes of its events, in order,
+/// from where statistics last began anew.
 pub fn calls_are_noted()
     ensures events { EventsAreNoted }
     ensures runs { HistoryIsOfItsEvents }
@@ -192,11 +193,12 @@ pub fn calls_are_noted()
 /// address of its netid. Where the run is of bytes and of uids of 32 bits, bytes can spell each, in a SET of at most 368 bytes.
 /// These SETs, from this machine and by the owners of the rows, are all answered TRUE in a run from any opening with room for
 /// them, and set just these rows, in their order. From the opening of the same setting, at good limits, the live rows are then
-/// the same.
+/// the same; and where statistics begin anew behind these SETs, they stay so, and nothing was called.
 pub fn kept_rows_are_restored()
     ensures settable { RowsCanBeSet }
     ensures spelled { RowsAreSpelled }
     ensures short { KeptCallsAreShort }
     ensures again { RowsCanBeSetAgain }
     ensures restored { KeptRowsAreRestored }
+    ensures uncounted { KeptRowsAreInNoStatistics }
 {}

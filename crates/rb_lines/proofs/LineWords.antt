@@ -16,7 +16,7 @@ use Rattle.rb_address.proofs.HostTexts.{IsWithout}
 use Rattle.rb_address.proofs.Words.{bound, cut_at, cut_is, numeral_without, peer_is, peer_of}
 use Rattle.rb_address.proofs.CallerWords.{peer_without, who_without, who_is, who_of}
 use Rattle.rb_model.specs.Step.{Event}
-use Rattle.rb_model.specs.Step.Event.{Datagram, Open, Bytes, Pending, Gave, Closed, NextLost, Unsent, Sent, Forward, Expire}
+use Rattle.rb_model.specs.Step.Event.{Datagram, Open, Bytes, Pending, Gave, Closed, NextLost, Unsent, Sent, Forward, Expire, ZeroStats}
 use Rattle.rb_lines.specs.Fields.{hex_bytes}
 use Rattle.rb_lines.specs.Lines.{datagram_line, forward_line, open_line, bytes_line, gave_line, event, lone_event, event_of_parts, Line, happens_or_bad, line}
 use Rattle.rb_lines.specs.Lines.Line.{Skipped, Happens, Bad}
@@ -156,9 +156,11 @@ unfolding lone_event
 lone_is text e h =
     else_word (bytes_eq text (codes "lost")) (Some NextLost) _ e (SpellsEvent e text) h
     (λ same is. subst (λ (e : Event). SpellsEvent e text) (same_Some _ _ is) ((bytes_eq-Decides text (codes "lost")).0 same)) (λ other.
-    else_word (bytes_eq text (codes "unsent")) (Some Unsent) None e (SpellsEvent e text) other
-    (λ same is. subst (λ (e : Event). SpellsEvent e text) (same_Some _ _ is) ((bytes_eq-Decides text (codes "unsent")).0 same))
-    (λ none. absurd (none-some e none)))
+    else_word (bytes_eq text (codes "unsent")) (Some Unsent) _ e (SpellsEvent e text) other
+    (λ same is. subst (λ (e : Event). SpellsEvent e text) (same_Some _ _ is) ((bytes_eq-Decides text (codes "unsent")).0 same)) (λ another.
+    else_word (bytes_eq text (codes "zero")) (Some ZeroStats) None e (SpellsEvent e text) another
+    (λ same is. subst (λ (e : Event). SpellsEvent e text) (same_Some _ _ is) ((bytes_eq-Decides text (codes "zero")).0 same))
+    (λ none. absurd (none-some e none))))
 
 parts_are : (text : List ℕ) (o : Option (List ℕ × List ℕ)) (e : Event) → cut 32 text ≡ o → event_of_parts text o ≡ Some e → SpellsEvent e text
 parts_are text None e is h = lone_is text e h
@@ -261,6 +263,7 @@ line_of text (Forward now from bytes) s =
 line_of text (Expire now) s =
     let is = ap (option_map Expire) (number_of s.back now s.behind) in
     named_line (codes "expire") text s.back (Expire now) s.front s.text_is s.in_front (said_word 101 (codes "xpire") s.back (Expire now) refl refl is)
+line_of text ZeroStats s = ap line s
 
 -- ---- lines that say nothing, and bad ones
 

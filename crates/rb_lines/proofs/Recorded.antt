@@ -31,7 +31,7 @@ use Rattle.rb_model.specs.declared.types.CoreFault.{CoreFault}
 use Rattle.rb_model.specs.declared.types.CoreFault.TheVariants.{NoMemory, BadLimits, Full, Spent, Gone}
 use Rattle.rb_model.specs.State.{State, opening}
 use Rattle.rb_model.specs.Step.{Event, Output, step, run}
-use Rattle.rb_model.specs.Step.Event.{Datagram, Open, Bytes, Pending, Gave, Closed, NextLost, Unsent, Sent, Forward, Expire}
+use Rattle.rb_model.specs.Step.Event.{Datagram, Open, Bytes, Pending, Gave, Closed, NextLost, Unsent, Sent, Forward, Expire, ZeroStats}
 use Rattle.rb_model.specs.Step.Output.{Opened, Refused, TooMuch, Took, TookAndClosed, IsPending, Done, LostIs, Replied, Forwarded, Silent, UnsentIs, Ignored, Nothing, ConnectionClosed, Ready, RepliedTo}
 use Rattle.rb_record.specs.Printing.{hex_text, refusal_text, bytes_line, peer_line, source_line, output_text}
 use Rattle.rb_record.specs.Entries.{event_text, entry_text, run_entries, run_text, limits_text, announce_text, inet_text, inet6_text, local_text, lists_text, forwarding_text, terms_text, listener_text, options_text}
@@ -59,12 +59,12 @@ line_then (x ∷ front) rest none =
     slice_split-cons_no (λ b. eqb b 10) x (front ++ 10 ∷ rest) (All-head P x front none) ∙ ap (onto_first x) (line_then front rest (All-tail P x front none))
 
 -- A text is one line, with its end.
-record IsLine (text : List ℕ) : Type 0 where
-  body : List ℕ
-  whole : text ≡ body ++ 10 ∷ []
-  apart : IsWithout 10 body
+pub record IsLine (text : List ℕ) : Type 0 where
+  pub body : List ℕ
+  pub whole : text ≡ body ++ 10 ∷ []
+  pub apart : IsWithout 10 body
 
-lines_behind : (text rest : List ℕ) (l : IsLine text) → lines_of (text ++ rest) ≡ l.body ∷ lines_of rest
+pub lines_behind : (text rest : List ℕ) (l : IsLine text) → lines_of (text ++ rest) ≡ l.body ∷ lines_of rest
 lines_behind text rest l =
     ap (λ (t : List ℕ). lines_of (t ++ rest)) l.whole ∙ ap lines_of (append_assoc l.body (10 ∷ []) rest) ∙ line_then l.body rest l.apart
 
@@ -198,12 +198,12 @@ apart_pair : (front back : List ℕ) → IsWithout 10 front → IsWithout 10 bac
 apart_pair front back a b = joined front (32 ∷ back) a (behind 32 back refl b)
 
 -- an event's line says that event
-record IsEventLine (e : Event) : Type 0 where
-  body : List ℕ
-  whole : event_text e ≡ body ++ 10 ∷ []
-  apart : IsWithout 10 body
-  spelled : SpellsEvent e body
-  quiet : output_line_in body ≡ []
+pub record IsEventLine (e : Event) : Type 0 where
+  pub body : List ℕ
+  pub whole : event_text e ≡ body ++ 10 ∷ []
+  pub apart : IsWithout 10 body
+  pub spelled : SpellsEvent e body
+  pub quiet : output_line_in body ≡ []
 
 open_apart : IsWithout 10 (codes "open")
 open_apart = behind 111 (codes "pen") refl (behind 112 (codes "en") refl (behind 101 (codes "n") refl (behind 110 ([]) refl nothing)))
@@ -238,7 +238,10 @@ forward_apart = behind 102 (codes "orward") refl (behind 111 (codes "rward") ref
 expire_apart : IsWithout 10 (codes "expire")
 expire_apart = behind 101 (codes "xpire") refl (behind 120 (codes "pire") refl (behind 112 (codes "ire") refl (behind 105 (codes "re") refl (behind 114 (codes "e") refl (behind 101 ([]) refl nothing)))))
 
-event_line : (e : Event) → HasLine e → IsEventLine e
+zero_apart : IsWithout 10 (codes "zero")
+zero_apart = behind 122 (codes "ero") refl (behind 101 (codes "ro") refl (behind 114 (codes "o") refl (behind 111 ([]) refl nothing)))
+
+pub event_line : (e : Event) → HasLine e → IsEventLine e
 unfolding output_line_in
 event_line (Open now from) h = record {
   body = codes "open" ++ 32 ∷ (decimal now ++ 32 ∷ who_text from);
@@ -309,6 +312,7 @@ event_line (Expire now) h = record {
   spelled = spaced (Spells (codes "expire")) (SpellsNumber now) (codes "expire") (decimal now) refl (number_spelled now h);
   quiet = refl;
 }
+event_line ZeroStats h = record { body = codes "zero"; whole = refl; apart = zero_apart; spelled = refl; quiet = refl }
 
 -- ---- the line of an output
 

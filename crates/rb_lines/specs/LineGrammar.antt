@@ -6,7 +6,7 @@ use Rattle.std.specs.Str.Parse.{IsNumeral, digits_value}
 use Rattle.rb_address.specs.CallerTexts.{SpellsWho}
 use Rattle.rb_address.specs.Reading.{SpellsPeer}
 use Rattle.rb_model.specs.Step.{Event}
-use Rattle.rb_model.specs.Step.Event.{Datagram, Open, Bytes, Pending, Gave, Closed, NextLost, Unsent, Sent, Forward, Expire}
+use Rattle.rb_model.specs.Step.Event.{Datagram, Open, Bytes, Pending, Gave, Closed, NextLost, Unsent, Sent, Forward, Expire, ZeroStats}
 use Rattle.rb_lines.specs.Lines.{line}
 use Rattle.rb_lines.specs.Lines.Line.{Skipped, Happens, Bad}
 
@@ -65,6 +65,7 @@ SpellsEvent (Sent id) = Spells (codes "sent") ␣ SpellsNumber id
 SpellsEvent (Forward now from bytes) =
     Spells (codes "forward") ␣ SpellsNumber now ␣ SpellsPeer from ␣ SpellsHex bytes
 SpellsEvent (Expire now) = Spells (codes "expire") ␣ SpellsNumber now
+SpellsEvent ZeroStats = Spells (codes "zero")
 
 -- an empty line, or one that begins with `#`
 abbrev pub SaysNothing : List ℕ → Type 0

@@ -6,7 +6,7 @@ use Rattle.std.specs.Str.{bytes_eq}
 use Rattle.rb_address.specs.CallerTexts.{who}
 use Rattle.rb_address.specs.Reading.{◌>>=◌, cut, number_below, peer}
 use Rattle.rb_model.specs.Step.{Event}
-use Rattle.rb_model.specs.Step.Event.{Open, Bytes, Pending, Gave, Closed, NextLost, Datagram, Unsent, Sent, Forward, Expire}
+use Rattle.rb_model.specs.Step.Event.{Open, Bytes, Pending, Gave, Closed, NextLost, Datagram, Unsent, Sent, Forward, Expire, ZeroStats}
 use Rattle.rb_model.specs.declared.events.Event as event_type
 use Rattle.rb_model.specs.Plain.{event_of, events_of}
 use Rattle.rb_lines.specs.declared.lines.Line as line_type
@@ -82,6 +82,7 @@ unfoldable pub lone_event : List ℕ → Option Event
 lone_event word =
     if bytes_eq word (codes "lost") then Some NextLost
     else if bytes_eq word (codes "unsent") then Some Unsent
+    else if bytes_eq word (codes "zero") then Some ZeroStats
     else None
 
 abbrev pub event_of_parts : List ℕ → Option (List ℕ × List ℕ) → Option Event

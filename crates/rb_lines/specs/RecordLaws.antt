@@ -10,7 +10,7 @@ use Rattle.rb_proto.specs.declared.listener.Listener.{Listener}
 use Rattle.rb_model.specs.declared.types.Limits.{Limits}
 use Rattle.rb_model.specs.State.{opening}
 use Rattle.rb_model.specs.Step.{Event, Output, run}
-use Rattle.rb_model.specs.Step.Event.{Datagram, Open, Bytes, Pending, Gave, Closed, NextLost, Unsent, Sent, Forward, Expire}
+use Rattle.rb_model.specs.Step.Event.{Datagram, Open, Bytes, Pending, Gave, Closed, NextLost, Unsent, Sent, Forward, Expire, ZeroStats}
 use Rattle.rb_model.specs.Step.Output.{Opened, Took, TookAndClosed, LostIs, UnsentIs, ConnectionClosed, Ready, RepliedTo}
 use Rattle.rb_record.specs.Entries.{run_entries, run_text, options_text}
 use Rattle.rb_record.specs.Tapes.{HasFirst}
@@ -38,6 +38,7 @@ HasLine Unsent = Unit {0}
 HasLine (Sent number) = Fits number
 HasLine (Forward now from bytes) = Fits now × IsPeer from × AreBytes bytes
 HasLine (Expire now) = Fits now
+HasLine ZeroStats = Unit {0}
 
 abbrev pub HasUnsentLine : Option UnsentCall → Type 0
 HasUnsentLine None = Unit {0}

@@ -1,5 +1,5 @@
 -- What the values of the options of `serve` mean.
-use Rattle.std.specs.Prelude.{ℕ, ◌+◌, ◌^◌, ◌==◌, ◌≡◌, nat_lt, nat_le, not, Bool, ◌&&◌, if◌then◌else◌, List, [], ◌∷◌, length, codes, Option, Some, None, Result, Ok, Err, option_map}
+use Rattle.std.specs.Prelude.{ℕ, ◌+◌, ◌^◌, ◌==◌, ◌≡◌, nat_lt, nat_le, not, Bool, ◌&&◌, if◌then◌else◌, List, [], ◌∷◌, length, codes, bytes_eq, Option, Some, None, Result, Ok, Err, option_map}
 use Rattle.std.specs.List.{list_all}
 use Rattle.std.specs.Char.{digit_value}
 use Rattle.std.specs.Str.Parse.{digits_value}
@@ -13,11 +13,14 @@ use Rattle.rb_proto.specs.declared.listener.Terms.{Terms}
 use Rattle.rb_model.specs.declared.types.Limits.{Limits}
 use Rattle.rb_lines.specs.declared.options.Valued.{Valued}
 use Rattle.rb_lines.specs.declared.options.Valued.TheVariants as valued
-use Rattle.rb_lines.specs.declared.options.Valued.TheVariants.{Announce, Bind, From, Local, LocalMode, Port, Conns, Rows, Forwards, UdpLists, ForwardFor, ReplayForwardFor, Xid, Now, Turns, RecordLimit}
+use Rattle.rb_lines.specs.declared.options.Valued.TheVariants.{Announce, Bind, From, Local, LocalMode, Port, Conns, Rows, Forwards, UdpLists, ForwardFor, ReplayForwardFor, Xid, Now, Turns, RecordLimit, Keep, Log}
 use Rattle.rb_lines.specs.declared.serving.ServeTexts.{ServeTexts}
 use Rattle.rb_lines.specs.declared.serving.ServeFault.{ServeFault}
 use Rattle.rb_lines.specs.declared.serving.ServeFault.TheVariants.{BadValue, NoMemory}
 use Rattle.rb_lines.specs.declared.serving.Record.{Record}
+use Rattle.rb_lines.specs.declared.serving.Keep as kept
+use Rattle.rb_lines.specs.declared.serving.Log as log
+use Rattle.rb_lines.specs.declared.serving.Log.TheVariants.{Nothing, Changes, All as Everything}
 use Rattle.rb_lines.specs.declared.serving.UdpRate.{UdpRate}
 use Rattle.rb_lines.specs.declared.serving.Service as code
 use Rattle.rb_lines.specs.Options.{◌>>=◌, value_of, announced_of, read_local, port, limits_of, udp_lists, forward_for}
@@ -37,6 +40,8 @@ default_of RecordLimit = codes "16000000"
 default_of (Announce place) = []
 default_of (From place) = []
 default_of Local = []
+default_of Keep = []
+default_of Log = []
 default_of valued.UdpRate = []
 default_of ReplayForwardFor = []
 default_of Xid = []
@@ -112,6 +117,25 @@ terms_of lists whom = do
 abbrev pub record_limit : List ℕ → Option ℕ
 record_limit text = if_between 1000 16777216 (number_below (2 ^ 64) text)
 
+-- ---- the file of kept rows, and what is told
+
+-- a path of at least one byte, and whether its rows are checked
+abbrev pub keep_of : Option (Bor (List ℕ)) → Bool → Result (Option kept.Keep) Valued
+keep_of None is_checked = Ok None
+keep_of (Some path) is_checked =
+    if length path.now == 0 then Err Keep else Ok (Some (record { path = path; is_checked = is_checked }))
+
+abbrev pub log_named : List ℕ → Option log.Log
+log_named text =
+    if bytes_eq text (codes "changes") then Some Changes
+    else if bytes_eq text (codes "all") then Some Everything
+    else None
+
+-- nothing, where it is not given
+abbrev pub log_of : Option (Bor (List ℕ)) → Result log.Log Valued
+log_of None = Ok Nothing
+log_of (Some text) = value_of Log (log_named text.now)
+
 -- the addresses and networks of the vectors, and the other fields
 pub record Service : Type 0 where
   pub hosts : List Host
@@ -127,6 +151,8 @@ pub record Service : Type 0 where
   pub udp_rate : Option UdpRate
   pub turns : ℕ
   pub recorded : Option Record
+  pub keep : Option kept.Keep
+  pub log : log.Log
 
 -- the same from `--local` on
 abbrev pub rest_of : Announced → List Host → List Network → ServeTexts → Result Service Valued
@@ -139,6 +165,8 @@ rest_of given hosts networks texts = do
   rate ← udp_rate texts.udp_rate
   ends ← value_of Turns (number_below (2 ^ 64) texts.turns.now)
   bytes ← value_of RecordLimit (record_limit texts.record_limit.now)
+  keeps ← keep_of texts.keep texts.keep_check
+  tells ← log_of texts.log
   Ok (record {
     hosts = hosts;
     networks = networks;
@@ -153,6 +181,8 @@ rest_of given hosts networks texts = do
     udp_rate = rate;
     turns = ends;
     recorded = option_map (λ path. record { path = path; limit = bytes }) texts.record_path;
+    keep = keeps;
+    log = tells;
   })
 
 -- what is served, or the first option whose value can't be read
@@ -180,6 +210,8 @@ service_view s = record {
   udp_rate = s.udp_rate;
   turns = s.turns;
   recorded = s.recorded;
+  keep = s.keep;
+  log = s.log;
 }
 
 abbrev pub result_view : Result code.Service Valued → Result Service Valued

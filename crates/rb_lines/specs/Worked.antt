@@ -12,7 +12,7 @@ use Rattle.rb_address.specs.Callers.{unknown_host}
 use Rattle.rb_address.specs.Reading.{number_below, peer}
 use Rattle.rb_proto.specs.declared.listener.Forwarding.TheVariants.{Anywhere, ForLocal}
 use Rattle.rb_proto.specs.declared.listener.Terms.{Terms}
-use Rattle.rb_model.specs.Step.Event.{Datagram, Open, Bytes, Pending, Gave, Closed, NextLost, Unsent, Sent, Forward, Expire}
+use Rattle.rb_model.specs.Step.Event.{Datagram, Open, Bytes, Pending, Gave, Closed, NextLost, Unsent, Sent, Forward, Expire, ZeroStats}
 use Rattle.rb_model.specs.declared.types.CoreFault.TheVariants.{Full, Spent, Gone}
 use Rattle.rb_model.specs.Step.Output.{Replied, Silent, Opened, Refused, Took, TookAndClosed, IsPending, Done, TooMuch, LostIs, Forwarded, UnsentIs, Ignored, Nothing, Ready, RepliedTo}
 use Rattle.rb_record.specs.Entries.{event_text, listener_text}
@@ -154,6 +154,17 @@ ForwardsAreRead =
     × (read (codes "sent 18446744073709551616") ≡ Err (BadLine 1))
     × (read (codes "forward 2000 127.0.0.1:900") ≡ Err (BadLine 1))
     × (read (codes "expire -1") ≡ Err (BadLine 1))
+
+-- The line of statistics that begin anew.
+abbrev pub ZeroIsRead : Type 0
+ZeroIsRead =
+    (read (with_line_feed (codes "zero") ++ codes "lost") ≡ Ok (ZeroStats ∷ NextLost ∷ []))
+    × (read (codes "zero ") ≡ Err (BadLine 1))
+    × (read (codes "zero 1") ≡ Err (BadLine 1))
+    × (read (codes "Zero") ≡ Err (BadLine 1))
+
+abbrev pub ZeroIsPrinted : Type 0
+ZeroIsPrinted = event_text ZeroStats ≡ with_line_feed (codes "zero")
 
 abbrev pub ForwardsArePrinted : Type 0
 ForwardsArePrinted =

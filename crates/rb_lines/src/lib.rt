@@ -14,11 +14,11 @@ mod worked;
 pub use faults::{DONE, Ending, Fault, explain, explain_run};
 pub use laws::{lines_are_of_the_grammar, records_are_read, text_reads_as_its_lines};
 pub use limits::{BadLimit, bad_limit};
-pub use lines::{ReadFault, longest_input, read_events};
+pub use lines::{Line, ReadFault, longest_input, read_events, read_line};
 pub use options::{Beginning, ReplayTexts, Valued, read_beginning};
 pub use printing::{WriteFailed, print_output, print_outputs, print_steps};
 pub use serving::{
-    MOST_HOSTS, MOST_NETWORKS, Record, ServeFault, ServeTexts, Service, UdpRate, read_service,
-    serve_default,
+    Keep, Log, MOST_HOSTS, MOST_NETWORKS, Record, ServeFault, ServeTexts, Service, UdpRate,
+    read_service, serve_default,
 };
 pub use worked::worked_examples;

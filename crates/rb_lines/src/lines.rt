@@ -36,9 +36,12 @@ pub enum ReadFault {
 
 /// What a line says.
 #[derive(Drop)]
-enum Line {
+pub enum Line {
+    /// Nothing: it is empty, or begins with `#`.
     Skipped,
+    /// This event happens.
     Happens(Event),
+    /// It is no event line.
     Bad,
 }
 
@@ -181,11 +184,15 @@ fn lone_event(word: &[u8]) -> Option<Event>
     if word == b"unsent".as_slice() {
         return Some(Event::Unsent);
     }
+    if word == b"zero".as_slice() {
+        return Some(Event::ZeroStats);
+    }
     None
 }
 
+/// What a line says, which stands without the line feed that ends it.
 #[tactic(auto, unfolding(crate::specs::Lines::line))]
-fn read_line(alloc: Global, text: &[u8]) -> Result<Line, NoMemory>
+pub fn read_line(alloc: Global, text: &[u8]) -> Result<Line, NoMemory>
     ensures { IfOk result (λ read. line_of read ≡ line text.now) }
 {
     if text.is_empty() || text[0] == b'#' {

@@ -72,6 +72,10 @@ pub enum Valued {
     Turns,
     /// `--record-limit N`
     RecordLimit,
+    /// `--keep FILE`
+    Keep,
+    /// `--log WHAT`
+    Log,
 }
 
 /// The values of the options of `replay`, as texts.

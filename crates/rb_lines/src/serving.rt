@@ -2,7 +2,7 @@
 ghost use Rattle.std.specs.Prelude.{◌≡◌};
 ghost use Rattle.std.specs.List.{list_all};
 ghost use Rattle.rb_lines.specs.Options.{value_of};
-ghost use Rattle.rb_lines.specs.Serving.{Serves, default_of, host_at, hosts_from, network_at, networks_from, is_octal, read_mode, rate_number, rate_of, udp_rate, terms_of, record_limit, rest_of, service_of, service_view, result_view};
+ghost use Rattle.rb_lines.specs.Serving.{Serves, default_of, host_at, hosts_from, network_at, networks_from, is_octal, read_mode, rate_number, rate_of, udp_rate, terms_of, record_limit, keep_of, log_of, rest_of, service_of, service_view, result_view};
 
 use crate::options::{
     Valued, number, read_announced, read_forward_for, read_host, read_limits, read_local,
@@ -57,6 +57,12 @@ pub struct ServeTexts<'m, 'a> {
     pub record_path: Option<&'a str>,
     /// From 1,000 to 16,777,216 bytes.
     pub record_limit: &'a str,
+    /// A path of at least one byte.
+    pub keep: Option<&'a str>,
+    /// Whether `--keep-check` is given.
+    pub keep_check: bool,
+    /// `changes` or `all`.
+    pub log: Option<&'a str>,
 }
 
 /// What `serve` listens on, and for how long.
@@ -88,6 +94,10 @@ pub struct Service<'a> {
     pub turns: u64,
     /// The record of its events, where one is asked for.
     pub recorded: Option<Record<'a>>,
+    /// The file that keeps its rows over a restart, where one is asked for.
+    pub keep: Option<Keep<'a>>,
+    /// What it tells of on standard error.
+    pub log: Log,
 }
 
 /// How many datagrams of strangers are served in a second, each from 1 to 1,000.
@@ -106,6 +116,26 @@ pub struct Record<'a> {
     pub path: &'a str,
     /// From 1,000 to 16,777,216 bytes.
     pub limit: usize,
+}
+
+/// A file that keeps rows over a restart.
+#[derive(Clone, Copy, Debug, PartialEq, Eq)]
+pub struct Keep<'a> {
+    /// Where it is, of at least one byte.
+    pub path: &'a str,
+    /// Whether kept rows of this host are left out at whose port nobody answers.
+    pub is_checked: bool,
+}
+
+/// What is told on standard error while it serves.
+#[derive(Clone, Copy, Debug, PartialEq, Eq)]
+pub enum Log {
+    /// Nothing.
+    Nothing,
+    /// Each SET and UNSET, accepted or refused.
+    Changes,
+    /// The same, and refused calls and closed connections too.
+    All,
 }
 
 /// Why the values of the options of `serve` are not read.
@@ -134,6 +164,7 @@ pub fn serve_default(option: Valued) -> &'static str
         Valued::Turns => "0",
         Valued::RecordLimit => "16000000",
         Valued::Announce(_) | Valued::From(_) | Valued::Local => "",
+        Valued::Keep | Valued::Log => "",
         Valued::UdpRate | Valued::ReplayForwardFor | Valued::Xid | Valued::Now => "",
     }
 }
@@ -289,6 +320,31 @@ fn read_record_limit(text: &str) -> Result<usize, Valued>
     }
 }
 
+/// The file that keeps rows, where one is asked for. One of no bytes is no path.
+fn read_keep<'a>(text: Option<&'a str>, is_checked: bool) -> Result<Option<Keep<'a>>, Valued>
+    ensures { result ≡ keep_of text.entry is_checked }
+{
+    let Some(path) = text else {
+        return Ok(None);
+    };
+    if path.is_empty() {
+        return Err(Valued::Keep);
+    }
+    Ok(Some(Keep { path, is_checked }))
+}
+
+/// What is told while it serves.
+fn read_log(text: Option<&str>) -> Result<Log, Valued>
+    ensures { result ≡ log_of text.entry }
+{
+    match text {
+        None => Ok(Log::Nothing),
+        Some("changes") => Ok(Log::Changes),
+        Some("all") => Ok(Log::All),
+        Some(_) => Err(Valued::Log),
+    }
+}
+
 /// What the values of the options from `--local` on mean, with the addresses and networks that were read.
 fn read_rest<'a>(
     announce: Announced,
@@ -306,6 +362,8 @@ fn read_rest<'a>(
     let udp_rate = read_udp_rate(texts.udp_rate)?;
     let turns = number(Valued::Turns, texts.turns)?;
     let limit = read_record_limit(texts.record_limit)?;
+    let keep = read_keep(texts.keep, texts.keep_check)?;
+    let log = read_log(texts.log)?;
     Ok(Service {
         hosts,
         networks,
@@ -323,6 +381,8 @@ fn read_rest<'a>(
             Some(path) => Some(Record { path, limit }),
             None => None,
         },
+        keep,
+        log,
     })
 }
 

@@ -1,5 +1,5 @@
 //! Worked examples of the definitions, which the proof computes.
-ghost use Rattle.rb_lines.specs.Worked.{StoredRunIsRead, StoredRunIsPrinted, BadEventLine, LinesAreCounted, NumbersOfLines, PeersOfLines, ConnectionsAreRead, ConnectionsArePrinted, ForwardsAreRead, ForwardsArePrinted, CallersAreRead, CallersArePrinted, OptionsArePrinted, Ipv6PeersAreRead, Ipv6PeersArePrinted};
+ghost use Rattle.rb_lines.specs.Worked.{StoredRunIsRead, StoredRunIsPrinted, BadEventLine, LinesAreCounted, NumbersOfLines, PeersOfLines, ConnectionsAreRead, ConnectionsArePrinted, ForwardsAreRead, ZeroIsRead, ZeroIsPrinted, ForwardsArePrinted, CallersAreRead, CallersArePrinted, OptionsArePrinted, Ipv6PeersAreRead, Ipv6PeersArePrinted};
 
 /// The definitions give what the worked examples say.
 pub fn worked_examples()
@@ -12,6 +12,8 @@ pub fn worked_examples()
     ensures connections_are_read { ConnectionsAreRead }
     ensures connections_are_printed { ConnectionsArePrinted }
     ensures forwards_are_read { ForwardsAreRead }
+    ensures zero_is_read { ZeroIsRead }
+    ensures zero_is_printed { ZeroIsPrinted }
     ensures forwards_are_printed { ForwardsArePrinted }
     ensures callers_are_read { CallersAreRead }
     ensures callers_are_printed { CallersArePrinted }

@@ -45,7 +45,7 @@ use Rattle.rb_model.specs.State.{Connection, State, opening, are_good, at_moment
 use Rattle.rb_model.specs.State.Phase.{Owing}
 use Rattle.rb_model.specs.Step.{sender, serve, Event, Output, step, run, after, IsReached}
 use Rattle.rb_model.specs.Step.Output.{Replied}
-use Rattle.rb_model.specs.Step.Event.{Open, Bytes, Datagram}
+use Rattle.rb_model.specs.Step.Event.{Open, Bytes, Datagram, ZeroStats}
 
 -- ---- what a call asks for
 
@@ -303,3 +303,13 @@ abbrev pub KeptRowsAreRestored : Type 0
 KeptRowsAreRestored =
     (s : State) → IsReachedByBytes s → are_good s.setting.limits s.setting.listener ≡ true
     → rows_in (after (opened_again s) (kept_calls s)).ledger ≡ rows_in s.ledger
+
+-- those calls from that opening, and then statistics begin anew
+abbrev pub restored : State → State
+restored s = after (opened_again s) (kept_calls s ++ ZeroStats ∷ [])
+
+-- Then the same rows are live, and in the statistics nothing was called.
+abbrev pub KeptRowsAreInNoStatistics : Type 0
+KeptRowsAreInNoStatistics =
+    (s : State) → IsReachedByBytes s → are_good s.setting.limits s.setting.listener ≡ true
+    → (rows_in (restored s).ledger ≡ rows_in s.ledger) × ((restored s).ledger.history ≡ [])

@@ -3,7 +3,7 @@ use Rattle.std.specs.Prelude.{ℕ, ◌+◌, ◌*◌, Bool, false, if◌then◌el
 use Rattle.rb_xdr.specs.Ordered.{looks}
 use Rattle.rb_forward.specs.Costs.{end_cost, sent_cost, unsent_cost}
 use Rattle.rb_forward.specs.Forwards.{Unsent as UnsentCall}
-use Rattle.rb_proto.specs.Costs.{note_cost, forward_cost, statistics_cost}
+use Rattle.rb_proto.specs.Costs.{note_cost, forward_cost, statistics_cost, zero_cost}
 use Rattle.rb_proto.specs.ListReplies.{part_room}
 use Rattle.rb_proto.specs.Puts.{lists_rows, walks_rows}
 use Rattle.rb_proto.specs.declared.listener.Announced.{Announced}
@@ -16,7 +16,7 @@ use Rattle.rb_model.specs.Connections.{Taking, taking_of, live_connection}
 use Rattle.rb_model.specs.Losses.{stamp_in}
 use Rattle.rb_model.specs.Connections.Taking.{TakesNone, GoesOn, Ends}
 use Rattle.rb_model.specs.Step.{Event, unsent_call, step}
-use Rattle.rb_model.specs.Step.Event.{Open, Bytes, Pending, Gave, Closed, NextLost, Datagram, Unsent, Sent, Forward, Expire}
+use Rattle.rb_model.specs.Step.Event.{Open, Bytes, Pending, Gave, Closed, NextLost, Datagram, Unsent, Sent, Forward, Expire, ZeroStats}
 
 -- ---- what costs depend on
 
@@ -249,6 +249,7 @@ event_cost s Unsent = unsent_cost s.setting.limits.forwards (unsent_count (unsen
 event_cost s (Sent number) = sent_cost s.setting.limits.forwards
 event_cost s (Forward now from message) = ended_cost (sizes_in s) + reply_cost s (Forward now from message)
 event_cost s (Expire now) = ended_cost (sizes_in s) + reply_cost s (Expire now)
+event_cost s ZeroStats = zero_cost
 
 -- the sum of what each event costs from the state that it meets
 abbrev pub run_cost : State → List Event → ℕ

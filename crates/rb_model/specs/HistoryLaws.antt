@@ -1,6 +1,7 @@
 -- What statistics count: each call that reached its procedure, what it did there, and how each forwarded call ended (RFC 1833
 -- section 2.1, rpcb_stat).
-use Rattle.std.specs.Prelude.{◌≡◌, ℕ, max, is_some, false, if◌then◌else◌, List, [], ◌∷◌, ◌++◌, Option, Some, None}
+use Rattle.std.specs.Prelude.{◌≡◌, ℕ, max, is_some, Bool, true, false, if◌then◌else◌, List, [], ◌∷◌, ◌++◌, Option, Some, None}
+use Rattle.std.specs.List.{list_any}
 use Rattle.rb_rpc.specs.declared.call.CallHead.{CallHead}
 use Rattle.rb_rpc.specs.declared.caller.Caller.{Caller}
 use Rattle.rb_registry.specs.declared.row.Row.{Row}
@@ -31,7 +32,7 @@ use Rattle.rb_model.specs.Calls.Outcome.{Forwarded}
 use Rattle.rb_model.specs.Connections.{is_there}
 use Rattle.rb_model.specs.State.{State, opening, at_moment}
 use Rattle.rb_model.specs.Step.{context_in, Event, step, after}
-use Rattle.rb_model.specs.Step.Event.{Closed, Forward, Expire}
+use Rattle.rb_model.specs.Step.Event.{Closed, Forward, Expire, ZeroStats}
 use Rattle.rb_model.specs.ChangeLaws.{Brought, brought_by, said_to, is_told_true}
 
 -- ---- what a call is counted as
@@ -94,16 +95,29 @@ call_ended_by s event = None
 abbrev pub notes_by : State → Event → List Note
 notes_by s event = notes_from s (brought_by s event) ++ end_notes (call_ended_by s event)
 
--- those of the events of a run, in order
+-- statistics begin anew by this event
+abbrev pub begins_anew : Event → Bool
+begins_anew ZeroStats = true
+begins_anew event = false
+
+-- the notes, unless statistics begin anew behind them
+abbrev pub unless_anew : Bool → List Note → List Note
+unless_anew anew notes = if anew then [] else notes
+
+-- those of the events of a run, in order, but for events behind which statistics begin anew
 abbrev pub history_by : State → List Event → List Note
 history_by s [] = []
-history_by s (event ∷ events) = notes_by s event ++ history_by (step s event).1 events
+history_by s (event ∷ events) =
+    unless_anew (list_any begins_anew events) (notes_by s event) ++ history_by (step s event).1 events
 
--- From every state, an event appends its notes to the history, and nothing else.
+-- From every state, the history after an event is the one before it, or nothing where statistics begin anew, and behind it
+-- the notes of the event.
 abbrev pub EventsAreNoted : Type 0
-EventsAreNoted = (s : State) (event : Event) → (step s event).1.ledger.history ≡ s.ledger.history ++ notes_by s event
+EventsAreNoted =
+    (s : State) (event : Event)
+    → (step s event).1.ledger.history ≡ unless_anew (begins_anew event) s.ledger.history ++ notes_by s event
 
--- In every run, the history is the notes of its events, in order.
+-- In every run, the history is the notes of its events, in order, from where statistics last began anew.
 abbrev pub HistoryIsOfItsEvents : Type 0
 HistoryIsOfItsEvents =
     (limits : Limits) (listener : Listener) (first_xid now : ℕ) (events : List Event)

@@ -7,7 +7,7 @@ use Rattle.rb_model.specs.declared.events.UnsentCall.{UnsentCall}
 use Rattle.rb_model.specs.declared.events.Output as output
 use Rattle.rb_model.specs.declared.events.Output.TheVariants as outputs
 use Rattle.rb_model.specs.Step.{Event, Output}
-use Rattle.rb_model.specs.Step.Event.{Open, Bytes, Pending, Gave, Closed, NextLost, Datagram, Unsent, Sent, Forward, Expire}
+use Rattle.rb_model.specs.Step.Event.{Open, Bytes, Pending, Gave, Closed, NextLost, Datagram, Unsent, Sent, Forward, Expire, ZeroStats}
 use Rattle.rb_model.specs.Step.Output.{Opened, Refused, TooMuch, Took, TookAndClosed, IsPending, Done, LostIs, Replied, Forwarded, Silent, UnsentIs, Ignored, Nothing, ConnectionClosed, Ready, RepliedTo}
 
 abbrev pub event_of : event.Event → Event
@@ -22,6 +22,7 @@ event_of events.Unsent = Unsent
 event_of (events.Sent number) = Sent number
 event_of (events.Forward now from message) = Forward now from message.items
 event_of (events.Expire now) = Expire now
+event_of events.ZeroStats = ZeroStats
 
 abbrev pub unsent_of : UnsentCall → UnsentPlain
 unsent_of unsent = record { number = unsent.number; target = unsent.target; call = unsent.call.items }

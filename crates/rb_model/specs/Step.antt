@@ -161,6 +161,12 @@ unfoldable pub sent_call : State → ℕ → Result (Unit {0}) CoreFault × Stat
 sent_call s number =
     if can_be_sent number s.ledger.forwards then (Ok tt, record s { ledger = call_sent number s.ledger }) else (Err Gone, s)
 
+-- ---- statistics
+
+-- statistics begin anew: nothing was called yet, and nothing else changes
+unfoldable pub zero_stats : State → State
+zero_stats s = record s { ledger = record s.ledger { history = [] } }
+
 -- ---- events, one for each event line (docs/EVENTS.md)
 
 pub data Event : Type 0 where
@@ -175,6 +181,7 @@ pub data Event : Type 0 where
   Sent : ℕ → Event
   Forward : ℕ → Peer → List ℕ → Event
   Expire : ℕ → Event
+  ZeroStats : Event
 
 -- the result of an event, as an output line shows it
 pub data Output : Type 0 where
@@ -240,6 +247,7 @@ step s Unsent = (UnsentIs (unsent_call s), s)
 step s (Sent number) = output_or show_done (sent_call s number)
 step s (Forward now from message) = show_end (forward_reply s now from message)
 step s (Expire now) = show_expired (expire s now)
+step s ZeroStats = (Done, zero_stats s)
 
 -- ---- runs
 

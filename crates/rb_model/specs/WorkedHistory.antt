@@ -4,7 +4,7 @@ use Rattle.rb_address.specs.declared.netid.Netid.TheVariants.{Tcp, Udp}
 use Rattle.rb_stats.specs.declared.key.Version.TheVariants.{Two, Four}
 use Rattle.rb_stats.specs.Statistics.Note.{Called, WasSet, WasUnset, LookedUp, Forwarded}
 use Rattle.rb_model.specs.Step.{Event}
-use Rattle.rb_model.specs.Step.Event.{Datagram, Sent, Forward, Expire}
+use Rattle.rb_model.specs.Step.Event.{Datagram, Sent, Forward, Expire, ZeroStats}
 use Rattle.rb_model.specs.HistoryLaws.{history_by}
 use Rattle.rb_model.specs.Worked.{loopback, fresh, call2, success_reply}
 use Rattle.rb_model.specs.WorkedForwards.{set_event, target, indirect, callit}
@@ -55,3 +55,11 @@ HistoryOfForwards =
     ∷ Forwarded Four (record { prog = 200001; vers = 1; netid = Udp }) 0 true true
     ∷ Forwarded Two (record { prog = 200001; vers = 1; netid = Udp }) 0 false false
     ∷ []
+
+-- Statistics begin anew twice: what comes before the second time counts as nothing.
+abbrev pub HistoryBegunAnew : Type 0
+HistoryBegunAnew =
+    history_by fresh
+    (set_event ∷ ZeroStats ∷ Datagram 5 loopback (call2 2 3 (200001 ∷ 1 ∷ 6 ∷ 0 ∷ [])) ∷ ZeroStats
+    ∷ Datagram 5 loopback (call2 4 1 (200001 ∷ [])) ∷ Datagram 5 loopback (call2 3 3 (100000 ∷ 2 ∷ 5 ∷ 0 ∷ [])) ∷ [])
+    ≡ Called Two 1 ∷ Called Two 3 ∷ []

@@ -28,6 +28,8 @@ pub enum Event {
     Forward(u64, Peer, Vec<u8>),
     /// Does one thing that is due, if anything is: the moment.
     Expire(u64),
+    /// Statistics begin anew.
+    ZeroStats,
 }
 
 /// A forwarded call that is to be sent.

@@ -1,7 +1,7 @@
 //! Worked examples of the definitions.
 ghost use Rattle.rb_model.specs.WorkedConnections.{NoCallCloses, OtherRpcVersionOnTcp, SingleByteFragmentsInOnePiece, SingleByteFragmentsByteByByte, SingleByteFragmentsInSevens, BytesBehindArguments, OneRecordAtATime, OneRecordAtATimePasses, NoCallPasses, GivenInParts, TooMuchIsRefused, GoodLimits, NumbersDoNotRecur};
 ghost use Rattle.rb_model.specs.WorkedChanges.{ChangesOfSomeCalls, ChangesOfPieces, KeptCallsOfSomeCalls};
-ghost use Rattle.rb_model.specs.WorkedHistory.{HistoryOfSomeCalls, HistoryOfLookUps, HistoryOfForwards};
+ghost use Rattle.rb_model.specs.WorkedHistory.{HistoryOfSomeCalls, HistoryOfLookUps, HistoryOfForwards, HistoryBegunAnew};
 ghost use Rattle.rb_model.specs.WorkedForwards.{ForwardWithoutRow, RefusedCallsAreCounted, ForwardUntilDeadline, IndirectPasses, CallitPasses, TargetRefuses, DeniedIsSystemErr, CallitIsSilent, GreatestResults, NoPlace, GreatestArguments, SilentOnTcp, ForwardPassesOnTcp, ForwardOnTcpIsWhole, ClosedCallerIsDropped, EachEndsInTurn};
 ghost use Rattle.rb_model.specs.WorkedStrangers.{StrangersLookUp, StrangersGetNoLists, StrangersCountForRows, MadeForThisMachine, MadeToThisHost, MountdIsNotAsked, StrangersAreToldShortly};
 ghost use Rattle.rb_model.specs.WorkedCallers.{KnownCallersSetAsTheyAre, StrangersAreRefused, LastQuarterIsKept, AskedHostIsTold, CallersOverIpv6AreTold, CallsOverIpv6AreForwarded, OwnRowsOfAllNetids, OwnRowsNeedRoom};
@@ -140,4 +140,5 @@ pub fn worked_history()
     ensures history_of_some_calls { HistoryOfSomeCalls }
     ensures history_of_look_ups { HistoryOfLookUps }
     ensures history_of_forwards { HistoryOfForwards }
+    ensures history_begun_anew { HistoryBegunAnew }
 {}

@@ -5,3 +5,4 @@ mod DoorLaws
 mod Doors
 mod Standings
 mod TrustLaws
+mod LogLaws

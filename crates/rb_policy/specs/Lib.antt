@@ -6,7 +6,9 @@ pub mod Networks
 pub mod Moments
 pub mod LocalFile
 pub mod RecordFile
+pub mod KeepFile
 pub mod Addresses
+pub mod Checked
 pub mod Asked
 pub mod Evidence
 pub mod Trusts
@@ -16,3 +18,6 @@ pub mod BrakeLaws
 pub mod Door
 pub mod Standings
 pub mod DoorLaws
+pub mod LogRate
+pub mod LogLines
+pub mod LogLaws

@@ -27,7 +27,7 @@ fn is_same(a: Host, b: Host) -> bool
     a == b
 }
 
-fn has_host(hosts: &[Host], wanted: Host) -> bool
+pub(crate) fn has_host(hosts: &[Host], wanted: Host) -> bool
     ensures { result ≡ has_host wanted hosts.now }
 {
     hosts.iter().any(|host| is_same(*host, wanted))

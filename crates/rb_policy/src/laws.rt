@@ -1,9 +1,10 @@
 //! Laws of who has a place, of who may ask and is believed, of the socket that was asked, and of how many datagrams are
-//! served.
+//! served, and of how many lines a log gets.
 ghost use Rattle.rb_policy.specs.Trusts.{OthersNeedNoTable, OthersAreStrangers};
 ghost use Rattle.rb_policy.specs.Asked.{SocketsAreFound, EachHasItsOwn};
 ghost use Rattle.rb_policy.specs.BrakeLaws.{NeverMore, NeverHeldBack, HaveOnePlace, AreNetworks, StrangersCount, OneSecondIsServed};
 ghost use Rattle.rb_policy.specs.DoorLaws.{SharesAreKept, OneIsGivenUp};
+ghost use Rattle.rb_policy.specs.LogLaws.{FewOfASecond, NoneIsLost};
 ghost use Rattle.rb_policy.specs.Networks.{WhoMayAsk, AskersOfOneNetwork};
 
 /// Where a connection is given up for a client that comes, it is one and no other, and the client's host holds no
@@ -42,4 +43,10 @@ pub fn brake_laws()
     ensures networks { AreNetworks }
     ensures strangers { StrangersCount }
     ensures example { OneSecondIsServed }
+{}
+
+/// In no second the log gets more than 20 lines of a kind, and each that it does not get is counted.
+pub fn log_laws()
+    ensures few { FewOfASecond }
+    ensures none { NoneIsLost }
 {}

@@ -4,11 +4,15 @@
 mod addresses;
 mod asked;
 mod brake;
+mod checked;
 mod deadlines;
 mod door;
 mod evidence;
+mod keep_file;
 mod laws;
 mod local_file;
+mod log_lines;
+mod log_rate;
 mod moments;
 mod networks;
 mod outcome;
@@ -24,6 +28,7 @@ pub use addresses::{
 };
 pub use asked::{host_asked, socket_of};
 pub use brake::{Brake, Rate};
+pub use checked::checked_at;
 pub use deadlines::{Deadlines, LATE, MOST_PUT_OFF, is_behind};
 pub use door::{
     ACTIVE, Admission, Holder, OWED, Origin, Phase, admit, ends_record, is_stuck, origin_of,
@@ -33,8 +38,11 @@ pub use evidence::{
     BETWEEN_READINGS, Evidence, LONGEST_TABLE, evidence_of, is_shown, looks_in, may_read,
     wait_for_reading, whole_text,
 };
-pub use laws::{asked_laws, brake_laws, door_laws, network_laws, trust_laws};
+pub use keep_file::{Distrust, KeepAction, KeepState, Writers, keep_action};
+pub use laws::{asked_laws, brake_laws, door_laws, log_laws, network_laws, trust_laws};
 pub use local_file::{FileAction, FileState, file_action};
+pub use log_lines::{ChangeLine, LONGEST_LOG_LINE, LogKind, LogLine, MOST_SHOWN};
+pub use log_rate::{LINES, LogRate};
 pub use moments::Moments;
 pub use networks::{asker, may_ask};
 pub use outcome::{

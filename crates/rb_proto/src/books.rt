@@ -68,6 +68,7 @@ impl Books {
     ghost use Rattle.rb_registry.specs.Table.{floor_raised, later_than};
     ghost use Rattle.rb_registry.specs.Cursors.{GoesOn};
     ghost use Rattle.rb_proto.specs.Callers.{own_rows};
+    ghost use Rattle.rb_proto.specs.Costs.{zero_cost};
     ghost use Rattle.rb_proto.specs.Ledger.{Ledger, StandsForLedger, fresh_ledger, with_call_noted};
 
     /// Books with the listener's own rows alone, for at most `limit` rows and at most `forwards` forwarded calls at a
@@ -113,6 +114,18 @@ impl Books {
         ensures frame { SameFrame self.old self.new }
     {
         self.stats.note_call(version_of(head.vers), head.proc);
+    }
+
+    /// Statistics begin anew: nothing was called. It costs at most 2 steps for each of 192 keys, and 1.
+    pub fn clear_stats(&mut self, meter: &mut Meter)
+        requires { AreTied meter.old.tie self.old }
+        ensures cleared { Becomes (λ (l : Ledger). record l { history = [] }) self.old self.new }
+        ensures registry { self.new.registry ≡ self.old.registry }
+        ensures forwards { self.new.forwards ≡ self.old.forwards }
+        ensures frame { SameFrame self.old self.new }
+        ensures cost { PaysAtMost meter.old meter.new zero_cost }
+    {
+        self.stats.clear(meter);
     }
 
     /// Returns whether the call is a SET that is accepted: then there has to be room for its row.

@@ -117,7 +117,7 @@ impl Context {
     }
 
     /// As whom a call of this head registers.
-    pub(crate) fn owner(&self, head: &CallHead) -> Owner
+    pub fn owner(&self, head: &CallHead) -> Owner
         ensures { result ≡ owner_in self.now head.now }
     {
         owner_of(self.who().trust, head.cred)

@@ -14,7 +14,7 @@ use Rattle.rb_proto.specs.declared.listener.Terms.{Terms}
 use Rattle.rb_model.specs.declared.types.Limits.{Limits}
 use Rattle.rb_model.specs.State.{State}
 use Rattle.rb_model.specs.Step.{Event, Output, step}
-use Rattle.rb_model.specs.Step.Event.{Datagram, Open, Bytes, Pending, Gave, Closed, NextLost, Unsent, Sent, Forward, Expire}
+use Rattle.rb_model.specs.Step.Event.{Datagram, Open, Bytes, Pending, Gave, Closed, NextLost, Unsent, Sent, Forward, Expire, ZeroStats}
 use Rattle.rb_record.specs.declared.happening.Happening.{Happening}
 use Rattle.rb_record.specs.declared.happening.Happening.TheVariants as happening
 use Rattle.rb_record.specs.declared.shown.Shown.{Shown}
@@ -38,6 +38,7 @@ event_text Unsent = codes "unsent\n"
 event_text (Sent id) = codes "sent " ++ (decimal id ++ codes "\n")
 event_text (Forward now from bytes) = codes "forward " ++ (decimal now ++ peer_line (codes " ") from bytes)
 event_text (Expire now) = codes "expire " ++ (decimal now ++ codes "\n")
+event_text ZeroStats = codes "zero\n"
 
 -- an event, and what it gave behind `#> `
 abbrev pub entry_text : Event → Output → List ℕ
@@ -113,6 +114,7 @@ event_of happening.Unsent = Unsent
 event_of (happening.Sent number) = Sent number
 event_of (happening.Forward now from bytes) = Forward now from bytes.now
 event_of (happening.Expire now) = Expire now
+event_of happening.ZeroStats = ZeroStats
 
 abbrev pub entry_of : Happening → Shown → List ℕ
 entry_of event output = entry_text (event_of event) (shown_output output)

@@ -33,6 +33,8 @@ pub enum Happening<'a> {
     Forward(u64, Peer, &'a [u8]),
     /// One thing that is due is done: the moment.
     Expire(u64),
+    /// Statistics begin anew.
+    ZeroStats,
 }
 
 /// Writes a line of a word, a caller, and bytes from it.
@@ -70,5 +72,6 @@ pub fn write_event<W: Write>(event: &Happening<'_>, writer: &mut W) -> io::Resul
             write_to(" ", *from, bytes, writer)
         }
         Happening::Expire(now) => writeln!(writer, "expire {now}"),
+        Happening::ZeroStats => writer.write_all(b"zero\n"),
     }
 }

@@ -2,7 +2,7 @@
 ghost use Rattle.std.specs.Prelude.{◌≡◌, ◌≤◌, ◌+◌, [], length, vec_capacity, OnErr};
 ghost use Rattle.rb_model.specs.Calls.{longest_reply};
 ghost use Rattle.rb_model.specs.Step.{show_taken, show_told, pending, is_too_much};
-ghost use Rattle.rb_model.specs.Step.Event.{Open, Bytes, Pending, Gave, Closed, NextLost, Datagram, Unsent, Sent, Forward, Expire};
+ghost use Rattle.rb_model.specs.Step.Event.{Open, Bytes, Pending, Gave, Closed, NextLost, Datagram, Unsent, Sent, Forward, Expire, ZeroStats};
 ghost use Rattle.rb_core.specs.StandsFor.{StandsFor};
 ghost use Rattle.rb_model.specs.Plain.{event_of, output_of};
 ghost use Rattle.rb_core.specs.Events.{OnlyBegins};
@@ -242,6 +242,15 @@ fn expire(alloc: Global, core: &mut Core, now: u64, meter: &mut Meter) -> Result
     }
 }
 
+#[tactic(auto, unfolding(rb_model::specs::Step::step))]
+fn zero_stats(core: &mut Core, meter: &mut Meter) -> Output
+    requires { meter.old.tie ≡ core.old.tie }
+    ensures { HasHappened ZeroStats core.old core.new meter.old meter.new result }
+{
+    core.zero_stats(meter);
+    Output::Done
+}
+
 /// Does one event; `NoMemory`, and nothing is done, where the allocation for its output is refused.
 pub(crate) fn happen(
     alloc: Global,
@@ -266,5 +275,6 @@ pub(crate) fn happen(
         Event::Sent(number) => Ok(sent(core, *number, meter)),
         Event::Forward(now, from, message) => forward(alloc, core, *now, *from, message, meter),
         Event::Expire(now) => expire(alloc, core, *now, meter),
+        Event::ZeroStats => Ok(zero_stats(core, meter)),
     }
 }

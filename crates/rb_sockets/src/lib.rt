@@ -19,7 +19,7 @@ pub use calls::{CallSocket, CallSockets, ForwardSocket, ForwardSockets};
 pub use descriptors::{Shortage, open_files};
 pub use faults::{BindFault, DaemonFault, SocketFault, Step};
 pub use listener::{Ends, Listener, Visitor};
-pub use settings::Settings;
+pub use settings::{Logged, Settings};
 pub use sockets::{Shown, Sockets};
 pub use stream::{Incoming, Outgoing, Stream};
 pub use tables::Table;

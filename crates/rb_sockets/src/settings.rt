@@ -9,6 +9,17 @@ use rb_policy::{Rate, announced_inet, announced_inet6};
 use rb_proto::{Announced, Listener, Terms};
 use rb_uaddr::{AddressText, MAX_KEPT};
 
+/// What a daemon has lines of in its log.
+#[derive(Clone, Copy, Debug, PartialEq, Eq)]
+pub enum Logged {
+    /// Nothing.
+    Nothing,
+    /// Each SET and UNSET, accepted or refused.
+    Changes,
+    /// The same, and refused calls and connections that are given up.
+    All,
+}
+
 /// What a daemon is started with.
 #[derive(Clone, Copy, Debug, PartialEq, Eq)]
 pub struct Settings<'a> {
@@ -40,6 +51,10 @@ pub struct Settings<'a> {
     /// The most bytes of a record of its events, its last line among them; 0 records nothing. It takes that much
     /// memory, and up to 160,000 bytes more for the entry that is being written.
     pub record: usize,
+    /// The path of the file in which the rows are kept that were set, if they are.
+    pub keep: Option<&'a str>,
+    /// What it has lines of in its log.
+    pub log: Logged,
 }
 
 impl<'a> Settings<'a> {

@@ -75,6 +75,21 @@ impl Stats {
         })
     }
 
+    /// Statistics begin anew: nothing was called. It costs 2 steps for each key, and 1.
+    pub fn clear(&mut self, meter: &mut Meter)
+        requires { meter.old.tie ≡ self.old.tie }
+        ensures cleared { StandsForHistory self.new [] }
+        ensures memory { self.new.memory ≡ self.old.memory }
+        ensures tie { self.new.tie ≡ self.old.tie }
+        ensures few { key_count self.old ≤ most_keys }
+        ensures cost { Pays meter.old meter.new (2 * key_count self.old + 1) }
+    {
+        self.two = Counts::new();
+        self.three = Counts::new();
+        self.four = Counts::new();
+        self.items.clear(meter);
+    }
+
     /// Notes a call of a procedure of the version, whatever its arguments.
     ///
     /// A procedure above 12 is in no count; a count of 2^31 - 1 stays. It costs nothing.

@@ -1,5 +1,5 @@
 //! The table of items.
-ghost use Rattle.std.specs.Prelude.{◌≡◌, ◌+◌, ◌*◌, ◌<◌, ◌≤◌, length, IfOk, IfErr, Some};
+ghost use Rattle.std.specs.Prelude.{◌≡◌, ◌+◌, ◌*◌, ◌<◌, ◌≤◌, [], length, IfOk, IfErr, Some};
 ghost use Rattle.std.specs.Map.{values_of};
 ghost use Rattle.rb_xdr.specs.Meter.{Pays, PaysAtMost};
 ghost use Rattle.rb_xdr.specs.Pool.{HasDistinctKeys};
@@ -86,6 +86,17 @@ fn add_item(items: &mut Pool<Item>, key: Key, passed: bool, indirect: bool, mete
     };
 }
 
+/// Removes all items, one after another. It costs 2 steps for each, and 1.
+fn remove_all(items: &mut Pool<Item>, meter: &mut Meter)
+    requires { meter.old.tie ≡ items.old.tie }
+    ensures items { items.new ≡ record items.old { entries = [] } }
+    ensures cost { Pays meter.old meter.new (2 * length items.old.entries + 1) }
+{
+    'items: while let Some(place) = items.first(meter) {
+        items.remove(place, meter);
+    }
+}
+
 /// The items of every list, in the order of their keys' first counts.
 #[derive(Drop)]
 pub(crate) struct Items {
@@ -119,7 +130,7 @@ impl Model for Items {
 
 impl Items {
     ghost use Rattle.std.specs.Prelude.{◌≡◌, ◌≤◌, ◌+◌, ◌*◌, [], length, IfOk};
-    ghost use Rattle.rb_xdr.specs.Meter.{PaysAtMost};
+    ghost use Rattle.rb_xdr.specs.Meter.{Pays, PaysAtMost};
     ghost use Rattle.rb_stats.specs.Table.{items_in, count_with, HoldsOneMore};
     ghost use Rattle.rb_stats.specs.declared.key.Info.TheVariants.{Addr, Rmt};
 
@@ -133,6 +144,19 @@ impl Items {
             items: Pool::written(alloc, GREATEST_TABLE, || Ok(Item::default()), meter)?,
             len: 0,
         })
+    }
+
+    /// No items are left; the memory stays.
+    pub(crate) fn clear(&mut self, meter: &mut Meter)
+        requires { meter.old.tie ≡ self.old.tie }
+        ensures empty { self.new.all ≡ [] }
+        ensures memory { self.new.memory ≡ self.old.memory }
+        ensures tie { self.new.tie ≡ self.old.tie }
+        ensures few { length self.old.all ≤ 192 }
+        ensures cost { Pays meter.old meter.new (2 * length self.old.all + 1) }
+    {
+        remove_all(&mut self.items, meter);
+        self.len = 0;
     }
 
     /// How many there are.

@@ -1,7 +1,9 @@
 //! The command `serve`.
-ghost use Rattle.std.specs.Prelude.{◌≤◌};
+ghost use Rattle.std.specs.Prelude.{◌≤◌, IfErr};
 
-use rb_commands::{explain_fault, make_record, say_start, settings_of};
+use rb_commands::{
+    explain_fault, make_record, read_keep, say_keep_fault, say_left_out, say_start, settings_of,
+};
 use rb_daemon::{Daemon, DaemonFault, Settings};
 use rb_lines::Service;
 use std::fs::Files;
@@ -33,8 +35,8 @@ impl<F: Write + Drop> Recorder<F> {
 }
 
 /// Serves, and says on standard output where it listens. The answer is the exit status: 0 after the last turn, and 1
-/// where the limits are out of their ranges, or memory, a socket, standard output or the file of the record failed.
-/// The error message goes to `faults`, behind a line that says what failed.
+/// where the limits are out of their ranges, the rows that were kept can't be read, or memory, a socket, standard
+/// output or the file of the record failed. The error message goes to `faults`, behind a line that says what failed.
 pub fn run_service<R, E>(rt: &R, service: &Service<'_>, faults: &mut E) -> u8
 where
     R: Net + Files + Clock + Wait + AllocGlobal + Print,
@@ -42,9 +44,31 @@ where
     ensures { result ≤ 1 }
 {
     let settings = settings_of(service);
-    match Daemon::new(rt.alloc(), rt, rt, &settings) {
+    match begin(rt, service, &settings, faults) {
         Ok(mut daemon) => serve(rt, &mut daemon, service, &settings, faults),
-        Err(fault) => explain_fault(&fault, &settings, faults).status,
+        Err(status) => status,
+    }
+}
+
+/// A daemon that has the rows that were kept, which are read before anything listens; those that it has not are said.
+fn begin<'a, R, E>(
+    rt: &'a R,
+    service: &Service<'_>,
+    settings: &Settings<'_>,
+    faults: &mut E,
+) -> Result<Daemon<'a, R>, u8>
+where
+    R: Net + Files + Clock + AllocGlobal,
+    E: Write,
+    ensures { IfErr result (λ status. status ≤ 1) }
+{
+    let rows = read_keep(rt, service, settings, faults)?;
+    match Daemon::new(rt.alloc(), rt, rt, settings, &rows) {
+        Ok(daemon) => {
+            say_left_out(service, &rows, daemon.left_out(), faults);
+            Ok(daemon)
+        }
+        Err(fault) => Err(explain_fault(&fault, settings, faults).status),
     }
 }
 
@@ -68,42 +92,46 @@ where
     if let Err(status) = say_start(rt, service, settings, daemon.shortage(), faults) {
         return status;
     }
-    match take_turns(rt, daemon, service.turns, &mut recorder, faults) {
+    match take_turns(rt, daemon, service, &mut recorder, faults) {
         Ok(()) => 0,
         Err(fault) => explain_fault(&fault, settings, faults).status,
     }
 }
 
-/// A turn, what was recorded of it, and a line for each listener that failed the first time.
+/// A turn, what was recorded of it, the lines of the log, and one for each listener that failed the first time and
+/// for the rows that could not be written. Where standard error takes no lines they are lost.
 fn take_turn<R: Clock + Files, F: Write + Drop, E: Write>(
     rt: &R,
     daemon: &mut Daemon<'_, R>,
+    service: &Service<'_>,
     recorder: &mut Recorder<F>,
     faults: &mut E,
 ) -> Result<(), DaemonFault> {
     let turned = daemon.turn(rt, WAIT);
     recorder.write(daemon, faults);
+    let _ = daemon.write_log(faults);
     if let Some(fault) = daemon.take_fault() {
         let _ = writeln!(faults, "rpcbind: {fault}; it is tried again");
     }
+    say_keep_fault(service, daemon.take_keep_fault(), faults);
     turned
 }
 
 fn take_turns<R: Clock + Files + Wait, F: Write + Drop, E: Write>(
     rt: &R,
     daemon: &mut Daemon<'_, R>,
-    turns: u64,
+    service: &Service<'_>,
     recorder: &mut Recorder<F>,
     faults: &mut E,
 ) -> Result<(), DaemonFault> {
-    if turns > 0 {
-        for _ in 0..turns {
-            take_turn(rt, daemon, recorder, faults)?;
+    if service.turns > 0 {
+        for _ in 0..service.turns {
+            take_turn(rt, daemon, service, recorder, faults)?;
         }
         return Ok(());
     }
     for _ in rt.forever() {
-        take_turn(rt, daemon, recorder, faults)?;
+        take_turn(rt, daemon, service, recorder, faults)?;
     }
     unreachable!()
 }

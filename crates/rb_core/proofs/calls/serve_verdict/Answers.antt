@@ -40,12 +40,12 @@ returns-clause-acts c =
     let message = c.message.result in
     let same : message_with c.args.verdict.now c.args.arguments.now ≡ message = c.in-Ok.ensures.calls c.args.arguments.now ∙ sym c.message.ensures.message in
     rw same
-    (serves_in_room c.args.context.now message c.args.arguments.now c.args.connections.now c.args.books.now _ c.make_room.new.connections c.make_room.new.books c.serve-2.new.books
-    c.serve-2.ensures.cursors c.serve-2.ensures.floor c.make_room.ensures.lists c.make_room.ensures.makes c.serve-2.ensures.acts)
+    (serves_in_room c.args.context.now message c.args.arguments.now c.args.connections.now c.args.books.now _ c.make_room.new.connections c.make_room.new.books c.serve-served.new.books
+    c.serve-served.ensures.cursors c.serve-served.ensures.floor c.make_room.ensures.lists c.make_room.ensures.makes c.serve-served.ensures.acts)
 
 pub returns-clause-lists : goal.returns-clause-lists
 returns-clause-lists c =
-    lists_then c.make_room.new.connections c.make_room.new.books c.serve-2.new.books c.serve-2.ensures.cursors c.serve-2.ensures.floor c.make_room.ensures.lists
+    lists_then c.make_room.new.connections c.make_room.new.books c.serve-served.new.books c.serve-served.ensures.cursors c.serve-served.ensures.floor c.make_room.ensures.lists
 
 -- ---- what it costs
 
@@ -56,10 +56,10 @@ pub returns-in-Err-clause-cost : goal.returns-in-Err-clause-cost
 returns-in-Err-clause-cost c = rw (← c.in-Err.ensures.refuses c.args.arguments.now) (served_alone c.args.context.now c.in-Err.message c.args.connections.now c.args.books.now c.serve.new.books c.args.arguments.now c.serve.new.out _ _ c.serve.ensures.cost)
 
 pub returns-clause-listed : goal.returns-clause-listed
-returns-clause-listed c = rw (c.in-Ok.ensures.calls c.args.arguments.now ∙ sym c.message.ensures.message) c.serve-2.ensures.listed
+returns-clause-listed c = rw (c.in-Ok.ensures.calls c.args.arguments.now ∙ sym c.message.ensures.message) c.serve-served.ensures.listed
 
 pub returns-clause-cost : goal.returns-clause-cost
 returns-clause-cost c =
     rw (c.in-Ok.ensures.calls c.args.arguments.now ∙ sym c.message.ensures.message)
-    (served_in_room c.args.context.now c.message.result c.args.connections.now c.args.books.now c.make_room.new.books c.serve-2.new.books c.args.arguments.now c.serve-2.new.out _ _ _
-    c.make_room.ensures.frame.limit c.make_room.ensures.fewer c.make_room.ensures.cost c.serve-2.ensures.cost)
+    (served_in_room c.args.context.now c.message.result c.args.connections.now c.args.books.now c.make_room.new.books c.serve-served.new.books c.args.arguments.now c.serve-served.new.out _ _ _
+    c.make_room.ensures.frame.limit c.make_room.ensures.fewer c.make_room.ensures.cost c.serve-served.ensures.cost)

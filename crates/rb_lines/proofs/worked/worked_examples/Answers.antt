@@ -48,6 +48,13 @@ pub returns-clause-forwards_are_read : goal.returns-clause-forwards_are_read
 unfolding hex_on_literals cut number_below plain_number ipv4_host ipv4_peer ipv6_peer peer hex_bytes source printed_host asked trust claimant who datagram_line forward_line open_line bytes_line gave_line event lone_event line events_from lines_of longest_input read
 returns-clause-forwards_are_read c = (refl, refl, refl, refl, refl, refl)
 
+pub returns-clause-zero_is_read : goal.returns-clause-zero_is_read
+unfolding hex_on_literals cut number_below plain_number ipv4_host ipv4_peer ipv6_peer peer hex_bytes source printed_host asked trust claimant who datagram_line forward_line open_line bytes_line gave_line event lone_event line events_from lines_of longest_input read
+returns-clause-zero_is_read c = (refl, refl, refl, refl)
+
+pub returns-clause-zero_is_printed : goal.returns-clause-zero_is_printed
+returns-clause-zero_is_printed c = refl
+
 pub returns-clause-forwards_are_printed : goal.returns-clause-forwards_are_printed
 unfolding digits hex_on_literals report_of
 returns-clause-forwards_are_printed c = refl

@@ -32,13 +32,13 @@ use Rattle.rb_model.specs.Ending.{forward_reply, expire_connection, expire}
 use Rattle.rb_model.specs.Calls.{is_served, request_of, call_of, message_of, longest_reply, fitting_reply, outcome}
 use Rattle.rb_model.specs.Connections.{taking_of, keep_reading, settle, with_given, give, is_live, live_connection, number_for, open_in_table, next_lost_in_table, is_there, without_number, close_in_table, longest_fragment, pending_of}
 use Rattle.rb_model.specs.Laws.{owed_bytes}
-use Rattle.rb_model.specs.Step.{longest_to, serve, serve_record, bytes, pending, gave, open_connection, close_connection, next_lost, datagram, unsent_call, sent_call, step}
-use Rattle.rb_model.specs.WorkedHistory.{HistoryOfSomeCalls, HistoryOfLookUps, HistoryOfForwards}
+use Rattle.rb_model.specs.Step.{longest_to, serve, serve_record, bytes, pending, gave, open_connection, close_connection, next_lost, datagram, unsent_call, sent_call, zero_stats, step}
+use Rattle.rb_model.specs.WorkedHistory.{HistoryOfSomeCalls, HistoryOfLookUps, HistoryOfForwards, HistoryBegunAnew}
 use Rattle.rb_model.proofs.worked.worked_history.Goals as goal
 
-examples : HistoryOfSomeCalls × HistoryOfLookUps × HistoryOfForwards
-unfolding number number_at signed boolean opaque array optional linked_list read_number read_signed read_bool read_content read_opaque read_pair read_optional read_array call_bytes body_of_sys auth_stat_of fragment_header first_record data_of reply_fragments marked_reply reply_head read_prog_mismatch read_accept_stat read_accepted read_rpc_mismatch read_denied read_reply body_length auth_end is_over_long is_broken credential_end verifier_end sys_uid verdict port_of port_bytes text_of octet ipv4_of_parts ipv6_of_parts parts_of parse_ipv4 parse_ipv6 parse is_local_text merged_host merged_host6 merged_address transport_of from_transport is_netid is_among may_remove covers is_on is_row is_change_left has_place removes_some find_exact versions greatest find_row comes_from_here row_of_mapping row_of_rpcb can_be_set has_share accepts_row set_row accepts_removal unset_rows shown_address shown_text shown_port getport getaddr getversaddr seconds taddr_of uaddr_of answer procedure_at is_known arguments request own_rows is_local hosts_told is_loopback plain_host owner_text netid_named which_of transport_of_protocol address_in is_address result_bytes row_bytes read_mapping read_rpcb read_netbuf read_entry is_served request_of call_of message_of longest_reply fitting_reply outcome taking_of keep_reading settle with_given give is_live live_connection number_for open_in_table next_lost_in_table is_there without_number close_in_table longest_fragment owed_bytes pending_of serve serve_record bytes pending gave open_connection close_connection next_lost datagram step digits number_of is_key is_in keys_of items_of stat item_spelling stat_spelling statistics version_of with_call_noted arguments_of xid_of question longest_results outcome_of is_same_peer is_answered reply due drop_caller later can_start next_entry with_next_entry unsent can_be_sent sent read_remote outcome_note address_to_forward forward_of forward_call end_note target_replied fell_due caller_dropped call_sent forwarded_bytes forward_reply expire unsent_call sent_call longest_forwarded row_to_set adds_row list_stamps needed_removals removals_in_the_way evict_early expire_connection first_due expire_first longest_to may_go
-examples = (refl, refl, refl)
+examples : HistoryOfSomeCalls × HistoryOfLookUps × HistoryOfForwards × HistoryBegunAnew
+unfolding number number_at signed boolean opaque array optional linked_list read_number read_signed read_bool read_content read_opaque read_pair read_optional read_array call_bytes body_of_sys auth_stat_of fragment_header first_record data_of reply_fragments marked_reply reply_head read_prog_mismatch read_accept_stat read_accepted read_rpc_mismatch read_denied read_reply body_length auth_end is_over_long is_broken credential_end verifier_end sys_uid verdict port_of port_bytes text_of octet ipv4_of_parts ipv6_of_parts parts_of parse_ipv4 parse_ipv6 parse is_local_text merged_host merged_host6 merged_address transport_of from_transport is_netid is_among may_remove covers is_on is_row is_change_left has_place removes_some find_exact versions greatest find_row comes_from_here row_of_mapping row_of_rpcb can_be_set has_share accepts_row set_row accepts_removal unset_rows shown_address shown_text shown_port getport getaddr getversaddr seconds taddr_of uaddr_of answer procedure_at is_known arguments request own_rows is_local hosts_told is_loopback plain_host owner_text netid_named which_of transport_of_protocol address_in is_address result_bytes row_bytes read_mapping read_rpcb read_netbuf read_entry is_served request_of call_of message_of longest_reply fitting_reply outcome taking_of keep_reading settle with_given give is_live live_connection number_for open_in_table next_lost_in_table is_there without_number close_in_table longest_fragment owed_bytes pending_of serve serve_record bytes pending gave open_connection close_connection next_lost datagram step digits number_of is_key is_in keys_of items_of stat item_spelling stat_spelling statistics version_of with_call_noted arguments_of xid_of question longest_results outcome_of is_same_peer is_answered reply due drop_caller later can_start next_entry with_next_entry unsent can_be_sent sent read_remote outcome_note address_to_forward forward_of forward_call end_note target_replied fell_due caller_dropped call_sent forwarded_bytes forward_reply expire unsent_call sent_call zero_stats longest_forwarded row_to_set adds_row list_stamps needed_removals removals_in_the_way evict_early expire_connection first_due expire_first longest_to may_go
+examples = (refl, refl, refl, refl)
 
 pub returns-clause-history_of_some_calls : goal.returns-clause-history_of_some_calls
 returns-clause-history_of_some_calls c = examples.0
@@ -48,3 +48,6 @@ returns-clause-history_of_look_ups c = examples.1
 
 pub returns-clause-history_of_forwards : goal.returns-clause-history_of_forwards
 returns-clause-history_of_forwards c = examples.2
+
+pub returns-clause-history_begun_anew : goal.returns-clause-history_begun_anew
+returns-clause-history_begun_anew c = examples.3

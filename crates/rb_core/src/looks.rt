@@ -1,0 +1,58 @@
+//! Looks at a core between two events: how many changes it accepted, its clock, and its live rows.
+ghost use Rattle.std.specs.Prelude.{◌≡◌, ◌+◌, ◌*◌, length, Some, IfSome, IfNone};
+ghost use Rattle.rb_xdr.specs.Meter.{PaysAtMost};
+ghost use Rattle.rb_proto.specs.Ledger.{rows_in};
+ghost use Rattle.rb_connections.specs.Slots.{Shows};
+ghost use Rattle.rb_core.specs.StandsFor.{StandsFor};
+ghost use Rattle.rb_core.specs.Looks.{rows_shown, StandsAmong, IsAtStart, row_behind, PassesOne, IsAtEnd, slot_count, slots_behind, PaysForRow};
+
+use crate::events::Core;
+use rb_registry::{Cursor, Row};
+use rb_xdr::Meter;
+
+impl Core {
+    /// How many changes were accepted so far: rows set, and removals of at least one row.
+    pub fn changes(&self) -> u64
+        ensures { Shows StandsFor (λ s. length s.ledger.changes) self.now result }
+    {
+        self.books.registry.stamp()
+    }
+
+    /// The greatest moment of the events so far, in milliseconds since the start of 1970.
+    pub fn clock(&self) -> u64
+        ensures value { result ≡ self.now.clock }
+        ensures clock { Shows StandsFor (λ s. s.clock) self.now result }
+    {
+        self.clock
+    }
+
+    /// The place before the first live row.
+    pub fn first_place(&self) -> Cursor
+        ensures place { StandsAmong self.now result }
+        ensures start { IsAtStart self.now result }
+        ensures all { slots_behind self.now result ≡ slot_count self.now }
+    {
+        // it promises that the rows of this moment can be listed
+        self.books.registry.stamp();
+        Cursor::start()
+    }
+
+    /// The live row behind the cursor, and the cursor behind it. From `first_place` on each of them comes once, the
+    /// daemon's own first, in their order, and then `None`, where no event comes between. It costs at most 2 steps for
+    /// each row behind the cursor, retained ones among them, and 1.
+    pub fn next_row(&self, cursor: Cursor, meter: &mut Meter) -> Option<(Cursor, &Row)>
+        requires tie { meter.old.tie ≡ self.now.tie }
+        requires place { StandsAmong self.now cursor }
+        ensures row { IfSome result (λ next. row_behind self.now cursor ≡ Some next.1.now) }
+        ensures place { IfSome result (λ next. StandsAmong self.now next.0) }
+        ensures passed { IfSome result (λ next. PassesOne self.now cursor next.0) }
+        ensures end { IfNone result (IsAtEnd self.now cursor) }
+        ensures rows { Shows StandsFor (λ s. rows_in s.ledger) self.now (rows_shown self.now) }
+        ensures cost { PaysAtMost meter.old meter.new (2 * slots_behind self.now cursor + 1) }
+        ensures cost_row { IfSome result
+            (λ next. PaysForRow self.now cursor next.0 meter.old meter.new) }
+    {
+        let registry = &self.books.registry;
+        registry.next_row(registry.stamp(), cursor, meter)
+    }
+}

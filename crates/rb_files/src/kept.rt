@@ -1,0 +1,58 @@
+//! A file that is replaced as a whole.
+use crate::new::new_file;
+use std::alloc::{AllocError, Global};
+use std::fs::{Files, OpenFile};
+use std::io::Write;
+use std::{fs, io};
+
+/// What the name of the file beside ends with.
+const NEW: &str = ".new";
+
+/// A file that is replaced as a whole: who opens it finds the old text or the new one, and never a part.
+#[derive(Debug, Drop)]
+pub struct KeptFile {
+    path: String,
+    beside: String,
+}
+
+impl KeptFile {
+    /// The file at the path, whose new text is written beside it, at the path with `.new` behind it. It takes the
+    /// memory for both paths, and looks at no file. An error where the allocation is refused.
+    pub fn new(alloc: Global, path: &str) -> Result<KeptFile, AllocError> {
+        let mut beside = text_of(alloc, path)?;
+        beside.push_str(NEW)?;
+        Ok(KeptFile {
+            path: text_of(alloc, path)?,
+            beside,
+        })
+    }
+
+    /// The path of the file.
+    pub fn path(&self) -> &str {
+        &self.path
+    }
+
+    /// Puts a new file with this text in place of what is at the path, which its owner alone may read: it is written
+    /// beside it, reaches the disk, and is renamed. A plain file that is there beside goes. No memory is taken. Where
+    /// the system refuses a step, its error: what is at the path stays, and the file beside goes.
+    pub fn replace<R: Files>(&self, rt: &R, text: &[u8]) -> io::Result<()> {
+        let file = new_file(rt, &self.beside)?;
+        let replaced = self.put_in_place(rt, file, text);
+        if replaced.is_err() {
+            let _ = fs::remove_file(rt, self.beside.as_str());
+        }
+        replaced
+    }
+
+    fn put_in_place<R: Files>(&self, rt: &R, mut file: R::File, text: &[u8]) -> io::Result<()> {
+        file.write_all(text)?;
+        file.sync_data()?;
+        fs::rename(rt, self.beside.as_str(), self.path.as_str())
+    }
+}
+
+fn text_of(alloc: Global, text: &str) -> Result<String, AllocError> {
+    let mut copy = String::new(alloc);
+    copy.push_str(text)?;
+    Ok(copy)
+}

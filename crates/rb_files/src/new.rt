@@ -1,0 +1,39 @@
+//! New files.
+use rb_policy::{RecordAction, RecordState, record_action};
+use std::fs::{Files, OpenOptions};
+use std::io::ErrorKind;
+use std::os::unix::fs::OpenOptionsExt;
+use std::{fs, io};
+
+/// The mode of a new file: it has what clients sent.
+const MODE: u32 = 0o600;
+
+/// A new file at the path, which its owner alone may read. A plain file that is there goes; one of another kind
+/// stays, and no link is followed. An error where the system refuses a step, and `AlreadyExists` where a file stays.
+pub fn new_file<R: Files>(rt: &R, path: &str) -> io::Result<R::File> {
+    match record_action(file_state(rt, path)?) {
+        RecordAction::Make => {}
+        RecordAction::RemoveAndMake => fs::remove_file(rt, path)?,
+        RecordAction::GiveUp => {
+            return Err(io::Error::new(
+                ErrorKind::AlreadyExists,
+                "what is there is no plain file, and stays",
+            ));
+        }
+    }
+    let mut options = OpenOptions::new();
+    options.write(true);
+    options.create_new(true);
+    options.mode(MODE);
+    options.open(rt, path)
+}
+
+/// What is at the path.
+fn file_state<R: Files>(rt: &R, path: &str) -> io::Result<RecordState> {
+    match fs::symlink_metadata(rt, path) {
+        Ok(found) if found.is_file() => Ok(RecordState::Plain),
+        Ok(_) => Ok(RecordState::Other),
+        Err(error) if error.kind() == ErrorKind::NotFound => Ok(RecordState::Absent),
+        Err(error) => Err(error),
+    }
+}

@@ -1,0 +1,99 @@
+-- The walk that writes the lines of rows.
+use Rattle.std.proofs.Common.{◌≡◌, ◌≤◌, ◌+◌, ◌*◌, ◌==◌, ℕ, true, false, List, [], ◌∷◌, ◌++◌, length, map, take, Some, Option, refl, sym, ap, subst, ◌∙◌, arith}
+use Rattle.std.specs.Prelude.{All, not}
+use Rattle.std.specs.List.{flat_map, concat, list_all}
+use Rattle.std.specs.Io.KnownBytes.{Appends}
+use Rattle.std.proofs.KnownBytes.{Appends-nil, Appends-trans}
+use Rattle.std.proofs.lemmas.Bool.{and_parts, not-true}
+use Rattle.std.proofs.lemmas.List.{take_all}
+use Rattle.std.proofs.lemmas.List.Elements.{All-head, All-tail}
+use Rattle.rb_xdr.specs.Meter.{Meter, PaysAtMost}
+use Rattle.rb_registry.specs.declared.row.Row.{Row}
+use Rattle.rb_registry.specs.Registry.{AreOwn}
+use Rattle.rb_registry.specs.Rows.{rpcb_prog}
+use Rattle.rb_proto.specs.Answers.{can_be_set}
+use Rattle.rb_proto.proofs.Lists.{Passes, passed_bytes, none_passed, one_passed}
+use Rattle.rb_model.specs.State.{State}
+use Rattle.rb_model.specs.Step.{IsReached}
+use Rattle.rb_model.specs.ChangeLaws.{set_rows, set_call}
+use Rattle.rb_record.specs.Entries.{event_text}
+use Rattle.rb_laws.proofs.Restoring.{rows_can_be_set}
+use Rattle.rb_core.specs.StandsFor.{Held, StandsFor}
+use Rattle.rb_core.specs.Looks.{rows_held, rows_shown, StandsAmong, IsAtStart, IsAtEnd, row_behind, PassesOne, slots_behind, slot_count, PaysForRow}
+use Rattle.rb_keep.specs.Kept.{row_line, rows_text, kept_text}
+use Rattle.rb_keep.specs.Writing.{line_where_set}
+
+-- what the rows add that a cursor has passed
+abbrev pub passed_lines : Held → Option ℕ → List ℕ
+passed_lines core cursor = passed_bytes (line_where_set core.clock) (rows_held core) (rows_held core).stamp cursor
+
+-- they are written, and paid for
+pub record Writing (core : Held) (cursor : Option ℕ) (began written : Option (List ℕ)) (first meter : Meter) : Type 0 where
+  pub place : StandsAmong core cursor
+  pub lines : Appends began written (passed_lines core cursor)
+  pub tie : meter.tie ≡ first.tie
+  pub rises : first.steps ≤ meter.steps
+  pub steps : meter.steps + 2 * slots_behind core cursor ≤ first.steps + 2 * slot_count core
+
+pub nothing_written : (core : Held) (cursor : Option ℕ) (began : Option (List ℕ)) (first : Meter)
+    → StandsAmong core cursor → IsAtStart core cursor → slots_behind core cursor ≡ slot_count core → Writing core cursor began began first first
+nothing_written core cursor began first place none all = record {
+  place = place;
+  lines = subst (Appends began began) (sym (none_passed (line_where_set core.clock) (rows_held core) (rows_held core).stamp cursor none)) (Appends-nil began);
+  tie = refl;
+  rises = omega arith;
+  steps = omega (arith, all);
+}
+
+module _ (core : Held) (cursor : Option ℕ) (began written : Option (List ℕ)) (first meter : Meter) (w : Writing core cursor began written first meter) where
+  pub row_written : (row : Row) (next : Option ℕ) → row_behind core cursor ≡ Some row → StandsAmong core next → PassesOne core cursor next
+      → (more : Option (List ℕ)) (paid : Meter) → Appends written more (line_where_set core.clock row) → (most : ℕ) → PaysAtMost meter paid most → PaysForRow core cursor next meter paid
+      → Writing core next began more first paid
+  row_written row next here place passed more paid added most cost far =
+      let passes : Passes (rows_held core) (rows_held core).stamp cursor row next = record { here = here; place = place; passed = passed } in
+      record {
+        place = place;
+        lines =
+            subst (Appends began more) (sym (one_passed (line_where_set core.clock) (rows_held core) (rows_held core).stamp cursor row next passes))
+            (Appends-trans began written more (passed_lines core cursor) (line_where_set core.clock row) w.lines added);
+        tie = cost.tie ∙ w.tie;
+        rises = omega (arith, w.rises, cost.rises);
+        steps = omega (arith, w.steps, far);
+      }
+
+-- ---- the lines of all rows
+
+-- own rows have none
+own_lines : (now : ℕ) (own rows : List Row) → AreOwn own → flat_map (line_where_set now) (own ++ rows) ≡ flat_map (line_where_set now) rows
+own_lines now [] rows are = refl
+own_lines now (row ∷ own) rows are =
+    let parts = and_parts (row.prog == rpcb_prog) (list_all (λ (r : Row). r.prog == rpcb_prog) own) are in
+    rw parts.0 (own_lines now own rows parts.1)
+
+-- rows that may be set have theirs
+set_lines : (now : ℕ) (rows : List Row) → All (λ row. can_be_set row ≡ true) rows → flat_map (line_where_set now) rows ≡ rows_text now rows
+unfolding can_be_set
+set_lines now [] may = refl
+set_lines now (row ∷ rows) may =
+    let another : (row.prog == rpcb_prog) ≡ false = not-true (row.prog == rpcb_prog) (and_parts (not (row.prog == rpcb_prog)) _ (All-head (λ r. can_be_set r ≡ true) row rows may)).0 in
+    rw another (ap (λ (xs : List ℕ). row_line now row ++ xs) (set_lines now rows (All-tail (λ r. can_be_set r ≡ true) row rows may)))
+
+pub kept_lines : (now : ℕ) (rows : List Row) → concat (map event_text (map (set_call now) rows)) ≡ rows_text now rows
+kept_lines now [] = refl
+kept_lines now (row ∷ rows) = ap (λ (xs : List ℕ). row_line now row ++ xs) (kept_lines now rows)
+
+-- all that a core shows are those of a state that it stands for
+all_lines : (core : Held) (s : State) → StandsFor core s → IsReached s → flat_map (line_where_set core.clock) (rows_shown core) ≡ kept_text s
+all_lines core s h r =
+    ap (flat_map (line_where_set core.clock)) h.ledger.registry.rows
+    ∙ own_lines core.clock s.ledger.own (set_rows s) h.ledger.registry.are_own
+    ∙ set_lines core.clock (set_rows s) (rows_can_be_set s r)
+    ∙ ap (λ (now : ℕ). rows_text now (set_rows s)) h.clock
+    ∙ sym (kept_lines s.clock (set_rows s))
+
+pub all_written : (core : Held) (cursor : Option ℕ) (began written : Option (List ℕ)) (first meter : Meter) → Writing core cursor began written first meter → IsAtEnd core cursor
+    → (s : State) → StandsFor core s → IsReached s → Appends began written (kept_text s)
+all_written core cursor began written first meter w end s h r =
+    subst (Appends began written)
+    (ap (λ (n : ℕ). flat_map (line_where_set core.clock) (take n (rows_shown core))) end ∙ ap (flat_map (line_where_set core.clock)) (take_all (length (rows_shown core)) (rows_shown core) (omega arith)) ∙ all_lines core s h r)
+    w.lines

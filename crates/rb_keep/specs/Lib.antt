@@ -1,0 +1,5 @@
+pub mod Kept
+pub mod Reading
+pub mod Writing
+pub mod KeptLaws
+pub mod Worked

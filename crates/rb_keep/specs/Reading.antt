@@ -1,0 +1,130 @@
+-- What a text of kept rows says: the rows of its lines.
+use Rattle.std.specs.Prelude.{◌≡◌, ℕ, ◌+◌, ◌==◌, nat_lt, Bool, false, ◌&&◌, if◌then◌else◌, List, [], ◌∷◌, ◌++◌, length, drop, bytes_eq, Option, Some, None, Result, Ok, Err, true}
+use Rattle.std.specs.Global.{Vec}
+use Rattle.rb_address.specs.declared.who.Source.{Source}
+use Rattle.rb_address.specs.declared.who.Source.TheVariants as sources
+use Rattle.rb_address.specs.declared.who.Trust.{Trust}
+use Rattle.rb_address.specs.declared.who.Trust.TheVariants as trusts
+use Rattle.rb_address.specs.declared.who.Owner.{Owner}
+use Rattle.rb_address.specs.declared.who.Who.{Who}
+use Rattle.rb_address.specs.declared.host.Host.TheVariants.{V4}
+use Rattle.rb_address.specs.Hosts.{is_same_host}
+use Rattle.rb_address.specs.Callers.{unknown_host}
+use Rattle.rb_rpc.specs.Verdict.{verdict}
+use Rattle.rb_rpc.specs.declared.call.Verdict.{Verdict}
+use Rattle.rb_rpc.specs.declared.call.Verdict.TheVariants as verdicts
+use Rattle.rb_registry.specs.declared.row.Row.{Row}
+use Rattle.rb_arguments.specs.declared.request.Request.{Request}
+use Rattle.rb_arguments.specs.declared.request.ArgumentFault.{ArgumentFault}
+use Rattle.rb_arguments.specs.Arguments.{read_request}
+use Rattle.rb_arguments.specs.declared.request.Request.TheVariants as requests
+use Rattle.rb_arguments.specs.declared.procedure.RpcbProcedure.TheVariants as rpcbs
+use Rattle.rb_proto.specs.Callers.{owner_named}
+use Rattle.rb_proto.specs.Answers.{row_of_rpcb}
+use Rattle.rb_model.specs.Step.{Event}
+use Rattle.rb_model.specs.Step.Event.{Datagram}
+use Rattle.rb_model.specs.ChangeLaws.{set_bytes}
+use Rattle.rb_lines.specs.Lines.{Line, line, lines_of, longest_input}
+use Rattle.rb_lines.specs.Lines.Line.{Skipped as SaysNothing, Happens, Bad as SaysNoEvent}
+use Rattle.rb_keep.specs.declared.reading.KeptLine.{KeptLine}
+use Rattle.rb_keep.specs.declared.reading.KeptLine.TheVariants.{Skipped, Keeps, NotKept, Bad}
+use Rattle.rb_keep.specs.declared.fault.KeepFault.{KeepFault}
+use Rattle.rb_keep.specs.declared.fault.KeepFault.TheVariants as faults
+
+-- ---- the row that an event sets again
+
+-- port 0 of 127.0.0.1
+abbrev pub is_here : Source → Bool
+is_here (sources.Inet peer) = is_same_host peer.host (V4 (127 ∷ 0 ∷ 0 ∷ 1 ∷ [])) && peer.port == 0
+is_here sources.Local = false
+
+abbrev pub only_claims : Trust → Bool
+only_claims trusts.Claims = true
+only_claims (trusts.Local owner) = false
+only_claims trusts.Stranger = false
+
+-- it is the caller from there that claims who it is, at a host that is not known
+unfoldable pub is_this_machine : Who → Bool
+is_this_machine who = is_here who.source && is_same_host who.asked unknown_host && only_claims who.trust
+
+abbrev pub row_of_request : Owner → Request → Option Row
+row_of_request owner (requests.Rpcb rpcbs.Set r) = row_of_rpcb owner r
+row_of_request owner _ = None
+
+abbrev pub row_of_reading : Owner → Result Request ArgumentFault → Option Row
+row_of_reading owner (Ok request) = row_of_request owner request
+row_of_reading owner (Err fault) = None
+
+-- the row that a call asks to be set, where it is read as a SET of version 4
+abbrev pub row_by_verdict : List ℕ → Verdict → Option Row
+row_by_verdict bytes (verdicts.Call head used) = row_of_reading (owner_named head.cred) (read_request 4 1 (drop used bytes))
+row_by_verdict bytes _ = None
+
+unfoldable pub row_asked : List ℕ → Option Row
+row_asked bytes = row_by_verdict bytes (verdict bytes)
+
+-- the row, where these bytes are those that set it
+abbrev pub row_set_by : List ℕ → Option Row → Option Row
+row_set_by bytes None = None
+row_set_by bytes (Some row) = if bytes_eq (set_bytes row) bytes then Some row else None
+
+unfoldable pub row_set : List ℕ → Option Row
+row_set bytes = row_set_by bytes (row_asked bytes)
+
+unfoldable pub kept_row : Event → Option Row
+kept_row (Datagram now who bytes) = if is_this_machine who then row_set bytes else None
+kept_row other = None
+
+-- ---- lines
+
+abbrev pub keeps_or_not : Option Row → KeptLine
+keeps_or_not (Some row) = Keeps row
+keeps_or_not None = NotKept
+
+abbrev pub kept_by : Line → KeptLine
+kept_by SaysNothing = Skipped
+kept_by SaysNoEvent = Bad
+kept_by (Happens event) = keeps_or_not (kept_row event)
+
+-- what a line keeps: the row that its event sets again, if it does
+unfoldable pub kept_line : List ℕ → KeptLine
+kept_line text = kept_by (line text)
+
+-- as many rows as a daemon may have
+abbrev pub most_rows : ℕ
+most_rows = 4096
+
+-- the rows so far, and behind them what the line of this number keeps
+abbrev pub with_line : ℕ → List Row → KeptLine → Result (List Row) KeepFault
+with_line k rows Skipped = Ok rows
+with_line k rows Bad = Err (faults.BadLine k)
+with_line k rows NotKept = Err (faults.NotKept k)
+with_line k rows (Keeps row) = if nat_lt (length rows) most_rows then Ok (rows ++ row ∷ []) else Err (faults.TooMany k)
+
+-- the rows so far, and behind them those of the lines, the first of which has this number; or the first fault
+unfoldable pub rows_from : ℕ → List (List ℕ) → Result (List Row) KeepFault → Result (List Row) KeepFault
+rows_from k texts (Err fault) = Err fault
+rows_from k [] (Ok rows) = Ok rows
+rows_from k (text ∷ texts) (Ok rows) = rows_from (k + 1) texts (with_line k rows (kept_line text))
+
+-- the rows of a text
+unfoldable pub read : List ℕ → Result (List Row) KeepFault
+read text = if nat_lt longest_input (length text) then Err faults.TooLong else rows_from 1 (lines_of text) (Ok [])
+
+-- ---- as the code has them
+
+-- What a function returned is this, unless memory ran out.
+abbrev pub Gives : {X : Type 0} → Result X KeepFault → Result X KeepFault → Type 0
+Gives (Ok x) given = given ≡ Ok x
+Gives (Err faults.NoMemory) given = Unit {0}
+Gives (Err fault) given = given ≡ Err fault
+
+-- the rows that were returned
+abbrev pub result_items : Result (Vec Row) KeepFault → Result (List Row) KeepFault
+result_items (Ok rows) = Ok rows.items
+result_items (Err fault) = Err fault
+
+-- the rows after a call, or the fault that it returned
+abbrev pub after_line : Result (Unit {0}) KeepFault → List Row → Result (List Row) KeepFault
+after_line (Ok u) rows = Ok rows
+after_line (Err fault) rows = Err fault

@@ -1,0 +1,9 @@
+//! Worked examples of the definitions, which the proof computes.
+ghost use Rattle.rb_keep.specs.Worked.{LinesOfTwoRows, TwoLinesAreRead, OtherLinesAreNamed};
+
+/// The definitions give what the worked examples say.
+pub fn worked_examples()
+    ensures lines { LinesOfTwoRows }
+    ensures read { TwoLinesAreRead }
+    ensures others { OtherLinesAreNamed }
+{}

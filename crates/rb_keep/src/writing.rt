@@ -1,0 +1,56 @@
+//! The rows that were set are written as the lines of kept rows.
+ghost use Rattle.std.specs.Prelude.{◌≡◌, ◌+◌, ◌*◌, OnOk};
+ghost use Rattle.rb_xdr.specs.Meter.{PaysAtMost};
+ghost use Rattle.rb_model.specs.State.{State};
+ghost use Rattle.rb_record.specs.Printing.{Writes};
+ghost use Rattle.rb_core.specs.Looks.{slot_count};
+ghost use Rattle.rb_keep.specs.Kept.{row_line};
+ghost use Rattle.rb_keep.specs.Writing.{line_where_set, WritesKept};
+
+use crate::call::{set_call, this_machine};
+use rb_core::Core;
+use rb_record::{Happening, write_event};
+use rb_registry::{RPCB_PROG, Row};
+use rb_xdr::Meter;
+use std::io;
+use std::io::Write;
+
+/// Writes the line of a row.
+fn write_row<W: Write>(now: u64, row: &Row, writer: &mut W) -> io::Result<()>
+    ensures { OnOk result (Writes W.contents writer.old writer.new (row_line now row.now)) }
+{
+    let call = set_call(row);
+    write_event(
+        &Happening::Datagram(now, this_machine(), call.as_slice()),
+        writer,
+    )
+}
+
+/// Writes the line of a row that was set, and nothing for one of the daemon's own.
+#[tactic(auto, using(crate::proofs::Written::nothing))]
+fn write_where_set<W: Write>(now: u64, row: &Row, writer: &mut W) -> io::Result<()>
+    ensures { OnOk result (Writes W.contents writer.old writer.new (line_where_set now row.now)) }
+{
+    if row.prog == RPCB_PROG {
+        return Ok(());
+    }
+    write_row(now, row, writer)
+}
+
+/// Writes what is kept of the core: for each row that was set the line of the event that sets it again, at the moment
+/// of the last event. An error where the writer fails; how much it has then is not known. It costs at most 2 steps
+/// for each row, retained ones among them, and 1.
+pub fn write_rows<W: Write>(core: &Core, writer: &mut W, meter: &mut Meter) -> io::Result<()>
+    requires tie { meter.old.tie ≡ core.now.tie }
+    ensures written { OnOk result (WritesKept core.now W.contents writer.old writer.new) }
+    ensures cost { PaysAtMost meter.old meter.new (2 * slot_count core.now + 1) }
+{
+    let now = core.clock();
+    let mut cursor = core.first_place();
+    'rows: while let Some(found) = core.next_row(cursor, meter) {
+        let (next, row) = found;
+        write_where_set(now, row, writer)?;
+        cursor = next;
+    }
+    Ok(())
+}

@@ -1,0 +1,8 @@
+use Rattle.rb_policy.proofs.LogLaws.{few_of_a_second, none_is_lost}
+use Rattle.rb_policy.proofs.laws.log_laws.Goals as goal
+
+pub returns-clause-few : goal.returns-clause-few
+returns-clause-few c = few_of_a_second
+
+pub returns-clause-none : goal.returns-clause-none
+returns-clause-none c = none_is_lost

@@ -1,0 +1,28 @@
+-- What is done about a file at the path where rows are kept, as the daemon starts.
+use Rattle.std.specs.Prelude.{ℕ, ◌==◌, Bool, not, ◌||◌, if◌then◌else◌, bit_and}
+use Rattle.rb_policy.specs.declared.keep_file.Writers.{Writers}
+use Rattle.rb_policy.specs.declared.keep_file.KeepState.{KeepState}
+use Rattle.rb_policy.specs.declared.keep_file.KeepState.TheVariants.{Absent, Plain, Other}
+use Rattle.rb_policy.specs.declared.keep_file.Distrust.TheVariants.{NoPlainFile, OtherOwner, OthersMayWrite}
+use Rattle.rb_policy.specs.declared.keep_file.KeepAction.{KeepAction}
+use Rattle.rb_policy.specs.declared.keep_file.KeepAction.TheVariants.{Begin, Read, GiveUp}
+
+-- root is trusted, and the daemon's own user
+abbrev pub is_trusted : ℕ → ℕ → Bool
+is_trusted own owner = owner == 0 || owner == own
+
+-- whether the mode lets the file's group or others write to it
+abbrev pub others_may_write : ℕ → Bool
+others_may_write mode = not (bit_and mode 0o022 == 0)
+
+-- a plain file is read where its owner is trusted and nobody else may write to it
+abbrev pub judged : ℕ → Writers → KeepAction
+judged own file =
+    if not (is_trusted own file.owner) then GiveUp (OtherOwner file.owner)
+    else (if others_may_write file.mode then GiveUp (OthersMayWrite file.mode) else Read)
+
+-- what is done by the daemon of a user
+abbrev pub keep_action : ℕ → KeepState → KeepAction
+keep_action own Absent = Begin
+keep_action own (Plain file) = judged own file
+keep_action own Other = GiveUp NoPlainFile

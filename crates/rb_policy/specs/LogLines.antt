@@ -1,0 +1,87 @@
+-- The lines of a log.
+use Rattle.std.specs.Prelude.{ℕ, nat_le, ◌&&◌, Bool, true, false, if◌then◌else◌, List, [], ◌∷◌, ◌++◌, map, take, decimal, codes}
+use Rattle.rb_address.specs.declared.who.Owner.{Owner}
+use Rattle.rb_address.specs.declared.who.Trust.{Trust}
+use Rattle.rb_address.specs.declared.who.Trust.TheVariants as trusts
+use Rattle.rb_address.specs.declared.who.Who.{Who}
+use Rattle.rb_address.specs.Callers.{owner_text as text_of_owner, source_text}
+use Rattle.rb_rpc.specs.declared.reply.ReplyStatus.{ReplyStatus}
+use Rattle.rb_rpc.specs.declared.reply.ReplyStatus.TheVariants.{Success, ProgUnavail, ProgMismatch, ProcUnavail, GarbageArgs, SystemErr, RpcMismatch, AuthError}
+use Rattle.rb_policy.specs.declared.log_lines.TheConstants.{MOST_SHOWN}
+use Rattle.rb_policy.specs.declared.log_lines.LogKind.{LogKind}
+use Rattle.rb_policy.specs.declared.log_lines.LogKind.TheVariants.{Accepted, Refused, Calls, GivenUp}
+use Rattle.rb_policy.specs.declared.log_lines.ChangeLine.{ChangeLine}
+use Rattle.rb_policy.specs.declared.log_lines.LogLine.{LogLine}
+use Rattle.rb_policy.specs.declared.log_lines.LogLine.TheVariants as lines
+
+-- ---- texts that callers sent
+
+-- a byte that is no printable ASCII character, or a space, is shown as `?`
+abbrev pub shown_byte : ℕ → ℕ
+shown_byte b = if nat_le 33 b && nat_le b 126 then b else 63
+
+-- the first 128 bytes; an empty text is shown as `-`
+abbrev pub shown_text : List ℕ → List ℕ
+shown_text [] = codes "-"
+shown_text (b ∷ text) = map shown_byte (take MOST_SHOWN (b ∷ text))
+
+-- ---- words
+
+abbrev pub owner_text : Owner → List ℕ
+owner_text owner = text_of_owner owner
+
+abbrev pub stranger_text : Trust → List ℕ
+stranger_text trusts.Claims = []
+stranger_text (trusts.Local owner) = []
+stranger_text trusts.Stranger = codes " (stranger)"
+
+abbrev pub caller_text : Who → List ℕ
+caller_text who = source_text who.source ++ stranger_text who.trust
+
+abbrev pub status_text : ReplyStatus → List ℕ
+status_text Success = codes "success"
+status_text ProgUnavail = codes "program unavailable"
+status_text (ProgMismatch low high) = codes "version unavailable"
+status_text ProcUnavail = codes "procedure unavailable"
+status_text GarbageArgs = codes "garbage arguments"
+status_text SystemErr = codes "system error"
+status_text (RpcMismatch low high) = codes "version of RPC unavailable"
+status_text (AuthError stat) = codes "credential refused"
+
+abbrev pub changes_text : Bool → List ℕ
+changes_text true = codes "SET"
+changes_text false = codes "UNSET"
+
+abbrev pub end_text : Bool → List ℕ
+end_text true = codes "accepted"
+end_text false = codes "refused"
+
+abbrev pub kind_text : LogKind → List ℕ
+kind_text Accepted = codes "accepted changes"
+kind_text Refused = codes "refused changes"
+kind_text Calls = codes "refused calls"
+kind_text GivenUp = codes "connections given up"
+
+-- ---- lines
+
+-- the address of a SET
+abbrev pub address_part : Bool → List ℕ → List ℕ
+address_part true addr = codes " " ++ shown_text addr
+address_part false addr = []
+
+-- the program, the version and the netid, and the address of a SET
+abbrev pub row_part : ChangeLine → List ℕ
+row_part line =
+    decimal line.prog ++ codes " " ++ decimal line.vers ++ codes " " ++ shown_text line.netid.now
+    ++ address_part line.adds line.addr.now
+
+abbrev pub change_line : ChangeLine → List ℕ
+change_line line =
+    codes "rpcbind: " ++ changes_text line.adds ++ codes " " ++ row_part line
+    ++ codes " of " ++ owner_text line.owner ++ codes " by " ++ caller_text line.who ++ codes ": " ++ end_text line.is_accepted
+
+abbrev pub log_line : LogLine → List ℕ
+log_line (lines.Change change) = change_line change
+log_line (lines.RefusedCall who status) = codes "rpcbind: call by " ++ caller_text who ++ codes " refused: " ++ status_text status
+log_line (lines.GivenUp source) = codes "rpcbind: connection of " ++ source_text source ++ codes " given up"
+log_line (lines.More count kind) = codes "rpcbind: " ++ decimal count ++ codes " more " ++ kind_text kind

@@ -1,0 +1,39 @@
+-- How many lines of a kind a log gets in a second.
+use Rattle.std.specs.Prelude.{ℕ, ◌+◌, ◌-◌, ◌^◌, ◌/◌, ◌==◌, nat_lt, min, Bool, if◌then◌else◌}
+use Rattle.rb_policy.specs.declared.recent.TheConstants.{SECOND}
+use Rattle.rb_policy.specs.declared.log_rate.TheConstants.{LINES}
+use Rattle.rb_policy.specs.declared.log_rate.LogRate.{LogRate}
+
+abbrev pub second_of : ℕ → ℕ
+second_of now = now / SECOND
+
+abbrev pub new_rate : LogRate
+new_rate = record { second = 0; written = 0; left_out = 0 }
+
+-- what is known at a moment: in another second than that of the last line, none is written
+abbrev pub rate_at : LogRate → ℕ → LogRate
+rate_at rate now =
+    if second_of now == rate.second then rate
+    else record { second = second_of now; written = 0; left_out = rate.left_out }
+
+-- whether the log gets a line: so long as it has fewer than the most of this second
+abbrev pub gets_line : LogRate → ℕ → Bool
+gets_line rate now = nat_lt (rate_at rate now).written LINES
+
+-- one more is written
+abbrev pub with_line : LogRate → LogRate
+with_line rate = record rate { written = rate.written + 1 }
+
+-- one more is left out; the greatest count stays
+abbrev pub without_line : LogRate → LogRate
+without_line rate = record rate { left_out = min (rate.left_out + 1) (2 ^ 64 - 1) }
+
+abbrev pub rate_after : LogRate → ℕ → LogRate
+rate_after rate now = if gets_line rate now then with_line (rate_at rate now) else without_line (rate_at rate now)
+
+-- how many are told as left out: none in the second of the last line
+abbrev pub tells : LogRate → ℕ → ℕ
+tells rate now = if second_of now == rate.second then 0 else rate.left_out
+
+abbrev pub rate_told : LogRate → ℕ → LogRate
+rate_told rate now = if second_of now == rate.second then rate else record rate { left_out = 0 }

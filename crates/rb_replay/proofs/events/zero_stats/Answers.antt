@@ -1,0 +1,12 @@
+use Rattle.std.proofs.Common.{refl}
+use Rattle.rb_model.specs.Step.{step}
+use Rattle.rb_replay.proofs.events.zero_stats.Goals as goal
+
+pub returns : goal.returns
+unfolding step
+returns c = record {
+  step = λ s h. (refl, c.zero_stats.ensures.acts.stands s h);
+  cost = λ s h. c.zero_stats.ensures.cost;
+  tie = c.zero_stats.ensures.tie;
+  meter = c.zero_stats.ensures.cost.tie;
+}
