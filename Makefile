@@ -65,7 +65,8 @@ attacks:
 units:
 	@CACHE=$(CACHE) tests/systemd.sh
 
-# The time of a call, over the built program: TCP in single bytes and in one piece, datagrams over 300 rows, and long lists.
+# The time of a call, over the built program: TCP in single bytes and in one piece, datagrams over 300 rows, and long lists;
+# and that of a SET with --keep, beside one without.
 bench:
 	tests/run-bench.sh
 

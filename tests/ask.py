@@ -1,5 +1,6 @@
 #!/usr/bin/env python3
-"""Asks a portmapper at port 111 what no rpcinfo asks so, and prints what it tells; for tests/two-hosts.sh.
+"""Asks a portmapper what no rpcinfo asks so, and prints what it tells; for tests/two-hosts.sh and tests/keep.sh. It is that
+at port 111, or at PORT of the environment.
 
 Each line of standard input is a question, NETID HOST WORDS: it goes to this host over tcp, udp, tcp6 or udp6, and its
 words are a call as tests/row.py has it. SOURCE>HOST in place of HOST says from which address it goes. It is printed
@@ -11,13 +12,14 @@ again, with the answer behind it:
 An answer is a number; an address; the netids and addresses of a list, each with a space behind it, in their order; an
 address and the results of a call that was forwarded, in hexadecimal; `refused`; or `silent`, where none comes.
 """
+import os
 import socket
 import struct
 import sys
 
 from row import Encoder
 
-PORT = 111
+PORT = int(os.environ.get("PORT", "111"))
 PATIENCE = 5.0
 
 

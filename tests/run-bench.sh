@@ -1,7 +1,8 @@
 #!/usr/bin/env bash
 # Times the built program, and prints the time of a call: of 1,000 TCP NULL calls of 40 bytes in single-byte pieces, of the
 # same in one piece each, and of 10,000 datagram GETPORTs over 300 rows; and that of a row in 1,000 DUMPs of 4,096 rows over
-# TCP, fragment by fragment, without the SETs of these rows.
+# TCP, fragment by fragment, without the SETs of these rows. Then tests/bench-keep.py times SETs of a daemon that keeps its
+# rows, beside one that does not.
 set -eu
 cd "$(dirname "$0")/.."
 
@@ -86,3 +87,6 @@ time_run '1,000 TCP calls in one piece' 1000
 getports > "$work/events"
 time_run '10,000 GETPORTs over 300 rows' 10000
 time_dumps
+if command -v python3 > /dev/null; then
+    python3 -B tests/bench-keep.py "$program"
+fi

@@ -11,6 +11,11 @@
 # are in the statistics, and `flood_of_one_network`, beside which a good client calls too, where in any second more of a
 # network's or of a host's calls are answered than --udp-rate says.
 #
+# `kills_40` kills a daemon that keeps its rows 40 times by SIGKILL, each time under a load of SETs and UNSETs over TCP and
+# UDP, and starts it with the same file. It fails where a change that was answered TRUE is not there then, a row that was
+# never set is, the order is another, or a line of the file is none that a replay answers with TRUE; tests/hostile/kills.py
+# has it. With RECORD=1 the record of each of these daemons has to agree too.
+#
 # Where strace is installed, each call of the system that serves clients fails then for three seconds, with each error
 # that its manual names: tests/hostile/faults.py says what is wanted.
 #
@@ -20,7 +25,7 @@
 # tried then.
 #
 # The program may be another one: `PROGRAM=PATH make hostile`. Words are names of attacks or faults, in place of all: as
-# half_open_1500, accept4_EPERM, accept4 for all of its errors, and faults for all faults. As root it
+# half_open_1500, kills_40, accept4_EPERM, accept4 for all of its errors, and faults for all faults. As root it
 # runs in a network namespace of its own, where attackers and good client have addresses of their own; else on the
 # loopback, at high ports, where all of them are peers of this host and none is a stranger. Wants python3. The last line
 # is 'N passed, N failed'; the status is 1 where one failed.

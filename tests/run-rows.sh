@@ -10,11 +10,13 @@
 # them cut into pieces of 1, of 7 and of 1,000 bytes: all its outputs stay, with the sums of what the pieces took.
 # A row of rpcinfo is NAME.input, NAME.args, whose comment is the rule, and NAME.expected in tests/rows-rpcinfo, with the
 # same NAME.status and NAME.stderr.
+# The daemon that keeps its rows is run by tests/keep.sh.
 # Each difference is printed. The last line is 'N passed, N failed'; the status is 1 where one failed.
 set -u
 cd "$(dirname "$0")/.." || exit 1
 
 . tests/daemon.sh
+. tests/keep.sh
 
 program=${1:-$PWD/crates/rpcbind/out/rpcbind}
 rpcinfo=${2:-$PWD/crates/rpcinfo/out/rpcinfo}
@@ -447,6 +449,9 @@ udp-rate:20,:a number from 1 to 1000, or two as 20,5,
 udp-rate:20,5,1:a number from 1 to 1000, or two as 20,5,
 record-limit:999:a number from 1000 to 16777216
 record-limit:16777217:a number from 1000 to 16777216
+keep::the path of a file
+log:none:changes or all
+log:change:changes or all
 bind:localhost:an address as 192.0.2.1 or 2001:db8::1
 from:localhost:a network as 192.0.2.0/24, with no bit set behind its length,
 from:192.0.2.0/33:a network as 192.0.2.0/24, with no bit set behind its length,
@@ -466,6 +471,22 @@ END
     run /dev/null serve "${words[@]}"
     as_wanted /dev/null "$work/wanted" 2
     judge $? "--from is given 17 times"
+    cat > "$work/wanted" << 'END'
+error: the following required arguments were not provided:
+  --keep <FILE>
+
+Usage: rpcbind serve --keep <FILE> --keep-check
+
+For more information, try '--help'.
+END
+    run /dev/null serve --keep-check
+    as_wanted /dev/null "$work/wanted" 2
+    judge $? "--keep-check is given without --keep"
+    echo "error: invalid value '$work/rows' for '--keep': another file than that of --record is wanted" > "$work/wanted"
+    echo kept > "$work/rows"
+    run /dev/null serve --keep "$work/rows" --record "$work/rows"
+    as_wanted /dev/null "$work/wanted" 2 && [ "$(cat "$work/rows")" = kept ]
+    judge $? "the rows are to be kept in the file of the record"
 }
 
 # Sixteen networks, of both families, with a host alone among them.
@@ -481,6 +502,72 @@ run_daemon_of_networks() {
 # Whether a call over TCP (t) or UDP (u) to this address of the machine, and so from it, is answered.
 is_answered() {
     timeout 2 "$rpcinfo" --port 20112 "-$1" "$2" 100000 2 > /dev/null 2>&1
+}
+
+# Sends calls to the daemon, words of tests/row.py, one a line, over UDP from port 20113, each behind the reply to the one
+# before. \n in a word is a line break.
+send_calls() {
+    python3 -c '
+import socket, sys
+sys.path.insert(0, "tests")
+from row import Encoder
+encoder = Encoder()
+with socket.socket(socket.AF_INET, socket.SOCK_DGRAM) as asker:
+    asker.settimeout(5)
+    asker.bind(("127.0.0.1", 20113))
+    asker.connect(("127.0.0.1", 20112))
+    for line in sys.stdin:
+        asker.send(encoder.bytes_of([word.replace("\\n", "\n") for word in line.split()]))
+        asker.recv(65536)
+'
+}
+
+# Waits until a file has so many lines, or more.
+await_lines() {
+    for _ in $(seq 50); do
+        [ "$(wc -l < "$1")" -lt "$2" ] || return 0
+        sleep 0.1
+    done
+    return 1
+}
+
+# With --log changes the daemon tells of each SET and UNSET, accepted and refused, and of nothing else; a line break in a
+# netid is shown as `?`.
+run_log_of_changes() {
+    local by='by 127.0.0.1:20113' set='SET 200001 1 tcp 127.0.0.1.8.1 of 1000' bad=0
+    printf 'rpcbind: %s\n' 'listening on 127.0.0.1 port 20112' "$set $by: accepted" "$set $by: refused" \
+        "UNSET 200001 1 tcp of 1001 $by: refused" \
+        "SET 200001 1 tcp?rpcbind: 127.0.0.1.8.1 of 1000 $by: refused" \
+        "SET 200002 1 udp 0.0.0.0.8.1 of unknown $by: accepted" \
+        "UNSET 200001 1 - of 1000 $by: accepted" > "$work/wanted"
+    start_daemon "$work/log" --port 20112 --believe-claims --log changes || { judge 1 "a log of changes"; return; }
+    send_calls <<'END' || bad=1
+uid=1000 4 set 200001 1 tcp 127.0.0.1.8.1
+uid=1000 4 set 200001 1 tcp 127.0.0.1.8.1
+4 getaddr 200001 1 tcp
+uid=1001 4 unset 200001 1 tcp
+9 0
+uid=1000 4 set 200001 1 tcp\nrpcbind: 127.0.0.1.8.1
+2 set 200002 1 udp 2049
+uid=1000 4 unset 200001 1
+END
+    await_lines "$work/log" 7 || bad=1
+    kill "$daemon"
+    same "$work/wanted" "$work/log" "the log" || bad=1
+    judge $bad "a log of changes"
+}
+
+# With --log all it tells of refused calls too, of 20 in a second, and of how many there were besides.
+run_log_of_all() {
+    local bad=0 told more
+    start_daemon "$work/log" --port 20112 --log all || { judge 1 "a log of all"; return; }
+    yes '9 0' | head -n 100 | send_calls || bad=1
+    sleep 1.5
+    kill "$daemon"
+    told=$(grep -c '^rpcbind: call by 127.0.0.1:20113 refused: version unavailable$' "$work/log")
+    more=$(awk '/^rpcbind: [0-9]+ more refused calls$/ { sum += $2 } END { print sum + 0 }' "$work/log")
+    [ $((told + more)) -eq 100 ] && [ "$told" -ge 20 ] && [ "$told" -le 60 ] || bad=1
+    judge $bad "a log of all"
 }
 
 # In a network namespace whose machine has an address in a network that is served and another one, which is announced. The
@@ -838,8 +925,10 @@ if [ -x "$program" ]; then
     run_daemon_without_announce
     run_bad_words_of_serve
     run_daemon_of_networks
+    run_log_of_changes
+    run_log_of_all
     run_help_of '' help version
-    run_help_of serve bind from announce local local-mode loopback6 port conns rows forwards udp-lists forward-for udp-rate turns record record-limit help version
+    run_help_of serve bind from announce local local-mode loopback6 port conns rows forwards udp-lists forward-for udp-rate turns record record-limit keep keep-check log help version
     run_help_of replay announce port conns rows forwards udp-lists forward-for check steps xid now help version
     run_version_of '' rpcbind
     run_version_of serve rpcbind-serve
@@ -857,6 +946,7 @@ if [ -x "$rpcinfo" ]; then
     run_rpcinfo_to_full_device
     run_rpcinfo_of_a_folder
     [ ! -x "$program" ] || run_rpcinfo_over_sockets
+    [ ! -x "$program" ] || run_keep_rows
     [ ! -x "$program" ] || run_callers_of_networks
     run_rpcinfo_help
 else

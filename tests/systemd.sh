@@ -10,8 +10,9 @@
 set -u
 cd "$(dirname "$0")/.." || exit 1
 
-longest=180 # how many seconds a boot takes at most, with its checks
-packages=systemd,systemd-sysv,rpcbind,nfs-common,netbase # whose /etc/services has the port that a libtirpc looks for
+longest=240 # how many seconds a boot takes at most, with its checks
+# netbase has the /etc/services in which a libtirpc looks for a port; make installs the programs anew
+packages=systemd,systemd-sysv,rpcbind,nfs-common,netbase,nfs-kernel-server,nfs-ganesha-vfs,libnfs-utils,make
 
 skip() {
     echo "skipped: $*"
@@ -60,12 +61,14 @@ make_debian() {
     mirror=$(mirror_of "$release")
     [ -n "$mirror" ] || skip "this machine has no package sources of Debian"
     kept=${CACHE:-$work}/$release
-    if [ ! -d "$kept" ]; then
+    if [ ! -d "$kept" ] || [ "$(cat "$kept/packages" 2> /dev/null)" != "$packages" ]; then
         echo "making a Debian $release from $mirror, in a few minutes .."
         mkdir -p "${CACHE:-$work}"
         rm -rf "$kept.new"
         debootstrap --variant=minbase --include="$packages" "$release" "$kept.new" "$mirror" > "$work/made" 2>&1 ||
             fail "debootstrap: $(grep -v '^I:' "$work/made" | tail -n 1)"
+        echo "$packages" > "$kept.new/packages"
+        rm -rf --one-file-system "$kept"
         mv "$kept.new" "$kept"
     fi
     if [ -n "${CACHE:-}" ]; then cp -a --reflink=auto "$kept" "$tree"; else mv "$kept" "$tree"; fi
@@ -78,6 +81,17 @@ lines_of_readme() {
         { inside = 0 }' README.md | sed 's/^ *sudo //'
 }
 
+# What `make install` takes, for an upgrade in there.
+copy_source() {
+    local source=$tree/checks/source name
+    mkdir "$source"
+    cp -r Makefile LICENSE CHANGELOG packaging man "$source/"
+    for name in rpcbind rpcinfo; do
+        mkdir -p "$source/crates/$name/out"
+        cp "crates/$name/out/$name" "$source/crates/$name/out/"
+    done
+}
+
 prepare() {
     local unit
     make --no-print-directory install DESTDIR="$tree" > "$work/made" 2>&1 ||
@@ -86,9 +100,12 @@ prepare() {
     lines_of_readme 1 > "$tree/checks/to-ours"
     lines_of_readme 2 > "$tree/checks/back"
     cp tests/units/checks.sh "$tree/checks/"
+    copy_source
     : > "$tree/etc/machine-id"
-    # timers that would ask for the network
-    for unit in apt-daily.timer apt-daily-upgrade.timer fstrim.timer e2scrub_all.timer; do
+    # timers that would ask for the network, and servers of NFS: that of the kernel, and one that the checks start by hand
+    for unit in apt-daily.timer apt-daily-upgrade.timer fstrim.timer e2scrub_all.timer \
+        nfs-server.service nfs-mountd.service nfsdcld.service \
+        nfs-ganesha.service nfs-ganesha-lock.service nfs-ganesha-config.service; do
         ln -sf /dev/null "$tree/etc/systemd/system/$unit"
     done
     cat > "$tree/etc/systemd/system/checks.service" << 'END'

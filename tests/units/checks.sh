@@ -1,7 +1,8 @@
 #!/usr/bin/env bash
 # The checks of the units, inside the Debian that tests/systemd.sh boots; /checks/name says which of the two boots it is.
 # Debian's rpcbind is there, ours beside it as `make install` puts it, and rpc-statd, which registers and is the unit of
-# others that starts rpcbind.
+# others that starts rpcbind. Services that no unit ties to rpcbind are there too: rpc.statd, rpc.mountd and nfs-ganesha. They
+# register once, and run on whatever becomes of ours.
 set -u
 
 ours=rpcbind-proved.service
@@ -10,6 +11,9 @@ settings=/etc/default/rpcbind-proved
 dropins=/etc/systemd/system/$ours.d
 documents=/usr/local/share/doc/rpcbind-proved
 record=/var/log/rpcbind-proved/record
+kept=/run/rpcbind-proved/rows
+served=/run/served
+services=()
 said=/run/said
 
 # Runs a check, and says how it went; what it wrote where it failed.
@@ -120,7 +124,7 @@ statd_registers() {
     systemctl restart rpc-statd.service && within 5 is_registered 100024
 }
 
-# A restart loses what was registered; systemd restarts rpc-statd with it, which registers again.
+# systemd restarts rpc-statd with it, which removes its rows before and registers again.
 restart() {
     local before
     before=$(main_process)
@@ -168,6 +172,163 @@ fails_with() {
     set_options "$@"
     systemctl restart $ours && return 1
     [ $((SECONDS - begin)) -lt 10 ] && [ ! -L $link ]
+}
+
+# ---- rows that are kept
+
+# Services as units of their own, which want nothing of rpcbind's; each is named as its program.
+start_service() {
+    local name=$1
+    shift
+    systemd-run --quiet --unit="$name" --property=Type=exec "$@"
+}
+
+write_ganesha() {
+    mkdir -p $served /run/ganesha && echo hello > $served/greeting && cat > /run/ganesha.conf << 'END'
+NFS_CORE_PARAM { Protocols = 3; Enable_NLM = false; Enable_RQUOTA = false; }
+NFSv4 { Graceless = true; RecoveryBackend = fs; }
+EXPORT {
+    Export_Id = 1; Path = /run/served; Pseudo = /run/served; Access_Type = RW; Squash = No_Root_Squash; SecType = sys;
+    Protocols = 3; Transports = UDP, TCP; FSAL { Name = VFS; }
+}
+END
+}
+
+# The rows with their owners, as Debian's rpcinfo lists them and as ours does.
+list_rows() {
+    rpcinfo && rpcinfo-proved --port 9 --local $link
+}
+
+# Whether a row of this program is on each of these netids, by this owner.
+has_rows() {
+    local program=$1 owner=$2 netid
+    for netid in udp tcp udp6 tcp6; do
+        rpcinfo-proved --port 9 --local $link | grep -E "^$program [0-9]+ $netid [^ ]+ $owner\$" || return 1
+    done
+}
+
+services_run() {
+    local name
+    for name in "${services[@]}"; do systemctl is-active "$name.service" || return 1; done
+}
+
+show_services() {
+    systemctl show --property=Id --property=MainPID --property=ActiveEnterTimestampMonotonic "${services[@]}"
+}
+
+# Keeps in mind which rows are there, and which services, those of the words.
+remember() {
+    services=("$@")
+    services_run && list_rows | tee /run/rows && show_services > /run/services
+}
+
+statd_and_mountd_register() {
+    systemctl stop rpc-statd.service
+    start_service statd rpc.statd -F --no-notify && within 10 has_rows 100024 "$(id -u statd)" || return 1
+    start_service mountd rpc.mountd -F && within 10 has_rows 100005 superuser || return 1
+    sleep 1
+    remember statd mountd
+}
+
+# It has a mountd of its own, which takes the program's number.
+ganesha_registers() {
+    systemctl stop mountd.service
+    write_ganesha && start_service ganesha ganesha.nfsd -F -f /run/ganesha.conf -L /run/ganesha.log -p /run/ganesha/pid &&
+        within 20 has_rows 100003 superuser || { tail -n 20 /run/ganesha.log; return 1; }
+    sleep 1
+    remember statd ganesha
+}
+
+# Whether the rows and owners are those from before, in their order, of services that were not started again.
+rows_are_there() {
+    serves && services_run && list_rows | diff /run/rows - && show_services | diff /run/services -
+}
+
+lists_exports() {
+    showmount -e 127.0.0.1 | grep 'Export list for 127.0.0.1'
+}
+
+# Calls procedure 0 at the address of each row of these services: each answers, and so many are there at least.
+each_row_answers() {
+    local least=$1 program version netid address owner count=0
+    while read -r program version netid address owner; do
+        [ "$netid" != local ] && [ "$program" != 100000 ] || continue
+        address=${address/#0.0.0.0./127.0.0.1.}
+        address=${address/#::./::1.}
+        rpcinfo-proved -a "$address" -T "$netid" "$program" "$version" || return 1
+        count=$((count + 1))
+    done < <(rpcinfo-proved --port 9 --local $link)
+    [ $count -ge "$least" ]
+}
+
+# A whole mount of NFS version 3 in user space, for which the ports of nfs and mountd are looked up; and one by the kernel,
+# where it has NFS. Where it has none mount.nfs comes as far as both ports.
+mounts() {
+    local host=$1 protocol=$2 kernels=$3 found
+    [ "$(nfs-cat "nfs://$host$served/greeting?version=3")" = hello ] || return 1
+    found='prog (100003 vers 3 prot [A-Z]+ port 2049|100005 vers 3 prot [A-Z]+ port [0-9]+)$'
+    mkdir -p /run/mounted
+    mount.nfs -v -o "vers=3,nolock,proto=$protocol" "$kernels:$served" /run/mounted > /run/mounting 2>&1
+    cat /run/mounting
+    [ "$(grep -cE "$found" /run/mounting)" = 2 ] || return 1
+    ! grep -q 'mount(2): No such device' /run/mounting || return 0
+    cmp $served/greeting /run/mounted/greeting && umount /run/mounted
+}
+
+mounts_all() {
+    mounts 127.0.0.1 tcp 127.0.0.1 && mounts ::1 tcp6 "[::1]"
+}
+
+# The file of kept rows is ours alone, and has a line for each row that is not the daemon's own.
+is_kept_by_user() {
+    local rows
+    rows=$(rpcinfo-proved --port 9 --local $link | grep -vc '^100000 ')
+    ls -l $kept
+    [ "$(stat --format=%U:%a $kept)" = rpcbind-proved:600 ] && [ "$(wc -l < $kept)" = "$rows" ] &&
+        [ "$(rpcbind-proved replay < $kept | grep -c '^reply [0-9a-f]*00000001$')" = "$rows" ]
+}
+
+keeps_through() {
+    "$@" && rows_are_there
+}
+
+is_killed() {
+    comes_back_after KILL
+}
+
+stop_and_start() {
+    systemctl stop $ours && is_down $ours && [ -e $kept ] && systemctl start $ours
+}
+
+# The program of the same version once more, as a new one would come.
+upgrade() {
+    local before
+    before=$(stat --format=%i /usr/local/sbin/rpcbind-proved)
+    make --no-print-directory -C /checks/source install && systemctl daemon-reload && systemctl restart $ours &&
+        [ "$(stat --format=%i /usr/local/sbin/rpcbind-proved)" != "$before" ]
+}
+
+# A row whose program was killed stays through a restart, and goes with --keep-check; the others stay.
+drops_what_is_gone() {
+    rpcinfo-proved --port 9 --local $link | grep -v '^100024 ' > /run/rows-left
+    systemctl kill --signal=KILL statd.service
+    within 5 is_down statd.service && systemctl restart $ours && is_registered 100024 || return 1
+    serves_with 'RPCBIND_OPTIONS="--keep-check"' || return 1
+    rpcinfo-proved --port 9 --local $link | diff /run/rows-left - && mounts_all &&
+        journalctl --unit=$ours | grep '100024 1 tcp6'
+}
+
+services_remove_their_rows() {
+    systemctl stop ganesha.service
+    within 10 has_own_rows_alone && [ ! -s $kept ]
+}
+
+has_own_rows_alone() {
+    ! rpcinfo-proved --port 9 --local $link | grep -v '^100000 '
+}
+
+rows_are_gone() {
+    [ ! -e $kept ]
 }
 
 # ---- records
@@ -261,6 +422,24 @@ first() {
     check "it comes back after a KILL" comes_back_after KILL
     check "it comes back after a TERM" comes_back_after TERM
     check "after a stop another unit starts it" another_unit_starts_it
+    check "rpc.statd and rpc.mountd register" statd_and_mountd_register
+    check "their rows are kept in a file of its user" is_kept_by_user
+    check "a restart: the rows and owners of rpc.statd and rpc.mountd" keeps_through systemctl restart $ours
+    check "after a KILL: the same rows and owners" keeps_through is_killed
+    check "each row's program answers" each_row_answers 8
+    check "rpc.mountd lists its exports, and was not restarted" lists_exports
+    check "nfs-ganesha registers in the place of rpc.mountd" ganesha_registers
+    check "NFS is mounted" mounts_all
+    check "a restart: the rows and owners of rpc.statd and nfs-ganesha" keeps_through systemctl restart $ours
+    check "NFS is mounted after a restart of ours alone" mounts_all
+    check "after a KILL: the same rows and owners" keeps_through is_killed
+    check "after a stop and a start: the same rows and owners" keeps_through stop_and_start
+    check "after an upgrade and a restart: the same rows and owners" keeps_through upgrade
+    check "each row's program answers" each_row_answers 16
+    check "NFS is mounted, with nothing restarted" mounts_all
+    check "a row whose program is gone stays, and goes with --keep-check" drops_what_is_gone
+    check "services remove their rows at their end" services_remove_their_rows
+    check "it serves with its defaults, and without rows" serves_with
     check "it serves at another port" serves_with 'RPCBIND_OPTIONS="--port 1111"'
     check "it serves at another address" serves_with 'RPCBIND_ADDRESSES="--bind 127.0.0.2"'
     check "with options that can't be it fails soon" fails_with 'RPCBIND_OPTIONS="--conns 0"'
@@ -271,15 +450,18 @@ first() {
     check "nor with the drop-in for the network" has_no_cycle_with_network
     check "it waits for no network" waits_for_no_network
     check "it serves again before the next boot" serves_with
+    check "rpc-statd registers before the next boot" statd_registers
 }
 
 second() {
     check "ours is there after a boot" within 10 ours_is_there
+    check "a boot begins without rows" has_own_rows_alone
     check "it is there before /var of NFS" is_there_before_var
     check "the boot had no cycle in its order" boot_has_no_cycle
     check "rpc-statd registers after a boot" statd_registers
     check "README's lines put Debian's in its place" swap back
     check "Debian's is there" debians_is_there
+    check "no rows of ours are left for a later start" rows_are_gone
     check "rpc-statd registers there" statd_registers
     check "ours is down" is_down $ours
 }

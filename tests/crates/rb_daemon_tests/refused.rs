@@ -6,6 +6,6 @@ use rb_daemon::{Daemon, DaemonFault};
 #[test]
 fn refused_memory_of_a_daemon(rt: HostRuntime) {
     let clock = Stopped::new(&rt);
-    let made = Daemon::new(rt.alloc(), &rt, &clock, &plain(&HERE, 2));
+    let made = Daemon::new(rt.alloc(), &rt, &clock, &plain(&HERE, 2), &[]);
     assert!(rt; matches!(made, Ok(_) | Err(DaemonFault::Memory(_))));
 }

@@ -1,6 +1,8 @@
 //! The daemon of a test, whose turns the test itself takes, and whose clocks it sets.
 use rb_address::Host as Address;
-use rb_daemon::{Daemon, DaemonFault, Limits, LocalSocket, Settings, Shortage, SocketFault, Terms};
+use rb_daemon::{
+    Daemon, DaemonFault, Limits, LocalSocket, Logged, Settings, Shortage, SocketFault, Terms,
+};
 use std::cell::Cell;
 use std::fs::Files;
 use std::io;
@@ -111,6 +113,8 @@ pub(crate) fn plain(hosts: &[Address], conns: usize) -> Settings<'_> {
         udp_rate: None,
         open_files: u64::MAX,
         record: 0,
+        keep: None,
+        log: Logged::Nothing,
     }
 }
 
@@ -145,7 +149,7 @@ impl<'a> Host<'a> {
         system: &H,
         settings: &Settings<'_>,
     ) -> Result<Host<'a>, DaemonFault> {
-        let daemon = Daemon::new(clock.rt.alloc(), system, clock, settings)?;
+        let daemon = Daemon::new(clock.rt.alloc(), system, clock, settings, &[])?;
         Ok(Host {
             daemon,
             rt: clock.rt,

@@ -2,7 +2,7 @@
 //! thread.
 use rb_address::{Host, Transport};
 use rb_course::{Aim, Answer, Course, End, Stage, asked, begin, called_at, next};
-use rb_daemon::{Daemon, Limits, LocalSocket, Settings, Terms};
+use rb_daemon::{Daemon, Limits, LocalSocket, Logged, Settings, Terms};
 use rb_show::{Ask, Form, HeldBytes, InfoFault, Shown, show_reply, write_call};
 use std::io::{Read, Write};
 use std::net::{Ipv4Addr, Ipv6Addr, SocketAddr, TcpStream, UdpSocket};
@@ -56,8 +56,10 @@ pub fn daemon_everywhere(rt: &HostRuntime) -> Option<Daemon<'_, HostRuntime>> {
         udp_rate: None,
         open_files: u64::MAX,
         record: 0,
+        keep: None,
+        log: Logged::Nothing,
     };
-    Daemon::new(rt.alloc(), rt, rt, &settings).ok()
+    Daemon::new(rt.alloc(), rt, rt, &settings, &[]).ok()
 }
 
 fn answer_of(shown: Result<Shown, InfoFault>) -> Option<Answer> {

@@ -1,7 +1,7 @@
 //! A daemon and a client in one process, on port 20113 of 127.0.0.1. The client never waits: the test itself takes the
 //! daemon's turns.
 use rb_address::Host;
-use rb_daemon::{Daemon, Limits, Settings, Terms};
+use rb_daemon::{Daemon, Limits, Logged, Settings, Terms};
 use std::alloc::AllocError;
 use std::io::{Read, Write};
 use std::net::{Ipv4Addr, SocketAddr, TcpStream};
@@ -61,8 +61,10 @@ pub fn daemon_of(rt: &HostRuntime, port: u16, conns: usize) -> Option<Daemon<'_,
         udp_rate: None,
         open_files: u64::MAX,
         record: 0,
+        keep: None,
+        log: Logged::Nothing,
     };
-    Daemon::new(rt.alloc(), rt, rt, &settings).ok()
+    Daemon::new(rt.alloc(), rt, rt, &settings, &[]).ok()
 }
 
 /// Takes turns until something has come, and says how many bytes.

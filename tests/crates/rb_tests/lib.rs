@@ -5,15 +5,23 @@ mod address;
 #[cfg(test)]
 mod arguments;
 #[cfg(test)]
+mod check;
+#[cfg(test)]
 mod events;
 #[cfg(test)]
 mod evidence;
 #[cfg(test)]
 mod feed;
 #[cfg(test)]
+mod files;
+#[cfg(test)]
 mod forward;
 #[cfg(test)]
+mod keep;
+#[cfg(test)]
 mod lines;
+#[cfg(test)]
+mod log;
 #[cfg(test)]
 mod policy;
 #[cfg(test)]

@@ -55,3 +55,24 @@ fn stats_has_memory(rt: HostRuntime) -> Result<(), Fail> {
     notes_are_put(&rt, &stats, &mut out, &mut meter);
     Ok(())
 }
+
+// What they are when nothing was called: 17 numbers of each version.
+const NOTHING: &[u8] = &[0; 204];
+
+// They begin anew: nothing is held, zeros are put, and the same notes count as before.
+#[test]
+fn stats_begin_anew(rt: HostRuntime) -> Result<(), Fail> {
+    let mut meter = Meter::new();
+    let mut stats = Stats::new(rt.alloc(), &mut meter)?;
+    let mut out = Kept::new(rt.alloc(), 1000, &mut meter)?;
+    note_all(&mut stats, &mut meter);
+    stats.clear(&mut meter);
+    assert_eq!(rt; stats.held(), 0);
+    assert!(rt; stats.put(1000, &mut out, &mut meter).is_ok());
+    let len = out.len(&mut meter);
+    assert_eq!(rt; out.lend(0..len, &mut meter), NOTHING);
+    out.clear(&mut meter);
+    note_all(&mut stats, &mut meter);
+    notes_are_put(&rt, &stats, &mut out, &mut meter);
+    Ok(())
+}

@@ -1,0 +1,99 @@
+//! Files that are replaced as a whole, and files that are believed.
+use rb_files::{KeptFile, KeptFileFault, new_file, read_kept};
+use rb_policy::Distrust;
+use std::fs;
+use std::fs::Permissions;
+use std::os::unix::fs::{PermissionsExt, symlink};
+use std::test::Fail;
+
+/// The most bytes of a file here.
+const MOST: usize = 8;
+
+fn set_mode(rt: &HostRuntime, path: &str, mode: u32) -> Result<(), Fail> {
+    fs::set_permissions(rt, path, Permissions::from_mode(mode))?;
+    Ok(())
+}
+
+/// Whether what is at the path has this text, and is believed.
+fn has(rt: &HostRuntime, path: &str, text: &[u8]) -> bool {
+    match read_kept(rt, rt.alloc(), path, MOST) {
+        Ok(Some(found)) => found.as_slice() == text,
+        Ok(None) | Err(_) => false,
+    }
+}
+
+/// Whether nothing is at the path.
+fn is_free(rt: &HostRuntime, path: &str) -> bool {
+    fs::symlink_metadata(rt, path).is_err()
+}
+
+#[test]
+fn kept_file_is_replaced(rt: HostRuntime) -> Result<(), Fail> {
+    let path = "rb_files_replaced.test";
+    let file = KeptFile::new(rt.alloc(), path)?;
+    let none = read_kept(&rt, rt.alloc(), path, MOST);
+    assert!(rt; matches!(none, Ok(None)));
+    file.replace(&rt, b"old")?;
+    assert!(rt; has(&rt, path, b"old"));
+    fs::write(&rt, "rb_files_replaced.test.new", b"left by another run")?;
+    file.replace(&rt, b"new text")?;
+    assert!(rt; has(&rt, path, b"new text"));
+    assert_eq!(rt;
+        fs::symlink_metadata(&rt, path)?.permissions().mode() & 0o777,
+        0o600
+    );
+    assert!(rt; is_free(&rt, "rb_files_replaced.test.new"));
+    fs::remove_file(&rt, path)?;
+    Ok(())
+}
+
+#[test]
+fn file_stays_where_a_step_fails(rt: HostRuntime) -> Result<(), Fail> {
+    let path = "rb_files_stays.test";
+    let beside = "rb_files_stays.test.new";
+    let file = KeptFile::new(rt.alloc(), path)?;
+    fs::create_dir(&rt, path)?;
+    assert!(rt; file.replace(&rt, b"new").is_err());
+    assert!(rt; is_free(&rt, beside));
+    fs::remove_dir(&rt, path)?;
+    file.replace(&rt, b"old")?;
+    symlink(&rt, path, beside)?;
+    assert!(rt; file.replace(&rt, b"new").is_err());
+    assert!(rt; fs::symlink_metadata(&rt, beside)?.is_symlink());
+    assert!(rt; has(&rt, path, b"old"));
+    fs::remove_file(&rt, beside)?;
+    fs::remove_file(&rt, path)?;
+    Ok(())
+}
+
+#[test]
+fn files_of_others_are_not_read(rt: HostRuntime) -> Result<(), Fail> {
+    let path = "rb_files_others.test";
+    let link = "rb_files_others.link";
+    drop(new_file(&rt, path)?);
+    symlink(&rt, path, link)?;
+    let linked = read_kept(&rt, rt.alloc(), link, MOST);
+    assert!(rt;
+        matches!(
+            linked,
+            Err(KeptFileFault::Distrusted(Distrust::NoPlainFile))
+        )
+    );
+    for mode in [0o620, 0o602, 0o666] {
+        set_mode(&rt, path, mode)?;
+        match read_kept(&rt, rt.alloc(), path, MOST) {
+            Err(KeptFileFault::Distrusted(Distrust::OthersMayWrite(found))) => {
+                assert_eq!(rt; found, mode)
+            }
+            Ok(_) | Err(_) => return Err("it was believed".into()),
+        }
+    }
+    set_mode(&rt, path, 0o644)?;
+    assert!(rt; has(&rt, path, b""));
+    fs::write(&rt, path, b"123456789")?;
+    let long = read_kept(&rt, rt.alloc(), path, MOST);
+    assert!(rt; matches!(long, Err(KeptFileFault::TooLong)));
+    fs::remove_file(&rt, link)?;
+    fs::remove_file(&rt, path)?;
+    Ok(())
+}

@@ -1,0 +1,52 @@
+//! Rows that are kept: written, read and set again.
+use crate::proto::listener;
+use rb_core::{Core, Limits, Outcome};
+use rb_keep::{KeepFault, read_rows, set_call, this_machine, write_rows};
+use rb_xdr::Meter;
+use std::test::Fail;
+
+const LIMITS: Limits = Limits {
+    conns: 4,
+    rows: 300,
+    forwards: 4,
+};
+
+// What tests/row.py makes of
+// datagram 8 127.0.0.1:0 (xid=0 4 set 200001 1 tcp 0.0.0.0.8.1)
+// datagram 8 127.0.0.1:0 (xid=0 uid=1000 4 set 200002 3 local /run/x.sock)
+const KEPT: &[u8] = b"datagram 8 127.0.0.1:0 \
+000000000000000000000002000186a000000004000000010000000000000000000000000000000000030d410000000100000003\
+746370000000000b302e302e302e302e382e310000000000
+datagram 8 127.0.0.1:0 \
+000000000000000000000002000186a0000000040000000100000001000000140000000000000000000003e80000000000000000\
+000000000000000000030d4200000003000000056c6f63616c0000000000000b2f72756e2f782e736f636b0000000000
+";
+
+#[test]
+fn kept_rows_are_set_again(rt: HostRuntime) -> Result<(), Fail> {
+    let alloc = rt.alloc();
+    let mut meter = Meter::new();
+    let mut core = Core::new(alloc, LIMITS, listener(), 1000, 8, &mut meter)?;
+    let rows = read_rows(alloc, KEPT)?;
+    assert_eq!(rt; rows.len(), 2);
+    for row in &rows {
+        let call = set_call(row);
+        let told = core.datagram(8, this_machine(), call.as_slice(), &mut meter);
+        assert_eq!(rt; told, Outcome::Reply);
+    }
+    assert_eq!(rt; core.changes(), 2);
+    let mut written = Vec::new(alloc);
+    write_rows(&core, &mut written, &mut meter)?;
+    assert_eq!(rt; written.as_slice(), KEPT);
+    Ok(())
+}
+
+#[test]
+fn other_lines_are_named(rt: HostRuntime) -> Result<(), Fail> {
+    let alloc = rt.alloc();
+    let of_another = read_rows(alloc, b"# kept\n\ndatagram 8 127.0.0.1:1 -\n");
+    assert!(rt; matches!(of_another, Err(KeepFault::NotKept(3))));
+    let bad = read_rows(alloc, b"datagram 8\n");
+    assert!(rt; matches!(bad, Err(KeepFault::BadLine(1))));
+    Ok(())
+}
