@@ -570,6 +570,20 @@ run_log_of_all() {
     judge $bad "a log of all"
 }
 
+# With one place, a connection that does nothing is given up for the next.
+run_log_of_given_up() {
+    local bad=0
+    start_daemon "$work/log" --port 20112 --conns 1 --log all || { judge 1 "a log of a connection that is given up"; return; }
+    exec 5<> /dev/tcp/127.0.0.1/20112
+    sleep 0.5
+    exec 6<> /dev/tcp/127.0.0.1/20112
+    sleep 0.5
+    kill "$daemon"
+    exec 5>&- 6>&-
+    [ "$(grep -cE '^rpcbind: connection of 127\.0\.0\.1:[0-9]+ given up$' "$work/log")" -eq 1 ] || bad=1
+    judge $bad "a log of a connection that is given up"
+}
+
 # In a network namespace whose machine has an address in a network that is served and another one, which is announced. The
 # other is not served: over TCP it is told so at once, by a connection that is closed.
 callers_of_networks() {
@@ -927,6 +941,7 @@ if [ -x "$program" ]; then
     run_daemon_of_networks
     run_log_of_changes
     run_log_of_all
+    run_log_of_given_up
     run_help_of '' help version
     run_help_of serve bind from announce local local-mode loopback6 port conns rows forwards udp-lists forward-for udp-rate turns record record-limit keep keep-check log help version
     run_help_of replay announce port conns rows forwards udp-lists forward-for check steps xid now help version
