@@ -482,10 +482,10 @@ END
     run /dev/null serve --keep-check
     as_wanted /dev/null "$work/wanted" 2
     judge $? "--keep-check is given without --keep"
-    echo "error: invalid value '$work/rows' for '--keep': another file than that of --record is wanted" > "$work/wanted"
-    echo kept > "$work/rows"
-    run /dev/null serve --keep "$work/rows" --record "$work/rows"
-    as_wanted /dev/null "$work/wanted" 2 && [ "$(cat "$work/rows")" = kept ]
+    echo "error: invalid value '$work/both' for '--keep': another file than that of --record is wanted" > "$work/wanted"
+    echo kept > "$work/both"
+    run /dev/null serve --keep "$work/both" --record "$work/both"
+    as_wanted /dev/null "$work/wanted" 2 && [ "$(cat "$work/both")" = kept ]
     judge $? "the rows are to be kept in the file of the record"
 }
 
