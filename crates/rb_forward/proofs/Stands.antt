@@ -144,14 +144,15 @@ module _ (first_xid : ℕ) (sought : Wanted) (outcome : Outcome) (slots : List (
   all_stand h = rw (all_stay (is_wanted first_xid sought) f.all (no_entry first_xid sought slots f.all z h)) z
 
   module _ (k : ℕ) (slot : Slot) (d : HasDistinctKeys slots) (h : option_map (λ e. e.0) (wanted_slot sought slots) ≡ Some k) (v : value_at slots k ≡ Some slot) where
-    pub one_ends : Some (record { forward = slot.forward; outcome = outcome }) ≡ (with_end (is_wanted first_xid sought) outcome f).0
+    pub one_ends : Some (record { id = record { number = slot.number }; forward = slot.forward; outcome = outcome }) ≡ (with_end (is_wanted first_xid sought) outcome f).0
     one_ends =
         let b = entry_found first_xid sought slots f.all z k slot d h v in
+        let number : slot.number ≡ b.value.number = b.related.number in
         let same : slot.forward ≡ b.value.forward = b.related.forward in
-        ended_alike slot.forward b.value same ∙ ap (option_map (ended_by outcome)) (sym b.found)
+        ended_alike slot.number slot.forward b.value number same ∙ ap (option_map (ended_by outcome)) (sym b.found)
       where
-        ended_alike : (forward : Forward) (e : Entry) → forward ≡ e.forward → Some (record { forward = forward; outcome = outcome }) ≡ Some (ended_by outcome e)
-        ended_alike forward e is = rw is refl
+        ended_alike : (number : ℕ) (forward : Forward) (e : Entry) → number ≡ e.number → forward ≡ e.forward → Some (record { id = record { number = number }; forward = forward; outcome = outcome }) ≡ Some (ended_by outcome e)
+        ended_alike number forward e same is = rw (same, is) refl
 
     pub others_stand : AllZip (StandsForEntry first_xid) (values_of (without slots k)) (with_end (is_wanted first_xid sought) outcome f).1.all
     others_stand =

@@ -18,6 +18,7 @@ use Rattle.rb_forward.specs.declared.types.Forward.{Forward}
 use Rattle.rb_forward.specs.declared.types.Outcome.{Outcome}
 use Rattle.rb_forward.specs.declared.types.Outcome.TheVariants.{Passed, Refused, Failed, Dropped}
 use Rattle.rb_forward.specs.declared.types.Ended.{Ended}
+use Rattle.rb_forward.specs.declared.types.FwdId.{FwdId}
 
 -- A call that was forwarded: what is asked of whom and for whom, the content of its arguments, the moment at which it ends
 -- at the latest, and whether it was sent.
@@ -106,8 +107,12 @@ abbrev pub without_first : {A : Type 0} → (A → Bool) → List A → List A
 without_first test [] = []
 without_first test (x ∷ xs) = if test x then xs else x ∷ without_first test xs
 
+-- the number of an entry, as it is told
+abbrev pub id_of : Entry → FwdId
+id_of e = record { number = e.number }
+
 abbrev pub ended_by : Outcome → Entry → Ended
-ended_by outcome e = record { forward = e.forward; outcome = outcome }
+ended_by outcome e = record { id = id_of e; forward = e.forward; outcome = outcome }
 
 -- The first entry that passes the test, if there is one, ends so, and is there no longer.
 abbrev pub with_end : (Entry → Bool) → Outcome → Forwards → Option Ended × Forwards

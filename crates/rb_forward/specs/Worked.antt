@@ -61,7 +61,7 @@ success xid = words (xid ∷ 1 ∷ 0 ∷ 0 ∷ 0 ∷ 0 ∷ [])
 
 -- the one entry ends so, and at nothing it stays
 abbrev pub Ends : Outcome → Option Ended × Forwards → Type 0
-Ends outcome given = given ≡ (Some (record { forward = indirect by_datagram; outcome = outcome }), none_left)
+Ends outcome given = given ≡ (Some (record { id = record { number = 1 }; forward = indirect by_datagram; outcome = outcome }), none_left)
 
 abbrev pub Stays : Forwards → Option Ended × Forwards → Type 0
 Stays f given = given ≡ (None, f)
@@ -149,7 +149,7 @@ abbrev pub CallerGoesAway : Type 0
 CallerGoesAway =
     let caller = Tcp 3 (who_at 900) in
     Stays (one_unsent caller) (drop_caller 4 (one_unsent caller))
-    × (drop_caller 3 (one_unsent caller) ≡ (Some (record { forward = indirect caller; outcome = Dropped }), none_left))
+    × (drop_caller 3 (one_unsent caller) ≡ (Some (record { id = record { number = 1 }; forward = indirect caller; outcome = Dropped }), none_left))
 
 -- an unsent call counts with its bytes, a sent one without
 abbrev pub WhatIsHeld : Type 0

@@ -215,8 +215,8 @@ impl Forwards {
     }
 
     /// Takes a datagram that came from the peer `from` at the moment `clock`. It ends the first entry that was sent
-    /// to this host and port, whose xid it has, and whose deadline is later than `clock`; that entry is returned with
-    /// its outcome. Any other datagram changes nothing, and the answer is `None`.
+    /// to this host and port, whose xid it has, and whose deadline is later than `clock`; that entry is returned, its
+    /// number among it, with its outcome. Any other datagram changes nothing, and the answer is `None`.
     pub fn reply(
         &mut self,
         clock: u64,
@@ -308,10 +308,17 @@ impl Forwards {
         let Some(slot) = self.slots.remove(key, meter) else {
             unreachable!()
         };
+        let id = FwdId {
+            number: slot.number,
+        };
         let Slot { forward, call, .. } = slot;
         self.held -= ENTRY_CHARGE + call.len(meter) as u64;
         put_buffer(&mut self.spare, call, meter);
-        Some(Ended { forward, outcome })
+        Some(Ended {
+            id,
+            forward,
+            outcome,
+        })
     }
 }
 

@@ -54,7 +54,7 @@ pub struct FwdId {
 /// A call that is yet to be sent.
 #[derive(Clone, Copy)]
 pub struct Unsent<'a> {
-    /// The entry's number, which `sent` takes.
+    /// The entry's number, which `sent` takes, and which `Ended` tells at its end.
     pub id: FwdId,
     /// Where it is to be sent.
     pub target: Peer,
@@ -78,6 +78,8 @@ pub enum Outcome {
 /// The end of a forwarded call.
 #[derive(Clone, Copy, PartialEq, Eq, Debug)]
 pub struct Ended {
+    /// The number of its entry, which `start` gave and `unsent` lent.
+    pub id: FwdId,
     /// The call that was forwarded.
     pub forward: Forward,
     /// How it ended.
