@@ -4,7 +4,7 @@ use Rattle.std.specs.Option.{option_map}
 use Rattle.std.proofs.Common.{◌≡◌, ℕ, max, Option, Some, None, [], ◌++◌, refl, ap, ◌∙◌, append-nil}
 use Rattle.rb_forward.specs.declared.types.Outcome.TheVariants.{Failed}
 use Rattle.rb_forward.specs.declared.types.Ended as entry
-use Rattle.rb_forward.specs.Forwards.{Entry, is_due as entry_is_due, ended_by, without_first, due}
+use Rattle.rb_forward.specs.Forwards.{Entry, is_due as entry_is_due, id_of, ended_by, without_first, due}
 use Rattle.rb_forward.proofs.Tables.{all_stay}
 use Rattle.rb_proto.specs.Ledger.{Ledger}
 use Rattle.rb_proto.specs.Forwarding.{noted_end, fell_due}
@@ -24,7 +24,7 @@ end_of e = ended_by Failed e
 pub data Expiry (s : State) (clock : ℕ) (fresh : State) (r : Expired × State) : Type 0 where
   EntryEnds : (e : Entry) → find (entry_is_due clock) s.ledger.forwards.all ≡ Some e
       → (ledger : Ledger) → ledger.forwards ≡ record s.ledger.forwards { all = without_first (entry_is_due clock) s.ledger.forwards.all }
-      → r ≡ expired_as (Some (tell e.forward.caller (outcome_at_end [] (end_of e)) (record fresh { ledger = ledger })).0, (tell e.forward.caller (outcome_at_end [] (end_of e)) (record fresh { ledger = ledger })).1)
+      → r ≡ expired_as (Some (tell (id_of e) e.forward.caller (outcome_at_end [] (end_of e)) (record fresh { ledger = ledger })).0, (tell (id_of e) e.forward.caller (outcome_at_end [] (end_of e)) (record fresh { ledger = ledger })).1)
       → Expiry s clock fresh r
   ConnectionEnds : find (entry_is_due clock) s.ledger.forwards.all ≡ None → (c : Connection) → find (is_due clock) s.connections.all ≡ Some c
       → r ≡ (ConnectionClosed c.number, record fresh { connections = changed_at c.number lose s.connections }) → Expiry s clock fresh r

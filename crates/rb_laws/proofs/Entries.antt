@@ -69,7 +69,7 @@ AwaitIn f c = (id : ℕ) → present id f ≡ awaits id c.all
 abbrev pub Await : State → Type 0
 Await s = AwaitIn s.ledger.forwards s.connections
 
-abbrev if_one : Bool → ℕ
+abbrev pub if_one : Bool → ℕ
 if_one b = cond b 1 0
 
 -- an entry that begins
@@ -100,7 +100,7 @@ one-at-most o = grind arith
 pub fed-awaits : (p : Phase) (fed : List ℕ) → fed_in p ≡ Some fed → is_awaiting p ≡ false
 fed-awaits p fed is = grind arith
 
-fed-plain : (p : Phase) (fed : List ℕ) → fed_in p ≡ Some fed → stamp_in p ≡ None
+pub fed-plain : (p : Phase) (fed : List ℕ) → fed_in p ≡ Some fed → stamp_in p ≡ None
 fed-plain p fed is = grind arith
 
 pub giving-awaits : (clock n : ℕ) (c : Connection) → is_awaiting (give clock n c).1.phase ≡ is_awaiting c.phase
@@ -123,11 +123,11 @@ module _ (k : ℕ) (all : List Connection) (c : Connection) (there : live_connec
   unfolding live_connection
   changed-awaits f feeds keeps id = grind (arith, common_steps, found, changed-other id k f keeps, eqb-true k id, find-changed k f feeds all c found)
 
-  kept-awaits : (f : Connection → Connection) → IsFeeding k f → ((d : Connection) → (f d).number ≡ d.number) → is_awaiting (f c).phase ≡ is_awaiting c.phase → (id : ℕ) → awaits id (change_first (is_live k) f all) ≡ awaits id all
+  pub kept-awaits : (f : Connection → Connection) → IsFeeding k f → ((d : Connection) → (f d).number ≡ d.number) → is_awaiting (f c).phase ≡ is_awaiting c.phase → (id : ℕ) → awaits id (change_first (is_live k) f all) ≡ awaits id all
   kept-awaits f feeds keeps same id = grind (arith, common_steps, changed-awaits, eqb-true)
 
   -- its record is answered, or its forwarded call ends
-  settled-awaits : (clock next : ℕ) (said : Outcome) → AreSound 0 next all → (id : ℕ) → awaits id (change_first (is_live k) (settle clock said) all) ≡ cond (eqb k id) (if_one (is_forwarded said)) (awaits id all)
+  pub settled-awaits : (clock next : ℕ) (said : Outcome) → AreSound 0 next all → (id : ℕ) → awaits id (change_first (is_live k) (settle clock said) all) ≡ cond (eqb k id) (if_one (is_forwarded said)) (awaits id all)
   unfolding live_connection
   settled-awaits clock next said sound id = by_said said refl
     where
@@ -213,13 +213,13 @@ module _ (s : State) (sound : IsSound s) (h : Await s) where
   Keeps r = Await r.1
 
   -- once there is room for a row
-  room-sound : (changes : List ℕ) → SoundIn (evict changes s.connections)
+  pub room-sound : (changes : List ℕ) → SoundIn (evict changes s.connections)
   room-sound changes = mapped (evict_early changes) (evicted-keeps changes) 0 s.connections.next s.connections.all sound
 
   room-awaits : (changes : List ℕ) → AwaitIn s.ledger.forwards (evict changes s.connections)
   room-awaits changes = λ id. h id ∙ sym (evicted-awaits changes id 0 s.connections.next s.connections.all sound)
 
-  still-there : (changes : List ℕ) (k : ℕ) (c : Connection) → live_connection k s.connections.all ≡ Some c → stamp_in c.phase ≡ None → live_connection k (map (evict_early changes) s.connections.all) ≡ Some c
+  pub still-there : (changes : List ℕ) (k : ℕ) (c : Connection) → live_connection k s.connections.all ≡ Some c → stamp_in c.phase ≡ None → live_connection k (map (evict_early changes) s.connections.all) ≡ Some c
   unfolding live_connection
   still-there changes k c there no_list = plain_lives k changes s.connections.all c there no_list
 
@@ -314,7 +314,7 @@ module _ (s : State) (sound : IsSound s) (h : Await s) where
       counts : (x : Entry) → find test s.ledger.forwards.all ≡ Some x → (id : ℕ) → present id s.ledger.forwards ≡ one_at id x + present id l.forwards
       counts x e id = sum-without test (one_at id) s.ledger.forwards.all x e ∙ ap (λ (f : Forwards). one_at id x + present id f) (sym left)
 
-      by_caller : (x : Entry) → find test s.ledger.forwards.all ≡ Some x → (caller : Caller) → x.forward.caller ≡ caller → Await (tell caller (outcome_at_end message ended) (record (at_fresh_moment at s) { ledger = l })).1
+      by_caller : (x : Entry) → find test s.ledger.forwards.all ≡ Some x → (caller : Caller) → x.forward.caller ≡ caller → Await (tell ended.id caller (outcome_at_end message ended) (record (at_fresh_moment at s) { ledger = l })).1
       by_caller x e (Udp who longest) from = λ id.
           let none : one_at id x ≡ 0 = ap (λ (c : Caller). if_one (is_connection id c)) from in
           let count = counts x e id in
@@ -355,7 +355,7 @@ module _ (s : State) (sound : IsSound s) (h : Await s) where
                   let is = h id in
                   omega (arith, here, count, few, is)
 
-      by_found : (o : Option Entry) → find test s.ledger.forwards.all ≡ o → Some ended ≡ option_map (ended_by outcome) o → Await (tell ended.forward.caller (outcome_at_end message ended) (record (at_fresh_moment at s) { ledger = l })).1
+      by_found : (o : Option Entry) → find test s.ledger.forwards.all ≡ o → Some ended ≡ option_map (ended_by outcome) o → Await (tell ended.id ended.forward.caller (outcome_at_end message ended) (record (at_fresh_moment at s) { ledger = l })).1
       by_found None e gave = absurd cc
       by_found (Some x) e gave =
           let same : ended ≡ ended_by outcome x = cc in

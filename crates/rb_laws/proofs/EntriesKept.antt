@@ -15,6 +15,7 @@ use Rattle.rb_registry.specs.declared.row.Which.{Which}
 use Rattle.rb_forward.specs.declared.types.Forward.{Forward}
 use Rattle.rb_rpc.specs.declared.caller.Kind.{Kind}
 use Rattle.rb_forward.specs.declared.types.Ended.{Ended}
+use Rattle.rb_forward.specs.declared.types.FwdId.{FwdId}
 use Rattle.rb_rpc.specs.Forwarded.{longest_forwarded}
 use Rattle.rb_forward.specs.Forwards.{Entry, Forwards, can_start, with_next_entry, next_entry, sent, can_be_sent, without_first, change_first, as_sent, is_unsent, reply, due, drop_caller, counts_for, is_due, is_of_connection}
 use Rattle.rb_proto.specs.declared.context.Context.{Context}
@@ -156,14 +157,14 @@ unfolding caller_dropped drop_caller
 closed-follows s id (Ok u, c) = record { setting = refl; goes = Ends1 (is_of_connection id) refl }
 closed-follows s id (Err fault, c) = stays s
 
-tell-follows : (s u : State) (caller : Caller) (said : Outcome) → Follows s u → Follows s (tell caller said u).1
-tell-follows s u (Tcp id who) said f = record { setting = f.setting; goes = f.goes }
-tell-follows s u (Udp who longest) said f = record { setting = f.setting; goes = f.goes }
+tell-follows : (s u : State) (call : FwdId) (caller : Caller) (said : Outcome) → Follows s u → Follows s (tell call caller said u).1
+tell-follows s u call (Tcp id who) said f = record { setting = f.setting; goes = f.goes }
+tell-follows s u call (Udp who longest) said f = record { setting = f.setting; goes = f.goes }
 
 told-follows : (message : List ℕ) (s u : State) (o : Option Ended) (ledger : Ledger) → u.setting ≡ s.setting → Goes s.setting.limits.forwards s.ledger.forwards ledger.forwards → Follows s (tell_end message u (o, ledger)).1
 told-follows message s u None ledger same goes = record { setting = same; goes = goes }
 told-follows message s u (Some ended) ledger same goes =
-    tell-follows s (record u { ledger = ledger }) ended.forward.caller (outcome_at_end message ended) (record { setting = same; goes = goes })
+    tell-follows s (record u { ledger = ledger }) ended.id ended.forward.caller (outcome_at_end message ended) (record { setting = same; goes = goes })
 
 end-follows : (s : State) (r : Option Told × State) → Follows s r.1 → Follows s (show_end r).1
 end-follows s (None, u) f = f

@@ -3,6 +3,7 @@ use Rattle.std.specs.Prelude.{find, replicate}
 use Rattle.std.proofs.Common.{◌≡◌, ◌⊎◌, inl, inr, ℕ, suc, zero, ◌+◌, ◌≤◌, max, Bool, true, false, cond, eqb, Some, List, [], ◌∷◌, length, refl, sym, ap, ◌∙◌, eq-eqb, arith}
 use Rattle.std.proofs.lemmas.Grind.{common_steps}
 use Rattle.rb_rpc.specs.declared.caller.Caller.{Caller}
+use Rattle.rb_forward.specs.declared.types.FwdId.{FwdId}
 use Rattle.rb_forward.specs.Forwards.{Entry, without_first}
 use Rattle.rb_model.specs.declared.types.Expired.{Expired}
 use Rattle.rb_model.specs.declared.types.Expired.TheVariants as expiries
@@ -70,8 +71,8 @@ ended-count test (x ∷ all) e h = grind (arith, ended-count test all e)
 abbrev pub due_count : State → ℕ
 due_count s = length s.ledger.forwards.all + live_count s.connections.all
 
-tell-count : (s : State) (caller : Caller) (said : Outcome) → due_count (tell caller said s).1 ≤ due_count s
-tell-count s caller said = grind (arith, common_steps, changed-count)
+tell-count : (s : State) (call : FwdId) (caller : Caller) (said : Outcome) → due_count (tell call caller said s).1 ≤ due_count s
+tell-count s call caller said = grind (arith, common_steps, changed-count)
 
 less-due : (s : State) (now : ℕ) (r : Expired × State) → Expiry s (max s.clock now) (at_fresh_moment now s) r → (r.0 ≡ expiries.Nothing) ⊎ (due_count r.1 + 1 ≤ due_count s)
 less-due s now r p = grind (arith, common_steps, tell-count, ended-count, live-found, lost-count)

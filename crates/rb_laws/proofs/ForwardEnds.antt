@@ -6,7 +6,8 @@ use Rattle.rb_rpc.specs.declared.caller.Caller.{Caller}
 use Rattle.rb_forward.specs.declared.types.Outcome as target
 use Rattle.rb_forward.specs.declared.types.Outcome.TheVariants.{Failed}
 use Rattle.rb_forward.specs.declared.types.Ended.{Ended as EntryEnd}
-use Rattle.rb_forward.specs.Forwards.{Entry, Forwards, ended_by, with_end, without_first, counts_for, is_due, outcome_of, reply, due}
+use Rattle.rb_forward.specs.declared.types.FwdId.{FwdId}
+use Rattle.rb_forward.specs.Forwards.{Entry, Forwards, id_of, ended_by, with_end, without_first, counts_for, is_due, outcome_of, reply, due}
 use Rattle.rb_forward.specs.Ends.{IsFirst, IsReplyTo, EndsFirst as TableEnds}
 use Rattle.rb_forward.proofs.Ends.{ends_first, reply_means, reply_tested, due_means, due_tested}
 use Rattle.rb_proto.specs.Ledger.{Ledger}
@@ -37,11 +38,11 @@ module _ (Is : Entry → Type 0) (test : Entry → Bool) (means : (e : Entry) �
   same_ledger : (f : Forwards) → f ≡ s.ledger.forwards → record s.ledger { history = s.ledger.history ++ []; forwards = f } ≡ s.ledger
   same_ledger f is = rw (is, append-nil s.ledger.history) refl
 
-  is_told : (e : Entry) (l : Ledger) (caller : Caller) → CallerGets s (max s.clock now) (says e) caller (tell caller (says e) (record (at_fresh_moment now s) { ledger = l })).0 (tell caller (says e) (record (at_fresh_moment now s) { ledger = l })).1
-  is_told e l caller = grind arith
+  is_told : (e : Entry) (l : Ledger) (call : FwdId) (caller : Caller) → CallerGets s (max s.clock now) (says e) call caller (tell call caller (says e) (record (at_fresh_moment now s) { ledger = l })).0 (tell call caller (says e) (record (at_fresh_moment now s) { ledger = l })).1
+  is_told e l call caller = grind arith
 
-  same_entries : (e : Entry) (l : Ledger) (caller : Caller) → (tell caller (says e) (record (at_fresh_moment now s) { ledger = l })).1.ledger ≡ l
-  same_entries e l caller = grind arith
+  same_entries : (e : Entry) (l : Ledger) (call : FwdId) (caller : Caller) → (tell call caller (says e) (record (at_fresh_moment now s) { ledger = l })).1.ledger ≡ l
+  same_entries e l call caller = grind arith
 
   pub ends_or_not : EndsOrNot (tell_end message (at_fresh_moment now s) ends).0 (tell_end message (at_fresh_moment now s) ends).1
   ends_or_not = by_found (find test s.ledger.forwards.all) refl (ends_first Is test means tested outcome s.ledger.forwards)
@@ -57,9 +58,9 @@ module _ (Is : Entry → Type 0) (test : Entry → Bool) (means : (e : Entry) �
           let same : ended_by outcome e ≡ ended_by outcome one.0 = one.2 in
           record {
             entry = one.0;
-            first = subst (λ (xs : List Entry). IsFirst Is s.ledger.forwards.all one.0 xs) (sym (ap (λ (x : Ledger). x.forwards.all) (same_entries e l e.forward.caller))) one.1;
-            tells = subst (λ (x : EntryEnd). CallerGets s (max s.clock now) (outcome_at_end message x) x.forward.caller (tell e.forward.caller (says e) (record (at_fresh_moment now s) { ledger = l })).0 (tell e.forward.caller (says e) (record (at_fresh_moment now s) { ledger = l })).1)
-                same (is_told e l e.forward.caller);
+            first = subst (λ (xs : List Entry). IsFirst Is s.ledger.forwards.all one.0 xs) (sym (ap (λ (x : Ledger). x.forwards.all) (same_entries e l (id_of e) e.forward.caller))) one.1;
+            tells = subst (λ (x : EntryEnd). CallerGets s (max s.clock now) (outcome_at_end message x) x.id x.forward.caller (tell (id_of e) e.forward.caller (says e) (record (at_fresh_moment now s) { ledger = l })).0 (tell (id_of e) e.forward.caller (says e) (record (at_fresh_moment now s) { ledger = l })).1)
+                same (is_told e l (id_of e) e.forward.caller);
           }
 
 pub replies_end_their_own : RepliesEndTheirOwn

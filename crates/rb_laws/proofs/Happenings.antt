@@ -12,7 +12,7 @@ use Rattle.rb_rpc.specs.Records.{first_record, data_of}
 use Rattle.rb_forward.specs.declared.types.Outcome as target
 use Rattle.rb_forward.specs.declared.types.Outcome.TheVariants.{Failed}
 use Rattle.rb_forward.specs.declared.types.Ended.{Ended as EntryEnd}
-use Rattle.rb_forward.specs.Forwards.{Entry, is_connection, is_of_connection, counts_for, is_due, outcome_of, with_end, reply, due, can_be_sent}
+use Rattle.rb_forward.specs.Forwards.{Entry, is_connection, is_of_connection, id_of, counts_for, is_due, outcome_of, with_end, reply, due, can_be_sent}
 use Rattle.rb_proto.specs.Ledger.{Ledger}
 use Rattle.rb_proto.specs.Forwarding.{target_replied, fell_due, call_sent}
 use Rattle.rb_model.specs.declared.types.CoreFault.{CoreFault}
@@ -212,7 +212,7 @@ module _ (s : State) where
   end-happens event at message show (Some ended, l) is shows there told = by_caller ended.forward.caller refl
     where
       after : Caller → Option Told × State
-      after caller = let x : Told × State = tell caller (outcome_at_end message ended) (record (at_fresh_moment at s) { ledger = l }) in (Some x.0, x.1)
+      after caller = let x : Told × State = tell ended.id caller (outcome_at_end message ended) (record (at_fresh_moment at s) { ledger = l }) in (Some x.0, x.1)
 
       by_caller : (caller : Caller) → ended.forward.caller ≡ caller → Happens event (show (after caller))
       by_caller (Udp who longest) e = Stays (shows.is_quiet _) (shows.leaves _)
@@ -232,7 +232,7 @@ module _ (s : State) where
   expire-happens at r (EntryEnds e found ledger left is) = rw is (by_caller e.forward.caller refl)
     where
       after : Caller → Told × State
-      after caller = tell caller (outcome_at_end [] (end_of e)) (record (at_fresh_moment at s) { ledger = ledger })
+      after caller = tell (id_of e) caller (outcome_at_end [] (end_of e)) (record (at_fresh_moment at s) { ledger = ledger })
 
       by_caller : (caller : Caller) → e.forward.caller ≡ caller → Happens (Expire at) (show_expired (expired_as (Some (after caller).0, (after caller).1)))
       by_caller (Udp who longest) same = Stays (told-quiet (Expire at) (after (Udp who longest)).1.reply (after (Udp who longest)).0) refl

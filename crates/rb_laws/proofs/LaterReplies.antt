@@ -8,7 +8,8 @@ use Rattle.rb_rpc.specs.declared.caller.Caller.{Caller}
 use Rattle.rb_rpc.specs.declared.caller.Caller.TheVariants.{Udp}
 use Rattle.rb_forward.specs.declared.types.Outcome as target
 use Rattle.rb_forward.specs.declared.types.Outcome.TheVariants.{Failed}
-use Rattle.rb_forward.specs.Forwards.{Entry, outcome_of, counts_for, is_due, ended_by, without_first, reply, due}
+use Rattle.rb_forward.specs.declared.types.FwdId.{FwdId}
+use Rattle.rb_forward.specs.Forwards.{Entry, outcome_of, counts_for, is_due, id_of, ended_by, without_first, reply, due}
 use Rattle.rb_forward.specs.Ends.{NoneIs, IsFirst, IsReplyTo}
 use Rattle.rb_forward.proofs.Ends.{reply_means, reply_tested, due_means, due_tested}
 use Rattle.rb_proto.specs.Ledger.{Ledger}
@@ -37,16 +38,16 @@ module _ (s : State) (now : ℕ) (message : List ℕ) where
   ends show test outcome found =
       (show (tell_end message (at_fresh_moment now s) (noted_end (option_map (ended_by outcome) found, record s.ledger.forwards { all = without_first test s.ledger.forwards.all }) s.ledger))).0
 
-  shown : (l : Ledger) (said : Outcome) (who : Who) (longest : ℕ) → (show_end (Some (tell (Udp who longest) said (record (at_fresh_moment now s) { ledger = l })).0, (tell (Udp who longest) said (record (at_fresh_moment now s) { ledger = l })).1)).0 ≡ later_output who said
-  shown l said who longest = grind arith
+  shown : (l : Ledger) (call : FwdId) (said : Outcome) (who : Who) (longest : ℕ) → (show_end (Some (tell call (Udp who longest) said (record (at_fresh_moment now s) { ledger = l })).0, (tell call (Udp who longest) said (record (at_fresh_moment now s) { ledger = l })).1)).0 ≡ later_output who said
+  shown l call said who longest = grind arith
 
-  shown-for : (l : Ledger) (said : Outcome) (caller : Caller) (who : Who) (longest : ℕ) → caller ≡ Udp who longest
-      → (show_end (Some (tell caller said (record (at_fresh_moment now s) { ledger = l })).0, (tell caller said (record (at_fresh_moment now s) { ledger = l })).1)).0 ≡ later_output who said
-  shown-for l said caller who longest udp = grind (arith, common_steps, shown l said who longest)
+  shown-for : (l : Ledger) (call : FwdId) (said : Outcome) (caller : Caller) (who : Who) (longest : ℕ) → caller ≡ Udp who longest
+      → (show_end (Some (tell call caller said (record (at_fresh_moment now s) { ledger = l })).0, (tell call caller said (record (at_fresh_moment now s) { ledger = l })).1)).0 ≡ later_output who said
+  shown-for l call said caller who longest udp = grind (arith, common_steps, shown l call said who longest)
 
   ended-shown : (test : Entry → Bool) (outcome : target.Outcome) (found : Option Entry) (e : Entry) (who : Who) (longest : ℕ) → found ≡ Some e → e.forward.caller ≡ Udp who longest
       → ends show_end test outcome found ≡ later_output who (outcome_at_end message (ended_by outcome e))
-  ended-shown test outcome found e who longest is udp = rw is (shown-for (noted_end (Some (ended_by outcome e), record s.ledger.forwards { all = without_first test s.ledger.forwards.all }) s.ledger).1 (outcome_at_end message (ended_by outcome e)) e.forward.caller who longest udp)
+  ended-shown test outcome found e who longest is udp = rw is (shown-for (noted_end (Some (ended_by outcome e), record s.ledger.forwards { all = without_first test s.ledger.forwards.all }) s.ledger).1 (id_of e) (outcome_at_end message (ended_by outcome e)) e.forward.caller who longest udp)
 
 replies-told : (s : State) (now : ℕ) (from : Peer) (message : List ℕ)
     → TellsOverUdp (IsReplyTo s.setting.first_xid (max s.clock now) from message) (said_by message) s (Forward now from message)
@@ -62,7 +63,7 @@ unfolding step expire fell_due due
 deadlines-told s now e rest who longest first udp =
     let test : Entry → Bool = is_due (max s.clock now) in
     let found = first-found (EntryIsDue (max s.clock now)) test (due_means (max s.clock now)) (due_tested (max s.clock now)) s.ledger.forwards.all e rest first in
-    rw found (shown-for s now [] (noted_end (Some (ended_by Failed e), record s.ledger.forwards { all = without_first test s.ledger.forwards.all }) s.ledger).1 (said_at_deadline e) e.forward.caller who longest udp)
+    rw found (shown-for s now [] (noted_end (Some (ended_by Failed e), record s.ledger.forwards { all = without_first test s.ledger.forwards.all }) s.ledger).1 (id_of e) (said_at_deadline e) e.forward.caller who longest udp)
 
 pub udp_callers_are_told : (s : State) → UdpCallersAreTold s
 udp_callers_are_told s = record { replies = replies-told s; deadlines = deadlines-told s }

@@ -12,6 +12,7 @@ pub mod Numbers
 pub mod Reached
 pub mod Entering
 pub mod Entries
+pub mod Sending
 pub mod LeastLost
 pub mod OneThing
 pub mod NextDeadlines
@@ -44,3 +45,4 @@ pub mod Restoring
 pub mod Strangers
 pub mod Reflections
 pub mod Spelling
+pub mod Gives

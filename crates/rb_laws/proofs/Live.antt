@@ -20,7 +20,7 @@ answering-feeds id clock said is = grind arith
 pub replying-feeds : (id clock : ℕ) (reply : List ℕ) (began : Option ℕ) → IsFeeding id (settle clock (Reply reply began))
 replying-feeds id clock reply began = answering-feeds id clock (Reply reply began) refl
 
-given-feeds : (id clock n : ℕ) (c : Connection) → is_live id c ≡ true → is_live id (with_given clock n c) ≡ true
+pub given-feeds : (id clock n : ℕ) (c : Connection) → is_live id c ≡ true → is_live id (with_given clock n c) ≡ true
 unfolding is_live with_given
 given-feeds id clock n c e = grind arith
 

@@ -5,10 +5,10 @@ use Rattle.std.proofs.lemmas.List.Elements.{All-cons, All-weaker}
 use Rattle.std.proofs.lemmas.Grind.{common_steps}
 use Rattle.rb_rpc.specs.declared.caller.Caller.{Caller}
 use Rattle.rb_rpc.specs.declared.reply.ReplyStatus.TheVariants.{SystemErr}
-use Rattle.rb_forward.specs.declared.types.Forward.{Forward}
+use Rattle.rb_forward.specs.declared.types.FwdId.{FwdId}
 use Rattle.rb_forward.specs.declared.types.Ended as entry
 use Rattle.rb_forward.specs.declared.types.Outcome.TheVariants.{Failed}
-use Rattle.rb_forward.specs.Forwards.{Entry, is_due as entry_is_due, without_first, ended_by}
+use Rattle.rb_forward.specs.Forwards.{Entry, is_due as entry_is_due, without_first, id_of, ended_by}
 use Rattle.rb_forward.specs.Ends.{NoneIs, IsFirst, EndsFirst}
 use Rattle.rb_forward.proofs.Ends.{ends_first, due_means, due_tested}
 use Rattle.rb_model.specs.declared.types.Expired.{Expired}
@@ -40,11 +40,11 @@ split-least Is least next (x ∷ before) behind e s none = grind (arith, common_
 first-is-least : (Is : Entry → Type 0) (next : ℕ) (all rest : List Entry) (e : Entry) → AreRising 1 next all → IsFirst Is all e rest → All (λ (d : Entry). Is d → e.number ≤ d.number) all
 first-is-least Is next all rest e rising first = grind (arith, common_steps, split-least)
 
-tell-told : (s u : State) (caller : Caller) (said : Outcome) → (tell caller said u).0 ≡ (tell caller said s).0
-tell-told s u caller said = grind arith
+tell-told : (s u : State) (call : FwdId) (caller : Caller) (said : Outcome) → (tell call caller said u).0 ≡ (tell call caller said s).0
+tell-told s u call caller said = grind arith
 
-tell-ledger : (u : State) (caller : Caller) (said : Outcome) → (tell caller said u).1.ledger ≡ u.ledger
-tell-ledger u caller said = grind arith
+tell-ledger : (u : State) (call : FwdId) (caller : Caller) (said : Outcome) → (tell call caller said u).1.ledger ≡ u.ledger
+tell-ledger u call caller said = grind arith
 
 -- ---- one thing
 
@@ -62,15 +62,15 @@ module _ (s : State) (reached : IsReached s) (now : ℕ) where
   by_case : (r : Expired × State) → Expiry s clock (at_fresh_moment now s) r → DoesOneThing now s r
   by_case r (EntryEnds e found ledger left is) =
       let ends = ending (Some e) found in
-      let same : e.forward ≡ ends.0.forward = ap (λ (x : entry.Ended). x.forward) ends.2 in
+      let same : end_of e ≡ end_of ends.0 = ends.2 in
       let mid : State = record (at_fresh_moment now s) { ledger = ledger } in
       let said : Outcome = outcome_at_end [] (end_of e) in
       subst (DoesOneThing now s) (sym is) (record {
         entry = ends.0;
-        ends = subst (λ l. IsFirst (EntryIsDue (clock_at now s)) s.ledger.forwards.all ends.0 l.forwards.all) (sym (tell-ledger mid e.forward.caller said))
+        ends = subst (λ l. IsFirst (EntryIsDue (clock_at now s)) s.ledger.forwards.all ends.0 l.forwards.all) (sym (tell-ledger mid (id_of e) e.forward.caller said))
             (subst (λ f. IsFirst (EntryIsDue (clock_at now s)) s.ledger.forwards.all ends.0 f.all) (sym left) ends.1);
         least = first-is-least (EntryIsDue (clock_at now s)) s.ledger.forwards.next s.ledger.forwards.all _ ends.0 (reached-kept s reached).order ends.1;
-        tells = tell-told s mid e.forward.caller said ∙ ap (λ (f : Forward). (tell f.caller (outcome_of_failure f SystemErr) s).0) same;
+        tells = tell-told s mid (id_of e) e.forward.caller said ∙ ap (λ (x : entry.Ended). (tell x.id x.forward.caller (outcome_of_failure x.forward SystemErr) s).0) same;
       })
   by_case r (ConnectionEnds none c found is) = grind (arith, common_steps, ending None none, least-found (Some c) found)
   by_case r (NothingDue none found is) =

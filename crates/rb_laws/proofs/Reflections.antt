@@ -20,7 +20,8 @@ use Rattle.rb_feed.specs.Feeds.{arguments_of}
 use Rattle.rb_forward.specs.declared.types.Forward.{Forward as Asked}
 use Rattle.rb_forward.specs.declared.types.Outcome as target
 use Rattle.rb_forward.specs.declared.types.Outcome.TheVariants.{Passed, Refused, Failed, Dropped}
-use Rattle.rb_forward.specs.Forwards.{Entry, Forwards, is_unsent, as_sent, change_first as change_entry, sent, can_be_sent, next_entry, with_next_entry, without_first, ended_by, is_of_connection, counts_for, is_due, outcome_of, reply, due, drop_caller}
+use Rattle.rb_forward.specs.declared.types.FwdId.{FwdId}
+use Rattle.rb_forward.specs.Forwards.{Entry, Forwards, is_unsent, as_sent, change_first as change_entry, sent, can_be_sent, next_entry, with_next_entry, without_first, id_of, ended_by, is_of_connection, counts_for, is_due, outcome_of, reply, due, drop_caller}
 use Rattle.rb_forward.proofs.Tables.{all_stay, sum-without}
 use Rattle.rb_proto.specs.declared.answers.Answer.{Answer}
 use Rattle.rb_proto.specs.declared.answers.Answer.TheVariants as answers
@@ -218,17 +219,17 @@ module _ (test : Who → Bool) where
       by_found None = refl
       by_found (Some id) = refl
 
-  told-later : (caller : Caller) (said : Outcome) (u : State) → length (reply_in said) ≤ most_told caller
-      → later (show_told (tell caller said u).1.reply (tell caller said u).0) ≤ owed_to caller
-  told-later (Tcp id who) said u most = omega arith
-  told-later (Udp who longest) said u most = by_said said most
+  told-later : (call : FwdId) (caller : Caller) (said : Outcome) (u : State) → length (reply_in said) ≤ most_told caller
+      → later (show_told (tell call caller said u).1.reply (tell call caller said u).0) ≤ owed_to caller
+  told-later call (Tcp id who) said u most = omega arith
+  told-later call (Udp who longest) said u most = by_said said most
     where
       by_test : (b : Bool) (m n : ℕ) → m ≤ n → cond b m 0 ≤ cond b n 0
       by_test true m n le = le
       by_test false m n le = omega arith
 
       by_said : (x : Outcome) → length (reply_in x) ≤ most_told (Udp who longest)
-          → later (show_told (tell (Udp who longest) x u).1.reply (tell (Udp who longest) x u).0) ≤ owed_to (Udp who longest)
+          → later (show_told (tell call (Udp who longest) x u).1.reply (tell call (Udp who longest) x u).0) ≤ owed_to (Udp who longest)
       by_said (outcomes.Reply told stamp) most = by_test (test who) (length told) (most_told (Udp who longest)) most
       by_said outcomes.NoCall most = omega arith
       by_said outcomes.Forwarded most = omega arith
@@ -247,7 +248,7 @@ module _ (test : Who → Bool) where
       end-paid None e = omega (arith, less found before.all)
       end-paid (Some x) e =
           let one = sum-without found owed_by before.all x e in
-          let told = told-later x.forward.caller (outcome_at_end message (ended_by outcome x)) (record (at_fresh_moment now s) { ledger = (noted_end (Some (ended_by outcome x), record before { all = without_first found before.all }) s.ledger).1 }) (end-most x.forward message outcome) in
+          let told = told-later (id_of x) x.forward.caller (outcome_at_end message (ended_by outcome x)) (record (at_fresh_moment now s) { ledger = (noted_end (Some (ended_by outcome x), record before { all = without_first found before.all }) s.ledger).1 }) (end-most x.forward message outcome) in
           omega (arith, one, told)
 
       due-paid : (o : Option Entry) → find found before.all ≡ o → later (show_expired (expired_as (ended o))).0 + sum_by owed_by (without_first found before.all) ≤ owing before

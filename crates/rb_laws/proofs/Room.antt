@@ -6,6 +6,7 @@ use Rattle.std.proofs.lemmas.Grind.{common_steps}
 use Rattle.rb_address.specs.declared.who.Who.{Who}
 use Rattle.rb_rpc.specs.declared.caller.Caller.{Caller}
 use Rattle.rb_forward.specs.declared.types.Ended.{Ended}
+use Rattle.rb_forward.specs.declared.types.FwdId.{FwdId}
 use Rattle.rb_forward.specs.Forwards.{can_be_sent}
 use Rattle.rb_proto.specs.Ledger.{Ledger}
 use Rattle.rb_proto.specs.Forwarding.{call_sent}
@@ -58,8 +59,8 @@ module _ (s : State) where
   unfolding without_number
   closed-few id b = grind (arith, common_steps, filtered-length)
 
-  tell-few : (u : State) (caller : Caller) (said : Outcome) → count u ≤ count s → count (tell caller said u).1 ≤ count s
-  tell-few u caller said few = grind (arith, common_steps, changed-length)
+  tell-few : (u : State) (call : FwdId) (caller : Caller) (said : Outcome) → count u ≤ count s → count (tell call caller said u).1 ≤ count s
+  tell-few u call caller said few = grind (arith, common_steps, changed-length)
 
   told-few : (message : List ℕ) (u : State) (r : Option Ended × Ledger) → count u ≤ count s → count (tell_end message u r).1 ≤ count s
   told-few message u r few = grind (arith, common_steps, tell-few)

@@ -8,6 +8,7 @@ use Rattle.rb_address.specs.declared.peer.Peer.{Peer}
 use Rattle.rb_address.specs.declared.who.Who.{Who}
 use Rattle.rb_rpc.specs.declared.caller.Caller.{Caller}
 use Rattle.rb_forward.specs.declared.types.Ended.{Ended}
+use Rattle.rb_forward.specs.declared.types.FwdId.{FwdId}
 use Rattle.rb_forward.specs.Forwards.{can_be_sent}
 use Rattle.rb_proto.specs.Ledger.{Ledger}
 use Rattle.rb_proto.specs.Forwarding.{call_sent}
@@ -105,8 +106,8 @@ module _ (s : State) where
   unfolding without_number
   closed-waits id b = grind (arith, common_steps, filtered-waiting)
 
-  tell-waits : (u : State) (caller : Caller) (said : Outcome) → waiting u ≤ waiting s → waiting (tell caller said u).1 ≤ waiting s
-  tell-waits u caller said few = grind (arith, common_steps, changed-waiting, settled-few)
+  tell-waits : (u : State) (call : FwdId) (caller : Caller) (said : Outcome) → waiting u ≤ waiting s → waiting (tell call caller said u).1 ≤ waiting s
+  tell-waits u call caller said few = grind (arith, common_steps, changed-waiting, settled-few)
 
   told-waits : (message : List ℕ) (u : State) (r : Option Ended × Ledger) → waiting u ≤ waiting s → waiting (tell_end message u r).1 ≤ waiting s
   told-waits message u r few = grind (arith, common_steps, tell-waits)

@@ -6,8 +6,9 @@ ghost use Rattle.rb_model.specs.ChangeLaws.{ChangesAreAccepted, ChangesAreThoseA
 ghost use Rattle.rb_model.specs.Reflections.{RepliesAreAtMostTwice, StrangersAreSentAtMostTwice};
 ghost use Rattle.rb_model.specs.CallerLaws.{StrangersChangeNothing, StrangersBringNoKeys, LocalOwnersKeepTheirs};
 ghost use Rattle.rb_model.specs.HistoryLaws.{EventsAreNoted, HistoryIsOfItsEvents};
+ghost use Rattle.rb_model.specs.Gives.{GivesAreSteps};
 ghost use Rattle.rb_model.specs.Closings.{ConnectionsCloseExactly};
-ghost use Rattle.rb_model.specs.ForwardLaws.{ConnectionsAwait, RepliesEndTheirOwn, DeadlinesEndOne, UdpCallersAreTold, EventsChangeAtMostOne, EntriesEndOnce};
+ghost use Rattle.rb_model.specs.ForwardLaws.{ConnectionsAwait, SendsAreUnsent, RepliesEndTheirOwn, DeadlinesEndOne, UdpCallersAreTold, EventsChangeAtMostOne, EntriesEndOnce};
 ghost use Rattle.rb_model.specs.Sessions.{SessionsAreWhole};
 ghost use Rattle.rb_model.specs.DeadlineLaws.{ExpireDoesOneThing, NothingIsDueSoon};
 ghost use Rattle.rb_model.specs.NextDeadlines.{NextDeadlinesAreExact};
@@ -70,6 +71,12 @@ pub fn replies_are_given_whole()
     ensures { RepliesAreGivenWhole }
 {}
 
+/// From every state, what is given into a room is given by steps: a look at what is pending and the giving of it, for the rest
+/// of the fragment that is pending and for each fragment behind it. The state is the same behind them.
+pub fn gives_are_steps()
+    ensures { GivesAreSteps }
+{}
+
 /// Only bytes given on its connection, or the close of it, change what is owed, unless the connection is Lost.
 pub fn owed_replies_stay()
     ensures { OwedRepliesStay }
@@ -86,6 +93,12 @@ pub fn connections_close_exactly()
 /// connection has one.
 pub fn connections_await()
     ensures { ConnectionsAwait }
+{}
+
+/// In each state that a run reaches: where a connection stands as Sends behind bytes, its forwarded call is there and was not
+/// sent, and so the look for an unsent call finds one.
+pub fn sends_are_unsent()
+    ensures { SendsAreUnsent }
 {}
 
 /// A datagram ends the first forwarded call that was sent to the host and port that it comes from, by its xid and before its

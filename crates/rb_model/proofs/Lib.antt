@@ -1,5 +1,6 @@
 pub mod Found
 pub mod Fragments
+pub mod Gives
 pub mod Expiring
 pub mod ReplyHeads
 pub mod AskedArgs

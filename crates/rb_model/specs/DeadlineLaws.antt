@@ -1,7 +1,7 @@
 -- Laws of what is due: `expire` does the one due thing of least number, and after a few calls of it nothing is due.
 use Rattle.std.specs.Prelude.{◌≡◌, ◌≤◌, ℕ, ◌+◌, max, replicate, All, Some, None}
 use Rattle.rb_rpc.specs.declared.reply.ReplyStatus.TheVariants.{SystemErr}
-use Rattle.rb_forward.specs.Forwards.{Entry}
+use Rattle.rb_forward.specs.Forwards.{Entry, id_of}
 use Rattle.rb_forward.specs.Ends.{NoneIs, IsFirst}
 use Rattle.rb_model.specs.declared.types.Told.{Told}
 use Rattle.rb_model.specs.declared.types.Expired.{Expired}
@@ -33,7 +33,7 @@ pub record EntryEnded (now : ℕ) (s : State) (told : Told) (left : State) : Typ
   pub entry : Entry
   pub ends : IsFirst (EntryIsDue (clock_at now s)) s.ledger.forwards.all entry left.ledger.forwards.all
   pub least : All (λ (e : Entry). EntryIsDue (clock_at now s) e → entry.number ≤ e.number) s.ledger.forwards.all
-  pub tells : told ≡ (tell entry.forward.caller (outcome_of_failure entry.forward SystemErr) s).0
+  pub tells : told ≡ (tell (id_of entry) entry.forward.caller (outcome_of_failure entry.forward SystemErr) s).0
 
 -- No entry is due, and the due connection of least number is Lost. Nothing else has changed but the clock and the last reply.
 pub record ConnectionEnded (now : ℕ) (s : State) (id : ℕ) (left : State) : Type 0 where

@@ -8,6 +8,7 @@ use Rattle.rb_rpc.specs.declared.reply.ReplyStatus.{ReplyStatus}
 use Rattle.rb_rpc.specs.declared.reply.ReplyStatus.TheVariants as replies
 use Rattle.rb_rpc.specs.Replies.{reply_head}
 use Rattle.rb_forward.specs.declared.types.Forward.{Forward}
+use Rattle.rb_forward.specs.declared.types.FwdId.{FwdId}
 use Rattle.rb_forward.specs.declared.types.Outcome as target
 use Rattle.rb_forward.specs.declared.types.Outcome.TheVariants.{Passed, Refused, Failed, Dropped}
 use Rattle.rb_forward.specs.declared.types.Ended as entry
@@ -50,25 +51,27 @@ outcome_of_end forward message Dropped = Silent
 abbrev pub outcome_at_end : List ℕ → entry.Ended → Outcome
 outcome_at_end message ended = outcome_of_end ended.forward message ended.outcome
 
-abbrev pub told_over_udp : Who → Outcome → Told
-told_over_udp who (Reply reply stamp) = Datagram who
-told_over_udp who NoCall = told.Silent
-told_over_udp who Forwarded = told.Silent
-told_over_udp who Silent = told.Silent
+-- what is told of a forwarded call of this number that came over UDP
+abbrev pub told_over_udp : FwdId → Who → Outcome → Told
+told_over_udp id who (Reply reply stamp) = Datagram id who
+told_over_udp id who NoCall = told.Silent id
+told_over_udp id who Forwarded = told.Silent id
+told_over_udp id who Silent = told.Silent id
 
 -- ---- the end of an entry
 
--- A caller is told this at the end of its call. A connection goes on with it; over UDP it is the last reply.
-abbrev pub tell : Caller → Outcome → State → Told × State
-tell (Tcp id who) said s = (TcpReady id, on_connection id (settle s.clock said) s)
-tell (Udp who longest) said s = (told_over_udp who said, record s { reply = reply_in said })
+-- A caller is told this at the end of its call, which has this number. A connection goes on with it; over UDP it is the last
+-- reply.
+abbrev pub tell : FwdId → Caller → Outcome → State → Told × State
+tell call (Tcp id who) said s = (TcpReady id, on_connection id (settle s.clock said) s)
+tell call (Udp who longest) said s = (told_over_udp call who said, record s { reply = reply_in said })
 
 -- An entry has ended, if there is one, and this is the ledger after it: its caller is told how it ended. `message` is
 -- the datagram that ended it.
 abbrev pub tell_end : List ℕ → State → Option entry.Ended × Ledger → Option Told × State
 tell_end message s (None, ledger) = (None, record s { ledger = ledger })
 tell_end message s (Some ended, ledger) =
-    let after : Told × State = tell ended.forward.caller (outcome_at_end message ended) (record s { ledger = ledger }) in
+    let after : Told × State = tell ended.id ended.forward.caller (outcome_at_end message ended) (record s { ledger = ledger }) in
     (Some after.0, after.1)
 
 -- the state at a moment, with no last reply over UDP

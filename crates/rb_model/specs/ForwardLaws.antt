@@ -1,16 +1,18 @@
 -- Laws of forwarded calls (RFC 1833 sections 2.2.1 and 3.2).
-use Rattle.std.specs.Prelude.{◌≡◌, ℕ, ◌+◌, ◌==◌, nat_le, nat_lt, max, Bool, ◌&&◌, if◌then◌else◌, List, [], ◌∷◌, ◌++◌, map, filter, Option, Some, None}
-use Rattle.std.specs.List.{count_by}
+use Rattle.std.specs.Prelude.{◌≡◌, ℕ, ◌+◌, ◌==◌, nat_le, nat_lt, max, not, is_some, Bool, true, ◌&&◌, if◌then◌else◌, List, [], ◌∷◌, ◌++◌, map, filter, Option, Some, None, Ok}
+use Rattle.std.specs.List.{count_by, list_any}
 use Rattle.rb_address.specs.declared.peer.Peer.{Peer}
 use Rattle.rb_address.specs.declared.who.Who.{Who}
 use Rattle.rb_rpc.specs.declared.caller.Caller.{Caller}
 use Rattle.rb_rpc.specs.declared.caller.Caller.TheVariants.{Tcp, Udp}
 use Rattle.rb_forward.specs.declared.types.Outcome.TheVariants.{Failed}
-use Rattle.rb_forward.specs.Forwards.{Entry, outcome_of, is_of_connection, ended_by}
+use Rattle.rb_forward.specs.declared.types.FwdId.{FwdId}
+use Rattle.rb_forward.specs.Forwards.{Entry, outcome_of, is_of_connection, id_of, ended_by}
 use Rattle.rb_forward.specs.Ends.{NoneIs, IsFirst, IsReplyTo}
 use Rattle.rb_forward.specs.Laws.{number_of, times}
 use Rattle.rb_proto.specs.declared.listener.Listener.{Listener}
 use Rattle.rb_model.specs.declared.types.Limits.{Limits}
+use Rattle.rb_model.specs.declared.types.Standing.TheVariants.{Sends}
 use Rattle.rb_model.specs.declared.types.Told.{Told}
 use Rattle.rb_model.specs.declared.types.Told.TheVariants.{TcpReady}
 use Rattle.rb_model.specs.declared.types.Expired.{Expired}
@@ -21,7 +23,8 @@ use Rattle.rb_model.specs.State.{Connection, State, opening}
 use Rattle.rb_model.specs.Laws.{is_awaiting}
 use Rattle.rb_model.specs.Connections.{settle, live_connection, changed_at}
 use Rattle.rb_model.specs.Ending.{outcome_at_end, told_over_udp, at_fresh_moment, forward_reply, expire}
-use Rattle.rb_model.specs.Step.{Event, Output, Output as outputs, step, after, IsReached}
+use Rattle.rb_model.specs.Standings.{standing_of, standing_behind}
+use Rattle.rb_model.specs.Step.{Taken, Event, Output, Output as outputs, bytes, unsent_call, step, after, IsReached}
 use Rattle.rb_model.specs.Step.Event.{Forward, Expire}
 use Rattle.rb_model.specs.Step.Output.{RepliedTo}
 use Rattle.rb_model.specs.DeadlineLaws.{clock_at, EntryIsDue}
@@ -39,21 +42,34 @@ ConnectionsAwait =
     (s : State) → IsReached s → (id : ℕ)
     → count_by (is_of_connection id) s.ledger.forwards.all ≡ count_awaiting (live_connection id s.connections.all)
 
+-- an entry of this connection is there, and was not sent
+abbrev pub has_unsent : ℕ → State → Bool
+has_unsent id s = list_any (λ (e : Entry). is_of_connection id e && not e.sent) s.ledger.forwards.all
+
+-- Where a connection stands as Sends behind bytes, its call is there and was not sent, so an unsent call is lent.
+abbrev pub SendsAreUnsent : Type 0
+SendsAreUnsent =
+    (s : State) → IsReached s → (now id : ℕ) (piece : List ℕ) (taken : Taken) → (bytes s now id piece).0 ≡ Ok taken
+    → let left : State = (bytes s now id piece).1 in
+    standing_behind taken.count (standing_of id left) ≡ Sends
+    → (has_unsent id left ≡ true) × (is_some (unsent_call left) ≡ true)
+
 -- ---- how an entry ends
 
--- Its caller is told this, and nobody else: a connection goes on with it, or it is the reply over UDP.
-abbrev pub CallerGets : State → ℕ → Outcome → Caller → Told → State → Type 0
-CallerGets s clock said (Tcp id who) told after =
+-- The caller of the call of this number is told this, and nobody else: a connection goes on with it, or it is the reply over
+-- UDP.
+abbrev pub CallerGets : State → ℕ → Outcome → FwdId → Caller → Told → State → Type 0
+CallerGets s clock said call (Tcp id who) told after =
     (told ≡ TcpReady id) × (after.connections ≡ changed_at id (settle clock said) s.connections) × (after.reply ≡ [])
-CallerGets s clock said (Udp who longest) told after =
-    (told ≡ told_over_udp who said) × (after.connections ≡ s.connections) × (after.reply ≡ reply_in said)
+CallerGets s clock said call (Udp who longest) told after =
+    (told ≡ told_over_udp call who said) × (after.connections ≡ s.connections) × (after.reply ≡ reply_in said)
 
 -- The first entry for which `Is` holds ends, and is there no longer; its caller is told what `says`
 -- gives for it.
 pub record EndsFirst (Is : Entry → Type 0) (says : Entry → Outcome) (s : State) (clock : ℕ) (told : Told) (after : State) : Type 0 where
   pub entry : Entry
   pub first : IsFirst Is s.ledger.forwards.all entry after.ledger.forwards.all
-  pub tells : CallerGets s clock (says entry) entry.forward.caller told after
+  pub tells : CallerGets s clock (says entry) (id_of entry) entry.forward.caller told after
 
 -- `Is` holds for no entry. But for the clock and the last reply over UDP, nothing changes.
 pub record EndsNone (Is : Entry → Type 0) (s : State) (now : ℕ) (after : State) : Type 0 where

@@ -13,6 +13,7 @@ pub mod Grammar
 pub mod Laws
 pub mod Sessions
 pub mod Exchanges
+pub mod Gives
 pub mod DeadlineLaws
 pub mod NextDeadlines
 pub mod ForwardLaws

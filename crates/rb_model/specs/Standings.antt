@@ -1,5 +1,5 @@
 -- Where a connection stands between two events: its phase without its data.
-use Rattle.std.specs.Prelude.{ℕ, Option, Some, None, Result, Ok, Err}
+use Rattle.std.specs.Prelude.{ℕ, nat_lt, if◌then◌else◌, Option, Some, None, Result, Ok, Err}
 use Rattle.rb_model.specs.declared.types.CoreFault.{CoreFault}
 use Rattle.rb_model.specs.declared.types.Standing.{Standing}
 use Rattle.rb_model.specs.declared.types.Standing.TheVariants as stands
@@ -22,6 +22,16 @@ standing_on (Some c) = standing_in c.phase
 -- where the connection of the number stands
 abbrev pub standing_of : ℕ → State → Standing
 standing_of id s = standing_on (live_connection id s.connections.all)
+
+-- Where it stands behind so many bytes that were taken of a piece: the call that was forwarded with the last of them waits
+-- to be sent.
+abbrev pub standing_behind : ℕ → Standing → Standing
+standing_behind count stands.Idle = stands.Idle
+standing_behind count stands.Reading = stands.Reading
+standing_behind count stands.Owing = stands.Owing
+standing_behind count stands.Awaiting = if nat_lt 0 count then stands.Sends else stands.Awaiting
+standing_behind count stands.Sends = stands.Sends
+standing_behind count stands.Lost = stands.Lost
 
 -- ---- results without it
 

@@ -223,8 +223,8 @@ show_outcome (outcomes.Silent, s) = (Silent, s)
 -- the output where a forwarded call ended; `reply` is the last reply over UDP
 abbrev pub show_told : List ℕ → Told → Output
 show_told reply (TcpReady id) = Ready id
-show_told reply (ends.Datagram who) = RepliedTo who reply
-show_told reply ends.Silent = Silent
+show_told reply (ends.Datagram call who) = RepliedTo who reply
+show_told reply (ends.Silent call) = Silent
 
 abbrev pub show_end : Option Told × State → Output × State
 show_end (None, s) = (Ignored, s)

@@ -1,5 +1,5 @@
 -- Worked examples: lists that are streamed, rows that are retained for them, and connections that become Lost for room.
-use Rattle.std.specs.Prelude.{◌≡◌, ℕ, ◌+◌, List, [], ◌∷◌, ◌++◌, take, drop, map, Some, None}
+use Rattle.std.specs.Prelude.{◌≡◌, ℕ, ◌+◌, List, [], ◌∷◌, ◌++◌, take, drop, map, Some, None, Result, Ok}
 use Rattle.std.specs.List.{flat_map, range_with_len}
 use Rattle.rb_xdr.specs.Xdr.{words}
 use Rattle.rb_model.specs.declared.types.CoreFault.TheVariants.{Gone}
@@ -7,6 +7,10 @@ use Rattle.rb_model.specs.Step.{Event, Output, run, after}
 use Rattle.rb_model.specs.Step.Event.{Bytes, Pending, Gave, Closed, NextLost, Datagram}
 use Rattle.rb_model.specs.Step.Output.{Opened, Refused, Took, IsPending, Done, LostIs, Replied}
 use Rattle.rb_model.specs.Worked.{loopback, fresh, fresh_with, call2, success_reply}
+use Rattle.rb_rpc.specs.Records.{marked_reply}
+use Rattle.rb_model.specs.declared.types.CoreFault.{CoreFault}
+use Rattle.rb_model.specs.State.{State}
+use Rattle.rb_model.specs.Gives.{give_into}
 use Rattle.rb_model.specs.WorkedConnections.{open_event, in_one}
 
 -- SET and UNSET of version 1 of a program on tcp, port 2049, without a credential
@@ -105,3 +109,20 @@ ListAsOfItsCall =
     run (after fresh (map set many ++ open_event ∷ dump 1 ∷ unset (A + 94) ∷ set (A + 200) ∷ []))
     (Pending 1 ∷ Gave 0 1 1028 ∷ Pending 1 ∷ [])
     ≡ in_two (dump_reply many)
+
+-- ---- a list in three fragments
+
+-- 140 programs beside the six own rows
+abbrev pub with_long_list : State
+with_long_list = after fresh (map set (range_with_len A 140) ++ open_event ∷ dump 1 ∷ [])
+
+abbrev pub long_list : List ℕ
+long_list = marked_reply (dump_reply (range_with_len A 140))
+
+-- into room for two fragments and a half go two, and the third one goes later
+abbrev pub ListIntoRoom : Type 0
+ListIntoRoom =
+    let given : Result (List ℕ) CoreFault × State = give_into with_long_list 0 1 2570 in
+    let ended : Result (List ℕ) CoreFault × State = give_into given.1 0 1 2570 in
+    given.0 ∷ (give_into given.1 0 1 900).0 ∷ ended.0 ∷ (give_into ended.1 0 1 2570).0 ∷ []
+    ≡ Ok (take 2056 long_list) ∷ Ok [] ∷ Ok (drop 2056 long_list) ∷ Ok [] ∷ []

@@ -3,6 +3,7 @@ ghost use Rattle.std.specs.Prelude.{◌≡◌};
 ghost use Rattle.rb_model.specs.State.{fault_number};
 
 use rb_address::Who;
+use rb_forward::FwdId;
 use thiserror::Error;
 
 /// How much a core may hold.
@@ -49,6 +50,15 @@ pub struct Exchanged {
     pub standing: Standing,
 }
 
+/// What was given of a reply into a room.
+#[derive(Clone, Copy, Debug, PartialEq, Eq)]
+pub struct Given {
+    /// How many bytes, headers among them; 0 where no fragment fits, or none is owed.
+    pub count: usize,
+    /// Where the connection stands then.
+    pub standing: Standing,
+}
+
 /// Where a connection stands between two events.
 #[derive(Clone, Copy, Debug, PartialEq, Eq)]
 pub enum Standing {
@@ -60,6 +70,9 @@ pub enum Standing {
     Owing,
     /// It waits for the end of a forwarded call.
     Awaiting,
+    /// Its call is forwarded, and waits to be sent: `unsent` of the core lends it. That is told once, behind the bytes that
+    /// brought the call; later it is `Awaiting`.
+    Sends,
     /// It is given up and to be closed, or is closed.
     Lost,
 }
@@ -69,10 +82,10 @@ pub enum Standing {
 pub enum Told {
     /// The connection of this number is Awaiting no longer: a reply is pending on it, or it takes bytes again.
     TcpReady(u64),
-    /// The reply that `udp_reply` lends goes to this caller.
-    Datagram(Who),
-    /// Nothing: the call came over UDP, and has no reply.
-    Silent,
+    /// The reply that `udp_reply` lends is that to the forwarded call of this number, and goes to this caller.
+    Datagram(FwdId, Who),
+    /// Nothing: the forwarded call of this number came over UDP, and has no reply.
+    Silent(FwdId),
 }
 
 /// What was due at a moment.

@@ -6,7 +6,7 @@ ghost use Rattle.rb_model.specs.WorkedForwards.{ForwardWithoutRow, RefusedCallsA
 ghost use Rattle.rb_model.specs.WorkedStrangers.{StrangersLookUp, StrangersGetNoLists, StrangersCountForRows, MadeForThisMachine, MadeToThisHost, MountdIsNotAsked, StrangersAreToldShortly};
 ghost use Rattle.rb_model.specs.WorkedCallers.{KnownCallersSetAsTheyAre, StrangersAreRefused, LastQuarterIsKept, AskedHostIsTold, CallersOverIpv6AreTold, CallsOverIpv6AreForwarded, OwnRowsOfAllNetids, OwnRowsNeedRoom};
 ghost use Rattle.rb_model.specs.WorkedBounds.{BytesBounds, StepsBounds};
-ghost use Rattle.rb_model.specs.WorkedLists.{DumpSurvivesUnsetAndEvicts, OldReadersAreEvicted, FullTableRefuses, RowsThatCameAndWentAreNeeded, ListInTwoFragments, ListAsOfItsCall};
+ghost use Rattle.rb_model.specs.WorkedLists.{DumpSurvivesUnsetAndEvicts, OldReadersAreEvicted, FullTableRefuses, RowsThatCameAndWentAreNeeded, ListInTwoFragments, ListAsOfItsCall, ListIntoRoom};
 ghost use Rattle.rb_model.specs.WorkedDeadlines.{IdleEnds, ReadingEnds, TwoEnd, OwingEnds, GivenBytesAreProgress, IdleAfterTheReply, DueAtOnceAtTheGreatestMoment, ForwardedCallsComeFirst, NextOfEach};
 ghost use Rattle.rb_model.specs.Worked.{NullIsAnswered, SetThenAskThenSetAgain, GreatestVersionElse, OwnRowsAreAsked, LimitIsReached, LocalCallersSet, NothingIsSilent, NullBySys, OtherRpcVersion, TooShort, GreatestCredential, OverlongCredential, SysBodyCutShort, OverlongVerifier, BadResidue, GoodResidue, GssBeforeProgram, OtherVersion, UnknownProcedure, GarbageArguments, OtherProgram, NullOfThree, NullOfFour, GetstatFirstCall, GetstatOfRefusals};
 
@@ -84,6 +84,7 @@ pub fn worked_lists()
     ensures came_and_went { RowsThatCameAndWentAreNeeded }
     ensures two_fragments { ListInTwoFragments }
     ensures as_of_its_call { ListAsOfItsCall }
+    ensures into_room { ListIntoRoom }
 {}
 
 /// The definitions give what the worked examples of deadlines say.
