@@ -17,7 +17,7 @@ use borrow.Rule.Slice.PartMut.{put_mid}
 -- ---- its fragments
 
 -- behind k whole fragments stands what follows their data, marked
-behind : (k a b : ℕ) (reply : List ℕ) → a ≡ 1028 * k → b ≡ 1024 * k → a < length (marked_reply reply)
+pub behind : (k a b : ℕ) (reply : List ℕ) → a ≡ 1028 * k → b ≡ 1024 * k → a < length (marked_reply reply)
     → (drop a (marked_reply reply) ≡ marked_reply (drop b reply)) × (b ≤ length reply)
 behind zero a b reply is_a is_b within = grind arith
 behind (suc k) a b reply is_a is_b within =
@@ -177,14 +177,32 @@ fragment_few reply shown o g = omega (arith, (place_of reply shown o g).few, lon
 pub fragment_full : (reply : List ℕ) (shown : Kept) (o : Owed) → IsShown reply shown o → 1024 * (o.given / 1028) + 1024 < length reply → length shown.bytes ≡ 1028
 fragment_full reply shown o g more = grind (arith, common_steps, place_of reply shown o g)
 
--- the header and the bytes of a reply that are written one behind the other
-pub written_whole : (reply header lent room : List ℕ) (n : ℕ) → length reply ≤ fragment_size → n ≡ length reply → header ≡ fragment_header n true → lent ≡ slice_range reply 0 n → 4 ≤ length room
-    → take (4 + n) (put_mid 4 (4 + n - 4) (header ++ drop 4 room) lent) ≡ marked_reply reply
-written_whole reply header lent room n few all is_header is_lent fits =
+-- and then there are bytes behind it
+pub fragment_behind : (reply : List ℕ) (shown : Kept) (o : Owed) → IsShown reply shown o → 1024 * (o.given / 1028) + 1024 < length reply → 1028 * (o.given / 1028) + 1028 < length (marked_reply reply)
+fragment_behind reply shown o g more = grind (arith, common_steps, place_of reply shown o g)
+
+-- so many whole fragments are within the marked reply, where their data is within the reply
+pub more_marked : (k : ℕ) (reply : List ℕ) → 1024 * k < length reply → 1028 * k < length (marked_reply reply)
+more_marked zero reply more = omega (arith, some-marked reply)
+more_marked (suc k) reply more =
+    let long : fragment_size < length reply = omega (arith, more) in
+    let rest = more_marked k (drop fragment_size reply) (omega (arith, more, length-drop fragment_size reply)) in
+    omega (arith, rest, length-long reply long)
+
+-- the header and the data of a fragment that are written one behind the other
+pub written_fragment : (part header lent room : List ℕ) (last : Bool) → header ≡ fragment_header (length part) last → lent ≡ part → 4 ≤ length room
+    → take (4 + length part) (put_mid 4 (4 + length part - 4) (header ++ drop 4 room) lent) ≡ fragment_header (length part) last ++ part
+written_fragment part header lent room last is_header is_part fits =
+    let four : length header ≡ 4 = ap (λ (xs : List ℕ). length xs) is_header ∙ length-header (length part) last in
+    take-put_mid 4 (4 + length part - 4) (header ++ drop 4 room) lent (4 + length part) (omega (arith, ap (λ (xs : List ℕ). length xs) is_part)) (omega (arith, four, length-append header (drop 4 room)))
+    ∙ ap (λ (xs : List ℕ). xs ++ lent) (take_at header (drop 4 room) 4 four ∙ is_header)
+    ∙ ap (λ (xs : List ℕ). fragment_header (length part) last ++ xs) is_part
+
+-- the bytes of a reply of one fragment that are written so
+pub written_whole : (reply lent written : List ℕ) (n : ℕ) → length reply ≤ fragment_size → n ≡ length reply → lent ≡ slice_range reply 0 n
+    → written ≡ fragment_header (length lent) true ++ lent → written ≡ marked_reply reply
+written_whole reply lent written n few all is_lent is_written =
     let whole : lent ≡ reply = is_lent ∙ ap (λ (k : ℕ). take k reply) (omega (arith, all)) ∙ take_all (length reply) reply (omega arith) in
-    let four : length header ≡ 4 = ap (λ (xs : List ℕ). length xs) is_header ∙ length-header n true in
-    take-put_mid 4 (4 + n - 4) (header ++ drop 4 room) lent (4 + n) (omega (arith, all, ap (λ (xs : List ℕ). length xs) whole)) (omega (arith, four, length-append header (drop 4 room)))
-    ∙ ap (λ (xs : List ℕ). xs ++ lent) (take_at header (drop 4 room) 4 four)
-    ∙ ap (λ (xs : List ℕ). header ++ xs) whole
-    ∙ ap (λ (xs : List ℕ). xs ++ reply) (is_header ∙ ap (λ (k : ℕ). fragment_header k true) all)
+    is_written
+    ∙ ap (λ (xs : List ℕ). fragment_header (length xs) true ++ xs) whole
     ∙ sym (marked-short reply few)

@@ -3,6 +3,8 @@ pub mod KeptArguments
 pub mod Feeding
 pub mod Phases
 pub mod Fragments
+pub mod WrittenParts
+pub mod Rooms
 pub mod Progress
 pub mod DueSlots
 pub mod Soonest
@@ -14,6 +16,7 @@ pub mod Evicting
 pub mod Freed
 pub mod ByHint
 pub mod OneSlot
+pub mod GivenInto
 pub mod Holding
 pub mod LiveSlots
 pub mod GoingOn

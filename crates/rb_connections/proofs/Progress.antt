@@ -18,7 +18,7 @@ use Rattle.rb_registry.specs.Registry.{Registry}
 use Rattle.rb_connections.specs.StandsFor.{IsGiving, StandsForConnection, rest_in, stamp_of_rest}
 use Rattle.rb_connections.proofs.Fragments.{pending_shown, pending_count, giving_begins, giving_stays, giving_moves, giving_ends, fragment_few, fragment_full}
 
-shifted : (l left a b : ℕ) → left ≡ l - a → b ≡ a + 1024 → a < l → nat_le left 1024 ≡ nat_le l b
+pub shifted : (l left a b : ℕ) → left ≡ l - a → b ≡ a + 1024 → a < l → nat_le left 1024 ≡ nat_le l b
 shifted l left a b is more within = grind (arith, nat_tests)
 
 module _ (registry : Registry) (giving : Giving) (buffer : List ℕ) (window : Kept) (o : Owed) (g : IsGiving registry giving buffer window o) where

@@ -1,10 +1,12 @@
 -- What a call on a connection, or on the table of connections, costs at most.
-use Rattle.std.specs.Prelude.{ℕ, ◌+◌, length, is_some, Option, Some, None, Result, Ok, Err}
+use Rattle.std.specs.Prelude.{ℕ, ◌+◌, ◌*◌, ◌/◌, length, is_some, Option, Some, None, Result, Ok, Err}
 use Rattle.rb_xdr.specs.Meter.{Meter, PaysAtMost}
 use Rattle.rb_registry.specs.Registry.{Registry, slots_of}
 use Rattle.rb_model.specs.declared.types.CoreFault.{CoreFault}
-use Rattle.rb_model.specs.Connections.{live_connection}
+use Rattle.rb_model.specs.declared.types.Given.{Given}
+use Rattle.rb_model.specs.Connections.{longest_fragment, live_connection}
 use Rattle.rb_model.specs.Costs.{walked, show_cost, listed_cost, given_cost, recount_cost, find_cost, take_cost, swap_cost, gave_cost}
+use Rattle.rb_model.specs.Gives.{given_into_cost, give_into_cost, given_in}
 use Rattle.rb_model.specs.State.{Connections}
 use Rattle.rb_connections.specs.declared.giving.Rest.{Rest}
 use Rattle.rb_connections.specs.declared.giving.Rest.TheVariants as rests
@@ -26,6 +28,10 @@ row_count registry = length (slots_of registry)
 abbrev pub next_cost : Registry → Rest → ℕ
 next_cost registry (rests.Held start) = show_cost
 next_cost registry (rests.Listed list) = listed_cost (row_count registry)
+
+-- what it costs to write fragments of a reply, n bytes, and to show the next one
+abbrev pub fragments_cost : Registry → Rest → ℕ → ℕ
+fragments_cost registry rest n = (n / longest_fragment + 1) * next_cost registry rest
 
 -- what it costs to begin to give what a message is answered with
 abbrev pub answered_cost : Registry → Served → ℕ
@@ -49,6 +55,10 @@ taken_cost (Err fault) = 0
 abbrev pub slot_given_cost : Registry → Slot → ℕ
 slot_given_cost registry slot = given_cost (walked (is_some (stamp_of_slot slot)) (row_count registry))
 
+-- what it costs to give n bytes into a room
+abbrev pub slot_into_cost : Registry → Slot → ℕ → ℕ
+slot_into_cost registry slot n = given_into_cost (walked (is_some (stamp_of_slot slot)) (row_count registry)) n
+
 -- ---- on the table
 
 -- how many connections are there, and what it costs to look one of them up
@@ -67,3 +77,10 @@ abbrev pub PaysToGive : Table → Registry → ℕ → Meter → Meter → Type 
 PaysToGive table registry id before now =
     (x : Connections) → StandsForConnections registry table x
     → PaysAtMost before now (gave_cost (slot_count table) (row_count registry) (live_connection id x.all))
+
+-- or to give what the result says into a room
+abbrev pub PaysToGiveInto : Table → Registry → ℕ → Result Given CoreFault → Meter → Meter → Type 0
+PaysToGiveInto table registry id result before now =
+    (x : Connections) → StandsForConnections registry table x
+    → PaysAtMost before now
+    (give_into_cost (slot_count table) (row_count registry) (given_in result) (live_connection id x.all))

@@ -1,12 +1,15 @@
 -- How a reply is given fragment by fragment.
-use Rattle.std.specs.Prelude.{◌≡◌, ◌<◌, ◌≤◌, ⊤, ℕ, ◌+◌, ◌==◌, nat_le, nat_lt, Bool, false, not, ◌&&◌, if◌then◌else◌, List, [], ◌++◌, length, take, drop, Result, Ok, Err}
+use Rattle.std.specs.Prelude.{◌≡◌, ◌<◌, ◌≤◌, ⊤, ℕ, ◌+◌, ◌*◌, ◌/◌, ◌==◌, nat_le, nat_lt, Bool, true, false, not, ◌&&◌, if◌then◌else◌, List, [], ◌++◌, length, take, drop, Option, Some, None, Result, Ok, Err}
 use Rattle.rb_xdr.specs.Kept.{Kept}
 use Rattle.rb_rpc.specs.Records.{fragment_size, fragment_header, marked_reply}
 use Rattle.rb_proto.specs.declared.list_reply.ListReply.{ListReply}
 use Rattle.rb_proto.specs.ListParts.{CanBeContinued}
 use Rattle.rb_model.specs.declared.types.CoreFault.{CoreFault}
-use Rattle.rb_model.specs.Connections.{longest_fragment}
+use Rattle.rb_model.specs.Connections.{longest_fragment, owed_of}
+use Rattle.rb_model.specs.Gives.{fitting_of}
 use Rattle.rb_connections.specs.declared.giving.Giving.{Giving}
+use Rattle.rb_connections.specs.declared.giving.Next.{Next}
+use Rattle.rb_connections.specs.declared.giving.Next.TheVariants as nexts
 use Rattle.rb_connections.specs.declared.giving.Rest.{Rest}
 use Rattle.rb_connections.specs.declared.giving.Rest.TheVariants as rests
 use Rattle.rb_registry.specs.Registry.{Registry}
@@ -37,14 +40,6 @@ pub record ShowsNext (registry : Registry) (buffer : List ℕ) (rest : Rest) (be
   pub stamp : stamp_of_rest giving.rest ≡ stamp_of_rest rest
   pub made : CanMake registry giving.rest
 
--- the same of a reply in a buffer, from this place on, wherever rows of lists come from
-abbrev pub ShowsHeld : ℕ → List ℕ → Kept → Kept → Giving → Type 0
-ShowsHeld start buffer before shown giving = (registry : Registry) → ShowsNext registry buffer (rests.Held start) before shown giving
-
--- and of a list, whatever the buffer holds
-abbrev pub ShowsList : Registry → ListReply → Kept → Kept → Giving → Type 0
-ShowsList registry list before shown giving = (buffer : List ℕ) → ShowsNext registry buffer (rests.Listed list) before shown giving
-
 -- how many bytes are pending
 abbrev pub pending_count : Result (List ℕ) CoreFault → Result ℕ CoreFault
 pending_count (Ok bytes) = Ok (length bytes)
@@ -73,3 +68,98 @@ whole_length room n = if not (nat_lt fragment_size n) && not (nat_lt room longes
 -- buffer emptied
 abbrev pub whole_cost : ℕ → ℕ → ℕ
 whole_cost room n = if room == 0 then 0 else n + 2
+
+-- ---- a reply of which as many fragments are written into a room as fit whole
+
+-- how many bytes are written there for a fragment with n bytes of data: 0 where it does not fit
+abbrev pub fragment_length : ℕ → ℕ → ℕ
+fragment_length room n = if nat_le (4 + n) room then 4 + n else 0
+
+-- how many of n bytes: all of them, or 0 where they do not fit
+abbrev pub fitting_length : ℕ → ℕ → ℕ
+fitting_length room n = if nat_le n room then n else 0
+
+-- The first n bytes in the room are the last fragment of a reply, of which these bytes were not shown yet.
+pub record WritesLast (rest : List ℕ) (room : List ℕ) (n : ℕ) : Type 0 where
+  pub few : length rest ≤ fragment_size
+  pub fits : n ≤ length room
+  pub written : take n room ≡ marked_reply rest
+
+-- The first 1,028 bytes in the room are the next fragment of a reply, and `behind` is what follows it.
+pub record WritesFull (registry : Registry) (buffer : List ℕ) (rest : Rest) (room : List ℕ) (behind : Rest) : Type 0 where
+  pub long : fragment_size < length (rest_in registry buffer rest)
+  pub fits : longest_fragment ≤ length room
+  pub written : take longest_fragment room ≡ take longest_fragment (marked_reply (rest_in registry buffer rest))
+  pub rest_is : rest_in registry buffer behind ≡ drop fragment_size (rest_in registry buffer rest)
+  pub stamp : stamp_of_rest behind ≡ stamp_of_rest rest
+  pub made : CanMake registry behind
+
+-- The next fragment of a reply does not fit into the room, and is shown.
+pub record ShowsInstead (registry : Registry) (buffer : List ℕ) (rest : Rest) (room : List ℕ) (before shown : Kept) (giving : Giving) : Type 0 where
+  pub long : length room < length (take longest_fragment (marked_reply (rest_in registry buffer rest)))
+  pub shows : ShowsNext registry buffer rest before shown giving
+
+-- One of these came of the next fragment of a reply; the window stays where it was written.
+abbrev pub WritesNext : Registry → List ℕ → Rest → List ℕ → Kept → Kept → Next → Type 0
+WritesNext registry buffer rest room before after (nexts.Ended n) = WritesLast (rest_in registry buffer rest) room n × (after ≡ before)
+WritesNext registry buffer rest room before after (nexts.Behind behind) = WritesFull registry buffer rest room behind × (after ≡ before)
+WritesNext registry buffer rest room before after (nexts.Shown giving) = ShowsInstead registry buffer rest room before after giving
+
+-- the same of a reply in a buffer, from this place on, wherever rows of lists come from
+abbrev pub WritesHeld : ℕ → List ℕ → List ℕ → Kept → Kept → Next → Type 0
+WritesHeld start buffer room before after next = (registry : Registry) → WritesNext registry buffer (rests.Held start) room before after next
+
+-- and of a list, whatever the buffer holds
+abbrev pub WritesList : Registry → ListReply → List ℕ → Kept → Kept → Next → Type 0
+WritesList registry list room before after next = (buffer : List ℕ) → WritesNext registry buffer (rests.Listed list) room before after next
+
+-- The part of a reply with this data was written, or is shown.
+abbrev pub WritesPart : List ℕ → Bool → Rest → List ℕ → Kept → Kept → Next → Type 0
+WritesPart part last rest room before after (nexts.Ended n) =
+    (last ≡ true) × (n ≤ length room) × (take n room ≡ fragment_header (length part) last ++ part) × (after ≡ before)
+WritesPart part last rest room before after (nexts.Behind behind) =
+    (last ≡ false) × (4 + length part ≤ length room) × (take (4 + length part) room ≡ fragment_header (length part) last ++ part)
+    × (behind ≡ rest) × (after ≡ before)
+WritesPart part last rest room before after (nexts.Shown giving) =
+    (length room < 4 + length part) × (after ≡ with_fragment part last before) × (giving ≡ record { rest = rest; place = 0; last = last })
+
+-- the fragments that fit into so much room of a reply of which nothing was given
+abbrev pub fitting_front : ℕ → List ℕ → List ℕ
+fitting_front room reply = fitting_of room (owed_of reply None 0)
+
+-- The first n bytes in the room are the fragments of the reply that fit there.
+pub record WritesFitting (reply : List ℕ) (room : List ℕ) (n : ℕ) : Type 0 where
+  pub fits : n ≤ length room
+  pub written : take n room ≡ fitting_front (length room) reply
+
+-- Behind n bytes, which are whole fragments of what is behind `rest`, the next fragment is shown, and `giving` is how the
+-- reply goes on.
+pub record GoesOnShown (registry : Registry) (buffer : List ℕ) (rest : Rest) (before shown : Kept) (n : ℕ) (giving : Giving) : Type 0 where
+  pub next : Rest
+  pub whole : n ≡ longest_fragment * (n / longest_fragment)
+  pub rest_is : rest_in registry buffer next ≡ drop (fragment_size * (n / longest_fragment)) (rest_in registry buffer rest)
+  pub some : 0 < length (rest_in registry buffer next)
+  pub stamp : stamp_of_rest next ≡ stamp_of_rest rest
+  pub shows : ShowsNext registry buffer next before shown giving
+
+-- So the reply goes on behind n bytes, or it has ended with them.
+abbrev pub GoesOnBehind : Registry → List ℕ → Rest → Kept → Kept → ℕ → Option Giving → Type 0
+GoesOnBehind registry buffer rest before after n None = (n ≡ length (marked_reply (rest_in registry buffer rest))) × (after ≡ before)
+GoesOnBehind registry buffer rest before after n (Some giving) = GoesOnShown registry buffer rest before after n giving
+
+-- the same of a slot, whose buffers are empty where its reply has ended
+abbrev pub SlotIsBehind : Registry → Rest → ℕ → Slot → Slot → Option Giving → Type 0
+SlotIsBehind registry rest n old new None =
+    (n ≡ length (marked_reply (rest_in registry old.buffer.bytes rest)))
+    × (new ≡ record old {
+      stage = stages.Idle;
+      buffer = record old.buffer { bytes = [] };
+      window = record old.window { bytes = [] };
+    })
+SlotIsBehind registry rest n old new (Some giving) =
+    GoesOnShown registry old.buffer.bytes rest old.window new.window n giving
+    × (new ≡ record old { stage = stages.Owing giving; window = new.window })
+
+pub record SlotGoesOn (registry : Registry) (rest : Rest) (n : ℕ) (old new : Slot) : Type 0 where
+  pub giving : Option Giving
+  pub is : SlotIsBehind registry rest n old new giving

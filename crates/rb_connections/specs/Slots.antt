@@ -1,5 +1,5 @@
 -- What calls do with the slots of connections, and what is true of them.
-use Rattle.std.specs.Prelude.{◌≡◌, ◌≤◌, ⊤, ℕ, ◌+◌, ◌==◌, Bool, true, false, not, ◌&&◌, List, [], ◌∷◌, length, find, All, Option, Some, None, MatchOption, Result, Ok, Err, MatchResult}
+use Rattle.std.specs.Prelude.{◌≡◌, ◌≤◌, ⊤, ℕ, ◌+◌, ◌==◌, Bool, true, false, not, ◌&&◌, List, [], ◌∷◌, length, take, find, All, Option, Some, None, MatchOption, Result, Ok, Err, MatchResult}
 use Rattle.std.specs.Borrow.{Bor}
 use Rattle.std.specs.Option.{option_map_or}
 use Rattle.std.specs.List.{list_any}
@@ -9,6 +9,8 @@ use Rattle.rb_xdr.specs.Pool.{Pool, HasDistinctKeys}
 use Rattle.rb_rpc.specs.Verdict.{verdict}
 use Rattle.rb_address.specs.declared.who.Who.{Who}
 use Rattle.rb_model.specs.declared.types.CoreFault.{CoreFault}
+use Rattle.rb_model.specs.declared.types.Given.{Given}
+use Rattle.rb_model.specs.Gives.{give_fitting, bytes_given}
 use Rattle.rb_model.specs.State.{Phase, Connection, Connections}
 use Rattle.rb_model.specs.Calls.{kept_of}
 use Rattle.rb_model.specs.Connections.{longest_fragment, Taking, taking_on, taking_of, since_when_fed, keep_reading, give, is_lost, has_number, is_live, live_connection, on_live}
@@ -57,6 +59,11 @@ SlotBecomesFrom registry change old new =
 -- n bytes that are pending are given on the connection that a slot stands for, or as many as there are
 abbrev pub SlotGives : Registry → ℕ → ℕ → Slot → Slot → Type 0
 SlotGives registry clock n old new = Acts (StandsForConnection registry) (give clock n) old new tt
+
+-- What is pending, and what is behind that, is given on it, as much as fits into the room, whose first n bytes it is.
+abbrev pub SlotGivesInto : Registry → ℕ → Slot → Slot → List ℕ → ℕ → Type 0
+SlotGivesInto registry clock old new room n =
+    Acts (StandsForConnection registry) (give_fitting clock (length room)) old new (take n room)
 
 -- with its buffers emptied
 abbrev pub emptied_slot : Slot → Slot
@@ -182,6 +189,11 @@ KeepsWhole id piece whole old = (before : List ℕ) → TableShows (arguments_on
 abbrev pub TableGives : Registry → ℕ → ℕ → ℕ → Table → Table → Result (Unit {0}) CoreFault → Type 0
 TableGives registry id clock n old new result =
     Acts (StandsForConnections registry) (on_live id (give clock n)) old new result
+
+-- What is pending on the live connection of the number, and what is behind that, is given, as much as fits into the room.
+abbrev pub TableGivesInto : Registry → ℕ → ℕ → Table → Table → List ℕ → Result Given CoreFault → Type 0
+TableGivesInto registry id clock old new room result =
+    Acts (StandsForConnections registry) (on_live id (give_fitting clock (length room))) old new (bytes_given room result)
 
 -- a table without connections, for at most so many, counted by this meter
 abbrev pub empty_table : ℕ → ℕ → Table

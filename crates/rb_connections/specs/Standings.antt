@@ -1,6 +1,7 @@
 -- Where the connections of a table stand, by their slots.
 use Rattle.std.specs.Prelude.{◌≡◌, ℕ, Result, IfOk}
 use Rattle.rb_model.specs.declared.types.CoreFault.{CoreFault}
+use Rattle.rb_model.specs.declared.types.Given.{Given}
 use Rattle.rb_model.specs.declared.types.Standing.{Standing}
 use Rattle.rb_model.specs.State.{Connections}
 use Rattle.rb_model.specs.Connections.{live_connection}
@@ -26,3 +27,7 @@ TellsStanding id table result = IfOk result (IsStanding id table)
 -- where it stands then, if bytes were received
 abbrev pub TellsReceived : ℕ → Table → Result (Received × Standing) CoreFault → Type 0
 TellsReceived id table result = IfOk result (λ got. IsStanding id table got.1)
+
+-- where it stands then, if bytes were given into a room
+abbrev pub TellsGiven : ℕ → Table → Result Given CoreFault → Type 0
+TellsGiven id table result = IfOk result (λ given. IsStanding id table given.standing)

@@ -15,7 +15,7 @@ use crate::hints::Hints;
 use crate::slot::{Buffers, CONNECTION_CHARGE, Received, Slot, Stage, Wanted, WholeRecord};
 use rb_address::Who;
 use rb_forward::soonest_in;
-use rb_model::{CoreFault, LONGEST_KEPT, LONGEST_REPLY, Served, Standing};
+use rb_model::{CoreFault, Given, LONGEST_KEPT, LONGEST_REPLY, Served, Standing};
 use rb_registry::Registry;
 use rb_rpc::{LONGEST_FRAGMENT, one_fragment};
 use rb_xdr::{Kept, Meter, NoMemory, Pool};
@@ -234,10 +234,11 @@ impl Connections {
     ghost use Rattle.rb_connections.specs.Listings.{CanContinueAll, KeepsListing, EvictsBefore, stamps_of, IsOldest};
     ghost use Rattle.rb_model.specs.Losses.{expire_first};
     ghost use Rattle.rb_model.specs.Standings.{as_done, without_standing};
-    ghost use Rattle.rb_connections.specs.Standings.{TellsStanding, TellsReceived, IsStanding};
-    ghost use Rattle.rb_connections.specs.Slots.{Finds, TableActs, TableGives, TableHasArguments, TableLends, TableShows, TakesWhole, KeepsWhole, StaysTable, IsDraft, IsEmptyDraft, empty_table, take_piece, HasBuffers};
+    ghost use Rattle.rb_connections.specs.Standings.{TellsStanding, TellsGiven, TellsReceived, IsStanding};
+    ghost use Rattle.rb_connections.specs.Slots.{Finds, TableActs, TableGives, TableGivesInto, TableHasArguments, TableLends, TableShows, TakesWhole, KeepsWhole, StaysTable, IsDraft, IsEmptyDraft, empty_table, take_piece, HasBuffers};
+    ghost use Rattle.rb_model.specs.Gives.{given_in};
     ghost use Rattle.rb_model.specs.Step.{pending_at};
-    ghost use Rattle.rb_connections.specs.Costs.{slot_count, look_cost, received_cost, taken_cost, settling_cost, PaysToGive};
+    ghost use Rattle.rb_connections.specs.Costs.{slot_count, look_cost, received_cost, taken_cost, settling_cost, PaysToGive, PaysToGiveInto};
     ghost use Rattle.rb_model.specs.Costs.{pending_cost, oldest_cost, evict_cost};
     ghost use Rattle.rb_connections.specs.Awaits.{AwaitsIfForwarded, NoneIsFreed, OnlyIsFreed, EndedOn, EndsOnFree, GoOn, StayOpen};
     ghost use Rattle.rb_connections.specs.StandsFor.{held_in, most_charge};
@@ -444,6 +445,45 @@ impl Connections {
         let standing = slot.standing();
         self.held += slot.charge(meter);
         Ok(standing)
+    }
+
+    /// Gives what is pending of the reply on the live connection of the number into `room`, and each fragment behind
+    /// that, as many as fit whole, and returns how many bytes and where it stands then: `Gone` where there is none.
+    /// Where none fits or is owed, nothing changes. Fragments of a list are made in a buffer that is empty before and
+    /// after.
+    pub fn give_into(
+        &mut self,
+        id: u64,
+        room: &mut [u8],
+        clock: u64,
+        registry: &Registry,
+        draft: &mut Kept,
+        meter: &mut Meter,
+    ) -> Result<Given, CoreFault>
+        requires registry { meter.old.tie ≡ registry.now.tie }
+        requires tie { meter.old.tie ≡ self.old.tie }
+        requires draft { IsEmptyDraft meter.old.tie draft.old }
+        requires lists { CanContinueAll registry.now self.old }
+        ensures acts { TableGivesInto registry.now id clock self.old self.new room.new result }
+        ensures within { given_in result ≤ length room.new }
+        ensures nothing { given_in result ≡ 0 → self.new ≡ self.old }
+        ensures stands { TellsGiven id self.new result }
+        ensures lists { CanContinueAll registry.now self.new }
+        ensures free { NoneIsFreed self.old self.new }
+        ensures refused { OnErr result (self.new ≡ self.old) }
+        ensures stays { StaysTable self.old self.new }
+        ensures draft { IsEmptyDraft meter.old.tie draft.new }
+        ensures same_meter { meter.new.tie ≡ meter.old.tie }
+        ensures cost { PaysToGiveInto self.old registry.now id result meter.old meter.new }
+    {
+        let Some(slot) = live_slot(&mut self.slots, &mut self.hints, &mut self.held, id, meter)
+        else {
+            return Err(CoreFault::Gone);
+        };
+        let count = slot.give_into(room, clock, registry, draft, meter);
+        let standing = slot.standing();
+        self.held += slot.charge(meter);
+        Ok(Given { count, standing })
     }
 
     /// The least stamp of the lists that are being given.

@@ -2,16 +2,16 @@
 //!
 //! A window shows its current fragment, marked. What is behind that is in the connection's buffer, unmarked, or it is
 //! a list, which is held nowhere as a whole: its next fragment is made from the registry once this one was given.
-ghost use Rattle.std.specs.Prelude.{◌≡◌, ◌+◌, ◌<◌, ◌≤◌, [], length, take};
+ghost use Rattle.std.specs.Prelude.{◌≡◌, ◌+◌, ◌-◌, ◌<◌, ◌≤◌, ◌++◌, [], length, take, drop};
 ghost use Rattle.rb_xdr.specs.Meter.{PaysAtMost};
 ghost use Rattle.rb_xdr.specs.Puts.{Appends, HasRoom};
 ghost use Rattle.rb_model.specs.Connections.{longest_fragment};
 ghost use Rattle.rb_connections.specs.StandsFor.{rest_in};
-ghost use Rattle.rb_connections.specs.Giving.{CanMake, ShowsNext, ShowsHeld, ShowsList, with_fragment};
-ghost use Rattle.rb_rpc.specs.Records.{fragment_size};
+ghost use Rattle.rb_connections.specs.Giving.{CanMake, ShowsNext, with_fragment, fragment_length, fitting_length, WritesPart, WritesHeld, WritesList, WritesNext, WritesFitting, GoesOnBehind};
+ghost use Rattle.rb_rpc.specs.Records.{fragment_header, fragment_size};
 ghost use Rattle.rb_connections.specs.Slots.{IsDraft, IsEmptyDraft};
 ghost use Rattle.rb_model.specs.Costs.{listed_cost, show_cost};
-ghost use Rattle.rb_connections.specs.Costs.{next_cost, row_count};
+ghost use Rattle.rb_connections.specs.Costs.{fragments_cost, next_cost, row_count};
 ghost use Rattle.rb_connections.specs.Giving.{IsGivenWhole, whole_cost, whole_length};
 ghost use Rattle.rb_connections.specs.declared.giving.Rest.TheVariants.{Listed};
 
@@ -97,53 +97,144 @@ fn show(part: &[u8], last: bool, window: &mut Kept, meter: &mut Meter)
     put(window, part, meter);
 }
 
-/// Puts in the window the fragment of a reply that begins at this place of the buffer.
-fn show_held(start: usize, buffer: &Kept, window: &mut Kept, meter: &mut Meter) -> Giving
+/// Writes a fragment with this data to `room`, with its header (RFC 5531 section 11). Returns the number of bytes
+/// written, 0 where there is no room for them.
+fn write_fragment(part: &[u8], last: bool, room: &mut [u8]) -> usize
+    requires some { 0 < length part.now }
+    requires few { length part.now ≤ fragment_size }
+    ensures count { result ≡ fragment_length (length room.old) (length part.now) }
+    ensures written { 0 < result
+        → take result room.new ≡ fragment_header (length part.now) last ++ part.now }
+    ensures within { result ≤ length room.new }
+{
+    let end = FRAGMENT_HEADER + part.len();
+    if room.len() < end {
+        return 0;
+    }
+    room[..FRAGMENT_HEADER].copy_from_slice(&fragment_header(part.len(), last));
+    room[FRAGMENT_HEADER..end].copy_from_slice(part);
+    end
+}
+
+/// What came of the next fragment of a reply.
+#[derive(Clone, Copy, Debug, PartialEq, Eq)]
+enum Next {
+    /// It was written and is the last one. It has so many bytes.
+    Ended(usize),
+    /// It was written and has 1,028 bytes. This is behind it.
+    Behind(Rest),
+    /// It did not fit and is shown.
+    Shown(Giving),
+}
+
+/// Writes the fragment with this data to `room`, or else puts it in the window. `rest` is behind it, where it is not
+/// the last one and has 1,024 bytes of data.
+fn write_part(
+    part: &[u8],
+    last: bool,
+    rest: Rest,
+    room: &mut [u8],
+    window: &mut Kept,
+    meter: &mut Meter,
+) -> Next
+    requires tie { meter.old.tie ≡ window.old.tie }
+    requires some { 0 < length part.now }
+    requires few { length part.now ≤ fragment_size }
+    requires cap { window.old.cap ≡ longest_fragment }
+    ensures writes { WritesPart part.now last rest room.new window.old window.new result }
+    ensures cost { PaysAtMost meter.old meter.new (5 + length part.now) }
+{
+    let count = write_fragment(part, last, room);
+    if count == 0 {
+        show(part, last, window, meter);
+        Next::Shown(Giving {
+            rest,
+            place: 0,
+            last,
+        })
+    } else if last {
+        Next::Ended(count)
+    } else {
+        Next::Behind(rest)
+    }
+}
+
+/// Writes the fragment of a reply that begins at this place of the buffer to `room`, or else puts it in the window.
+fn write_held(
+    start: usize,
+    buffer: &Kept,
+    room: &mut [u8],
+    window: &mut Kept,
+    meter: &mut Meter,
+) -> Next
     requires buffer_tie { meter.old.tie ≡ buffer.now.tie }
     requires window_tie { meter.old.tie ≡ window.old.tie }
     requires start { start < length buffer.now.bytes }
     requires cap { window.old.cap ≡ longest_fragment }
-    ensures shows { ShowsHeld start buffer.now.bytes window.old window.new result }
+    ensures writes { WritesHeld start buffer.now.bytes room.new window.old window.new result }
     ensures cost { PaysAtMost meter.old meter.new show_cost }
 {
     let left = buffer.len(meter) - start;
     let end = start + left.min(FRAGMENT_SIZE);
     let last = left <= FRAGMENT_SIZE;
-    show(buffer.lend(start..end, meter), last, window, meter);
-    Giving {
-        rest: Rest::Held(end),
-        place: 0,
-        last,
-    }
+    let data = buffer.lend(start..end, meter);
+    write_part(data, last, Rest::Held(end), room, window, meter)
 }
 
-/// Puts the next fragment of a list in the window. It is made in `draft`, empty before and after.
+/// Writes the next fragment of a list to `room`, or else puts it in the window. It is made in `draft`, empty before
+/// and after.
 #[tactic(auto, unfolding(rb_model::specs::Connections::longest_fragment, rb_model::specs::Calls::longest_kept, crate::specs::StandsFor::buffer_size, rb_model::specs::Calls::longest_reply))]
-fn show_list(
+fn write_list(
     mut list: ListReply,
     registry: &Registry,
+    room: &mut [u8],
     window: &mut Kept,
     draft: &mut Kept,
     meter: &mut Meter,
-) -> Giving
+) -> Next
     requires registry { meter.old.tie ≡ registry.now.tie }
     requires window_tie { meter.old.tie ≡ window.old.tie }
     requires draft { IsDraft meter.old.tie draft.old }
     requires cap { window.old.cap ≡ longest_fragment }
     requires made { CanMake registry.now (Listed list) }
     requires some { 0 < length (rest_in registry.now [] (Listed list)) }
-    ensures shows { ShowsList registry.now list window.old window.new result }
+    ensures writes { WritesList registry.now list room.new window.old window.new result }
     ensures draft { IsEmptyDraft meter.old.tie draft.new }
     ensures cost { PaysAtMost meter.old meter.new (listed_cost (row_count registry.now)) }
 {
     let part = list.next_part(registry, draft, meter);
     let data = draft.lend(part.start..part.end, meter);
-    show(data, part.last, window, meter);
+    let next = write_part(data, part.last, Rest::Listed(list), room, window, meter);
     draft.clear(meter);
-    Giving {
-        rest: Rest::Listed(list),
-        place: 0,
-        last: part.last,
+    next
+}
+
+/// Writes the next fragment of a reply to `room`, where `rest` was not shown yet, or else puts it in the window: from
+/// `buffer`, or of a list, whose fragment is made in `draft`, which is empty before and after.
+fn write_next(
+    rest: Rest,
+    buffer: &Kept,
+    registry: &Registry,
+    room: &mut [u8],
+    window: &mut Kept,
+    draft: &mut Kept,
+    meter: &mut Meter,
+) -> Next
+    requires registry { meter.old.tie ≡ registry.now.tie }
+    requires buffer_tie { meter.old.tie ≡ buffer.now.tie }
+    requires window_tie { meter.old.tie ≡ window.old.tie }
+    requires draft { IsEmptyDraft meter.old.tie draft.old }
+    requires cap { window.old.cap ≡ longest_fragment }
+    requires made { CanMake registry.now rest }
+    requires some { 0 < length (rest_in registry.now buffer.now.bytes rest) }
+    ensures writes { WritesNext registry.now buffer.now.bytes rest room.new
+        window.old window.new result }
+    ensures draft { IsEmptyDraft meter.old.tie draft.new }
+    ensures cost { PaysAtMost meter.old meter.new (next_cost registry.now rest) }
+{
+    match rest {
+        Rest::Held(start) => write_held(start, buffer, room, window, meter),
+        Rest::Listed(list) => write_list(list, registry, room, window, draft, meter),
     }
 }
 
@@ -169,9 +260,65 @@ pub fn show_next(
     ensures draft { IsEmptyDraft meter.old.tie draft.new }
     ensures cost { PaysAtMost meter.old meter.new (next_cost registry.now rest) }
 {
-    match rest {
-        Rest::Held(start) => show_held(start, buffer, window, meter),
-        Rest::Listed(list) => show_list(list, registry, window, draft, meter),
+    match write_next(rest, buffer, registry, &mut [], window, draft, meter) {
+        Next::Shown(giving) => giving,
+        Next::Ended(_) | Next::Behind(_) => unreachable!(),
+    }
+}
+
+/// Copies what is left of a window from this place on to `room`. Returns how many bytes, 0 where they do not fit.
+pub fn copy_shown(place: usize, window: &Kept, room: &mut [u8], meter: &mut Meter) -> usize
+    requires tie { meter.old.tie ≡ window.now.tie }
+    ensures count { result ≡ fitting_length (length room.old) (length window.now.bytes - place) }
+    ensures copied { 0 < result → take result room.new ≡ drop place window.now.bytes }
+    ensures within { result ≤ length room.new }
+    ensures cost { PaysAtMost meter.old meter.new (1 + result) }
+{
+    let end = window.len(meter);
+    let left = end.saturating_sub(place);
+    if left == 0 || room.len() < left {
+        return 0;
+    }
+    room[..left].copy_from_slice(window.lend(place..end, meter));
+    left
+}
+
+/// Writes fragments of a reply to `room`, where `rest` was not shown yet, as many as fit whole. The next one is put in
+/// the window. Returns how many bytes were written, and how the reply goes on, `None` where it has ended.
+pub fn write_fragments(
+    mut rest: Rest,
+    buffer: &Kept,
+    registry: &Registry,
+    room: &mut [u8],
+    window: &mut Kept,
+    draft: &mut Kept,
+    meter: &mut Meter,
+) -> (usize, Option<Giving>)
+    requires registry { meter.old.tie ≡ registry.now.tie }
+    requires buffer_tie { meter.old.tie ≡ buffer.now.tie }
+    requires window_tie { meter.old.tie ≡ window.old.tie }
+    requires draft { IsEmptyDraft meter.old.tie draft.old }
+    requires cap { window.old.cap ≡ longest_fragment }
+    requires made { CanMake registry.now rest }
+    requires some { 0 < length (rest_in registry.now buffer.now.bytes rest) }
+    ensures written { WritesFitting
+        (rest_in registry.now buffer.now.bytes rest) room.new result.0 }
+    ensures goes_on { GoesOnBehind registry.now buffer.now.bytes rest
+        window.old window.new result.0 result.1 }
+    ensures draft { IsEmptyDraft meter.old.tie draft.new }
+    ensures cost { PaysAtMost meter.old meter.new (fragments_cost registry.now rest result.0) }
+{
+    let mut count = 0;
+    'fragments: loop {
+        let free = &mut room[count..];
+        match write_next(rest, buffer, registry, free, window, draft, meter) {
+            Next::Ended(more) => return (count + more, None),
+            Next::Shown(giving) => return (count, Some(giving)),
+            Next::Behind(behind) => {
+                count += LONGEST_FRAGMENT;
+                rest = behind;
+            }
+        }
     }
 }
 
@@ -194,9 +341,7 @@ pub fn give_whole(reply: &mut Kept, room: &mut [u8], meter: &mut Meter) -> usize
     if len > FRAGMENT_SIZE {
         return 0;
     }
-    room[..FRAGMENT_HEADER].copy_from_slice(&fragment_header(len, true));
-    let end = FRAGMENT_HEADER + len;
-    room[FRAGMENT_HEADER..end].copy_from_slice(reply.lend(0..len, meter));
+    let count = write_fragment(reply.lend(0..len, meter), true, room);
     reply.clear(meter);
-    end
+    count
 }

@@ -3,7 +3,7 @@ ghost use Rattle.std.specs.Prelude.{◌≡◌, ◌+◌, [], Some, None};
 ghost use Rattle.rb_xdr.specs.Meter.{Pays, PaysAtMost};
 
 use crate::deadlines::time_in;
-use crate::giving::{Giving, Rest, show_next};
+use crate::giving::{Giving, Rest, copy_shown, show_next, write_fragments};
 use crate::reading::{Fed, Reader};
 use rb_address::{Host, Source, Trust, Who};
 use rb_model::{Outcome, Served, Standing};
@@ -164,7 +164,7 @@ impl Slot {
     ghost use Rattle.std.specs.Prelude.{◌≡◌, ◌≤◌, ◌<◌, ◌+◌, ℕ, List, [], true, false, length, Some, IfSome, IfNone};
     ghost use Rattle.rb_model.specs.State.{Connection};
     ghost use Rattle.rb_model.specs.Connections.{pending_in, longest_fragment};
-    ghost use Rattle.rb_connections.specs.Slots.{is_due_slot, SlotActs, SlotGives, SlotHasArguments, SlotShows, emptied_slot, ReceivesPiece, StandsBehindPiece, KeepsArguments, HasBuffers, IsDraft, IsEmptyDraft, StaysSlot, take_piece, received_whole, is_lost_stage, is_idle_stage, is_wanted_slot};
+    ghost use Rattle.rb_connections.specs.Slots.{is_due_slot, SlotActs, SlotGives, SlotGivesInto, SlotHasArguments, SlotShows, emptied_slot, ReceivesPiece, StandsBehindPiece, KeepsArguments, HasBuffers, IsDraft, IsEmptyDraft, StaysSlot, take_piece, received_whole, is_lost_stage, is_idle_stage, is_wanted_slot};
     ghost use Rattle.rb_connections.specs.StandsFor.{StandsForConnection, charge, most_charge, rest_in};
     ghost use Rattle.rb_model.specs.Served.{IsWritten, kind_in};
     ghost use Rattle.rb_model.specs.Calls.{kept_of};
@@ -173,9 +173,9 @@ impl Slot {
     ghost use Rattle.rb_connections.specs.Standings.{standing_of_slot};
     ghost use Rattle.rb_connections.specs.Giving.{CanMake};
     ghost use Rattle.rb_connections.specs.Settling.{SlotSettles};
-    ghost use Rattle.rb_connections.specs.Giving.{SlotShowsNext};
+    ghost use Rattle.rb_connections.specs.Giving.{SlotShowsNext, SlotGoesOn, WritesFitting};
     ghost use Rattle.rb_connections.specs.Awaits.{is_awaiting_stage, sender_on, EndsOnSlot, IsIdleAt};
-    ghost use Rattle.rb_connections.specs.Costs.{received_cost, next_cost, answered_cost, slot_given_cost};
+    ghost use Rattle.rb_connections.specs.Costs.{received_cost, fragments_cost, next_cost, answered_cost, slot_given_cost, slot_into_cost};
     ghost use Rattle.rb_model.specs.Costs.{pending_cost};
 
     #[tactic(auto, unfolding(crate::specs::Slots::is_wanted_slot))]
@@ -445,12 +445,100 @@ impl Slot {
         if place < shown {
             self.stage = Stage::Owing(Giving { place, ..giving });
         } else if giving.last {
-            self.stage = Stage::Idle;
-            self.buffer.clear(meter);
-            self.window.clear(meter);
+            self.end_reply(meter);
         } else {
             self.show(giving.rest, registry, draft, meter);
         }
+    }
+
+    /// Gives what is pending of its reply into `room`, and each fragment behind that, as many as fit whole: with the
+    /// last byte of its reply the connection is Idle again. Returns how many bytes; 0 where none fits or is owed, and
+    /// then nothing changed. Fragments of a list are made in a buffer that is empty before and after.
+    pub fn give_into(
+        &mut self,
+        room: &mut [u8],
+        clock: u64,
+        registry: &Registry,
+        draft: &mut Kept,
+        meter: &mut Meter,
+    ) -> usize
+        requires registry { meter.old.tie ≡ registry.now.tie }
+        requires buffers { HasBuffers meter.old.tie self.old }
+        requires draft { IsEmptyDraft meter.old.tie draft.old }
+        requires lists { CanContinueSlot registry.now self.old }
+        ensures acts { SlotGivesInto registry.now clock self.old self.new room.new result }
+        ensures within { result ≤ length room.new }
+        ensures nothing { result ≡ 0 → self.new ≡ self.old }
+        ensures awaits { is_awaiting_stage self.new.stage ≡ is_awaiting_stage self.old.stage }
+        ensures lists { CanContinueSlot registry.now self.new }
+        ensures stays { StaysSlot meter.old.tie self.old self.new }
+        ensures draft { IsEmptyDraft meter.old.tie draft.new }
+        ensures cost { PaysAtMost meter.old meter.new (slot_into_cost registry.now self.old result) }
+    {
+        let Stage::Owing(giving) = self.stage else {
+            return 0;
+        };
+        let shown = copy_shown(giving.place, &self.window, room, meter);
+        if shown == 0 {
+            return 0;
+        }
+        self.since = clock;
+        if giving.last {
+            self.end_reply(meter);
+            return shown;
+        }
+        let free = &mut room[shown..];
+        shown + self.give_rest(giving.rest, free, registry, draft, meter)
+    }
+
+    /// Gives fragments of a reply into `room`, where `rest` was not shown yet, as many as fit whole. Returns how many
+    /// bytes.
+    fn give_rest(
+        &mut self,
+        rest: Rest,
+        room: &mut [u8],
+        registry: &Registry,
+        draft: &mut Kept,
+        meter: &mut Meter,
+    ) -> usize
+        requires registry { meter.old.tie ≡ registry.now.tie }
+        requires buffers { HasBuffers meter.old.tie self.old }
+        requires draft { IsEmptyDraft meter.old.tie draft.old }
+        requires made { CanMake registry.now rest }
+        requires some { 0 < length (rest_in registry.now self.old.buffer.bytes rest) }
+        ensures written { WritesFitting
+            (rest_in registry.now self.old.buffer.bytes rest) room.new result }
+        ensures goes_on { SlotGoesOn registry.now rest result self.old self.new }
+        ensures draft { IsEmptyDraft meter.old.tie draft.new }
+        ensures cost { PaysAtMost meter.old meter.new
+            (2 + fragments_cost registry.now rest result) }
+    {
+        let window = &mut self.window;
+        let (count, next) = write_fragments(
+            rest,
+            &self.buffer,
+            registry,
+            room,
+            window,
+            draft,
+            meter,
+        );
+        match next {
+            Some(giving) => self.stage = Stage::Owing(giving),
+            None => self.end_reply(meter),
+        }
+        count
+    }
+
+    /// Its reply has ended: it is Idle, and its buffers are empty.
+    fn end_reply(&mut self, meter: &mut Meter)
+        requires { HasBuffers meter.old.tie self.old }
+        ensures ended { self.new ≡ record (emptied_slot self.old) { stage = Stage.Idle } }
+        ensures cost { PaysAtMost meter.old meter.new 2 }
+    {
+        self.stage = Stage::Idle;
+        self.buffer.clear(meter);
+        self.window.clear(meter);
     }
 
     /// How many bytes it counts as held: those of its buffer and its window, and 128 for the rest.

@@ -1,7 +1,8 @@
+use Rattle.std.proofs.Common.{arith}
+use Rattle.rb_connections.proofs.WrittenParts.{no_room}
 use Rattle.rb_connections.proofs.giving.show_next.Goals as goal
 
-pub returns-in-Held-clause-shows : goal.returns-in-Held-clause-shows
-returns-in-Held-clause-shows c = rw c.in-Held.is (c.show_held.ensures.shows c.args.registry.now)
-
-pub returns-in-Listed-clause-shows : goal.returns-in-Listed-clause-shows
-returns-in-Listed-clause-shows c = rw c.in-Listed.is (c.show_list.ensures.shows c.args.buffer.now.bytes)
+pub unreachable-requires : goal.unreachable-requires
+unreachable-requires c =
+    no_room c.args.registry.now c.args.buffer.now.bytes c.args.rest c.write_next.new.room _ _ c.write_next.result
+    (omega arith) c.write_next.ensures.writes c.in-Ended.is

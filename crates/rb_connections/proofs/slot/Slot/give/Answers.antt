@@ -1,6 +1,5 @@
 use Rattle.std.specs.Prelude.{min}
-use Rattle.std.proofs.Common.{◌≡◌, ℕ, ◌+◌, refl, sym, ap, subst, arith, rules}
-use Rattle.rb_xdr.specs.Kept.{Kept}
+use Rattle.std.proofs.Common.{◌≡◌, ℕ, [], ◌+◌, refl, sym, ap, subst, arith, rules}
 use Rattle.rb_xdr.specs.Meter.{PaysAtMost}
 use Rattle.rb_model.specs.State.Phase.{Owing}
 use Rattle.rb_model.specs.Connections.{phase_when_given}
@@ -37,10 +36,12 @@ returns-then-place-shown-clause-acts c =
 pub returns-then-giving-clause-acts : goal.returns-then-giving-clause-acts
 returns-then-giving-clause-acts c =
     let registry = c.args.registry.now in
-    some_given registry c.args.self.now _ c.args.clock c.args.n c.min-more.result c.in-Owing.giving c.in-Owing.is
-    (λ o g. let count = pending_few _ c.in-Owing.giving _ _ o g in omega (arith, count)) (omega (arith, c.if-more-eq0.false)) refl refl refl
-    (λ o g. is_given registry c.clear.new.self c.clear-then-giving.new.self _ o (ends registry c.in-Owing.giving _ _ o g c.min-more.result (omega arith) c.if-giving.true)
-    (ap (λ (k : Kept). k.bytes) c.clear.ensures.empty) (ap (λ (k : Kept). k.bytes) c.clear-then-giving.ensures.empty))
+    let ended = c.end_reply.ensures.ended in
+    some_given registry c.args.self.now c.end_reply.new.self c.args.clock c.args.n c.min-more.result c.in-Owing.giving c.in-Owing.is
+    (λ o g. let count = pending_few _ c.in-Owing.giving _ _ o g in omega (arith, count)) (omega (arith, c.if-more-eq0.false))
+    (ap (λ (t : Slot). t.number) ended) (ap (λ (t : Slot). t.who) ended) (ap (λ (t : Slot). t.since) ended)
+    (λ o g. subst (λ (t : Slot). StandsForPhase registry t.stage t.buffer t.window (phase_when_given c.min-more.result (Owing o))) (sym ended)
+    (is_given registry (record c.args.self.now.buffer { bytes = [] }) (record c.args.self.now.window { bytes = [] }) _ o (ends registry c.in-Owing.giving _ _ o g c.min-more.result (omega arith) c.if-giving.true) refl refl))
 
 pub returns-else-giving-clause-acts : goal.returns-else-giving-clause-acts
 returns-else-giving-clause-acts c =
