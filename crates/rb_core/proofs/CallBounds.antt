@@ -49,13 +49,13 @@ no_record may sizes c piece none = by_fed (fed_in c.phase) piece none
 
 module _ (core : Held) (a b : Meter) where
   module _ (s : State) (h : StandsFor core s) where
-    few_connections : IsReached s → length core.connections.slots ≤ core.setting.limits.conns
+    pub few_connections : IsReached s → length core.connections.slots ≤ core.setting.limits.conns
     few_connections reached =
         let room = reached-room s reached in
         let same : core.setting.limits.conns ≡ s.setting.limits.conns = ap (λ (x : Setting). x.limits.conns) h.setting in
         omega (arith, room, same, connections_held core s h)
 
-    few_rows : length (slots_of core.books.registry) ≤ core.setting.limits.rows
+    pub few_rows : length (slots_of core.books.registry) ≤ core.setting.limits.rows
     few_rows =
         let same : core.setting.limits.rows ≡ s.setting.limits.rows = ap (λ (x : Setting). x.limits.rows) h.setting in
         omega (arith, same, rows_held core s h)

@@ -689,7 +689,7 @@ module _ (old : Held) (now clock : ℕ) (is : clock ≡ max old.clock now) (mess
       goes : (s : State) → StandsFor old s → (None ≡ (ends s).0) × StandsFor ended_held (ends s).1
       goes s h = let g = given_by None acts s h in by_end s h (plain s s.ledger) g.0 g.1
 
-  pub one_ended : (ended : Ended) (told : Told) (new : Held) → ActsAs act old.books books (Some ended) → Acts StandsFor (tell ended.forward.caller (outcome_at_end message ended)) ended_held new told → Acts StandsFor ends old new (Some told)
+  pub one_ended : (ended : Ended) (told : Told) (new : Held) → ActsAs act old.books books (Some ended) → Acts StandsFor (tell ended.id ended.forward.caller (outcome_at_end message ended)) ended_held new told → Acts StandsFor ends old new (Some told)
   one_ended ended told new acts tells = record { gives = λ s h. (goes s h).0; stands = λ s h. (goes s h).1 }
     where
       by_end : (s : State) → StandsFor old s → (r : Option Ended × Ledger) → Some ended ≡ r.0 → StandsForLedger books r.1
@@ -699,8 +699,8 @@ module _ (old : Held) (now clock : ℕ) (is : clock ≡ max old.clock now) (mess
           let is_one : ended ≡ other = cc in
           let t : State = record (at_fresh_moment now s) { ledger = l } in
           let k = left s h l z in (
-            ap Some (tells.gives t k ∙ ap (λ (x : Ended). (tell x.forward.caller (outcome_at_end message x) t).0) is_one),
-            subst (λ (x : Ended). StandsFor new (tell x.forward.caller (outcome_at_end message x) t).1) is_one (tells.stands t k),
+            ap Some (tells.gives t k ∙ ap (λ (x : Ended). (tell x.id x.forward.caller (outcome_at_end message x) t).0) is_one),
+            subst (λ (x : Ended). StandsFor new (tell x.id x.forward.caller (outcome_at_end message x) t).1) is_one (tells.stands t k),
           )
 
       goes : (s : State) → StandsFor old s → (Some told ≡ (ends s).0) × StandsFor new (ends s).1

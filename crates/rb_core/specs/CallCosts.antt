@@ -13,6 +13,8 @@ use Rattle.rb_proto.specs.declared.listener.Announced.{Announced}
 use Rattle.rb_proto.specs.Answers.{comes_from_here}
 use Rattle.rb_proto.specs.Callers.{may_register}
 use Rattle.rb_model.specs.declared.types.CoreFault.{CoreFault}
+use Rattle.rb_model.specs.declared.types.Given.{Given}
+use Rattle.rb_model.specs.Gives.{give_into_cost, given_in}
 use Rattle.rb_model.specs.declared.message.Message.{Message}
 use Rattle.rb_model.specs.Calls.{message_with, message_of, kept_of}
 use Rattle.rb_model.specs.Costs.{Sizes, sizes_for, asks_for_rows, room_cost, message_cost, answer_cost, datagram_cost, bytes_cost, gave_cost, plain_cost, plain_record_cost}
@@ -102,6 +104,13 @@ PaysToGive old id before now =
     (s : State) → StandsFor old s
     → PaysAtMost before now
     (gave_cost (slot_count old.connections) (row_count_of old.books) (live_connection id s.connections.all))
+
+-- to give what the result says into a room, on the connection of the number
+abbrev pub PaysToGiveInto : Held → ℕ → Result Given CoreFault → Meter → Meter → Type 0
+PaysToGiveInto old id result before now =
+    (s : State) → StandsFor old s
+    → PaysAtMost before now
+    (give_into_cost (slot_count old.connections) (row_count_of old.books) (given_in result) (live_connection id s.connections.all))
 
 -- ---- what is paid where no rows are asked for, and by a SET or an UNSET of a caller that may not register, whatever is
 -- registered or retained

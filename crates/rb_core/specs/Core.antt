@@ -95,7 +95,7 @@ without_arguments held = record held { arguments = [] }
 
 -- The caller of a forwarded call that ended is told how; `message` is the datagram that ended it.
 abbrev pub TellsCaller : List ℕ → Ended → Held → Held → Told → Type 0
-TellsCaller message ended old new given = Acts StandsFor (tell ended.forward.caller (outcome_at_end message ended)) old new given
+TellsCaller message ended old new given = Acts StandsFor (tell ended.id ended.forward.caller (outcome_at_end message ended)) old new given
 
 -- An act that answers something, with the reply that is held after it.
 abbrev pub ActsWithReply : (State → Outcome × State) → Held → Held → outcome.Outcome → Type 0

@@ -1,5 +1,5 @@
 -- What an event does to `steps_before`, and the steps that `Core::steps` returns.
-use Rattle.std.specs.Prelude.{◌≡◌, ◌<◌, ◌≤◌, ℕ, ◌+◌, ◌-◌, ◌*◌, ◌^◌, min, List, length, Result, Ok, Err}
+use Rattle.std.specs.Prelude.{◌≡◌, ◌<◌, ◌≤◌, ℕ, ◌+◌, ◌-◌, ◌*◌, ◌/◌, ◌^◌, min, List, length, Result, Ok, Err}
 use Rattle.std.specs.Borrow.{Fml, Bor, MutBor}
 use Rattle.std.specs.Io.BufRead.{Rests}
 use Rattle.rb_xdr.specs.Meter.{Meter, PaysAtMost}
@@ -7,6 +7,7 @@ use Rattle.rb_model.specs.declared.types.CoreFault.{CoreFault}
 use Rattle.rb_model.specs.declared.types.Taken.{Taken}
 use Rattle.rb_model.specs.State.{State}
 use Rattle.rb_model.specs.Step.{IsReached}
+use Rattle.rb_model.specs.Connections.{longest_fragment}
 use Rattle.rb_model.specs.Bounds.{steps_bound}
 use Rattle.rb_model.specs.Laws.{NoRecordEnds}
 use Rattle.rb_core.specs.StandsFor.{Held, StandsFor}
@@ -76,3 +77,10 @@ abbrev pub StaysCheapIfQuiet : Held → ℕ → List ℕ → Result Taken CoreFa
 StaysCheapIfQuiet core id piece result before now =
     (s : State) → StandsFor core s → IsReached s → NoRecordEnds s id piece
     → PaysAtMost before now (8 * length_taken result + 64 * core.setting.limits.conns + 64)
+
+-- A call that gives n bytes into a room pays no more than the bound of a `gave` of 1,028 bytes, for each 1,028 bytes of them
+-- and once more.
+abbrev pub GivesWithinSteps : Held → ℕ → Meter → Meter → Type 0
+GivesWithinSteps core n before now =
+    (s : State) → StandsFor core s → IsReached s
+    → PaysAtMost before now ((n / longest_fragment + 1) * steps_bound core.setting.limits 0 longest_fragment)

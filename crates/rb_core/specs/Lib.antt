@@ -1,6 +1,7 @@
 pub mod StandsFor
 pub mod HeldBytes
 pub mod AtOnce
+pub mod Gives
 pub mod Awaits
 pub mod Eviction
 pub mod Core
@@ -9,3 +10,5 @@ pub mod Events
 pub mod Looks
 pub mod WorkedHeld
 pub mod Standings
+pub mod Metered
+pub mod Lending

@@ -1,7 +1,7 @@
 -- Where a connection stands after a call on it.
 use Rattle.std.specs.Prelude.{◌≡◌, ℕ, None}
 use Rattle.rb_model.specs.declared.types.Standing.{Standing}
-use Rattle.rb_model.specs.Standings.{standing_of}
+use Rattle.rb_model.specs.Standings.{standing_of, standing_behind}
 use Rattle.rb_connections.specs.StandsFor.{Table}
 use Rattle.rb_connections.specs.Slots.{Shows}
 use Rattle.rb_connections.specs.Standings.{IsStanding}
@@ -12,6 +12,10 @@ use Rattle.rb_core.specs.StandsFor.{Held, StandsFor}
 abbrev pub StandsThen : ℕ → Held → Standing → Type 0
 StandsThen id held standing = Shows StandsFor (standing_of id) held standing
 
--- the same by the table, where no record ended in the piece
+-- So it stands there behind so many bytes that were taken of a piece.
+abbrev pub StandsBehind : ℕ → ℕ → Held → Standing → Type 0
+StandsBehind id count held standing = Shows StandsFor (λ s. standing_behind count (standing_of id s)) held standing
+
+-- where it stands by the table, where no record ended in the piece
 abbrev pub TellsIfQuiet : ℕ → Table → Piece → Type 0
 TellsIfQuiet id table got = got.received.ended ≡ None → IsStanding id table got.standing

@@ -9,6 +9,7 @@ ghost use Rattle.rb_core.specs.CallCosts.{PaysForPiece, PaysInRoom};
 ghost use Rattle.rb_core.specs.Standings.{TellsIfQuiet};
 ghost use Rattle.rb_core.specs.Core.{arguments_in, received_in, HasArguments, TakesPiece};
 ghost use Rattle.rb_model.specs.Calls.{message_with};
+ghost use Rattle.rb_model.specs.Standings.{standing_behind};
 ghost use Rattle.rb_serving.specs.Costs.{ListsIfAsked};
 ghost use Rattle.rb_serving.specs.Serving.{CanServe, IsEmptyReply, LeavesBooks};
 ghost use Rattle.rb_core.specs.Eviction.{ServesVerdict};
@@ -32,6 +33,17 @@ pub struct Piece<'a> {
     pub arguments: Option<&'a [u8]>,
     /// Where the connection stands then, if no record ended.
     pub standing: Standing,
+}
+
+/// Where a connection that stands so stands behind `count` bytes that were taken of a piece: it takes none while it is
+/// Awaiting, so the call that came with them is forwarded, and waits to be sent.
+pub fn standing_behind(count: usize, standing: Standing) -> Standing
+    ensures { result ≡ standing_behind count standing }
+{
+    match standing {
+        Standing::Awaiting if count > 0 => Standing::Sends,
+        _ => standing,
+    }
 }
 
 /// Takes bytes that arrive on the live connection of the number, at most up to the end of a record (RFC 5531 section

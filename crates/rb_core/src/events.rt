@@ -4,7 +4,9 @@ ghost use Rattle.rb_proto.specs.Callers.{own_rows};
 ghost use Rattle.rb_model.specs.State.{are_good};
 ghost use Rattle.rb_model.specs.Bounds.{bytes_bound};
 
-use crate::calls::{Piece, give_at_once, lend_arguments, serve_verdict, take_piece};
+use crate::calls::{
+    Piece, give_at_once, lend_arguments, serve_verdict, standing_behind, take_piece,
+};
 use crate::seen::Seen;
 use rb_address::{Peer, Who};
 use rb_connections::{BUFFER_SIZE, CONNECTION_CHARGE, Connections, EndedRecord, Received};
@@ -34,19 +36,19 @@ pub struct Core {
     listener: Listener,
     first_xid: u32,
     pub(crate) clock: u64,
-    connections: Connections,
+    pub(crate) connections: Connections,
     pub(crate) books: Books,
     /// The last reply over UDP, and how many bytes it has.
-    reply: Kept,
+    pub(crate) reply: Kept,
     reply_len: u64,
     /// Where the reply on a connection is written; empty between two events. The connection swaps its own buffer for
     /// it.
-    draft: Kept,
+    pub(crate) draft: Kept,
     /// The arguments of a record that ended; empty between two events. The connection swaps its own buffer, with the
     /// arguments, for it.
     arguments: Kept,
     /// What the meter showed as the last event began.
-    steps_before: u128,
+    pub(crate) steps_before: u128,
     /// What is to be told of the last whole call, if anything is. No answer depends on it.
     seen: Option<Seen>,
 }
@@ -184,7 +186,7 @@ impl Core {
     ghost use Rattle.rb_core.specs.Core.{ActsWithReply, TellsCaller, context_of};
     ghost use Rattle.rb_model.specs.Exchanges.{count_given};
     ghost use Rattle.rb_model.specs.Standings.{as_done, without_standing};
-    ghost use Rattle.rb_core.specs.Standings.{StandsThen};
+    ghost use Rattle.rb_core.specs.Standings.{StandsThen, StandsBehind};
     ghost use Rattle.rb_core.specs.AtOnce.{AnswersGiving, CountsGiven, Exchanges, GivesAtOnce};
     ghost use Rattle.rb_core.specs.CallCosts.{sizes_of, PaysForBytes, PaysForDatagram, PaysForExchange, PaysForPlainDatagram, PaysForPlainExchange, PaysForPlainRecord, PaysToAnswer, PaysToGive, lending_cost};
     ghost use Rattle.rb_connections.specs.Costs.{look_cost, slot_count};
@@ -312,9 +314,8 @@ impl Core {
         ensures cost { Pays meter.old meter.new (1 + length self.old.reply) }
         ensures bound { StaysWithinSteps self.old 0 (length result.now) meter.old meter.new }
     {
-        self.steps_before = meter.count();
-        let len = self.reply.len(meter);
-        self.reply.lend(0..len, meter)
+        self.begin(meter);
+        self.lend_reply(meter)
     }
 
     /// Opens a connection from `who` at the moment `now`, and returns its number; the first is 1, and none recurs.
@@ -340,9 +341,8 @@ impl Core {
     }
 
     /// Takes bytes that arrive on a connection at the moment `now`, at most up to the end of a record (RFC 5531 section
-    /// 11), which is answered, and returns where the connection stands then. Takes none while a reply is owed or
-    /// awaited. The connection is Lost where the record is no call. `Gone` where there is no such connection, or it is
-    /// Lost.
+    /// 11), which is answered, and returns where the connection stands then: Lost where the record is no call, `Sends`
+    /// where its call is forwarded. Takes none while a reply is owed or awaited. `Gone` where it is not there, or Lost.
     #[tactic(auto, using(crate::proofs::HeldBytes::never_passes))]
     pub fn bytes(
         &mut self,
@@ -354,7 +354,7 @@ impl Core {
         requires { meter.old.tie ≡ self.old.tie }
         ensures acts { Acts StandsFor (λ s. bytes s now id piece.now) self.old self.new
             (without_standing result) }
-        ensures stands { IfOk result (λ done. StandsThen id self.new done.1) }
+        ensures stands { IfOk result (λ done. StandsBehind id done.0.count self.new done.1) }
         ensures within { IfOk result (λ done. done.0.count ≤ length piece.now) }
         ensures refused { OnErr result (OnlyBegins self.old self.new) }
         ensures tie { self.new.tie ≡ self.old.tie }
@@ -391,7 +391,8 @@ impl Core {
         requires { meter.old.tie ≡ self.old.tie }
         ensures acts { Exchanges now id piece.now self.old self.new result room.new }
         ensures count { CountsGiven now id piece.now room.old self.old result }
-        ensures stands { IfOk result (λ done. StandsThen id self.new done.standing) }
+        ensures stands { IfOk result
+            (λ done. StandsBehind id done.taken.count self.new done.standing) }
         ensures fits { count_given result ≤ length room.new }
         ensures within { IfOk result (λ done. done.taken.count ≤ length piece.now) }
         ensures refused { OnErr result (OnlyBegins self.old self.new) }
@@ -421,14 +422,14 @@ impl Core {
             return Ok(Exchanged {
                 taken: Taken { count, closed },
                 given: 0,
-                standing,
+                standing: standing_behind(count, standing),
             });
         };
-        let (closed, given, standing) = self.answer(id, ended, arguments, room, meter);
+        let (closed, given, left) = self.answer(id, ended, arguments, room, meter);
         Ok(Exchanged {
             taken: Taken { count, closed },
             given,
-            standing,
+            standing: standing_behind(count, left),
         })
     }
 
@@ -506,13 +507,12 @@ impl Core {
         ensures cost { PaysAtMost meter.old meter.new (look_cost self.old.connections + pending_cost) }
         ensures bound { StaysWithinSteps self.old 0 (length_lent result) meter.old meter.new }
     {
-        self.steps_before = meter.count();
-        self.connections.pending(id, meter)
+        self.begin(meter);
+        self.lend_pending(id, meter)
     }
 
-    /// Records that `n` pending bytes were given at the moment `now`, or all if fewer are pending, and returns where
-    /// the connection stands then: the next fragment is pending, or it takes the next record. `Gone` where there is no
-    /// such connection, or it is Lost.
+    /// Records that `n` pending bytes were given at the moment `now`, or all if fewer are pending, and returns where the
+    /// connection stands then. `Gone` where there is no such connection, or it is Lost.
     #[tactic(auto, using(crate::proofs::HeldBytes::never_passes))]
     pub fn gave(
         &mut self,
@@ -585,8 +585,8 @@ impl Core {
         ensures cost { PaysAtMost meter.old meter.new (lending_cost self.old (count_lent result)) }
         ensures bound { StaysWithinSteps self.old 0 (count_lent result) meter.old meter.new }
     {
-        self.steps_before = meter.count();
-        self.books.unsent(meter)
+        self.begin(meter);
+        self.lend_unsent(meter)
     }
 
     /// Records that the forwarded call of this number was sent: from now on a reply to it counts. `Gone` where there is
@@ -640,8 +640,7 @@ impl Core {
     }
 
     /// Does one thing that is due at the moment `now`: ends the due forwarded call of least number, or where there is
-    /// none, makes the due connection of least number Lost. `Nothing` where nothing is due. Call it until it answers
-    /// `Nothing`.
+    /// none, makes the due connection of least number Lost. Call it until it answers `Nothing`: then nothing is due.
     #[tactic(auto, using(crate::proofs::HeldBytes::never_passes, crate::proofs::CallBounds::ending_within))]
     pub fn expire(&mut self, now: u64, meter: &mut Meter) -> Expired
         requires { meter.old.tie ≡ self.old.tie }
@@ -691,8 +690,8 @@ impl Core {
             + self.reply_len
     }
 
-    /// How many steps the meter counted since the last call with `&mut self` began: those of that call, also where it
-    /// was refused, and what the meter was paid since. It is right while the count of the meter is below 2^128 - 1.
+    /// How many steps the meter counted since the last call with `&mut self` began, one that was refused too. It is right
+    /// while the count of the meter is below 2^128 - 1.
     pub fn steps(&self, meter: &Meter) -> u128
         requires { meter.now.tie ≡ self.now.tie }
         ensures { TellsSteps self.now meter.now result }
@@ -737,8 +736,10 @@ impl Core {
                 let outcome = put_end(ended, message, &mut self.reply, meter);
                 self.reply_len = self.reply.len(meter) as u64;
                 match outcome {
-                    Outcome::Reply => Told::Datagram(who),
-                    Outcome::NoCall | Outcome::Forwarded | Outcome::Silent => Told::Silent,
+                    Outcome::Reply => Told::Datagram(ended.id, who),
+                    Outcome::NoCall | Outcome::Forwarded | Outcome::Silent => {
+                        Told::Silent(ended.id)
+                    }
                 }
             }
         }
@@ -758,8 +759,7 @@ impl Core {
     ghost use Rattle.rb_core.specs.HeldBytes.{NeverPasses};
     ghost use Rattle.rb_core.specs.Events.{count_shown, BeginsAt, StaysWithinSteps};
 
-    /// Statistics begin anew: nothing was called. Nothing else changes. It costs at most 2 steps for each of 192 keys,
-    /// and 1.
+    /// Statistics begin anew: nothing was called. Nothing else changes. At most 2 steps for each of 192 keys, and 1.
     #[tactic(auto, using(crate::proofs::HeldBytes::never_passes, crate::proofs::CallBounds::zero_within))]
     pub fn zero_stats(&mut self, meter: &mut Meter)
         requires { meter.old.tie ≡ self.old.tie }

@@ -55,4 +55,27 @@ impl Core {
         let registry = &self.books.registry;
         registry.next_row(registry.stamp(), cursor, meter)
     }
+
+    /// The same, and the cursor moves on behind the row. It stays where no row is behind it.
+    pub(crate) fn lend_row(&self, cursor: &mut Cursor, meter: &mut Meter) -> Option<&Row>
+        requires tie { meter.old.tie ≡ self.now.tie }
+        requires place { StandsAmong self.now cursor.old }
+        ensures row { IfSome result (λ row. row_behind self.now cursor.old ≡ Some row.now) }
+        ensures place { StandsAmong self.now cursor.new }
+        ensures passed { IfSome result (λ row. PassesOne self.now cursor.old cursor.new) }
+        ensures end { IfNone result (IsAtEnd self.now cursor.new) }
+        ensures stays { IfNone result (cursor.new ≡ cursor.old) }
+        ensures rows { Shows StandsFor (λ s. rows_in s.ledger) self.now (rows_shown self.now) }
+        ensures cost { PaysAtMost meter.old meter.new (2 * slots_behind self.now cursor.old + 1) }
+        ensures cost_row { IfSome result
+            (λ row. PaysForRow self.now cursor.old cursor.new meter.old meter.new) }
+    {
+        match self.next_row(*cursor, meter) {
+            Some((next, row)) => {
+                *cursor = next;
+                Some(row)
+            }
+            None => None,
+        }
+    }
 }

@@ -1,10 +1,11 @@
 use Rattle.std.specs.Borrow.{Bor}
-use Rattle.std.proofs.Common.{rules, ◌≡◌, ℕ, List, length, take, ◌+◌, Option, Some, None, Ok, refl, sym, subst}
+use Rattle.std.proofs.Common.{rules, ◌≡◌, ℕ, List, length, take, ◌+◌, Option, Some, None, Ok, refl, sym, ap, subst, ◌∙◌}
 use Rattle.std.proofs.lemmas.Result.{err_from_is_err_and}
 use Rattle.rb_xdr.specs.Meter.{Meter, PaysAtMost}
 use Rattle.rb_model.specs.Costs.{bytes_cost}
 use Rattle.rb_model.specs.State.{State}
 use Rattle.rb_model.specs.Connections.{on_live, live_connection}
+use Rattle.rb_model.specs.Standings.{standing_behind}
 use Rattle.rb_connections.specs.StandsFor.{StandsForConnections}
 use Rattle.rb_connections.specs.Slots.{Acts, Shows, take_piece, arguments_on}
 use Rattle.rb_connections.specs.Giving.{whole_cost}
@@ -107,7 +108,7 @@ returns-in_default-clause-bound c =
 
 -- ---- a record that is answered
 
-ended : (c : goal.After-slice_known-2-1) → Acts (StandsForConnections c.self.inside.books.registry) (on_live c.args.id (take_piece c.max-clock.result c.args.piece.now)) c.self.inside.connections c.take_piece.new.connections (Ok (record { count = c.in_ok-got.got.received.count; ended = Some c.in-Some.ended }))
+ended : (c : goal.After-standing_behind-2) → Acts (StandsForConnections c.self.inside.books.registry) (on_live c.args.id (take_piece c.max-clock.result c.args.piece.now)) c.self.inside.connections c.take_piece.new.connections (Ok (record { count = c.in_ok-got.got.received.count; ended = Some c.in-Some.ended }))
 ended c = with_ended c.self.inside.books.registry c.args.id c.max-clock.result c.args.piece.now c.self.inside.connections c.take_piece.new.connections c.in_ok-got.got.received (Some c.in-Some.ended) c.in-Some.is (c.in_ok-got.ensures.acts c.self.inside.books.registry)
 
 pub returns-clause-acts : goal.returns-clause-acts
@@ -166,7 +167,7 @@ invariant_of-self-2 c =
     c.self.invariant.is_draft c.self.invariant.empty (search rules)
 
 pub returns-in_default-clause-stands : goal.returns-in_default-clause-stands
-returns-in_default-clause-stands c = λ s h. c.in_ok-got.ensures.stands c.in_default.is _ s.connections h.connections
+returns-in_default-clause-stands c = λ s h. c.standing_behind.ensures ∙ ap (standing_behind c.in_ok-got.got.received.count) (c.in_ok-got.ensures.stands c.in_default.is _ s.connections h.connections)
 
 pub returns-clause-stands : goal.returns-clause-stands
-returns-clause-stands c = λ s h. c.answer-closed.ensures.stands s h
+returns-clause-stands c = λ s h. c.standing_behind-2.ensures ∙ ap (standing_behind c.in_ok-got.got.received.count) (c.answer-closed.ensures.stands s h)
