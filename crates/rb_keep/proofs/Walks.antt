@@ -2,6 +2,7 @@
 use Rattle.std.proofs.Common.{◌≡◌, ◌≤◌, ◌+◌, ◌*◌, ◌==◌, ℕ, true, false, List, [], ◌∷◌, ◌++◌, length, map, take, Some, Option, refl, sym, ap, subst, ◌∙◌, arith}
 use Rattle.std.specs.Prelude.{All, not}
 use Rattle.std.specs.List.{flat_map, concat, list_all}
+use Rattle.std.specs.Borrow.{Bor}
 use Rattle.std.specs.Io.KnownBytes.{Appends}
 use Rattle.std.proofs.KnownBytes.{Appends-nil, Appends-trans}
 use Rattle.std.proofs.lemmas.Bool.{and_parts, not-true}
@@ -20,6 +21,8 @@ use Rattle.rb_record.specs.Entries.{event_text}
 use Rattle.rb_laws.proofs.Restoring.{rows_can_be_set}
 use Rattle.rb_core.specs.StandsFor.{Held, StandsFor}
 use Rattle.rb_core.specs.Looks.{rows_held, rows_shown, StandsAmong, IsAtStart, IsAtEnd, row_behind, PassesOne, slots_behind, slot_count, PaysForRow}
+use Rattle.rb_core.specs.Metered.{Metered}
+use Rattle.rb_core.specs.Lending.{HasLentRow}
 use Rattle.rb_keep.specs.Kept.{row_line, rows_text, kept_text}
 use Rattle.rb_keep.specs.Writing.{line_where_set}
 
@@ -28,38 +31,50 @@ abbrev pub passed_lines : Held → Option ℕ → List ℕ
 passed_lines core cursor = passed_bytes (line_where_set core.clock) (rows_held core) (rows_held core).stamp cursor
 
 -- they are written, and paid for
-pub record Writing (core : Held) (cursor : Option ℕ) (began written : Option (List ℕ)) (first meter : Meter) : Type 0 where
-  pub place : StandsAmong core cursor
-  pub lines : Appends began written (passed_lines core cursor)
-  pub tie : meter.tie ≡ first.tie
-  pub rises : first.steps ≤ meter.steps
-  pub steps : meter.steps + 2 * slots_behind core cursor ≤ first.steps + 2 * slot_count core
+pub record Writing (first core : Metered) (cursor : Option ℕ) (began written : Option (List ℕ)) : Type 0 where
+  pub stays : core.core ≡ first.core
+  pub place : StandsAmong core.core cursor
+  pub lines : Appends began written (passed_lines core.core cursor)
+  pub tie : core.meter.tie ≡ first.meter.tie
+  pub rises : first.meter.steps ≤ core.meter.steps
+  pub steps : core.meter.steps + 2 * slots_behind core.core cursor ≤ first.meter.steps + 2 * slot_count core.core
 
-pub nothing_written : (core : Held) (cursor : Option ℕ) (began : Option (List ℕ)) (first : Meter)
-    → StandsAmong core cursor → IsAtStart core cursor → slots_behind core cursor ≡ slot_count core → Writing core cursor began began first first
-nothing_written core cursor began first place none all = record {
+pub nothing_written : (core : Metered) (cursor : Option ℕ) (began : Option (List ℕ))
+    → StandsAmong core.core cursor → IsAtStart core.core cursor → slots_behind core.core cursor ≡ slot_count core.core → Writing core core cursor began began
+nothing_written core cursor began place none all = record {
+  stays = refl;
   place = place;
-  lines = subst (Appends began began) (sym (none_passed (line_where_set core.clock) (rows_held core) (rows_held core).stamp cursor none)) (Appends-nil began);
+  lines = subst (Appends began began) (sym (none_passed (line_where_set core.core.clock) (rows_held core.core) (rows_held core.core).stamp cursor none)) (Appends-nil began);
   tie = refl;
   rises = omega arith;
   steps = omega (arith, all);
 }
 
-module _ (core : Held) (cursor : Option ℕ) (began written : Option (List ℕ)) (first meter : Meter) (w : Writing core cursor began written first meter) where
-  pub row_written : (row : Row) (next : Option ℕ) → row_behind core cursor ≡ Some row → StandsAmong core next → PassesOne core cursor next
-      → (more : Option (List ℕ)) (paid : Meter) → Appends written more (line_where_set core.clock row) → (most : ℕ) → PaysAtMost meter paid most → PaysForRow core cursor next meter paid
-      → Writing core next began more first paid
-  row_written row next here place passed more paid added most cost far =
-      let passes : Passes (rows_held core) (rows_held core).stamp cursor row next = record { here = here; place = place; passed = passed } in
+module _ (first core : Metered) (cursor : Option ℕ) (began written : Option (List ℕ)) (w : Writing first core cursor began written) where
+  -- over the core itself, with what the meter showed after the look
+  row_written_on : (row : Row) (next : Option ℕ) → row_behind core.core cursor ≡ Some row → StandsAmong core.core next → PassesOne core.core cursor next
+      → (more : Option (List ℕ)) (paid : Meter) → Appends written more (line_where_set core.core.clock row) → (most : ℕ) → PaysAtMost core.meter paid most → PaysForRow core.core cursor next core.meter paid
+      → Writing first (record { core = core.core; meter = paid }) next began more
+  row_written_on row next here place passed more paid added most cost far =
+      let passes : Passes (rows_held core.core) (rows_held core.core).stamp cursor row next = record { here = here; place = place; passed = passed } in
       record {
+        stays = w.stays;
         place = place;
         lines =
-            subst (Appends began more) (sym (one_passed (line_where_set core.clock) (rows_held core) (rows_held core).stamp cursor row next passes))
-            (Appends-trans began written more (passed_lines core cursor) (line_where_set core.clock row) w.lines added);
+            subst (Appends began more) (sym (one_passed (line_where_set core.core.clock) (rows_held core.core) (rows_held core.core).stamp cursor row next passes))
+            (Appends-trans began written more (passed_lines core.core cursor) (line_where_set core.core.clock row) w.lines added);
         tie = cost.tie ∙ w.tie;
         rises = omega (arith, w.rises, cost.rises);
         steps = omega (arith, w.steps, far);
       }
+
+  pub row_written : (row : Row) (next : Option ℕ) → row_behind core.core cursor ≡ Some row → StandsAmong core.core next → PassesOne core.core cursor next
+      → (more : Option (List ℕ)) (now : ℕ) → now ≡ first.core.clock → Appends written more (line_where_set now row) → (lent : Bor Row) (paid : Metered) → HasLentRow cursor next (Some lent) core paid
+      → Writing first paid next began more
+  row_written row next here place passed more now is added lent paid looked =
+      let line : Appends written more (line_where_set core.core.clock row) = subst (λ (n : ℕ). Appends written more (line_where_set n row)) (is ∙ sym (ap (λ (held : Held). held.clock) w.stays)) added in
+      subst (λ (held : Held). Writing first (record { core = held; meter = paid.meter }) next began more) (sym looked.stays)
+      (row_written_on row next here place passed more paid.meter line (2 * slots_behind core.core cursor + 1) looked.cost looked.cost_row)
 
 -- ---- the lines of all rows
 
@@ -91,9 +106,11 @@ all_lines core s h r =
     ∙ ap (λ (now : ℕ). rows_text now (set_rows s)) h.clock
     ∙ sym (kept_lines s.clock (set_rows s))
 
-pub all_written : (core : Held) (cursor : Option ℕ) (began written : Option (List ℕ)) (first meter : Meter) → Writing core cursor began written first meter → IsAtEnd core cursor
-    → (s : State) → StandsFor core s → IsReached s → Appends began written (kept_text s)
-all_written core cursor began written first meter w end s h r =
+pub all_written : (first core : Metered) (cursor next : Option ℕ) (began written : Option (List ℕ)) → Writing first core cursor began written → next ≡ cursor → IsAtEnd core.core next
+    → (s : State) → StandsFor first.core s → IsReached s → Appends began written (kept_text s)
+all_written first core cursor next began written w same end s h r =
+    let held : StandsFor core.core s = subst (λ (held : Held). StandsFor held s) (sym w.stays) h in
+    let ended : IsAtEnd core.core cursor = subst (IsAtEnd core.core) same end in
     subst (Appends began written)
-    (ap (λ (n : ℕ). flat_map (line_where_set core.clock) (take n (rows_shown core))) end ∙ ap (flat_map (line_where_set core.clock)) (take_all (length (rows_shown core)) (rows_shown core) (omega arith)) ∙ all_lines core s h r)
+    (ap (λ (n : ℕ). flat_map (line_where_set core.core.clock) (take n (rows_shown core.core))) ended ∙ ap (flat_map (line_where_set core.core.clock)) (take_all (length (rows_shown core.core)) (rows_shown core.core) (omega arith)) ∙ all_lines core.core s held r)
     w.lines

@@ -8,10 +8,9 @@ ghost use Rattle.rb_keep.specs.Kept.{row_line};
 ghost use Rattle.rb_keep.specs.Writing.{line_where_set, WritesKept};
 
 use crate::call::{set_call, this_machine};
-use rb_core::Core;
+use rb_core::Metered;
 use rb_record::{Happening, write_event};
 use rb_registry::{RPCB_PROG, Row};
-use rb_xdr::Meter;
 use std::io;
 use std::io::Write;
 
@@ -40,17 +39,15 @@ fn write_where_set<W: Write>(now: u64, row: &Row, writer: &mut W) -> io::Result<
 /// Writes what is kept of the core: for each row that was set the line of the event that sets it again, at the moment
 /// of the last event. An error where the writer fails; how much it has then is not known. It costs at most 2 steps
 /// for each row, retained ones among them, and 1.
-pub fn write_rows<W: Write>(core: &Core, writer: &mut W, meter: &mut Meter) -> io::Result<()>
-    requires tie { meter.old.tie ≡ core.now.tie }
-    ensures written { OnOk result (WritesKept core.now W.contents writer.old writer.new) }
-    ensures cost { PaysAtMost meter.old meter.new (2 * slot_count core.now + 1) }
+pub fn write_rows<W: Write>(core: &mut Metered, writer: &mut W) -> io::Result<()>
+    ensures written { OnOk result (WritesKept core.old.core W.contents writer.old writer.new) }
+    ensures stays { core.new.core ≡ core.old.core }
+    ensures cost { PaysAtMost core.old.meter core.new.meter (2 * slot_count core.old.core + 1) }
 {
     let now = core.clock();
     let mut cursor = core.first_place();
-    'rows: while let Some(found) = core.next_row(cursor, meter) {
-        let (next, row) = found;
+    'rows: while let Some(row) = core.next_row(&mut cursor) {
         write_where_set(now, row, writer)?;
-        cursor = next;
     }
     Ok(())
 }

@@ -11,7 +11,7 @@ ghost use Rattle.rb_replay.specs.Running.{first_state, IsFresh, IsRunOf, KeepsBo
 
 use crate::run::replay;
 use crate::run_bound::whole_bound;
-use rb_core::{Core, CoreFault};
+use rb_core::{CoreFault, Metered};
 use rb_lines::{
     Beginning, DONE, Ending, Fault, WriteFailed, explain_run, longest_input, print_outputs,
     print_steps, read_events,
@@ -19,7 +19,6 @@ use rb_lines::{
 use rb_model::{Event, Limits, Output};
 use rb_proto::Listener;
 use rb_uaddr::AddressText;
-use rb_xdr::Meter;
 use std::alloc::Global;
 use std::io;
 use std::io::{BufWriter, Read, Write};
@@ -59,9 +58,8 @@ fn listener_like(listener: &Listener) -> Listener
 }
 
 /// A new core, as a replay begins.
-fn first_core(alloc: Global, beginning: &Beginning, meter: &mut Meter) -> Result<Core, Fault>
-    ensures made { IfOk result (λ core. StandsFor core (first_state beginning.now)) }
-    ensures tie { IfOk result (λ core. core.tie ≡ meter.new.tie) }
+fn first_core(alloc: Global, beginning: &Beginning) -> Result<Metered, Fault>
+    ensures made { IfOk result (λ made. StandsFor made.core (first_state beginning.now)) }
     ensures good { OnOk result (IsTrue (are_good beginning.now.limits beginning.now.listener)) }
     ensures err { IfErr result (IsCoreFault beginning.now) }
 {
@@ -73,7 +71,7 @@ fn first_core(alloc: Global, beginning: &Beginning, meter: &mut Meter) -> Result
         steps: _,
     } = beginning;
     let listener = listener_like(listener);
-    match Core::new(alloc, *limits, listener, *first_xid, *moment, meter) {
+    match Metered::new(alloc, *limits, listener, *first_xid, *moment) {
         Ok(core) => Ok(core),
         Err(CoreFault::BadLimits) => Err(Fault::BadLimits),
         Err(_) => Err(Fault::NoMemory),
@@ -91,25 +89,24 @@ pub(crate) struct Ran {
 /// Runs the events on a core of these limits.
 fn run_on(
     alloc: Global,
-    core: &mut Core,
+    core: &mut Metered,
     limits: &Limits,
     events: &[Event],
-    meter: &mut Meter,
 ) -> Result<Ran, Fault>
-    requires { meter.old.tie ≡ core.old.tie }
-    ensures ok { RunsFrom limits.now (events_of events.now) core.old result }
-    ensures steps { IfOk result (λ ran. ran.steps ≡ count_shown meter.new - count_shown meter.old) }
-    ensures within { (s : State) → StandsFor core.old s → IsFresh limits.now s
+    ensures ok { RunsFrom limits.now (events_of events.now) core.old.core result }
+    ensures steps { IfOk result
+        (λ ran. ran.steps ≡ count_shown core.new.meter - count_shown core.old.meter) }
+    ensures within { (s : State) → StandsFor core.old.core s → IsFresh limits.now s
         → IfOk result KeepsBound }
     ensures err { IfErr result (λ fault. fault ≡ Fault.NoMemory) }
 {
-    let before = meter.count();
+    let before = core.count();
     let Ok(mut outputs) = Vec::with_capacity(alloc, events.len()) else {
         return Err(Fault::NoMemory);
     };
-    match replay(alloc, core, events, &mut outputs, meter) {
+    match replay(alloc, core, events, &mut outputs) {
         Ok(()) => {
-            let steps = meter.count().saturating_sub(before);
+            let steps = core.count().saturating_sub(before);
             let bound = whole_bound(limits, events, &outputs);
             Ok(Ran {
                 outputs,
@@ -128,9 +125,8 @@ pub(crate) fn run_from(alloc: Global, beginning: &Beginning, events: &[Event]) -
     ensures good { OnOk result (IsTrue (are_good beginning.now.limits beginning.now.listener)) }
     ensures err { IfErr result (IsCoreFault beginning.now) }
 {
-    let mut meter = Meter::new();
-    let mut core = first_core(alloc, beginning, &mut meter)?;
-    run_on(alloc, &mut core, &beginning.limits, events, &mut meter)
+    let mut core = first_core(alloc, beginning)?;
+    run_on(alloc, &mut core, &beginning.limits, events)
 }
 
 /// Writes what a run is printed as, to the last byte, and its steps where that is asked for.

@@ -5,8 +5,8 @@ use Rattle.rb_keep.proofs.Walks.{Writing}
 use Rattle.rb_keep.proofs.writing.write_rows.Given as goal
 
 abbrev pub invariant-rows : goal.invariant-rows
-invariant-rows g l = Writing l.core l.cursor (g.W.Write.contents l.fn.writer) (g.W.Write.contents l.writer) l.fn.meter l.meter
+invariant-rows g l = Writing l.fn.core l.core l.cursor (g.W.Write.contents l.fn.writer) (g.W.Write.contents l.writer)
 
 -- the rows that are yet to be looked at
 abbrev pub decreases-rows : goal.decreases-rows
-decreases-rows g l = length (rows_shown l.core) - rows_passed (rows_held l.core) (rows_held l.core).stamp l.cursor
+decreases-rows g l = length (rows_shown l.core.core) - rows_passed (rows_held l.core.core) (rows_held l.core.core).stamp l.cursor

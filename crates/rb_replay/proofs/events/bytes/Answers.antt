@@ -18,21 +18,17 @@ kept_setting now id piece s =
 pub returns-in-Ok : goal.returns-in-Ok
 unfolding step
 returns-in-Ok c = record {
-  step = λ s h. let d = done show_taken (λ t. bytes t c.args.now c.args.id c.args.piece.now) c.args.core.now c.bytes.new.self c.in-Ok.taken c.in-Ok.ensures.acts s h in (c.show_taken.ensures ∙ d.0, d.1);
+  step = λ s h. let d = done show_taken (λ t. bytes t c.args.now c.args.id c.args.piece.now) c.args.core.now.core c.bytes.new.self.core c.in-Ok.taken c.in-Ok.ensures.acts s h in (c.show_taken.ensures ∙ d.0, d.1);
   cost = λ s h.
-      bytes_paid _ _ (sizes_held c.args.core.now c.bytes.new.self s _ h (c.in-Ok.ensures.acts.stands s h) (kept_setting c.args.now c.args.id c.args.piece.now s)) _ _ _ _ (ap (λ (x : Setting). x.listener.announced) h.setting) c.args.piece.now
+      bytes_paid _ _ (sizes_held c.args.core.now.core c.bytes.new.self.core s _ h (c.in-Ok.ensures.acts.stands s h) (kept_setting c.args.now c.args.id c.args.piece.now s)) _ _ _ _ (ap (λ (x : Setting). x.listener.announced) h.setting) c.args.piece.now
       (live_connection c.args.id s.connections.all) (c.in-Ok.ensures.cost s h);
-  tie = c.in-Ok.ensures.tie;
-  meter = c.in-Ok.ensures.same_meter;
 }
 
 pub returns-in-Err : goal.returns-in-Err
 unfolding step
 returns-in-Err c = record {
-  step = λ s h. refused show_taken (λ t. bytes t c.args.now c.args.id c.args.piece.now) c.args.core.now c.bytes.new.self c.in-Err.fault c.in-Err.ensures.acts s h;
+  step = λ s h. refused show_taken (λ t. bytes t c.args.now c.args.id c.args.piece.now) c.args.core.now.core c.bytes.new.self.core c.in-Err.fault c.in-Err.ensures.acts s h;
   cost = λ s h.
-      bytes_paid _ _ (sizes_held c.args.core.now c.bytes.new.self s _ h (c.in-Err.ensures.acts.stands s h) (kept_setting c.args.now c.args.id c.args.piece.now s)) _ _ _ _ (ap (λ (x : Setting). x.listener.announced) h.setting) c.args.piece.now
+      bytes_paid _ _ (sizes_held c.args.core.now.core c.bytes.new.self.core s _ h (c.in-Err.ensures.acts.stands s h) (kept_setting c.args.now c.args.id c.args.piece.now s)) _ _ _ _ (ap (λ (x : Setting). x.listener.announced) h.setting) c.args.piece.now
       (live_connection c.args.id s.connections.all) (c.in-Err.ensures.cost s h);
-  tie = c.in-Err.ensures.tie;
-  meter = c.in-Err.ensures.same_meter;
 }

@@ -6,17 +6,13 @@ use Rattle.rb_replay.proofs.events.closed.Goals as goal
 pub returns-in-Ok : goal.returns-in-Ok
 unfolding step
 returns-in-Ok c = record {
-  step = λ s h. done show_done (λ t. close_connection t c.args.id) c.args.core.now c.closed.new.self tt c.in-Ok.ensures.acts s h;
-  cost = λ s h. close_paid _ _ (sizes_stay c.args.core.now s h) _ _ c.in-Ok.ensures.cost;
-  tie = c.in-Ok.ensures.tie;
-  meter = c.in-Ok.ensures.cost.tie;
+  step = λ s h. done show_done (λ t. close_connection t c.args.id) c.args.core.now.core c.closed.new.self.core tt c.in-Ok.ensures.acts s h;
+  cost = λ s h. close_paid _ _ (sizes_stay c.args.core.now.core s h) _ _ c.in-Ok.ensures.cost;
 }
 
 pub returns-in-Err : goal.returns-in-Err
 unfolding step
 returns-in-Err c = record {
-  step = λ s h. refused show_done (λ t. close_connection t c.args.id) c.args.core.now c.closed.new.self c.in-Err.fault c.in-Err.ensures.acts s h;
-  cost = λ s h. close_paid _ _ (sizes_stay c.args.core.now s h) _ _ c.in-Err.ensures.cost;
-  tie = c.in-Err.ensures.tie;
-  meter = c.in-Err.ensures.cost.tie;
+  step = λ s h. refused show_done (λ t. close_connection t c.args.id) c.args.core.now.core c.closed.new.self.core c.in-Err.fault c.in-Err.ensures.acts s h;
+  cost = λ s h. close_paid _ _ (sizes_stay c.args.core.now.core s h) _ _ c.in-Err.ensures.cost;
 }

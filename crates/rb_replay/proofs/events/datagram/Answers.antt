@@ -1,5 +1,4 @@
 use Rattle.std.proofs.Common.{◌≡◌, ◌⊎◌, inl, inr, ◌+◌, ℕ, List, length, refl, ap, ◌∙◌, arith, rules}
-use Rattle.rb_xdr.specs.Meter.{Meter}
 use Rattle.rb_address.specs.declared.who.Who.{Who}
 use Rattle.rb_proto.specs.Callers.{may_register}
 use Rattle.rb_model.specs.State.{State, Setting}
@@ -15,7 +14,7 @@ use Rattle.rb_model.specs.Served.{outcome_with}
 use Rattle.rb_core.specs.CallCosts.{may_register_in, sizes_of}
 use Rattle.rb_core.specs.StandsFor.{Held, StandsFor}
 use Rattle.rb_core.proofs.Outputs.{datagram_shown, shown_of}
-use Rattle.rb_core.proofs.Begun.{stands_begun, same_tie}
+use Rattle.rb_core.proofs.Begun.{stands_begun}
 use Rattle.rb_replay.proofs.RunSteps.{one_then_other}
 use Rattle.rb_replay.proofs.Prices.{datagram_paid, sizes_held}
 use Rattle.rb_replay.proofs.events.datagram.Goals as goal
@@ -32,38 +31,32 @@ pub returns-in-NoCall-clause-ok : goal.returns-in-NoCall-clause-ok
 unfolding step
 returns-in-NoCall-clause-ok c = record {
   step = λ s h.
-      let d = datagram_shown c.args.core.now c.datagram.new.self (λ t. datagram t c.args.now c.args.who c.args.content.now) _ c.datagram.ensures.acts s h in
-      (is_silent c.datagram.result c.datagram.new.self.reply c.in-NoCall.is ∙ d.0, d.1);
+      let d = datagram_shown c.args.core.now.core c.datagram.new.self.core (λ t. datagram t c.args.now c.args.who c.args.content.now) _ c.datagram.ensures.acts s h in
+      (is_silent c.datagram.result c.datagram.new.self.core.reply c.in-NoCall.is ∙ d.0, d.1);
   cost = λ s h.
-      let d = datagram_shown c.args.core.now c.datagram.new.self (λ t. datagram t c.args.now c.args.who c.args.content.now) _ c.datagram.ensures.acts s h in
-      datagram_paid _ _ (sizes_held c.args.core.now c.datagram.new.self s _ h d.1 (step-follows s (Datagram c.args.now c.args.who c.args.content.now)).setting) _ _ _ _ (registers_alike c.args.core.now s h c.args.who) (message_of c.args.content.now) _ (length c.args.content.now) _ _ (omega (arith, ap length d.1.reply)) c.datagram.ensures.cost;
-  tie = c.datagram.ensures.tie;
-  meter = c.datagram.ensures.cost.tie;
+      let d = datagram_shown c.args.core.now.core c.datagram.new.self.core (λ t. datagram t c.args.now c.args.who c.args.content.now) _ c.datagram.ensures.acts s h in
+      datagram_paid _ _ (sizes_held c.args.core.now.core c.datagram.new.self.core s _ h d.1 (step-follows s (Datagram c.args.now c.args.who c.args.content.now)).setting) _ _ _ _ (registers_alike c.args.core.now.core s h c.args.who) (message_of c.args.content.now) _ (length c.args.content.now) _ _ (omega (arith, ap length d.1.reply)) c.datagram.ensures.cost;
 }
 
 pub returns-in-Forwarded-clause-ok : goal.returns-in-Forwarded-clause-ok
 unfolding step
 returns-in-Forwarded-clause-ok c = record {
   step = λ s h.
-      let d = datagram_shown c.args.core.now c.datagram.new.self (λ t. datagram t c.args.now c.args.who c.args.content.now) _ c.datagram.ensures.acts s h in
+      let d = datagram_shown c.args.core.now.core c.datagram.new.self.core (λ t. datagram t c.args.now c.args.who c.args.content.now) _ c.datagram.ensures.acts s h in
       (rw c.in-Forwarded.is at d.0, d.1);
   cost = λ s h.
-      let d = datagram_shown c.args.core.now c.datagram.new.self (λ t. datagram t c.args.now c.args.who c.args.content.now) _ c.datagram.ensures.acts s h in
-      datagram_paid _ _ (sizes_held c.args.core.now c.datagram.new.self s _ h d.1 (step-follows s (Datagram c.args.now c.args.who c.args.content.now)).setting) _ _ _ _ (registers_alike c.args.core.now s h c.args.who) (message_of c.args.content.now) _ (length c.args.content.now) _ _ (omega (arith, ap length d.1.reply)) c.datagram.ensures.cost;
-  tie = c.datagram.ensures.tie;
-  meter = c.datagram.ensures.cost.tie;
+      let d = datagram_shown c.args.core.now.core c.datagram.new.self.core (λ t. datagram t c.args.now c.args.who c.args.content.now) _ c.datagram.ensures.acts s h in
+      datagram_paid _ _ (sizes_held c.args.core.now.core c.datagram.new.self.core s _ h d.1 (step-follows s (Datagram c.args.now c.args.who c.args.content.now)).setting) _ _ _ _ (registers_alike c.args.core.now.core s h c.args.who) (message_of c.args.content.now) _ (length c.args.content.now) _ _ (omega (arith, ap length d.1.reply)) c.datagram.ensures.cost;
 }
 
 pub returns-in-Reply-clause-ok : goal.returns-in-Reply-clause-ok
 unfolding step
 returns-in-Reply-clause-ok c = record {
   step = λ s h.
-      let d = datagram_shown c.args.core.now c.datagram.new.self (λ t. datagram t c.args.now c.args.who c.args.content.now) _ c.datagram.ensures.acts s h in
-      (ap Replied (search rules) ∙ (rw c.in-Reply.is at d.0), stands_begun c.datagram.new.self _ _ c.udp_reply.follows.holds-at-none _ d.1);
+      let d = datagram_shown c.args.core.now.core c.datagram.new.self.core (λ t. datagram t c.args.now c.args.who c.args.content.now) _ c.datagram.ensures.acts s h in
+      (ap Replied (search rules) ∙ (rw c.in-Reply.is at d.0), stands_begun c.datagram.new.self.core _ _ c.udp_reply.follows.holds-at-none.begun _ d.1);
   cost = λ s h.
-      let d = datagram_shown c.args.core.now c.datagram.new.self (λ t. datagram t c.args.now c.args.who c.args.content.now) _ c.datagram.ensures.acts s h in
-      datagram_paid _ _ (sizes_held c.args.core.now c.datagram.new.self s _ h d.1 (step-follows s (Datagram c.args.now c.args.who c.args.content.now)).setting) _ _ _ _ (registers_alike c.args.core.now s h c.args.who) (message_of c.args.content.now) (datagram_cost (sizes_for (may_register_in c.args.core.now c.args.who) (message_of c.args.content.now) (sizes_of c.args.core.now c.datagram.new.self)) (length c.args.content.now) (length c.datagram.new.self.reply) + (1 + length c.datagram.new.self.reply)) (length c.args.content.now) _ _ (omega (arith, ap length d.1.reply))
-      (one_then_other _ _ _ _ _ c.datagram.ensures.cost (record { steps = omega (arith, ap (λ (m : Meter). m.steps) c.udp_reply.ensures.cost); rises = omega (arith, ap (λ (m : Meter). m.steps) c.udp_reply.ensures.cost); tie = ap (λ (m : Meter). m.tie) c.udp_reply.ensures.cost }));
-  tie = same_tie c.datagram.new.self _ _ c.udp_reply.follows.holds-at-none ∙ c.datagram.ensures.tie;
-  meter = ap (λ (m : Meter). m.tie) c.udp_reply.ensures.cost ∙ c.datagram.ensures.cost.tie;
+      let d = datagram_shown c.args.core.now.core c.datagram.new.self.core (λ t. datagram t c.args.now c.args.who c.args.content.now) _ c.datagram.ensures.acts s h in
+      datagram_paid _ _ (sizes_held c.args.core.now.core c.datagram.new.self.core s _ h d.1 (step-follows s (Datagram c.args.now c.args.who c.args.content.now)).setting) _ _ _ _ (registers_alike c.args.core.now.core s h c.args.who) (message_of c.args.content.now) (datagram_cost (sizes_for (may_register_in c.args.core.now.core c.args.who) (message_of c.args.content.now) (sizes_of c.args.core.now.core c.datagram.new.self.core)) (length c.args.content.now) (length c.datagram.new.self.core.reply) + (1 + length c.datagram.new.self.core.reply)) (length c.args.content.now) _ _ (omega (arith, ap length d.1.reply))
+      (one_then_other _ _ _ _ _ c.datagram.ensures.cost c.udp_reply.follows.holds-at-none.cost);
 }

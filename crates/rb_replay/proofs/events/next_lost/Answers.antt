@@ -3,14 +3,12 @@ use Rattle.rb_model.specs.Costs.{find_cost}
 use Rattle.rb_model.specs.Step.{step}
 use Rattle.rb_model.specs.Step.Output.{LostIs}
 use Rattle.rb_replay.proofs.Prices.{by_count}
-use Rattle.rb_core.proofs.Begun.{stands_begun, same_tie}
+use Rattle.rb_core.proofs.Begun.{stands_begun}
 use Rattle.rb_replay.proofs.events.next_lost.Goals as goal
 
 pub returns : goal.returns
 unfolding step
 returns c = record {
-  step = λ s h. (ap LostIs (c.next_lost.ensures.lost s h), stands_begun c.args.core.now _ _ c.next_lost.ensures.begun s h);
-  cost = λ s h. by_count find_cost c.args.core.now s _ _ h c.next_lost.ensures.cost;
-  tie = same_tie c.args.core.now _ _ c.next_lost.ensures.begun;
-  meter = c.next_lost.ensures.cost.tie;
+  step = λ s h. (ap LostIs (c.next_lost.ensures.lost s h), stands_begun c.args.core.now.core _ _ c.next_lost.ensures.begun s h);
+  cost = λ s h. by_count find_cost c.args.core.now.core s _ _ h c.next_lost.ensures.cost;
 }

@@ -7,6 +7,4 @@ unfolding step
 returns c = record {
   step = λ s h. (refl, c.zero_stats.ensures.acts.stands s h);
   cost = λ s h. c.zero_stats.ensures.cost;
-  tie = c.zero_stats.ensures.tie;
-  meter = c.zero_stats.ensures.cost.tie;
 }

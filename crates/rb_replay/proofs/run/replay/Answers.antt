@@ -22,8 +22,6 @@ loop-event-preserved c =
     let given : outputs_of c.push.new.self.items ≡ outputs_of c.loop-event.out.items ++ output_of output ∷ [] = ap outputs_of items ∙ map_push output_of c.loop-event.out.items output in
     record {
       happened = λ s h. rw given (one_more s c.args.events.now c.loop-event.event-index c.event-item.result _ _ _ _ _ c.loop-event-test.true c.event-item.is (c.loop-event.invariant.happened s h) c.in_ok-output.ensures.ok.step);
-      tie = c.in_ok-output.ensures.ok.tie ∙ c.loop-event.invariant.tie;
-      meter = c.in_ok-output.ensures.ok.meter ∙ c.loop-event.invariant.meter;
       cost = λ s h.
           let before = (c.loop-event.invariant.happened s h).state in
           pays_more s c.args.events.now c.loop-event.event-index c.event-item.result _ _ _ c.loop-event-test.true c.event-item.is (c.loop-event.invariant.cost s h) (c.in_ok-output.ensures.ok.cost _ before);
@@ -33,7 +31,7 @@ pub returns-in_default-clause-cost : goal.returns-in_default-clause-cost
 returns-in_default-clause-cost c s h = pays_within s (events_of c.args.events.now) c.loop-event.event-index _ _ (c.loop-event.invariant.cost s h)
 
 pub returns-in_err-output-clause-cost : goal.returns-in_err-output-clause-cost
-returns-in_err-output-clause-cost c s h = rw c.in_err-output.ensures.free (pays_within s (events_of c.args.events.now) c.loop-event.event-index _ _ (c.loop-event.invariant.cost s h))
+returns-in_err-output-clause-cost c s h = rw c.in_err-output.ensures.err (pays_within s (events_of c.args.events.now) c.loop-event.event-index _ _ (c.loop-event.invariant.cost s h))
 
 pub returns-clause-bound : goal.returns-clause-bound
 returns-clause-bound c s h reached good = paid_within s (events_of c.args.events.now) _ _ reached good (pays_within s (events_of c.args.events.now) c.loop-event.event-index _ _ (c.loop-event.invariant.cost s h))
@@ -59,7 +57,7 @@ returns-in_default-clause-whole c s h reached good =
 pub returns-in_err-output-clause-whole : goal.returns-in_err-output-clause-whole
 returns-in_err-output-clause-whole c s h reached good =
     let kept : c.reserve.new.self.items ≡ c.loop-event.out.items = c.reserve.ensures.items in
-    rw (kept, c.in_err-output.ensures.free)
+    rw (kept, c.in_err-output.ensures.err)
     (whole_of _ s c.args.events.now c.loop-event.event-index (omega arith) _ _ _ _ _ h reached good (c.loop-event.invariant.happened s h) (c.loop-event.invariant.cost s h))
 
 pub returns-clause-held : goal.returns-clause-held
@@ -70,7 +68,7 @@ returns-in_default-clause-bound c s h reached good = paid_within s (events_of c.
 
 pub returns-in_err-output-clause-bound : goal.returns-in_err-output-clause-bound
 returns-in_err-output-clause-bound c s h reached good =
-    rw c.in_err-output.ensures.free (paid_within s (events_of c.args.events.now) _ _ reached good (pays_within s (events_of c.args.events.now) c.loop-event.event-index _ _ (c.loop-event.invariant.cost s h)))
+    rw c.in_err-output.ensures.err (paid_within s (events_of c.args.events.now) _ _ reached good (pays_within s (events_of c.args.events.now) c.loop-event.event-index _ _ (c.loop-event.invariant.cost s h)))
 
 pub returns-in_default-clause-held : goal.returns-in_default-clause-held
 returns-in_default-clause-held c s h reached port = held_within_after _ s (take c.loop-event.event-index (events_of c.args.events.now)) (c.loop-event.invariant.happened s h).state reached port

@@ -17,8 +17,8 @@ returns-in-Ok-replay-clause-within c s h fresh =
     let first : outputs_of c.in-Ok.outputs.items ≡ [] = ap outputs_of c.in-Ok.ensures.items in
     let outputs : outputs_of c.deref.result.now ≡ all =
     ap outputs_of c.deref.ensures.value ∙ (c.in-Ok-replay.ensures.all s h).outputs ∙ ap (λ (xs : List Output). xs ++ all) first in
-    let none : buffer_bytes c.args.core.now ≡ 0 = no_buffer_bytes c.args.core.now s h fresh.none in
-    let bound : c.whole_bound-bound.result ≡ min (whole_bound s.setting.limits (buffer_bytes c.args.core.now) events all) greatest_count =
+    let none : buffer_bytes c.args.core.now.core ≡ 0 = no_buffer_bytes c.args.core.now.core s h fresh.none in
+    let bound : c.whole_bound-bound.result ≡ min (whole_bound s.setting.limits (buffer_bytes c.args.core.now.core) events all) greatest_count =
     c.whole_bound-bound.ensures ∙ ap (λ (xs : List Output). min (whole_bound c.args.limits.now 0 events xs) greatest_count) outputs
     ∙ ap (λ (limits : Limits). min (whole_bound limits 0 events all) greatest_count) (sym fresh.limits_are)
     ∙ ap (λ (n : ℕ). min (whole_bound s.setting.limits n events all) greatest_count) (sym none) in
