@@ -11,10 +11,10 @@ use Rattle.rb_address.specs.Hosts.{is_same_host}
 use Rattle.rb_address.proofs.HostLaws.{same_host_of}
 use Rattle.rb_policy.specs.declared.door.Origin.{Origin}
 use Rattle.rb_policy.specs.declared.door.Holder.{Holder}
-use Rattle.rb_policy.specs.declared.door.Standing.{Standing}
-use Rattle.rb_policy.specs.Door.{is_held_by, count_held_by, share, standing_of, by_standing, GoesBefore}
+use Rattle.rb_policy.specs.declared.door.Candidate.{Candidate}
+use Rattle.rb_policy.specs.Door.{is_held_by, count_held_by, share, candidate_of, by_precedence, GoesBefore}
 use Rattle.rb_policy.specs.DoorLaws.{SharesAreKept, OneIsGivenUp}
-use Rattle.rb_policy.proofs.Standings.{by_standing_total}
+use Rattle.rb_policy.proofs.Candidates.{by_precedence_total}
 
 -- ---- one is given up
 
@@ -28,14 +28,14 @@ neither Less not_less not_greater = absurd (not_less refl)
 neither Equal not_less not_greater = refl
 neither Greater not_less not_greater = absurd (not_greater refl)
 
-tied_places : (a b : Standing) → ¬ GoesBefore a b → ¬ GoesBefore b a → a.place ≡ b.place
+tied_places : (a b : Candidate) → ¬ GoesBefore a b → ¬ GoesBefore b a → a.place ≡ b.place
 tied_places a b not_a not_b =
-    let tied = neither (by_standing a b) not_a (λ e. not_b (by_standing_total.antisymm b a ∙ e)) in
+    let tied = neither (by_precedence a b) not_a (λ e. not_b (by_precedence_total.antisymm b a ∙ e)) in
     grind (arith, nat_tests, last_is _ (nat_cmp a.place b.place) tied)
 
 pub one_is_given_up : OneIsGivenUp
 one_is_given_up places newcomer now a b first second =
-    tied_places (standing_of places now a first.holder) (standing_of places now b second.holder)
+    tied_places (candidate_of places now a first.holder) (candidate_of places now b second.holder)
     (second.first a first.holder first.may)
     (first.first b second.holder second.may)
 

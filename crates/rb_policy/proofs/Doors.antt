@@ -6,7 +6,7 @@ use Rattle.std.proofs.lemmas.List.Sums.{sum_by-cons}
 use Rattle.rb_policy.specs.declared.door.Origin.{Origin}
 use Rattle.rb_policy.specs.declared.door.Holder.{Holder}
 use Rattle.rb_policy.specs.Door.{Places, is_free, is_held_by, count_held_by, share, may_hold_more}
-use Rattle.rb_policy.specs.Standings.{NobodyMayBeGivenUp}
+use Rattle.rb_policy.specs.Candidates.{NobodyMayBeGivenUp}
 
 some_counted : {X : Type 0} (p : X → Bool) (xs : List X) → 0 < count_by p xs → (k : ℕ) × (x : X) × (slice_get xs k ≡ Some x) × (p x ≡ true)
 some_counted p [] some = absurd (omega (arith, some))

@@ -1,8 +1,8 @@
-mod Asks
 mod BrakeLaws
 mod Brakes
 mod DoorLaws
 mod Doors
-mod Standings
+mod Candidates
 mod TrustLaws
+mod WayLaws
 mod LogLaws

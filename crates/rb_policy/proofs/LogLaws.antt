@@ -1,11 +1,13 @@
 -- What follows of how many lines of a kind a log gets in a second.
-use Rattle.std.proofs.Common.{◌≡◌, ◌<◌, ◌≤◌, ◌+◌, ◌^◌, ◌∙◌, ℕ, cond, List, [], ◌∷◌, length, sym, arith}
+use Rattle.std.proofs.Common.{◌≡◌, ◌<◌, ◌≤◌, ◌+◌, ◌-◌, ◌*◌, ◌/◌, ◌^◌, ◌∙◌, ℕ, Bool, true, false, cond, if◌then◌else◌, min, List, [], ◌∷◌, length, Some, None, sym, arith}
+use Rattle.std.specs.Prelude.{◌==◌}
+use Rattle.std.proofs.lemmas.Option.{none-some, same_Some}
 use Rattle.std.specs.List.{AllByRecursion}
 use Rattle.std.proofs.lemmas.Bool.Decides.{nat_tests}
 use Rattle.rb_policy.specs.declared.log_rate.TheConstants.{LINES}
 use Rattle.rb_policy.specs.declared.log_rate.LogRate.{LogRate}
 use Rattle.rb_policy.specs.LogRate.{second_of, new_rate, gets_line, rate_after}
-use Rattle.rb_policy.specs.LogLaws.{rate_then, lines_got, FewOfASecond, NoneIsLost}
+use Rattle.rb_policy.specs.LogLaws.{rate_then, lines_got, FewOfASecond, NoneIsLost, TheyAreToldThen}
 
 -- ---- one line that is asked for
 
@@ -59,3 +61,22 @@ lost (now ∷ more) rate small =
 
 pub none_is_lost : NoneIsLost
 none_is_lost moments small = omega (arith, lost moments new_rate (omega (arith, small)))
+
+-- ---- when they are told
+
+moment_is : (b : Bool) (moment at : ℕ) → (if b then None else Some moment) ≡ Some at → moment ≡ at
+moment_is true moment at is = absurd (none-some at is)
+moment_is false moment at is = same_Some moment at is
+
+later_second : (second at now : ℕ) → min ((second + 1) * 1000) (2 ^ 64 - 1) ≡ at → now < 2 ^ 64 - 1 → at ≤ now → second < now / 1000
+later_second second at now is small come = omega (arith, is, small, come)
+
+same_second : (second at now : ℕ) → min ((second + 1) * 1000) (2 ^ 64 - 1) ≡ at → second ≤ now / 1000 → now < at → now / 1000 ≡ second
+same_second second at now is not_before early = omega (arith, is, not_before, early)
+
+pub they_are_told_then : TheyAreToldThen
+they_are_told_then rate at now is not_before small =
+    let moment = moment_is (rate.left_out == 0) (min ((rate.second + 1) * 1000) (2 ^ 64 - 1)) at is in (
+      λ come. let after = later_second rate.second at now moment small come in grind (arith, nat_tests, after),
+      λ early. let same = same_second rate.second at now moment not_before early in grind (arith, nat_tests, same),
+    )

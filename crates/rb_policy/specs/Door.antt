@@ -1,5 +1,5 @@
 -- Who gets a place for a connection, and who is given up for it.
-use Rattle.std.specs.Prelude.{◌≡◌, ℕ, ◌-◌, ◌/◌, max, true, false, nat_lt, nat_le, Bool, not, ◌&&◌, ◌||◌, IsTrue, List, [], ◌∷◌, length, slice_get, count_by, position, Option, Some, None}
+use Rattle.std.specs.Prelude.{◌≡◌, ℕ, ◌-◌, ◌/◌, max, true, false, nat_lt, Bool, not, ◌||◌, if◌then◌else◌, IsTrue, List, [], ◌∷◌, length, slice_get, count_by, position, Option, Some, None}
 use Rattle.std.specs.declared.cmp.Ordering.{Ordering}
 use Rattle.std.specs.declared.cmp.Ordering.TheVariants.{Less}
 use Rattle.std.specs.Ordering.{nat_cmp, bool_cmp, on, then_cmp}
@@ -8,11 +8,12 @@ use Rattle.rb_address.specs.declared.host.Host.TheVariants.{V4}
 use Rattle.rb_address.specs.declared.who.Source.{Source}
 use Rattle.rb_address.specs.declared.who.Source.TheVariants.{Inet, Local}
 use Rattle.rb_address.specs.Hosts.{is_loopback, is_same_host}
-use Rattle.rb_policy.specs.declared.door.Phase.{Phase}
-use Rattle.rb_policy.specs.declared.door.Phase.TheVariants.{Idle, Reading, Owing, Awaiting}
+use Rattle.rb_forward.specs.Forwards.{later}
+use Rattle.rb_model.specs.declared.types.Standing.{Standing}
+use Rattle.rb_model.specs.declared.types.Standing.TheVariants.{Idle, Reading, Owing, Awaiting, Sends, Lost}
 use Rattle.rb_policy.specs.declared.door.Origin.{Origin}
 use Rattle.rb_policy.specs.declared.door.Holder.{Holder}
-use Rattle.rb_policy.specs.declared.door.Standing.{Standing}
+use Rattle.rb_policy.specs.declared.door.Candidate.{Candidate}
 use Rattle.rb_policy.specs.declared.door.Admission.{Admission}
 use Rattle.rb_policy.specs.declared.door.Admission.TheVariants.{Take, GiveUp, Close}
 use Rattle.rb_policy.specs.declared.door.TheConstants.{ACTIVE, OWED}
@@ -32,21 +33,18 @@ abbrev pub origin_of : Source → Origin
 origin_of (Inet peer) = record { host = peer.host; is_local = is_loopback peer.host }
 origin_of Local = record { host = V4 (127 ∷ 0 ∷ 0 ∷ 1 ∷ []); is_local = true }
 
--- its phase: whether its call is forwarded, whether it is owed bytes, and whether a call is yet to come
-abbrev pub phase_of : Bool → Bool → Bool → Phase
-phase_of true owed reading = Awaiting
-phase_of false true reading = Owing
-phase_of false false true = Reading
-phase_of false false false = Idle
+-- where it stands outside: what the core gave is owed until the socket has taken it
+abbrev pub standing_outside : Standing → Bool → Standing
+standing_outside Sends is_owed = Awaiting
+standing_outside Awaiting is_owed = Awaiting
+standing_outside Idle is_owed = if is_owed then Owing else Idle
+standing_outside Reading is_owed = if is_owed then Owing else Reading
+standing_outside Owing is_owed = Owing
+standing_outside Lost is_owed = if is_owed then Owing else Lost
 
--- whether a record ended with the bytes that were taken, of so many that were there
-abbrev pub ends_record : ℕ → ℕ → ℕ → Bool → Bool
-ends_record taken held given awaiting =
-    nat_lt 0 taken && (nat_lt 0 given || awaiting || nat_lt taken held)
-
--- whether it is given up where its socket has taken nothing since a moment
-abbrev pub is_stuck : ℕ → ℕ → Bool
-is_stuck since now = nat_le OWED (now - since)
+-- the moment from which it is given up where its socket has taken nothing since another one
+abbrev pub stuck_at : ℕ → ℕ
+stuck_at since = later since OWED
 
 -- ---- shares
 
@@ -71,39 +69,42 @@ is_within_share places peer = peer.is_local || not (nat_lt (share (length places
 
 -- ---- who is given up
 
--- Idle before Reading before Owing before Awaiting
-abbrev pub rank : Phase → ℕ
+-- Idle before Reading before Owing before Awaiting; one that Sends goes as one that is Awaiting, and one that is Lost as one
+-- that is Idle
+abbrev pub rank : Standing → ℕ
 rank Idle = 0
+rank Lost = 0
 rank Reading = 1
 rank Owing = 2
 rank Awaiting = 3
+rank Sends = 3
 
--- how the holder of a place stands at a moment
-abbrev pub standing_of : Places → ℕ → ℕ → Holder → Standing
-standing_of places now place holder = record {
+-- the holder of a place, as it stands at a moment
+abbrev pub candidate_of : Places → ℕ → ℕ → Holder → Candidate
+candidate_of places now place holder = record {
   is_within_share = is_within_share places holder.origin;
   is_local = holder.origin.is_local;
   is_active = nat_lt (now - holder.since) ACTIVE;
-  phase = holder.phase;
+  standing = holder.standing;
   since = holder.since;
   place = place;
 }
 
 -- The order in which holders are given up. Of two that differ in one of these, and in none before it, first goes: who
--- is over the share; who is of another host; who made no progress of late; who is in the earlier phase; who has made
--- none for longer; and who has the lower place.
-abbrev pub by_standing : Standing → Standing → Ordering
-by_standing =
+-- is over the share; who is of another host; who made no progress of late; who stands earlier; who has made none for
+-- longer; and who has the lower place.
+abbrev pub by_precedence : Candidate → Candidate → Ordering
+by_precedence =
     then_cmp (then_cmp (then_cmp (then_cmp (then_cmp
     (on (λ s. s.is_within_share) bool_cmp)
     (on (λ s. s.is_local) bool_cmp))
     (on (λ s. s.is_active) bool_cmp))
-    (on (λ s. rank s.phase) nat_cmp))
+    (on (λ s. rank s.standing) nat_cmp))
     (on (λ s. s.since) nat_cmp))
     (on (λ s. s.place) nat_cmp)
 
-abbrev pub GoesBefore : Standing → Standing → Type 0
-GoesBefore a b = by_standing a b ≡ Less
+abbrev pub GoesBefore : Candidate → Candidate → Type 0
+GoesBefore a b = by_precedence a b ≡ Less
 
 -- The holder of a place may be given up for a newcomer: any, where the newcomer may hold one place more, and else one
 -- of its own host.
@@ -115,7 +116,7 @@ pub record MayBeGivenUp (places : Places) (newcomer : Origin) (place : ℕ) (hol
 pub record IsGivenUp (places : Places) (newcomer : Origin) (now : ℕ) (place : ℕ) : Type 0 where
   pub holder : Holder
   pub may : MayBeGivenUp places newcomer place holder
-  pub first : (k : ℕ) (other : Holder) → MayBeGivenUp places newcomer k other → ¬ GoesBefore (standing_of places now k other) (standing_of places now place holder)
+  pub first : (k : ℕ) (other : Holder) → MayBeGivenUp places newcomer k other → ¬ GoesBefore (candidate_of places now k other) (candidate_of places now place holder)
 
 -- ---- what is done with a newcomer
 

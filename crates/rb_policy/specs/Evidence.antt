@@ -1,9 +1,10 @@
 -- What the kernel's tables of connections show of one from this host, and when they are read.
-use Rattle.std.specs.Prelude.{ℕ, ◌-◌, min, nat_le, Bool, true, false, not, ◌&&◌, if◌then◌else◌, List, take, Option, Some, None}
+use Rattle.std.specs.Prelude.{ℕ, nat_le, Bool, true, false, not, ◌&&◌, if◌then◌else◌, List, take, Option, Some, None}
 use Rattle.rb_address.specs.declared.host.Family.{Family}
 use Rattle.rb_address.specs.declared.host.Family.TheVariants.{Inet, Inet6}
 use Rattle.rb_address.specs.declared.peer.Peer.{Peer}
 use Rattle.rb_address.specs.Hosts.{family_of, is_loopback}
+use Rattle.rb_forward.specs.Forwards.{later}
 use Rattle.rb_evidence.specs.Table.{uid_of, uid_of_mapped}
 use Rattle.rb_policy.specs.declared.evidence.Evidence.{Evidence}
 use Rattle.rb_policy.specs.declared.evidence.Evidence.TheVariants.{Found, NotFound, Unread}
@@ -39,15 +40,13 @@ evidence_of table None theirs ours = Unread
 
 -- ---- when they are read
 
--- whether they may be read at a moment, where they were last read at another
-abbrev pub may_read : ℕ → Option ℕ → Bool
-may_read now (Some last) = nat_le BETWEEN_READINGS (now - last)
-may_read now None = true
+-- the moment from which they may be read, where they were last read at another
+abbrev pub next_reading : Option ℕ → ℕ
+next_reading (Some last) = later last BETWEEN_READINGS
+next_reading None = 0
 
--- how long is waited at most for the next reading
-abbrev pub wait_for_reading : ℕ → Option ℕ → ℕ → ℕ
-wait_for_reading now (Some last) longest = min longest (BETWEEN_READINGS - (now - last))
-wait_for_reading now None longest = 0
+abbrev pub may_read : ℕ → Option ℕ → Bool
+may_read now last = nat_le (next_reading last) now
 
 -- the first bytes of the room, where they are no more than a table may have
 abbrev pub whole_text : List ℕ → ℕ → Option (List ℕ)

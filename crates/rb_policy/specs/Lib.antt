@@ -10,13 +10,14 @@ pub mod KeepFile
 pub mod Addresses
 pub mod Checked
 pub mod Asked
+pub mod WaysBack
 pub mod Evidence
 pub mod Trusts
 pub mod Recents
 pub mod Brake
 pub mod BrakeLaws
 pub mod Door
-pub mod Standings
+pub mod Candidates
 pub mod DoorLaws
 pub mod LogRate
 pub mod LogLines

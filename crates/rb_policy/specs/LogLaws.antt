@@ -1,9 +1,9 @@
 -- What follows of how many lines of a kind a log gets in a second.
-use Rattle.std.specs.Prelude.{◌≡◌, ◌<◌, ◌≤◌, ◌+◌, ◌^◌, ℕ, List, [], ◌∷◌, length, if◌then◌else◌}
+use Rattle.std.specs.Prelude.{◌≡◌, ◌<◌, ◌≤◌, ◌+◌, ◌-◌, ◌^◌, ℕ, List, [], ◌∷◌, length, if◌then◌else◌, Some}
 use Rattle.std.specs.List.{AllByRecursion}
 use Rattle.rb_policy.specs.declared.log_rate.TheConstants.{LINES}
 use Rattle.rb_policy.specs.declared.log_rate.LogRate.{LogRate}
-use Rattle.rb_policy.specs.LogRate.{second_of, new_rate, gets_line, rate_after}
+use Rattle.rb_policy.specs.LogRate.{second_of, new_rate, gets_line, rate_after, tells, next_line}
 
 -- what is known after lines were asked for at these moments, one after another
 abbrev pub rate_then : LogRate → List ℕ → LogRate
@@ -26,3 +26,9 @@ abbrev pub NoneIsLost : Type 0
 NoneIsLost =
     (moments : List ℕ) → length moments < 2 ^ 64
     → lines_got new_rate moments + (rate_then new_rate moments).left_out ≡ length moments
+
+-- How many were left out is told from their moment on, and not before it.
+abbrev pub TheyAreToldThen : Type 0
+TheyAreToldThen =
+    (rate : LogRate) (at now : ℕ) → next_line rate ≡ Some at → rate.second ≤ second_of now → now < 2 ^ 64 - 1
+    → (at ≤ now → tells rate now ≡ rate.left_out) × (now < at → tells rate now ≡ 0)

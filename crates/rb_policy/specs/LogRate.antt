@@ -1,5 +1,5 @@
 -- How many lines of a kind a log gets in a second.
-use Rattle.std.specs.Prelude.{ℕ, ◌+◌, ◌-◌, ◌^◌, ◌/◌, ◌==◌, nat_lt, min, Bool, if◌then◌else◌}
+use Rattle.std.specs.Prelude.{ℕ, ◌+◌, ◌-◌, ◌*◌, ◌^◌, ◌/◌, ◌==◌, nat_lt, min, Bool, if◌then◌else◌, Option, Some, None}
 use Rattle.rb_policy.specs.declared.recent.TheConstants.{SECOND}
 use Rattle.rb_policy.specs.declared.log_rate.TheConstants.{LINES}
 use Rattle.rb_policy.specs.declared.log_rate.LogRate.{LogRate}
@@ -37,3 +37,8 @@ tells rate now = if second_of now == rate.second then 0 else rate.left_out
 
 abbrev pub rate_told : LogRate → ℕ → LogRate
 rate_told rate now = if second_of now == rate.second then rate else record rate { left_out = 0 }
+
+-- the moment from which they are told, where some were left out: the end of their second, or the greatest one
+abbrev pub next_line : LogRate → Option ℕ
+next_line rate =
+    if rate.left_out == 0 then None else Some (min ((rate.second + 1) * SECOND) (2 ^ 64 - 1))

@@ -1,22 +1,28 @@
 -- What is done in a turn, and what is left for the next.
-use Rattle.std.specs.Prelude.{ℕ, ◌-◌, ◌/◌, min, max, nat_lt, nat_le, Bool, true, false, ◌||◌, ◌==◌, if◌then◌else◌}
+use Rattle.std.specs.Prelude.{ℕ, ◌-◌, ◌/◌, min, max, nat_lt, nat_le, Bool, true, false, ◌||◌, ◌==◌, if◌then◌else◌, Option, Some, None}
+use Rattle.rb_forward.specs.Deadlines.{sooner_of}
+use Rattle.rb_model.specs.declared.types.Standing.{Standing}
+use Rattle.rb_model.specs.declared.types.Standing.TheVariants.{Owing}
 use Rattle.rb_policy.specs.declared.turns.Again.{Again}
 use Rattle.rb_policy.specs.declared.turns.Again.TheVariants.{AtOnce, AfterWait}
 use Rattle.rb_policy.specs.declared.turns.TheConstants.{SOCKET_CALLS, STEP, LAST_ROUND}
 use Rattle.rb_policy.specs.declared.turns.Round.{Round}
 use Rattle.rb_policy.specs.declared.turns.Round.TheVariants.{First, Last}
-use Rattle.rb_policy.specs.declared.door.Phase.{Phase}
-use Rattle.rb_policy.specs.declared.door.Phase.TheVariants.{Idle, Reading, Owing, Awaiting}
 
 -- when a socket is served again on which all receives or accepts of a turn were made, where some of them got something
 abbrev pub after_all_calls : Bool → Again
 after_all_calls true = AtOnce
 after_all_calls false = AfterWait
 
--- the wait of a turn, where something is to be served at once or not
-abbrev pub wait_of : Bool → ℕ → ℕ
-wait_of true longest = 0
-wait_of false longest = longest
+-- how long it is from a moment until something is due, if it is: nothing where that has come
+abbrev pub time_until : ℕ → Option ℕ → Option ℕ
+time_until now None = None
+time_until now (Some due) = Some (due - now)
+
+-- the wait of a turn, where something is left or is not: until something is due, and no longer than it may; none has no end
+abbrev pub wait_of : Bool → ℕ → Option ℕ → Option ℕ → Option ℕ
+wait_of true now due longest = Some 0
+wait_of false now due longest = sooner_of (time_until now due) longest
 
 -- how many connections a turn accepts, where so many of all places are free as its accepting begins
 abbrev pub accept_count : ℕ → ℕ → ℕ
@@ -31,13 +37,11 @@ place_count asked descriptors others = max (min asked (descriptors - others - 1)
 abbrev pub is_cut_off : ℕ → ℕ → Bool
 is_cut_off calls written = nat_le SOCKET_CALLS calls || nat_le STEP written
 
--- in which round a connection is served that was left by the last turn or was not, and is in a phase
-abbrev pub round_of : Bool → Phase → Round
-round_of true phase = Last
-round_of false Idle = First
-round_of false Reading = First
+-- in which round a connection is served that was left by the last turn or was not, by where it stands
+abbrev pub round_of : Bool → Standing → Round
+round_of true standing = Last
 round_of false Owing = Last
-round_of false Awaiting = First
+round_of false standing = First
 
 -- whether one more is served in the last round
 abbrev pub serves_another : ℕ → Bool

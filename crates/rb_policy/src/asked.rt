@@ -1,7 +1,6 @@
-//! Which host a datagram asked, and the socket that has the host that was asked.
+//! Which host a datagram asked.
 ghost use Rattle.std.specs.Prelude.{◌≡◌};
-ghost use Rattle.std.specs.List.{position};
-ghost use Rattle.rb_policy.specs.Asked.{host_asked, has_asked, socket_of};
+ghost use Rattle.rb_policy.specs.Asked.{host_asked};
 
 use rb_address::{Family, Host};
 
@@ -14,20 +13,4 @@ pub fn host_asked(bound: Host, family: Family) -> Host
         (Family::Inet6, Family::Inet) => Host::V4([0; 4]),
         (Family::Inet, _) | (Family::Inet6, Family::Inet6) => bound,
     }
-}
-
-/// The number of the socket on which a datagram came that asked this host, of sockets that are bound to these.
-pub fn socket_of(bound: &[Host], asked: Host) -> Option<usize>
-    ensures { result ≡ socket_of bound.now asked }
-{
-    bound.iter().position(|host| has_asked(asked, *host))
-}
-
-/// Whether a datagram that asked a host may have come on a socket that is bound to another: to that one, or to :: where
-/// 0.0.0.0 was asked.
-fn has_asked(asked: Host, bound: Host) -> bool
-    ensures { result ≡ has_asked asked bound }
-{
-    bound == asked
-        || (bound.is_any() && bound.family() == Family::Inet6 && asked == Host::V4([0; 4]))
 }

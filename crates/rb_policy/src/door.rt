@@ -1,9 +1,10 @@
 //! Who gets a place for a connection, and who is given up for it where all are taken.
 ghost use Rattle.std.specs.Prelude.{◌≡◌, ◌<◌, length, position, IfNone, IfSome};
-ghost use Rattle.rb_policy.specs.Door.{is_free, count_held_by, is_held_by, share, may_hold_more, is_within_share, IsGivenUp, IsAdmitted, origin_of, phase_of, is_stuck, ends_record};
-ghost use Rattle.rb_policy.specs.Standings.{candidate, sooner, NobodyMayBeGivenUp};
+ghost use Rattle.rb_policy.specs.Door.{is_free, count_held_by, is_held_by, share, may_hold_more, is_within_share, IsGivenUp, IsAdmitted, origin_of, rank, standing_outside, stuck_at};
+ghost use Rattle.rb_policy.specs.Candidates.{candidate_at, first_of, NobodyMayBeGivenUp};
 
 use rb_address::{Host, Source};
+use rb_model::Standing;
 
 /// For so many milliseconds after its last progress a connection is active.
 pub const ACTIVE: u64 = 1_000;
@@ -11,54 +12,30 @@ pub const ACTIVE: u64 = 1_000;
 /// Bytes that are owed may wait so many milliseconds for the socket to take some.
 pub const OWED: u64 = 30_000;
 
-/// What a connection that holds a place is about. An earlier phase is given up before a later one.
-#[derive(Clone, Copy, Debug, PartialEq, Eq)]
-pub enum Phase {
-    /// It is between two calls.
-    Idle,
-    /// Its first call, or the rest of a call, is yet to come.
-    Reading,
-    /// Its socket has not yet taken all of its replies.
-    Owing,
-    /// Its call is forwarded, and has not ended.
-    Awaiting,
-}
-
-impl Phase {
-    ghost use Rattle.std.specs.Prelude.{◌≡◌};
-    ghost use Rattle.rb_policy.specs.Door.{rank};
-
-    fn rank(self) -> u8
-        ensures { result ≡ rank self }
-    {
-        match self {
-            Phase::Idle => 0,
-            Phase::Reading => 1,
-            Phase::Owing => 2,
-            Phase::Awaiting => 3,
+/// Where a connection stands outside, of which the core says where it stands: bytes that the core gave are owed until the
+/// socket has taken them. A call that is to be sent counts as one that is awaited.
+pub fn standing_outside(told: Standing, is_owed: bool) -> Standing
+    ensures { result ≡ standing_outside told is_owed }
+{
+    match told {
+        Standing::Sends | Standing::Awaiting => Standing::Awaiting,
+        Standing::Idle | Standing::Reading | Standing::Owing | Standing::Lost if is_owed => {
+            Standing::Owing
         }
+        told => told,
     }
 }
 
-/// The phase of a connection: whether its call is forwarded and has not ended, whether it is owed bytes, and whether
-/// its first call or the rest of a call is yet to come.
-pub fn phase_of(is_awaiting: bool, is_owed: bool, is_reading: bool) -> Phase
-    ensures { result ≡ phase_of is_awaiting is_owed is_reading }
+/// A connection that stands here is given up before one that stands later.
+fn rank(standing: Standing) -> u8
+    ensures { result ≡ rank standing }
 {
-    match (is_awaiting, is_owed, is_reading) {
-        (true, _, _) => Phase::Awaiting,
-        (false, true, _) => Phase::Owing,
-        (false, false, true) => Phase::Reading,
-        (false, false, false) => Phase::Idle,
+    match standing {
+        Standing::Idle | Standing::Lost => 0,
+        Standing::Reading => 1,
+        Standing::Owing => 2,
+        Standing::Awaiting | Standing::Sends => 3,
     }
-}
-
-/// Whether a record ended with the bytes of it that were taken, of so many that were there, as far as can be told: a
-/// reply was given at once, its call is forwarded, or bytes are left. A byte of a record that goes on ends none.
-pub fn ends_record(taken: usize, held: usize, given: usize, is_awaiting: bool) -> bool
-    ensures { result ≡ ends_record taken held given is_awaiting }
-{
-    taken > 0 && (given > 0 || is_awaiting || taken < held)
 }
 
 /// Where a connection came from.
@@ -92,19 +69,20 @@ pub fn origin_of(source: Source) -> Origin
 pub struct Holder {
     /// Where it came from.
     pub origin: Origin,
-    /// What it is about.
-    pub phase: Phase,
+    /// Where it stands. It is Owing, too, while its socket has not taken all of its replies.
+    pub standing: Standing,
     /// The moment of its last progress, or of its opening, in milliseconds. A whole record is progress, and so are
     /// bytes of a reply that the socket takes.
     pub since: u64,
 }
 
-/// Whether a connection is given up whose socket has taken none of the bytes that it is owed since a moment, in
-/// milliseconds.
-pub fn is_stuck(since: u64, now: u64) -> bool
-    ensures { result ≡ is_stuck since now }
+/// The moment from which a connection is given up whose socket has taken none of the bytes that it is owed since
+/// another one, in milliseconds.
+#[tactic(auto, unfolding(rb_forward::specs::Forwards::later))]
+pub fn stuck_at(since: u64) -> u64
+    ensures { result ≡ stuck_at since }
 {
-    now.saturating_sub(since) >= OWED
+    since.saturating_add(OWED)
 }
 
 /// What is done with a newcomer.
@@ -118,13 +96,13 @@ pub enum Admission {
     Close,
 }
 
-/// How a connection stands among those that may be given up.
+/// A connection that may be given up, as far as that decides who is.
 #[derive(Clone, Copy, Debug, PartialEq, Eq)]
-struct Standing {
+struct Candidate {
     is_within_share: bool,
     is_local: bool,
     is_active: bool,
-    phase: Phase,
+    standing: Standing,
     since: u64,
     place: usize,
 }
@@ -162,33 +140,33 @@ fn given_up(places: &[Option<Holder>], newcomer: &Origin, now: u64) -> Option<us
     let may_be_any = may_hold_more(places, newcomer);
     let mut first = None;
     for place in 0..places.len() {
-        let other = candidate(places, newcomer, may_be_any, now, place);
-        first = sooner(first, other);
+        let other = candidate_at(places, newcomer, may_be_any, now, place);
+        first = first_of(first, other);
     }
     match first {
-        Some(standing) => Some(standing.place),
+        Some(candidate) => Some(candidate.place),
         None => None,
     }
 }
 
-/// How the connection at a place stands, if there is one that may be given up for the newcomer.
-fn candidate(
+/// The connection at a place, if there is one that may be given up for the newcomer.
+fn candidate_at(
     places: &[Option<Holder>],
     newcomer: &Origin,
     may_be_any: bool,
     now: u64,
     place: usize,
-) -> Option<Standing>
+) -> Option<Candidate>
     requires inside { place < length places.now }
     requires any { may_be_any ≡ may_hold_more places.now newcomer.now }
-    ensures { result ≡ candidate places.now newcomer.now now place }
+    ensures { result ≡ candidate_at places.now newcomer.now now place }
 {
     match &places[place] {
-        Some(holder) if may_be_any || holder.origin.host == newcomer.host => Some(Standing {
+        Some(holder) if may_be_any || holder.origin.host == newcomer.host => Some(Candidate {
             is_within_share: is_within_share(places, &holder.origin),
             is_local: holder.origin.is_local,
             is_active: now.saturating_sub(holder.since) < ACTIVE,
-            phase: holder.phase,
+            standing: holder.standing,
             since: holder.since,
             place,
         }),
@@ -196,20 +174,20 @@ fn candidate(
     }
 }
 
-impl Standing {
+impl Candidate {
     ghost use Rattle.std.specs.Prelude.{◌≡◌};
     ghost use Rattle.std.specs.Ordering.{is_lt};
-    ghost use Rattle.rb_policy.specs.Door.{by_standing};
+    ghost use Rattle.rb_policy.specs.Door.{by_precedence};
 
     /// Whether it is given up before the other one.
-    fn goes_before(&self, other: &Standing) -> bool
-        ensures { result ≡ is_lt (by_standing self.now other.now) }
+    fn goes_before(&self, other: &Candidate) -> bool
+        ensures { result ≡ is_lt (by_precedence self.now other.now) }
     {
         self.is_within_share
             .cmp(&other.is_within_share)
             .then(self.is_local.cmp(&other.is_local))
             .then(self.is_active.cmp(&other.is_active))
-            .then(self.phase.rank().cmp(&other.phase.rank()))
+            .then(rank(self.standing).cmp(&rank(other.standing)))
             .then(self.since.cmp(&other.since))
             .then(self.place.cmp(&other.place))
             .is_lt()
@@ -217,8 +195,8 @@ impl Standing {
 }
 
 /// The one of two that goes first, if there is one.
-fn sooner(a: Option<Standing>, b: Option<Standing>) -> Option<Standing>
-    ensures { result ≡ sooner a b }
+fn first_of(a: Option<Candidate>, b: Option<Candidate>) -> Option<Candidate>
+    ensures { result ≡ first_of a b }
 {
     let Some(first) = a else {
         return b;

@@ -1,7 +1,7 @@
 //! What the kernel's tables of connections show of one from this host, and when they are read.
 ghost use Rattle.std.specs.Prelude.{◌≡◌, ◌≤◌, length};
 ghost use Rattle.std.specs.Option.{option_map};
-ghost use Rattle.rb_policy.specs.Evidence.{is_shown, looks_in, evidence_of, evidence_in, uid_in, may_read, wait_for_reading, whole_text};
+ghost use Rattle.rb_policy.specs.Evidence.{is_shown, looks_in, evidence_of, evidence_in, uid_in, may_read, next_reading, whole_text};
 
 use rb_address::{Family, Peer};
 use rb_evidence::{uid_of, uid_of_mapped};
@@ -73,25 +73,22 @@ fn uid_in(table: Family, text: &[u8], theirs: &Peer, ours: &Peer) -> Option<u32>
     }
 }
 
-/// Whether the tables may be read at a moment, where they were read at another, if they were. In milliseconds.
-pub fn may_read(now: u64, last: Option<u64>) -> bool
-    ensures { result ≡ may_read now last }
+/// The moment from which the tables may be read, where they were read at another, if they were. In milliseconds.
+#[tactic(auto, unfolding(rb_forward::specs::Forwards::later))]
+pub fn next_reading(last: Option<u64>) -> u64
+    ensures { result ≡ next_reading last }
 {
     match last {
-        Some(last) => now.saturating_sub(last) >= BETWEEN_READINGS,
-        None => true,
+        Some(last) => last.saturating_add(BETWEEN_READINGS),
+        None => 0,
     }
 }
 
-/// How long a turn waits at most where connections wait for a reading, which would else wait so long, after a moment. All
-/// in milliseconds.
-pub fn wait_for_reading(now: u64, last: Option<u64>, longest: u64) -> u64
-    ensures { result ≡ wait_for_reading now last longest }
+/// Whether the tables may be read at a moment.
+pub fn may_read(now: u64, last: Option<u64>) -> bool
+    ensures { result ≡ may_read now last }
 {
-    match last {
-        Some(last) => longest.min(BETWEEN_READINGS.saturating_sub(now.saturating_sub(last))),
-        None => 0,
-    }
+    now >= next_reading(last)
 }
 
 /// The text of a table of which so many bytes were read into the room, where these are all of it.

@@ -1,11 +1,11 @@
-//! Laws of who has a place, of who may ask and is believed, of the socket that was asked, and of how many datagrams are
-//! served, and of how many lines a log gets.
+//! Laws of who has a place, of who may ask and is believed, of where the ends of forwarded calls go, of how many
+//! datagrams are served, and of how many lines a log gets.
 ghost use Rattle.rb_policy.specs.Trusts.{OthersNeedNoTable, OthersAreStrangers};
-ghost use Rattle.rb_policy.specs.Asked.{SocketsAreFound, EachHasItsOwn};
 ghost use Rattle.rb_policy.specs.BrakeLaws.{NeverMore, NeverHeldBack, HaveOnePlace, AreNetworks, StrangersCount, OneSecondIsServed};
 ghost use Rattle.rb_policy.specs.DoorLaws.{SharesAreKept, OneIsGivenUp};
-ghost use Rattle.rb_policy.specs.LogLaws.{FewOfASecond, NoneIsLost};
+ghost use Rattle.rb_policy.specs.LogLaws.{FewOfASecond, NoneIsLost, TheyAreToldThen};
 ghost use Rattle.rb_policy.specs.Networks.{WhoMayAsk, AskersOfOneNetwork};
+ghost use Rattle.rb_policy.specs.WaysBack.{EndsGoBack, OthersStay};
 
 /// Where a connection is given up for a client that comes, it is one and no other, and the client's host holds no
 /// more than its share then, or no more than before, unless it is this host.
@@ -21,10 +21,10 @@ pub fn network_laws()
     ensures examples { AskersOfOneNetwork }
 {}
 
-/// The socket on which a datagram came is found again by the host that it asked.
-pub fn asked_laws()
-    ensures found { SocketsAreFound }
-    ensures own { EachHasItsOwn }
+/// The end of a forwarded call goes out on the socket on which the call came, whatever is noted of others meanwhile.
+pub fn way_laws()
+    ensures own { EndsGoBack }
+    ensures others { OthersStay }
 {}
 
 /// Nobody but this machine may register, and the kernel's tables are asked of it alone.
@@ -45,8 +45,10 @@ pub fn brake_laws()
     ensures example { OneSecondIsServed }
 {}
 
-/// In no second the log gets more than 20 lines of a kind, and each that it does not get is counted.
+/// In no second the log gets more than 20 lines of a kind. Each that it does not get is counted, and the count is
+/// told from its moment on, and not before.
 pub fn log_laws()
     ensures few { FewOfASecond }
     ensures none { NoneIsLost }
+    ensures told { TheyAreToldThen }
 {}

@@ -27,7 +27,7 @@ fn second_of(now: u64) -> u64
 
 impl LogRate {
     ghost use Rattle.std.specs.Prelude.{◌≡◌};
-    ghost use Rattle.rb_policy.specs.LogRate.{new_rate, rate_at, gets_line, rate_after, tells, rate_told};
+    ghost use Rattle.rb_policy.specs.LogRate.{new_rate, rate_at, gets_line, rate_after, tells, rate_told, next_line};
 
     /// No line was asked for.
     pub fn new() -> LogRate
@@ -83,5 +83,17 @@ impl LogRate {
         let left_out = self.left_out;
         self.left_out = 0;
         left_out
+    }
+
+    /// The moment from which `take_left_out` tells how many lines were left out, in milliseconds: the end of their
+    /// second. None where none were.
+    pub fn next_line(&self) -> Option<u64>
+        ensures { result ≡ next_line self.now }
+    {
+        if self.left_out == 0 {
+            return None;
+        }
+        let next = self.second.saturating_add(1);
+        Some(next.saturating_mul(SECOND))
     }
 }

@@ -1,6 +1,8 @@
 //! The moments that the core is handed, in milliseconds since the start of 1970.
 ghost use Rattle.std.specs.Prelude.{◌≡◌};
 
+use crate::turns::RETRY;
+
 /// Moments go by the monotonic clock from the start's wall clock on, so that no step of the wall clock stops or ends
 /// a deadline.
 #[derive(Clone, Copy, Debug, PartialEq, Eq)]
@@ -52,14 +54,16 @@ impl Moments {
         self.last
     }
 
-    /// How long a turn goes on to wait, in milliseconds, whose wait, of so many, showed so many sockets and is over: where
-    /// it showed none and was no longer than that by the monotonic clock, a signal ended it.
-    pub fn rest_of_wait(&self, wait: u64, shown: usize, monotonic: u64) -> u64
-        ensures { result ≡ rest_of_wait self.now.monotonic wait shown monotonic }
+    /// How long a turn goes on to wait, in milliseconds, whose wait, of so many or without an end, showed nothing and is
+    /// over: where it was no longer than that by the monotonic clock, a signal ended it. No longer than `RETRY`: then
+    /// the next turn waits.
+    pub fn rest_of_wait(&self, wait: Option<u64>, monotonic: u64) -> u64
+        ensures { result ≡ rest_of_wait self.now.monotonic wait monotonic }
     {
-        if shown > 0 {
-            return 0;
+        let waited = monotonic.saturating_sub(self.monotonic);
+        match wait {
+            Some(wait) => wait.saturating_sub(waited).min(RETRY),
+            None => RETRY,
         }
-        wait.saturating_sub(monotonic.saturating_sub(self.monotonic))
     }
 }

@@ -2,7 +2,8 @@
 ghost use Rattle.std.specs.Prelude.{◌≡◌, ◌||◌, ◌==◌};
 ghost use Rattle.rb_policy.specs.Turns.{after_all_calls, wait_of, accept_count, place_count, is_cut_off, round_of, serves_another};
 
-use crate::door::Phase;
+use rb_forward::sooner;
+use rb_model::Standing;
 
 /// The most socket calls for one socket in a turn.
 pub const SOCKET_CALLS: usize = 64;
@@ -12,6 +13,10 @@ pub const STEP: usize = 65_536;
 
 /// So many connections are served in the last round of a turn.
 pub const LAST_ROUND: usize = 8;
+
+/// What failed is tried again after so many milliseconds: a socket that is served after a wait, and a wait that a
+/// signal ended.
+pub const RETRY: u64 = 100;
 
 /// When a socket is served again.
 #[derive(Clone, Copy, Debug, PartialEq, Eq)]
@@ -36,11 +41,24 @@ pub fn after_all_calls(got_some: bool) -> Again
     }
 }
 
-/// How long a turn waits, in milliseconds: not at all where something is to be served at once.
-pub fn wait_of(is_something_left: bool, longest: u64) -> u64
-    ensures { result ≡ wait_of is_something_left longest }
+/// How long a turn waits, in milliseconds; `None` is without an end. It does not wait where something is left. Else
+/// it waits from `now`, the moment of the last turn, until `due`, the moment of the next thing that is due, and for
+/// `longest` at most, where there are such.
+pub fn wait_of(
+    is_something_left: bool,
+    now: u64,
+    due: Option<u64>,
+    longest: Option<u64>,
+) -> Option<u64>
+    ensures { result ≡ wait_of is_something_left now due longest }
 {
-    if is_something_left { 0 } else { longest }
+    if is_something_left {
+        return Some(0);
+    }
+    match due {
+        Some(due) => sooner(Some(due.saturating_sub(now)), longest),
+        None => longest,
+    }
 }
 
 /// Whether a read that got so many bytes is followed by another: where it filled its room, or the peer may have ended
@@ -92,14 +110,14 @@ pub enum Round {
     Last,
 }
 
-/// The round of a connection that the last turn left, or did not, and that is in a phase: who is owed bytes, as of a
+/// The round of a connection that the last turn left, or did not, by where it stands: who is owed bytes, as of a
 /// list, comes behind who has a call.
-pub fn round_of(is_left: bool, phase: Phase) -> Round
-    ensures { result ≡ round_of is_left phase }
+pub fn round_of(is_left: bool, standing: Standing) -> Round
+    ensures { result ≡ round_of is_left standing }
 {
-    match (is_left, phase) {
-        (false, Phase::Idle | Phase::Reading | Phase::Awaiting) => Round::First,
-        (false, Phase::Owing) | (true, _) => Round::Last,
+    match (is_left, standing) {
+        (false, Standing::Owing) | (true, _) => Round::Last,
+        (false, _) => Round::First,
     }
 }
 

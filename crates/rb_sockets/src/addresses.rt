@@ -16,6 +16,8 @@ pub struct Addresses<'a> {
     pub are_claims_believed: bool,
     /// The port of TCP and UDP.
     pub port: u16,
+    /// How many forwarded calls there may be.
+    pub forwards: usize,
 }
 
 /// A stream socket in the file system.

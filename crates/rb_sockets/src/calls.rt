@@ -7,7 +7,7 @@ use crate::watched::Watched;
 use mio::net::UdpSocket;
 use mio::{Interest, Registry, Token};
 use rb_address::{Family, Host, Network, Peer, Source, Who};
-use rb_policy::{Entrance, address_for, asker, host_asked, ip_of, socket_of, somebody, trust_of};
+use rb_policy::{Entrance, WaysBack, address_for, asker, host_asked, ip_of, somebody, trust_of};
 use std::io;
 use std::net::{Net, SocketAddr};
 use std::os::fd::{AsRawFd, RawFd};
@@ -84,18 +84,38 @@ impl CallSocket {
 pub struct CallSockets {
     /// One for each host, in their order.
     pub all: Vec<Watched<CallSocket>>,
-    /// These hosts.
-    pub(crate) bound: Vec<Host>,
+    /// On which of them the calls came that were forwarded.
+    pub(crate) ways_back: WaysBack,
 }
 
 impl CallSockets {
-    /// Sends a reply on the socket that was asked.
-    pub fn reply_where_asked(&self, reply: &[u8], to: Who) {
-        if let Some(place) = socket_of(&self.bound, to.asked) {
-            if let Some(asked) = self.all.get(place) {
-                asked.socket.reply(reply, to);
-            }
+    /// The forwarded call of this number came on the socket of this number.
+    pub fn note_forwarded(&mut self, number: u64, socket: usize) {
+        self.ways_back.note(number, socket);
+    }
+
+    /// Sends the reply to the forwarded call of this number, on the socket on which that came. Where none is noted,
+    /// nothing is sent.
+    pub fn reply_to_forwarded(&mut self, number: u64, reply: &[u8], to: Who) {
+        let Some(socket) = self.ways_back.take(number) else {
+            return;
+        };
+        if let Some(calls) = self.all.get(socket) {
+            calls.socket.reply(reply, to);
         }
+    }
+
+    /// The forwarded call of this number has ended, and has no reply.
+    pub fn drop_forwarded(&mut self, number: u64) {
+        let _ = self.ways_back.take(number);
+    }
+
+    pub(crate) fn is_left(&self) -> bool {
+        self.all.iter().any(|calls| calls.is_left())
+    }
+
+    pub(crate) fn is_tried_again(&self) -> bool {
+        self.all.iter().any(|calls| calls.is_tried_again())
     }
 }
 
@@ -174,5 +194,10 @@ impl ForwardSockets {
 
     pub(crate) fn is_left(&self) -> bool {
         self.inet.is_left() || self.inet6.as_ref().is_some_and(|inet6| inet6.is_left())
+    }
+
+    pub(crate) fn is_tried_again(&self) -> bool {
+        let inet6 = self.inet6.as_ref();
+        self.inet.is_tried_again() || inet6.is_some_and(|inet6| inet6.is_tried_again())
     }
 }

@@ -70,6 +70,7 @@ impl<'a> Settings<'a> {
             local: self.local,
             are_claims_believed: self.are_claims_believed,
             port: self.port,
+            forwards: self.limits.forwards,
         }
     }
 

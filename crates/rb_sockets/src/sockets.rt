@@ -9,8 +9,8 @@ use mio::net::UnixStream;
 use mio::{Registry, Token};
 use rb_address::{Family, Host, Network};
 use rb_policy::{
-    ANY, LOOPBACK6, binds_loopback6, forwards_inet, forwards_inet6, has_every_host, is_bound,
-    trust_of,
+    ANY, LOOPBACK6, WaysBack, binds_loopback6, forwards_inet, forwards_inet6, has_every_host,
+    is_bound, trust_of,
 };
 use std::alloc::{AllocError, Global};
 use std::fs::Files;
@@ -74,7 +74,6 @@ impl Sockets {
         let mut inet = Inet {
             listeners: Vec::with_capacity(alloc, most)?,
             calls: Vec::with_capacity(alloc, most)?,
-            bound: Vec::with_capacity(alloc, most)?,
             port: addresses.port,
             are_claims_believed: addresses.are_claims_believed,
         };
@@ -83,7 +82,6 @@ impl Sockets {
         let Inet {
             mut listeners,
             calls: all,
-            bound,
             port,
             are_claims_believed,
         } = inet;
@@ -96,8 +94,9 @@ impl Sockets {
         }
         let mut networks = Vec::with_capacity(alloc, addresses.networks.len())?;
         networks.extend_from_slice(addresses.networks)?;
+        let ways_back = WaysBack::new(alloc, addresses.forwards)?;
         Ok(Sockets {
-            calls: CallSockets { all, bound },
+            calls: CallSockets { all, ways_back },
             forwards,
             listeners,
             networks,
@@ -203,12 +202,20 @@ impl Sockets {
 
     /// Whether one of them where datagrams come in is to be served at once.
     pub fn are_datagrams_left(&self) -> bool {
-        self.forwards.is_left() || self.calls.all.iter().any(|calls| calls.is_left())
+        self.forwards.is_left() || self.calls.is_left()
     }
 
     /// Whether one of them is to be served at once.
     pub fn is_something_left(&self) -> bool {
         self.are_datagrams_left() || self.listeners.iter().any(|listener| listener.is_left())
+    }
+
+    /// Whether one of them is to be served after a wait though no event shows it.
+    pub fn is_tried_again(&self) -> bool {
+        let mut listeners = self.listeners.iter();
+        self.forwards.is_tried_again()
+            || self.calls.is_tried_again()
+            || listeners.any(|listener| listener.is_tried_again())
     }
 }
 
@@ -220,7 +227,6 @@ const WELL_KNOWN: u16 = 111;
 struct Inet {
     listeners: Vec<Watched<Listener>>,
     calls: Vec<Watched<CallSocket>>,
-    bound: Vec<Host>,
     port: u16,
     are_claims_believed: bool,
 }
@@ -249,9 +255,6 @@ impl Inet {
         if has_every_host(hosts) {
             unless_in_use(self.bind_tcp(rt, Host::V4(ANY)))?;
             unless_in_use(self.bind_udp(rt, Host::V4(ANY)))?;
-            // Where both are bound, :: has no datagrams that asked 0.0.0.0: the other one is to be found first.
-            self.calls.reverse();
-            self.bound.reverse();
         }
         Ok(())
     }
@@ -263,11 +266,7 @@ impl Inet {
 
     fn bind_udp(&mut self, rt: &impl Net, host: Host) -> Result<(), BindFault> {
         let calls = CallSocket::bind(rt, host, self.port, self.are_claims_believed)?;
-        put(&mut self.calls, calls)?;
-        match self.bound.push(host) {
-            Ok(()) => Ok(()),
-            Err(error) => Err(BindFault::Memory(AllocError::from(error))),
-        }
+        put(&mut self.calls, calls)
     }
 }
 

@@ -48,4 +48,9 @@ impl<S> Watched<S> {
     pub fn is_left(&self) -> bool {
         self.again == Again::AtOnce
     }
+
+    /// Whether it is to be served after a wait though no event shows it.
+    pub fn is_tried_again(&self) -> bool {
+        self.again == Again::AfterWait
+    }
 }
