@@ -1,6 +1,7 @@
 -- A state that a run reaches goes on by each event, and so does its record.
 use Rattle.std.specs.Prelude.{OnOk, OnErr}
-use Rattle.std.proofs.Common.{◌≡◌, ◌≤◌, ℕ, Bool, true, false, cond, List, [], ◌∷◌, ◌++◌, length, Option, Some, None, Result, Ok, Err, refl, sym, ap, subst, ◌∙◌, inl, inr, ◌⊎◌}
+use Rattle.std.proofs.Common.{◌≡◌, ◌≤◌, ℕ, Bool, true, false, cond, List, [], ◌∷◌, ◌++◌, length, append-nil, Option, Some, None, Result, Ok, Err, refl, sym, ap, subst, ◌∙◌, inl, inr, ◌⊎◌}
+use Rattle.std.proofs.Math.Bridge.{le_prop}
 use Rattle.std.proofs.Math.Logic.{∥∥₁_elim}
 use Rattle.std.proofs.lemmas.Bool.{le-ltb}
 use Rattle.rb_address.specs.declared.peer.Peer.{Peer}
@@ -105,6 +106,28 @@ written_served core before later n (Ok done) same failed =
     still_served core before later (ap (λ (t : Tape). t.text) same) (ap (λ (t : Tape). t.limit) same) (λ on. sym (ap (λ (t : Tape). t.is_on) same) ∙ on)
 written_served core before later n (Err error) written same =
     still_served core before later (ap (λ (t : Tape). t.text) same) (ap (λ (t : Tape). t.limit) same) (λ on. absurd (true≢false (sym on ∙ ap (λ (t : Tape). t.is_on) same)))
+
+-- where nothing is recorded
+pub none_recorded : (core : Held) (tape : Tape) → ∥ IsServed core tape ∥₁ → Records [] tape tape
+none_recorded core tape held = record {
+  on = λ is. is;
+  grows = λ is. sym (append-nil tape.text);
+  ends = λ was off. absurd (true≢false (sym was ∙ off));
+  stays = λ off. refl;
+  limit = refl;
+  within = ∥∥₁_elim held le_prop (λ h. h.recorded.within);
+}
+
+-- where the recording is over
+pub off_recorded : (entries : List (List ℕ)) (core : Held) (tape : Tape) → tape.is_on ≡ false → ∥ IsServed core tape ∥₁ → Records entries tape tape
+off_recorded entries core tape off held = record {
+  on = λ is. is;
+  grows = λ is. absurd (true≢false (sym is ∙ off));
+  ends = λ was is. absurd (true≢false (sym was ∙ off));
+  stays = λ is. refl;
+  limit = refl;
+  within = ∥∥₁_elim held le_prop (λ h. h.recorded.within);
+}
 
 -- ---- one event
 
@@ -268,13 +291,6 @@ pub look_output : (s : State) (id : ℕ) (owed : Result (List ℕ) CoreFault) �
 unfolding step
 look_output s id owed is = ap (output_or_refusal IsPending) (sym is) ∙ output_given IsPending (pending s id, s)
 
-pub look_records : (old : Held) (id : ℕ) (owed : Result (List ℕ) CoreFault) (before later : Tape) → ((s : State) → StandsFor old s → pending s id ≡ owed) → Records (entry_text (Pending id) (output_or_refusal IsPending owed) ∷ []) before later → (s : State) → StandsFor old s → Records (run_entries s (Pending id ∷ [])) before later
-look_records old id owed before later shows records s h = one_recorded s (Pending id) (output_or_refusal IsPending owed) before later (look_output s id owed (shows s h)) records
-
-pub look_served : (old new : Held) (n id : ℕ) (owed : Result (List ℕ) CoreFault) (before later : Tape) → new ≡ with_steps_before old n → ((s : State) → StandsFor old s → pending s id ≡ owed) → Records (entry_text (Pending id) (output_or_refusal IsPending owed) ∷ []) before later → ∥ IsServed old before ∥₁ → ∥ IsServed new later ∥₁
-look_served old new n id owed before later is shows records =
-    served_on old new before later (λ s. Pending id ∷ []) (λ s h. subst (StandsFor new) (sym (look_state s id)) (stands_begun old new n is s h)) (look_records old id owed before later shows records)
-
 -- no more than is pending was given
 pub gave_state : (s : State) (now id n : ℕ) (owed : List ℕ) → pending s id ≡ Ok owed → n ≤ length owed → (step s (Gave now id n)).1 ≡ (gave s now id n).1
 unfolding step
@@ -290,17 +306,6 @@ gave_output s now id n owed is few done =
 
 pub given_state : (s : State) (now id n : ℕ) (owed : List ℕ) → pending s id ≡ Ok owed → n ≤ length owed → after s (given_events now id n) ≡ (gave s now id n).1
 given_state s now id n owed is few = ap (λ (t : State). (step t (Gave now id n)).1) (look_state s id) ∙ gave_state s now id n owed is few
-
-pub given_records : (old mid new : Held) (count now id n : ℕ) (owed : List ℕ) (before between later : Tape) → mid ≡ with_steps_before old count → Acts StandsFor (λ s. gave s now id n) mid new (Ok tt) → ((s : State) → StandsFor old s → pending s id ≡ Ok owed) → n ≤ length owed → Records (entry_text (Pending id) (IsPending owed) ∷ []) before between → Records (entry_text (Gave now id n) Done ∷ []) between later → (s : State) → StandsFor old s → Records (run_entries s (given_events now id n)) before later
-given_records old mid new count now id n owed before between later is acts shows few one two s h =
-    two_recorded s (Pending id) (Gave now id n) (IsPending owed) Done before between later (look_output s id (Ok owed) (shows s h))
-    (gave_output s now id n owed (shows s h) few (acts.gives s (stands_begun old mid count is s h)) ∙ ap (λ (t : State). (step t (Gave now id n)).0) (sym (look_state s id))) one two
-
-pub given_served : (old mid new : Held) (count now id n : ℕ) (owed : List ℕ) (before between later : Tape) → mid ≡ with_steps_before old count → Acts StandsFor (λ s. gave s now id n) mid new (Ok tt) → ((s : State) → StandsFor old s → pending s id ≡ Ok owed) → n ≤ length owed → Records (entry_text (Pending id) (IsPending owed) ∷ []) before between → Records (entry_text (Gave now id n) Done ∷ []) between later → ∥ IsServed old before ∥₁ → ∥ IsServed new later ∥₁
-given_served old mid new count now id n owed before between later is acts shows few one two =
-    served_on old new before later (λ s. given_events now id n)
-    (λ s h. subst (StandsFor new) (sym (given_state s now id n owed (shows s h) few)) (acts.stands s (stands_begun old mid count is s h)))
-    (given_records old mid new count now id n owed before between later is acts shows few one two)
 
 -- ---- calls that are to be sent
 

@@ -1,5 +1,6 @@
 -- What is recorded of the core's events.
 use Rattle.std.specs.Prelude.{ℕ, ◌==◌, if◌then◌else◌, List, [], ◌∷◌, length, Option, Some, None, Result, Ok, Err}
+use Rattle.std.specs.List.{flat_map}
 use Rattle.rb_address.specs.declared.peer.Peer.{Peer}
 use Rattle.rb_forward.specs.Forwards.{Unsent as UnsentCall}
 use Rattle.rb_model.specs.declared.types.CoreFault.{CoreFault}
@@ -13,8 +14,7 @@ use Rattle.rb_record.specs.Entries.{event_of, entry_text, run_entries, options_t
 use Rattle.rb_record.specs.Tapes.{Tape, IsRecordOf}
 use Rattle.rb_model.specs.declared.types.Exchanged.{Exchanged}
 use Rattle.rb_model.specs.Exchanges.{taken_in}
-use Rattle.rb_daemon.specs.declared.engine.Given.{Given}
-use Rattle.rb_daemon.specs.declared.engine.Given.TheVariants as gives
+use Rattle.rb_model.specs.Gives.{piece_events, pieces_of, first_piece}
 
 -- ---- the events of a call
 
@@ -26,10 +26,9 @@ given_events now id n = Pending id ∷ Gave now id n ∷ []
 abbrev pub exchange_events : ℕ → ℕ → List ℕ → ℕ → List Event
 exchange_events now id piece n = Bytes now id piece ∷ (if n == 0 then [] else given_events now id n)
 
--- the look at what is pending, and what was given of it
-abbrev pub give_events : ℕ → ℕ → Given → List Event
-give_events now id (gives.Bytes n) = given_events now id n
-give_events now id other = Pending id ∷ []
+-- these bytes were given into a room, piece by piece
+abbrev pub give_events : ℕ → ℕ → List ℕ → State → List Event
+give_events now id given s = piece_events now id (pieces_of (first_piece s id) given)
 
 -- the look for a call that is to be sent, and that it was sent
 abbrev pub send_events_of : Option UnsentCall → List Event
@@ -59,6 +58,10 @@ output_or_refusal show (Err fault) = Refused fault
 
 abbrev pub given_entries : ℕ → ℕ → List ℕ → List (List ℕ)
 given_entries now id bytes = entry_text (Pending id) (IsPending bytes) ∷ entry_text (Gave now id (length bytes)) Done ∷ []
+
+-- of each piece of what is given
+abbrev pub pieces_entries : ℕ → ℕ → List (List ℕ) → List (List ℕ)
+pieces_entries now id pieces = flat_map (given_entries now id) pieces
 
 abbrev pub exchange_entries : ℕ → ℕ → List ℕ → Output → List ℕ → List (List ℕ)
 exchange_entries now id piece taken given = entry_text (Bytes now id piece) taken ∷ (if length given == 0 then [] else given_entries now id given)

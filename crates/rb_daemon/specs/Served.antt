@@ -1,11 +1,9 @@
--- What holds of the daemon's core between two events, and what it gives to a writer.
-use Rattle.std.specs.Prelude.{◌≡◌, ◌≤◌, ⊤, ℕ, ◌==◌, Bool, true, false, not, List, [], length, take, Option, Some, None, Result, Ok, Err}
-use Rattle.std.specs.Io.KnownBytes.{Appends, Keeps}
+-- What holds of the daemon's core between two events, and what its calls answer.
+use Rattle.std.specs.Prelude.{ℕ, ◌==◌, Bool, not, List, length, Option, Some, None}
 use Rattle.rb_address.specs.declared.peer.Peer.{Peer}
 use Rattle.rb_address.specs.declared.who.Who.{Who}
 use Rattle.rb_registry.specs.declared.row.Row.{Row}
 use Rattle.rb_forward.specs.Forwards.{Unsent}
-use Rattle.rb_model.specs.declared.types.CoreFault.{CoreFault}
 use Rattle.rb_model.specs.State.{State}
 use Rattle.rb_model.specs.declared.types.Told.TheVariants.{TcpReady, Datagram, Silent}
 use Rattle.rb_model.specs.declared.types.Expired.TheVariants.{Nothing as NothingDue, Ended, ConnectionClosed}
@@ -14,14 +12,12 @@ use Rattle.rb_model.specs.declared.types.Expired.{Expired}
 use Rattle.rb_model.specs.Ending.{forward_reply, expire}
 use Rattle.rb_model.specs.Calls.{Outcome}
 use Rattle.rb_model.specs.Calls.Outcome.{NoCall, Reply, Forwarded, Silent as SilentCall}
-use Rattle.rb_model.specs.Step.{datagram, gave, unsent_call, sent_call, IsReached}
+use Rattle.rb_model.specs.Step.{datagram, unsent_call, sent_call, IsReached}
 use Rattle.rb_model.specs.ChangeLaws.{this_machine, set_bytes}
 use Rattle.rb_record.specs.Tapes.{Tape}
 use Rattle.rb_core.specs.StandsFor.{Held, StandsFor}
 use Rattle.rb_daemon.specs.declared.engine.Answer.{Answer}
 use Rattle.rb_daemon.specs.declared.engine.Answer.TheVariants as answers
-use Rattle.rb_daemon.specs.declared.engine.Given.{Given}
-use Rattle.rb_daemon.specs.declared.engine.Given.TheVariants.{Nothing, Bytes, Failed, Over}
 use Rattle.rb_daemon.specs.declared.engine.Due.{Due}
 use Rattle.rb_daemon.specs.Recording.{HasRecorded}
 use Rattle.rb_daemon.specs.declared.engine.Due.TheVariants as dues
@@ -32,20 +28,6 @@ pub record IsServed (core : Held) (tape : Tape) : Type 0 where
   pub stands : StandsFor core state
   pub reached : IsReached state
   pub recorded : HasRecorded reached tape
-
--- Of what is pending on a connection the writer got the first n bytes, no more than there are, where n were given; and
--- nothing where none are pending or the writer failed.
-abbrev pub WasGiven : Result (List ℕ) CoreFault → Option (List ℕ) → Option (List ℕ) → Given → Type 0
-WasGiven (Ok bytes) old new (Bytes n) = (n ≤ length bytes) × Appends old new (take n bytes)
-WasGiven (Err fault) old new (Bytes n) = ⊥
-WasGiven owed old new Nothing = (owed ≡ Ok []) × Keeps old new
-WasGiven owed old new (Failed kind) = Keeps old new
-WasGiven owed old new Over = ⊤
-
--- the state after it
-abbrev pub after_giving : State → ℕ → ℕ → Given → State
-after_giving s now id (Bytes n) = (gave s now id n).1
-after_giving s now id other = s
 
 -- ---- datagrams
 
@@ -82,8 +64,8 @@ set_again row s now = let later : State = (datagram s now this_machine (set_byte
 -- the connection that goes on
 abbrev pub ready_of : Told → Option ℕ
 ready_of (TcpReady id) = Some id
-ready_of (Datagram who) = None
-ready_of Silent = None
+ready_of (Datagram call who) = None
+ready_of (Silent call) = None
 
 abbrev pub ready_after : Option Told × State → Option ℕ × State
 ready_after (None, s) = (None, s)
@@ -100,16 +82,16 @@ due_when (Some id) = dues.Ready id
 abbrev pub due_after : Expired × State → Due × State
 due_after (NothingDue, s) = (dues.Nothing, s)
 due_after (Ended told, s) = (due_when (ready_of told), s)
-due_after (ConnectionClosed id, s) = (dues.Done, s)
+due_after (ConnectionClosed id, s) = (dues.Closed id, s)
 
 -- what is due first ends
 abbrev pub expire_due : State → ℕ → Due × State
 expire_due s now = due_after (expire s now)
 
--- The call that is to be sent first was sent, where there is one.
-abbrev pub send_unsent : State → Option Unsent → Bool × State
-send_unsent s None = (false, s)
-send_unsent s (Some unsent) = (true, (sent_call s unsent.number).1)
+-- The call that is to be sent first was sent, where there is one: its number.
+abbrev pub send_unsent : State → Option Unsent → Option ℕ × State
+send_unsent s None = (None, s)
+send_unsent s (Some unsent) = (Some unsent.number, (sent_call s unsent.number).1)
 
-abbrev pub send_forward : State → ℕ → Bool × State
+abbrev pub send_forward : State → ℕ → Option ℕ × State
 send_forward s now = send_unsent s (unsent_call s)

@@ -37,8 +37,9 @@ pub struct Daemon<'a, R: Clock> {
 
 impl<'a, R: Clock> Daemon<'a, R> {
     /// A daemon that listens where the settings say: over TCP and UDP on each of their hosts, and besides on ::1 and on a
-    /// local socket where they are asked for. Before that it sets the rows again that were kept. `Limits` where a limit is out of its range, or the rows have no room for
-    /// the own ones and two more; else `Memory` or `Socket`, whichever occurs first.
+    /// local socket where they are asked for. Before that it sets the rows again that were kept. `Limits` where a limit is
+    /// out of its range, or the rows have no room for the own ones and two more; else `Memory` or `Socket`, whichever
+    /// occurs first.
     pub fn new<H: Files + Net>(
         alloc: Global,
         host: &H,
@@ -104,18 +105,24 @@ impl<'a, R: Clock> Daemon<'a, R> {
         self.left_out.as_slice()
     }
 
-    /// Waits for events once, at most `wait_ms` milliseconds, and not at all where something is left from the last
-    /// turn, and serves all that it showed, in this order: datagrams, what comes back for forwarded calls,
-    /// connections, those that are owed bytes last, and what is due, unless the turn is behind: then the next one does
-    /// not wait. It closes Lost connections, and accepts connections as far as there are free places. Those from this host
-    /// over TCP it opens by what the kernel's tables, which are files of `host`, show of them. After a fault,
-    /// `Socket` of the wait or the clock, what was handed to the core stands, and the daemon can do no more.
-    pub fn turn<H: Files>(&mut self, host: &H, wait_ms: u64) -> Result<(), DaemonFault> {
-        self.wait(wait_ms)?;
-        let before = self.moments.last();
-        let now = self.moment()?;
+    /// Waits for events once, until the next deadline or for `longest` milliseconds, whichever is sooner, without an end
+    /// where there is neither, and not at all where something is left from the last turn. Then it serves all that it
+    /// showed, in this order: datagrams, what comes back for forwarded calls, connections, those that are owed bytes
+    /// last, and what is due, unless the turn is behind: then the next one does not wait. It closes Lost connections, and
+    /// accepts connections as far as there are free places. Those from this host over TCP it opens by what the kernel's
+    /// tables, which are files of `host`, show of them. After a fault, `Socket` of the wait or the clock, what was handed
+    /// to the core stands, and the daemon can do no more.
+    pub fn turn<H: Files>(&mut self, host: &H, longest: Option<u64>) -> Result<(), DaemonFault> {
+        let deadline = self.serving.next_deadline();
+        let wait = wait_of(
+            self.serving.is_something_left(),
+            self.moments.last(),
+            self.serving.next_turn(deadline),
+            longest,
+        );
+        let is_fresh = self.wait(wait, deadline.is_none())?;
         let shown = self.events.iter().count();
-        self.serving.begin_turn(now);
+        self.serving.begin_turn(self.moments.last());
         for event in &self.events {
             self.serving.show(event);
         }
@@ -125,8 +132,7 @@ impl<'a, R: Clock> Daemon<'a, R> {
             self.serving.serve(host, event);
         }
         self.serving.serve_left(host);
-        self.serving
-            .expire(now.saturating_sub(before), shown, EVENTS);
+        self.serving.expire(deadline, is_fresh, shown, EVENTS);
         self.serving.close_lost();
         self.serving.accept_all(self.poll.registry());
         self.serving.open_held(host, self.poll.registry());
@@ -157,50 +163,54 @@ impl<'a, R: Clock> Daemon<'a, R> {
         self.serving.write_log(writer)
     }
 
-    /// Waits until something is ready, or for so many milliseconds at most. What came while a wait that showed nothing
-    /// went on is looked for once more, since a signal ends a wait and is told as one that showed nothing.
-    fn wait(&mut self, longest: u64) -> Result<(), DaemonFault> {
-        let longest = self.serving.longest_wait(longest);
-        let wait = wait_of(self.serving.is_something_left(), longest);
-        self.look(wait)?;
-        let shown = self.events.iter().count();
-        if wait == 0 || shown > 0 {
-            return Ok(());
+    /// Waits until something is ready, or for so many milliseconds, and reads the clock. A wait that showed something is
+    /// over then; else the daemon looks once more behind the clock, so that nothing is unread that came before the moment
+    /// of the turn. Returns whether it did. A signal ends a wait too, and is told as one that showed nothing.
+    fn wait(&mut self, wait: Option<u64>, follows_wall: bool) -> Result<bool, DaemonFault> {
+        if wait != Some(0) {
+            self.look(wait)?;
+            if self.events.iter().count() > 0 {
+                self.read_moment(follows_wall)?;
+                return Ok(false);
+            }
+            self.sleep_on(wait)?;
         }
-        self.wait_on(wait, shown)?;
-        self.look(0)
+        self.read_moment(follows_wall)?;
+        self.look(Some(0))?;
+        Ok(true)
     }
 
     /// Takes what is ready, after so many milliseconds at most.
-    fn look(&mut self, wait: u64) -> Result<(), DaemonFault> {
+    fn look(&mut self, wait: Option<u64>) -> Result<(), DaemonFault> {
         match self
             .poll
-            .poll(&mut self.events, Some(Duration::from_millis(wait)))
+            .poll(&mut self.events, wait.map(Duration::from_millis))
         {
             Ok(()) => Ok(()),
             Err(error) => Err(DaemonFault::Socket(Step::Wait.failed(error))),
         }
     }
 
-    /// Where a signal ended the wait, which showed so many sockets, the rest of it passes all the same: waits that always
-    /// end so take no processor.
-    fn wait_on(&self, wait: u64, shown: usize) -> Result<(), DaemonFault> {
+    /// Where a signal ended a wait of so many milliseconds, which showed nothing, the rest of it passes all the same: waits
+    /// that always end so take no processor.
+    fn sleep_on(&self, wait: Option<u64>) -> Result<(), DaemonFault> {
         let monotonic = match self.clock.monotonic() {
             Ok(time) => millis(time),
             Err(error) => return Err(DaemonFault::Socket(Step::Clock.failed(error))),
         };
-        let rest = self.moments.rest_of_wait(wait, shown, monotonic);
+        let rest = self.moments.rest_of_wait(wait, monotonic);
         if rest > 0 {
             thread::sleep(self.clock, Duration::from_millis(rest));
         }
         Ok(())
     }
 
-    fn moment(&mut self) -> Result<u64, DaemonFault> {
+    /// Reads the moment of the turn off the clocks. It follows a wall clock that was set where nothing has a deadline.
+    fn read_moment(&mut self, follows_wall: bool) -> Result<(), DaemonFault> {
         match read_clocks(self.clock) {
             Ok(Times { wall, monotonic }) => {
-                let follows_wall = !self.serving.is_somebody_there();
-                Ok(self.moments.next(wall, monotonic, follows_wall))
+                self.moments.next(wall, monotonic, follows_wall);
+                Ok(())
             }
             Err(error) => Err(DaemonFault::Socket(Step::Clock.failed(error))),
         }

@@ -1,51 +1,40 @@
 //! Where events go to the core: in the order in which they happen, each by one function.
 ghost use Rattle.std.specs.Prelude.{◌≡◌, [], ◌∷◌, IfOk, IfErr};
+ghost use Rattle.rb_model.specs.Gives.{first_piece};
+ghost use Rattle.rb_connections.specs.Slots.{Shows};
 ghost use Rattle.rb_core.specs.Events.{OnlyBegins};
+ghost use Rattle.rb_core.specs.StandsFor.{StandsFor};
 ghost use Rattle.rb_record.specs.Entries.{options_of};
 ghost use Rattle.rb_record.specs.Tapes.{Records, empty_tape};
 ghost use Rattle.rb_daemon.specs.Recording.{end_entry};
 ghost use Rattle.rb_daemon.specs.Served.{IsServed, ready_of};
 
 use crate::log::Log;
-use crate::showing::{count_given, record_exchange, record_unsent, show_done, show_opened};
+use crate::showing::{
+    count_given, record_exchange, record_pieces, record_unsent, show_done, show_opened,
+};
 use rb_address::{Peer, Source, Who};
-use rb_core::{Core, CoreFault, Exchanged, Expired, Limits, Listener, Outcome, Told};
+use rb_core::{CoreFault, Exchanged, Expired, Given, Limits, Listener, Metered, Outcome, Told};
 use rb_keep::{set_call, this_machine, write_rows};
 use rb_record::{Happening, Shown, Start, Tape};
 use rb_registry::Row;
 use rb_sockets::{CallSocket, CallSockets, ForwardSockets, Logged};
-use rb_xdr::Meter;
 use std::alloc::Global;
 use std::io;
-use std::io::{ErrorKind, Write};
+use std::io::Write;
 
-/// The core, the meter that it was made with, the moment of the turn, in milliseconds since the start of 1970, and
-/// the tape that the events are recorded on. Nothing else calls the core, so what is called here, line by line, are
-/// the events of a run, `exchange` as the bytes that came and the reply that was given, and each is recorded with
-/// what it gave.
+/// The core with its meter, the moment of the turn, in milliseconds since the start of 1970, and the tape that the events
+/// are recorded on. Nothing else calls the core, so what is called here, line by line, are the events of a run, and each
+/// is recorded with what it gave: `exchange` as the bytes that came and the reply that was given, and `give` piece by
+/// piece.
 #[derive(Drop)]
 pub(crate) struct Engine {
-    core: Core,
-    meter: Meter,
+    core: Metered,
     moment: u64,
     tape: Tape,
     /// What is told of the calls.
     log: Log,
-    ghost tied: { meter.tie ≡ core.tie },
-    ghost served: { ∥ IsServed core tape ∥₁ },
-}
-
-/// What became of the bytes that are pending on a connection.
-#[derive(Clone, Copy, Debug, PartialEq, Eq)]
-pub(crate) enum Given {
-    /// None are pending.
-    Nothing,
-    /// So many of them were given.
-    Bytes(usize),
-    /// The writer failed in this way, and none were given.
-    Failed(ErrorKind),
-    /// The writer takes no more, or there is no such connection.
-    Over,
+    ghost served: { ∥ IsServed core.core tape ∥₁ },
 }
 
 /// What is done about a datagram.
@@ -63,43 +52,55 @@ pub(crate) enum Answer {
 #[derive(Clone, Copy, Debug, PartialEq, Eq)]
 pub(crate) enum Due {
     Nothing,
-    /// A forwarded call, whose end its caller was told; or a connection, which is to be closed.
+    /// A forwarded call that came over UDP, whose end its caller was told.
     Done,
     /// A forwarded call of the connection of this number, which goes on.
     Ready(u64),
+    /// The connection of this number, which is to be closed.
+    Closed(u64),
 }
 
-/// Records the end of a forwarded call, and tells it: a caller over UDP gets the last reply from the socket that it
-/// asked. The answer is the connection that goes on.
+/// Records the end of a forwarded call, and tells it: a caller over UDP gets the last reply from the socket on which the
+/// call came. The answer is the connection that goes on.
 fn tell(
-    core: &mut Core,
-    meter: &mut Meter,
+    core: &mut Metered,
     tape: &mut Tape,
     event: &Happening<'_>,
     told: Told,
-    calls: &CallSockets,
+    calls: &mut CallSockets,
 ) -> Option<u64>
-    requires { meter.old.tie ≡ core.old.tie }
     ensures ready { result ≡ ready_of told }
-    ensures core { OnlyBegins core.old core.new }
-    ensures tie { meter.new.tie ≡ meter.old.tie }
-    ensures recorded { Records (end_entry event.now core.old.reply told ∷ []) tape.old tape.new }
+    ensures core { OnlyBegins core.old.core core.new.core }
+    ensures recorded { Records
+        (end_entry event.now core.old.core.reply told ∷ []) tape.old tape.new }
 {
     match told {
         Told::TcpReady(id) => {
             tape.record(event, &Shown::Ready(id));
             Some(id)
         }
-        Told::Datagram(who) => {
-            let reply = core.udp_reply(meter);
-            calls.reply_where_asked(reply, who);
+        Told::Datagram(call, who) => {
+            let reply = core.udp_reply();
+            calls.reply_to_forwarded(call.number, reply, who);
             tape.record(event, &Shown::RepliedTo(who, reply));
             None
         }
-        Told::Silent => {
+        Told::Silent(call) => {
+            calls.drop_forwarded(call.number);
             tape.record(event, &Shown::Silent);
             None
         }
+    }
+}
+
+/// How many bytes of a fragment are pending on a connection; 0 where there is no such connection.
+fn count_pending(core: &mut Metered, id: u64) -> usize
+    ensures count { Shows StandsFor (λ s. first_piece s id) core.old.core result }
+    ensures stays { core.new.core ≡ core.old.core }
+{
+    match core.pending_len(id) {
+        Ok(count) => count,
+        Err(_) => 0,
     }
 }
 
@@ -121,16 +122,20 @@ impl Engine {
     ghost use Rattle.rb_record.specs.Tapes.{unwritten_text};
     ghost use Rattle.rb_model.specs.Step.Event.{Open, Closed, NextLost, Datagram, Forward, Expire, ZeroStats};
     ghost use Rattle.rb_daemon.specs.Recording.{exchange_events, give_events, send_events};
-    ghost use Rattle.rb_model.specs.State.{State, are_good};
+    ghost use Rattle.rb_model.specs.State.{are_good};
+    ghost use Rattle.rb_model.specs.NextDeadlines.{next_deadline};
     ghost use Rattle.rb_model.specs.Step.{open_connection, close_connection, next_lost, zero_stats};
     ghost use Rattle.rb_model.specs.ChangeLaws.{set_call};
     ghost use Rattle.rb_keep.specs.Writing.{WritesKept};
     ghost use Rattle.rb_connections.specs.Slots.{Shows};
     ghost use Rattle.rb_core.specs.StandsFor.{StandsFor};
     ghost use Rattle.rb_model.specs.Exchanges.{count_given};
+    ghost use Rattle.rb_model.specs.Gives.{give_into, given_in, bytes_given};
+    ghost use Rattle.rb_model.specs.Sessions.{pending_bytes};
     ghost use Rattle.rb_core.specs.AtOnce.{Exchanges};
-    ghost use Rattle.rb_daemon.specs.Served.{after_giving, answer_datagram, change_count, set_again, ready_of, take_forward_reply, expire_due, send_forward};
-    ghost use Rattle.rb_daemon.specs.Moves.{IsNewEngine, Moves, ActsNow, GivesPending, RecordsEvents, CountsGiven};
+    ghost use Rattle.rb_core.specs.Standings.{StandsThen, StandsBehind};
+    ghost use Rattle.rb_daemon.specs.Served.{answer_datagram, change_count, set_again, ready_of, take_forward_reply, expire_due, send_forward};
+    ghost use Rattle.rb_daemon.specs.Moves.{IsNewEngine, Moves, ActsNow, RecordsEvents, CountsGiven};
 
     /// A new core at this moment, which is the first. The xid of the first forwarded call is the low 32 bits of it.
     /// Up to `record_limit` bytes of its events are recorded, and `logged` says of what the log has lines. `BadLimits`
@@ -147,7 +152,6 @@ impl Engine {
         ensures record { IfOk result (λ engine. engine.tape.limit ≡ record_limit) }
         ensures bad { IsErrOf result CoreFault.BadLimits ↔ IsTrue (not (are_good limits listener)) }
     {
-        let mut meter = Meter::new();
         let first_xid = (moment % 0x1_0000_0000) as u32;
         let start = Start {
             limits,
@@ -157,14 +161,13 @@ impl Engine {
         };
         let begun = begin_tape(alloc, record_limit, &start);
         let log = Log::new(alloc, logged);
-        let core = Core::new(alloc, limits, listener, first_xid, moment, &mut meter)?;
+        let core = Metered::new(alloc, limits, listener, first_xid, moment)?;
         let tape = begun?;
         let Ok(log) = log else {
             return Err(CoreFault::NoMemory);
         };
         Ok(Engine {
             core,
-            meter,
             moment,
             tape,
             log,
@@ -213,6 +216,11 @@ impl Engine {
         self.log.note_given_up(self.moment, source);
     }
 
+    /// The moment, in milliseconds, from which the log tells of lines that were left out, where some were.
+    pub(crate) fn next_log_line(&self) -> Option<u64> {
+        self.log.next_line()
+    }
+
     /// Writes the lines of the log that are not written yet. Where that fails they are lost.
     pub(crate) fn write_log<W: Write>(&mut self, writer: &mut W) -> io::Result<()>
         ensures core { self.new.core ≡ self.old.core }
@@ -228,7 +236,7 @@ impl Engine {
         ensures recorded { RecordsEvents (λ s now. Open now who ∷ []) self.old self.new }
         ensures moment { self.new.moment ≡ self.old.moment }
     {
-        let opened = self.core.open(self.moment, who, &mut self.meter);
+        let opened = self.core.open(self.moment, who);
         self.tape
             .record(&Happening::Open(self.moment, who), &show_opened(opened));
         opened
@@ -243,55 +251,42 @@ impl Engine {
         room: &mut [u8],
     ) -> Result<Exchanged, CoreFault>
         ensures acts { Exchanges
-            self.old.moment id piece.now self.old.core self.new.core result room.new }
+            self.old.moment id piece.now self.old.core.core self.new.core.core result room.new }
         ensures count { CountsGiven id piece.now (length room.old) self.old (count_given result) }
+        ensures stands { IfOk result
+            (λ done. StandsBehind id done.taken.count self.new.core.core done.standing) }
         ensures fits { count_given result ≤ length room.new }
         ensures within { IfOk result (λ done. done.taken.count ≤ length piece.now) }
         ensures recorded { RecordsEvents
             (λ s now. exchange_events now id piece.now (count_given result)) self.old self.new }
         ensures moment { self.new.moment ≡ self.old.moment }
     {
-        let done = self
-            .core
-            .exchange(self.moment, id, piece, room, &mut self.meter);
+        let done = self.core.exchange(self.moment, id, piece, room);
         let given = &room[..count_given(&done)];
         record_exchange(&mut self.tape, self.moment, id, piece, given, &done);
         done
     }
 
-    /// Writes the bytes that are pending on a connection, once, and tells the core how many the writer took.
-    pub(crate) fn give<W: Write>(&mut self, id: u64, writer: &mut W) -> Given
-        ensures given { GivesPending id W.contents self.old writer.old writer.new result }
-        ensures acts { Moves (λ s now. after_giving s now id result) self.old self.new }
-        ensures recorded { RecordsEvents (λ s now. give_events now id result) self.old self.new }
+    /// Gives whole fragments of the reply that a connection owes into the room, as many as fit: the longest is 1,028 bytes.
+    /// `Gone` where there is no such connection, or the core has given it up.
+    pub(crate) fn give(&mut self, id: u64, room: &mut [u8]) -> Result<Given, CoreFault>
+        ensures acts { ActsNow (λ s now. give_into s now id (length room.old))
+            self.old self.new (bytes_given room.new result) }
+        ensures stands { IfOk result (λ done. StandsThen id self.new.core.core done.standing) }
+        ensures fits { given_in result ≤ length room.new }
+        ensures recorded { RecordsEvents
+            (λ s now. give_events now id (pending_bytes (bytes_given room.new result)) s) self.old self.new }
         ensures moment { self.new.moment ≡ self.old.moment }
     {
-        let look = Happening::Pending(id);
-        let written = match self.core.pending(id, &mut self.meter) {
-            Ok(owed) => {
-                self.tape.record(&look, &Shown::Pending(owed));
-                if owed.is_empty() {
-                    return Given::Nothing;
-                }
-                writer.write(owed)
-            }
-            Err(fault) => {
-                self.tape.record(&look, &Shown::Refused(fault));
-                return Given::Over;
-            }
-        };
-        match written {
-            Ok(0) => Given::Over,
-            Ok(n) => match self.core.gave(self.moment, id, n, &mut self.meter) {
-                Ok(_) => {
-                    self.tape
-                        .record(&Happening::Gave(self.moment, id, n), &Shown::Done);
-                    Given::Bytes(n)
-                }
-                Err(_) => Given::Over,
-            },
-            Err(error) => Given::Failed(error.kind()),
+        if !self.tape.is_on() {
+            return self.core.give(self.moment, id, room);
         }
+        let first = count_pending(&mut self.core, id);
+        let given = self.core.give(self.moment, id, room)?;
+        if given.count > 0 {
+            record_pieces(&mut self.tape, self.moment, id, first, &room[..given.count]);
+        }
+        Ok(given)
     }
 
     /// A connection was closed. One that the core does not know is closed already.
@@ -300,20 +295,31 @@ impl Engine {
         ensures recorded { RecordsEvents (λ s now. Closed id ∷ []) self.old self.new }
         ensures moment { self.new.moment ≡ self.old.moment }
     {
-        let done = self.core.closed(id, &mut self.meter);
+        let done = self.core.closed(id);
         self.tape.record(&Happening::Closed(id), &show_done(done));
     }
 
     /// The first connection that the core has given up, if there is one.
     pub(crate) fn next_lost(&mut self) -> Option<u64>
-        ensures lost { (s : State) → StandsFor self.old.core s → result ≡ next_lost s }
+        ensures lost { Shows StandsFor next_lost self.old.core.core result }
         ensures stays { Moves (λ s now. s) self.old self.new }
         ensures recorded { RecordsEvents (λ s now. NextLost ∷ []) self.old self.new }
         ensures moment { self.new.moment ≡ self.old.moment }
     {
-        let lost = self.core.next_lost(&mut self.meter);
+        let lost = self.core.next_lost();
         self.tape.record(&Happening::NextLost, &Shown::Lost(lost));
         lost
+    }
+
+    /// The moment from which `expire` finds something, in milliseconds since the start of 1970; `None` where nothing has a
+    /// deadline. It is a look, and no event.
+    pub(crate) fn next_deadline(&mut self) -> Option<u64>
+        ensures soonest { Shows StandsFor next_deadline self.old.core.core result }
+        ensures stays { Moves (λ s now. s) self.old self.new }
+        ensures tape { self.new.tape ≡ self.old.tape }
+        ensures moment { self.new.moment ≡ self.old.moment }
+    {
+        self.core.next_deadline()
     }
 
     /// Takes a datagram in. Where it has a reply, `reply` sends it.
@@ -324,12 +330,9 @@ impl Engine {
         ensures moment { self.new.moment ≡ self.old.moment }
     {
         let event = Happening::Datagram(self.moment, who, content);
-        match self
-            .core
-            .datagram(self.moment, who, content, &mut self.meter)
-        {
+        match self.core.datagram(self.moment, who, content) {
             Outcome::Reply => {
-                let reply = self.core.udp_reply(&mut self.meter);
+                let reply = self.core.udp_reply();
                 self.tape.record(&event, &Shown::Replied(reply));
                 Answer::Reply
             }
@@ -350,7 +353,7 @@ impl Engine {
         ensures tape { self.new.tape ≡ self.old.tape }
         ensures moment { self.new.moment ≡ self.old.moment }
     {
-        let reply = self.core.udp_reply(&mut self.meter);
+        let reply = self.core.udp_reply();
         socket.reply(reply, who);
     }
 
@@ -372,13 +375,13 @@ impl Engine {
         ensures recorded { RecordsEvents (λ s now. ZeroStats ∷ []) self.old self.new }
         ensures moment { self.new.moment ≡ self.old.moment }
     {
-        self.core.zero_stats(&mut self.meter);
+        self.core.zero_stats();
         self.tape.record(&Happening::ZeroStats, &Shown::Done);
     }
 
     /// How many changes of rows were accepted.
     pub(crate) fn changes(&self) -> u64
-        ensures changes { Shows StandsFor change_count self.now.core result }
+        ensures changes { Shows StandsFor change_count self.now.core.core result }
     {
         self.core.changes()
     }
@@ -386,12 +389,12 @@ impl Engine {
     /// Writes the lines of the rows that were set, in order.
     pub(crate) fn write_rows<W: Write>(&mut self, writer: &mut W) -> io::Result<()>
         ensures kept { OnOk result
-            (WritesKept self.old.core W.contents writer.old writer.new) }
-        ensures core { self.new.core ≡ self.old.core }
+            (WritesKept self.old.core.core W.contents writer.old writer.new) }
+        ensures core { self.new.core.core ≡ self.old.core.core }
         ensures tape { self.new.tape ≡ self.old.tape }
         ensures moment { self.new.moment ≡ self.old.moment }
     {
-        write_rows(&self.core, writer, &mut self.meter)
+        write_rows(&mut self.core, writer)
     }
 
     /// Takes a datagram in that came where forwarded calls are sent from. The answer is the connection that goes on.
@@ -399,7 +402,7 @@ impl Engine {
         &mut self,
         from: Peer,
         content: &[u8],
-        calls: &CallSockets,
+        calls: &mut CallSockets,
     ) -> Option<u64>
         ensures acts { ActsNow (take_forward_reply from content.now) self.old self.new result }
         ensures recorded { RecordsEvents
@@ -407,49 +410,32 @@ impl Engine {
         ensures moment { self.new.moment ≡ self.old.moment }
     {
         let event = Happening::Forward(self.moment, from, content);
-        let Some(told) = self
-            .core
-            .forward_reply(self.moment, from, content, &mut self.meter)
-        else {
+        let Some(told) = self.core.forward_reply(self.moment, from, content) else {
             self.tape.record(&event, &Shown::Ignored);
             return None;
         };
-        tell(
-            &mut self.core,
-            &mut self.meter,
-            &mut self.tape,
-            &event,
-            told,
-            calls,
-        )
+        tell(&mut self.core, &mut self.tape, &event, told, calls)
     }
 
     /// Ends what is due first.
-    pub(crate) fn expire(&mut self, calls: &CallSockets) -> Due
+    pub(crate) fn expire(&mut self, calls: &mut CallSockets) -> Due
         ensures acts { ActsNow expire_due self.old self.new result }
         ensures recorded { RecordsEvents (λ s now. Expire now ∷ []) self.old self.new }
         ensures moment { self.new.moment ≡ self.old.moment }
     {
         let event = Happening::Expire(self.moment);
-        let told = match self.core.expire(self.moment, &mut self.meter) {
+        let told = match self.core.expire(self.moment) {
             Expired::Nothing => {
                 self.tape.record(&event, &Shown::Nothing);
                 return Due::Nothing;
             }
             Expired::ConnectionClosed(id) => {
                 self.tape.record(&event, &Shown::ConnectionClosed(id));
-                return Due::Done;
+                return Due::Closed(id);
             }
             Expired::Ended(told) => told,
         };
-        let goes_on = tell(
-            &mut self.core,
-            &mut self.meter,
-            &mut self.tape,
-            &event,
-            told,
-            calls,
-        );
+        let goes_on = tell(&mut self.core, &mut self.tape, &event, told, calls);
         match goes_on {
             Some(id) => Due::Ready(id),
             None => Due::Done,
@@ -457,22 +443,22 @@ impl Engine {
     }
 
     /// Sends the first forwarded call that is to be sent. It counts as sent though no socket takes it.
-    /// Returns whether there was one.
-    pub(crate) fn send_forward(&mut self, forwards: &ForwardSockets) -> bool
+    /// Returns its number, if there was one.
+    pub(crate) fn send_forward(&mut self, forwards: &ForwardSockets) -> Option<u64>
         ensures acts { ActsNow send_forward self.old self.new result }
         ensures recorded { RecordsEvents (λ s now. send_events s) self.old self.new }
         ensures moment { self.new.moment ≡ self.old.moment }
     {
-        let Some(unsent) = self.core.unsent(&mut self.meter) else {
+        let Some(unsent) = self.core.unsent() else {
             self.tape.record(&Happening::Unsent, &Shown::Unsent(None));
-            return false;
+            return None;
         };
         let id = unsent.id;
         record_unsent(&mut self.tape, id.number, unsent.target, unsent.call);
         forwards.call(unsent.call, unsent.target);
-        let done = self.core.sent(id, &mut self.meter);
+        let done = self.core.sent(id);
         self.tape
             .record(&Happening::Sent(id.number), &show_done(done));
-        true
+        Some(id.number)
     }
 }

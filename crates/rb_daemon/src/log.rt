@@ -2,6 +2,7 @@
 //! from the start.
 use rb_address::Source;
 use rb_core::{Asked, ChangeAsked, Seen};
+use rb_forward::sooner;
 use rb_policy::{ChangeLine, LINES, LONGEST_LOG_LINE, LogKind, LogLine, LogRate};
 use rb_sockets::Logged;
 use std::alloc::{AllocError, Global};
@@ -75,6 +76,15 @@ impl Log {
         if self.logged == Logged::All {
             self.tell(now, LogKind::GivenUp, &LogLine::GivenUp(source));
         }
+    }
+
+    /// The moment, in milliseconds, from which lines are told that were left out, where some were.
+    pub(crate) fn next_line(&self) -> Option<u64> {
+        let mut next = None;
+        for rate in [self.accepted, self.refused, self.calls, self.given_up] {
+            next = sooner(next, rate.next_line());
+        }
+        next
     }
 
     /// Writes the lines that are not written yet, and at this moment, in milliseconds, how many were left out of seconds

@@ -1,11 +1,11 @@
-//! Replies that the core gives at once go into the outbox of their connection.
+//! Replies that the core gives go into the outbox of their connection.
 ghost use Rattle.std.specs.Prelude.{◌≤◌, length, IfOk};
 ghost use Rattle.rb_model.specs.Exchanges.{count_given};
 ghost use Rattle.rb_daemon.specs.Recording.{exchange_events};
-ghost use Rattle.rb_daemon.specs.Moves.{FillsOutbox, RecordsEvents};
+ghost use Rattle.rb_daemon.specs.Moves.{FillsOutbox, GivesToOutbox, RecordsEvents};
 
 use crate::engine::Engine;
-use rb_core::{CoreFault, Exchanged};
+use rb_core::{CoreFault, Exchanged, Given};
 use rb_links::Outbox;
 
 /// Hands bytes in that came on a connection, and takes the reply over that is given at once, if there is one.
@@ -24,4 +24,14 @@ pub(crate) fn exchange(
     let done = engine.exchange(id, piece, room)?;
     outbox.end += done.given;
     Ok(done)
+}
+
+/// Takes over what a connection owes, whole fragments, as many as what is free of the outbox has room for.
+pub(crate) fn give(engine: &mut Engine, id: u64, outbox: &mut Outbox) -> Result<Given, CoreFault>
+    ensures { GivesToOutbox id engine.old engine.new outbox.old outbox.new result }
+{
+    let room = &mut outbox.bytes.as_mut_slice()[outbox.end..];
+    let given = engine.give(id, room)?;
+    outbox.end += given.count;
+    Ok(given)
 }

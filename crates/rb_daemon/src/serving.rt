@@ -7,12 +7,12 @@ use crate::steps::{Progress, serve};
 use mio::Registry;
 use mio::event::Event;
 use rb_address::{Family, Peer, Source, Who};
-use rb_forward::PATIENCE;
+use rb_forward::sooner;
 use rb_links::{Places, Turn};
 use rb_policy::{
-    Admission, Again, Brake, Deadlines, Next, Rate, Round, SOCKET_CALLS, after_accept,
-    after_all_calls, after_receive, is_behind, may_read, origin_of, outcome_of, serves_another,
-    wait_for_reading,
+    Admission, Again, Brake, Deadlines, Next, RETRY, Rate, Round, SOCKET_CALLS, after_accept,
+    after_all_calls, after_receive, is_behind, may_read, next_reading, origin_of, outcome_of,
+    serves_another,
 };
 use rb_sockets::{Shown, SocketFault, Sockets, Step, Stream, Table, Visitor};
 use std::alloc::{AllocError, Global};
@@ -47,10 +47,10 @@ pub(crate) struct Serving {
     last_reading: Option<u64>,
     turn: Turn,
     deadlines: Deadlines,
+    /// How many changes had been accepted when connections were last closed that the core had given up for one.
+    changes: u64,
     /// The fault of a listener that is yet to be told.
     fault: Option<SocketFault>,
-    /// The moment by which each call that came over UDP and was forwarded has ended.
-    awaited_until: u64,
 }
 
 /// The brake for a rate, if there is one.
@@ -102,8 +102,8 @@ impl Serving {
                 moment: 0,
             },
             deadlines: Deadlines::new(),
+            changes: 0,
             fault: None,
-            awaited_until: 0,
         })
     }
 
@@ -134,22 +134,27 @@ impl Serving {
 
     /// Whether the next turn has something to serve at once.
     pub(crate) fn is_something_left(&self) -> bool {
-        self.places.are_left() || self.sockets.is_something_left() || self.deadlines.are_put_off()
+        self.places.are_left() || self.sockets.is_something_left()
     }
 
-    /// How long the next turn waits at most that would else wait so long, in milliseconds: where connections wait to be
-    /// opened, until the kernel's tables may be read again.
-    pub(crate) fn longest_wait(&self, longest: u64) -> u64 {
+    /// The next deadline, in milliseconds since the start of 1970, if anything has one: of a connection or a forwarded call,
+    /// and of a connection whose socket takes nothing of what waits for it.
+    pub(crate) fn next_deadline(&mut self) -> Option<u64> {
+        sooner(self.engine.next_deadline(), self.places.next_stuck())
+    }
+
+    /// The moment at which the next turn comes though nothing shows it, where it would else come at a deadline, if it does:
+    /// for connections that wait to be opened, where the kernel's tables may be read; for a line of the log on those that
+    /// were left out; for a socket that failed.
+    pub(crate) fn next_turn(&self, deadline: Option<u64>) -> Option<u64> {
+        let mut next = sooner(deadline, self.engine.next_log_line());
         if self.places.are_held() {
-            wait_for_reading(self.turn.moment, self.last_reading, longest)
-        } else {
-            longest
+            next = sooner(next, Some(next_reading(self.last_reading)));
         }
-    }
-
-    /// Whether something has a deadline: a connection, or a call that is forwarded.
-    pub(crate) fn is_somebody_there(&self) -> bool {
-        self.places.is_somebody_there() || self.turn.moment < self.awaited_until
+        if self.sockets.is_tried_again() {
+            next = sooner(next, Some(self.turn.moment.saturating_add(RETRY)));
+        }
+        next
     }
 
     /// A turn at this moment, in milliseconds since the start of 1970.
@@ -221,6 +226,7 @@ impl Serving {
             Progress::CutOff => self.places.leave(key),
             Progress::Over => self.close(key),
         }
+        self.places.note_served(key);
     }
 
     /// Closes the connection at a place, if there is one.
@@ -301,8 +307,9 @@ impl Serving {
                 self.engine.reply(who, &calls.socket);
             }
             Answer::Forwarded => {
-                self.awaited_until = self.turn.moment.saturating_add(PATIENCE);
-                self.engine.send_forward(&self.sockets.forwards);
+                if let Some(number) = self.engine.send_forward(&self.sockets.forwards) {
+                    self.sockets.calls.note_forwarded(number, i);
+                }
             }
             Answer::Nothing => {}
         }
@@ -355,26 +362,34 @@ impl Serving {
             return;
         };
         let content = &self.datagram[..len];
-        let calls = &self.sockets.calls;
+        let calls = &mut self.sockets.calls;
         if let Some(id) = self.engine.take_forward_reply(peer, content, calls) {
             self.places.wake(id);
         }
     }
 
-    /// Ends what is due, unless the turn is behind. So many milliseconds passed since the moment of the turn before, and its
-    /// wait showed so many sockets, where it shows no more than the most.
-    pub(crate) fn expire(&mut self, passed: u64, shown: usize, most: usize) {
+    /// Ends what is due, unless the turn is behind. `deadline` is the next one as the turn began; `is_fresh` is whether the
+    /// turn looked for events behind its moment, and so many sockets were shown, where no more than `most` can be.
+    pub(crate) fn expire(
+        &mut self,
+        deadline: Option<u64>,
+        is_fresh: bool,
+        shown: usize,
+        most: usize,
+    ) {
+        let is_due = deadline.is_some_and(|deadline| deadline <= self.turn.moment);
         let are_left = self.places.are_left() || self.sockets.are_datagrams_left();
-        let is_behind = is_behind(passed, shown, most, are_left);
-        if !self.deadlines.ask(self.turn.moment, is_behind) {
+        let is_behind = is_behind(is_fresh, shown, most, are_left);
+        if !self.deadlines.ask(is_due, is_behind) {
             return;
         }
         self.close_stuck();
         for _ in 0..=self.most_due {
-            match self.engine.expire(&self.sockets.calls) {
+            match self.engine.expire(&mut self.sockets.calls) {
                 Due::Nothing => return,
                 Due::Done => {}
                 Due::Ready(id) => self.places.wake(id),
+                Due::Closed(id) => self.close_given_up(id),
             }
         }
     }
@@ -383,22 +398,32 @@ impl Serving {
     fn close_stuck(&mut self) {
         let now = self.turn.moment;
         for key in 0..self.places.count() {
-            if self.places.is_stuck(key, now) {
+            if self.places.stuck_at(key).is_some_and(|at| at <= now) {
                 self.give_up(key);
             }
         }
     }
 
-    /// Closes the connections that the core has given up.
+    /// Closes the connections that the core has given up for the room of a row: a change was accepted then.
     pub(crate) fn close_lost(&mut self) {
+        let changes = self.engine.changes();
+        if changes == self.changes {
+            return;
+        }
+        self.changes = changes;
         for _ in 0..self.places.count() {
             let Some(id) = self.engine.next_lost() else {
                 return;
             };
-            match self.places.key_of(id) {
-                Some(key) => self.give_up(key),
-                None => self.engine.closed(id),
-            }
+            self.close_given_up(id);
+        }
+    }
+
+    /// Closes the connection of a number, which the core has given up.
+    fn close_given_up(&mut self, id: u64) {
+        match self.places.key_of(id) {
+            Some(key) => self.give_up(key),
+            None => self.engine.closed(id),
         }
     }
 

@@ -1,15 +1,17 @@
 //! What calls of the core gave, as the outputs that are recorded.
-ghost use Rattle.std.specs.Prelude.{◌≡◌, [], ◌∷◌};
+ghost use Rattle.std.specs.Prelude.{◌≡◌, ◌<◌, [], ◌∷◌, length};
 ghost use Rattle.rb_model.specs.Step.Output.{Opened};
 ghost use Rattle.rb_model.specs.Step.{show_done};
 ghost use Rattle.rb_model.specs.Exchanges.{count_given};
+ghost use Rattle.rb_model.specs.Gives.{pieces_of};
 ghost use Rattle.rb_record.specs.Printing.{shown_output};
 ghost use Rattle.rb_record.specs.Tapes.{Records};
-ghost use Rattle.rb_daemon.specs.Recording.{output_or_refusal, given_entries, exchange_entries, taken_output, unsent_entry};
+ghost use Rattle.rb_daemon.specs.Recording.{output_or_refusal, given_entries, pieces_entries, exchange_entries, taken_output, unsent_entry};
 
 use rb_address::Peer;
 use rb_core::{CoreFault, Exchanged};
 use rb_record::{Happening, Shown, ShownCall, Tape};
+use rb_rpc::LONGEST_FRAGMENT;
 
 /// The number of a connection that was opened, or the refusal.
 pub(crate) fn show_opened<'a>(opened: Result<u64, CoreFault>) -> Shown<'a>
@@ -76,6 +78,20 @@ fn record_given(tape: &mut Tape, now: u64, id: u64, given: &[u8])
 {
     tape.record(&Happening::Pending(id), &Shown::Pending(given));
     tape.record(&Happening::Gave(now, id, given.len()), &Shown::Done);
+}
+
+/// Records, piece by piece, the look at bytes and that all of them were given. The first piece has so many of them, or all;
+/// each behind it is a fragment. There is at least one byte.
+pub(crate) fn record_pieces(tape: &mut Tape, now: u64, id: u64, first: usize, given: &[u8])
+    requires some { 0 < length given.now }
+    requires first { 0 < first }
+    ensures { Records (pieces_entries now id (pieces_of first given.now)) tape.old tape.new }
+{
+    let (front, rest) = given.split_at(first.min(given.len()));
+    record_given(tape, now, id, front);
+    for piece in rest.chunks(LONGEST_FRAGMENT) {
+        record_given(tape, now, id, piece);
+    }
 }
 
 /// Records the look for a call that is to be sent, where there is one.

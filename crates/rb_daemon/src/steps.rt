@@ -1,16 +1,17 @@
 //! What is done with a connection that is ready: bytes go from its socket to the core, and replies from the core to its
 //! socket.
-use crate::engine::{Engine, Given};
+use crate::engine::Engine;
 use crate::keeping::Keeper;
-use crate::outbox::exchange;
-use rb_core::Exchanged;
+use crate::outbox::{exchange, give};
+use rb_core::Standing;
 use rb_links::{LONG_ROOM, Link, Outbox, READ_AHEAD, Turn};
 use rb_policy::{Next, SOCKET_CALLS};
 use rb_sockets::ForwardSockets;
 use std::fs::Files;
 
-/// The most exchanges with the core in one step: each but the last takes or gives a byte at least.
-const EXCHANGES: usize = READ_AHEAD + LONG_ROOM;
+/// The most calls of the core between two of the socket: each but the last takes or gives a byte at least, or sends the
+/// call that came with the one before it.
+const EXCHANGES: usize = 2 * READ_AHEAD + LONG_ROOM;
 
 /// How a connection stands after it was served.
 #[derive(Clone, Copy, Debug, PartialEq, Eq)]
@@ -42,8 +43,9 @@ pub(crate) fn serve<H: Files>(
     progress
 }
 
-/// Makes socket calls until they are enough for a turn, or none is left to make. Where they were enough and none moved a
-/// byte, each was interrupted: the connection would keep turns from waiting, and is over.
+/// Calls the core and the socket in turn, until the socket's calls are enough for a turn, or none is left to make: what
+/// changed is kept before what tells it is written. Where they were enough and none moved a byte, each was interrupted:
+/// the connection would keep turns from waiting, and is over.
 fn serve_calls<H: Files>(
     host: &H,
     link: &mut Link,
@@ -56,7 +58,13 @@ fn serve_calls<H: Files>(
         if link.is_cut_off(calls) {
             break;
         }
-        match step(host, link, engine, keeper, forwards, may_end) {
+        let goes_on = !link.is_for_the_core() || make_exchanges(link, engine, forwards);
+        keeper.keep(host, engine);
+        if !goes_on {
+            let _ = link.write();
+            return Progress::Over;
+        }
+        match link.call_socket(may_end) {
             Next::GoOn => {}
             Next::AwaitEvent | Next::AwaitTurn => return Progress::Blocked,
             Next::Close => return Progress::Over,
@@ -69,77 +77,38 @@ fn serve_calls<H: Files>(
     }
 }
 
-/// Exchanges bytes with the core, and makes at most one socket call: what changed is kept first. Replies are taken over
-/// only where the socket has taken all that were before.
-fn step<H: Files>(
-    host: &H,
-    link: &mut Link,
-    engine: &mut Engine,
-    keeper: &mut Keeper,
-    forwards: &ForwardSockets,
-    may_end: bool,
-) -> Next {
-    let goes_on = !link.outbox.is_empty() || make_exchanges(link, engine, forwards);
-    keeper.keep(host, engine);
-    if !goes_on {
-        let _ = link.write();
-        return Next::Close;
-    }
-    link.call_socket(may_end)
-}
-
-/// Hands in what was read, record by record, and takes over the replies, until nothing more is taken and none is
-/// pending, or the outbox has no room. Returns whether the connection goes on.
+/// Does what the core says is next, until it wants bytes that are not there, waits for the end of a forwarded call, or
+/// owes more than the outbox has room for. A forwarded call is sent at once: no other one is unsent, since each was sent
+/// when it came. Returns whether the connection goes on.
 fn make_exchanges(link: &mut Link, engine: &mut Engine, forwards: &ForwardSockets) -> bool {
+    let Some(id) = link.id() else {
+        return false;
+    };
     for _ in 0..EXCHANGES {
-        let Some(taken) = hand_in(link, engine, forwards) else {
-            return false;
-        };
-        if !link.outbox.has_room() {
-            return true;
-        }
-        match take_over(link, engine) {
-            Given::Bytes(_) => {}
-            Given::Nothing if taken == 0 => return true,
-            Given::Nothing => {}
-            Given::Failed(_) | Given::Over => return false,
+        match link.standing() {
+            Standing::Idle | Standing::Reading if !link.inbox.is_empty() => {
+                let done = exchange(engine, id, link.inbox.bytes(), &mut link.outbox);
+                engine.tell_call();
+                let Ok(done) = done else {
+                    return false;
+                };
+                link.note_taken(done.taken.count, done.standing);
+            }
+            Standing::Owing if link.outbox.has_room() => {
+                let Ok(given) = give(engine, id, &mut link.outbox) else {
+                    return false;
+                };
+                link.note_given(given.count, given.standing);
+            }
+            Standing::Sends => {
+                engine.send_forward(forwards);
+                link.note_sent();
+            }
+            Standing::Lost => return false,
+            Standing::Idle | Standing::Reading | Standing::Owing | Standing::Awaiting => {
+                return true;
+            }
         }
     }
     true
-}
-
-/// Hands in the bytes that were read and not yet taken, up to the end of a record, and says how many were taken, or
-/// `None` where the connection is over. A short reply is in the outbox at once, and then the core owes none. A call that
-/// is forwarded is sent at once: no other one is unsent, since each was sent when it came.
-fn hand_in(link: &mut Link, engine: &mut Engine, forwards: &ForwardSockets) -> Option<usize> {
-    if link.inbox.is_empty() {
-        return Some(0);
-    }
-    let id = link.id()?;
-    let done = exchange(engine, id, link.inbox.bytes(), &mut link.outbox);
-    engine.tell_call();
-    let Exchanged { taken, given, .. } = done.ok()?;
-    if taken.closed {
-        return None;
-    }
-    let is_forwarded = given == 0 && taken.count > 0 && engine.send_forward(forwards);
-    link.note_taken(taken.count, given, is_forwarded);
-    Some(taken.count)
-}
-
-/// Takes over the fragment that is pending, if the core may owe one.
-fn take_over(link: &mut Link, engine: &mut Engine) -> Given {
-    if !link.may_owe() {
-        return Given::Nothing;
-    }
-    let Some(id) = link.id() else {
-        return Given::Over;
-    };
-    let given = engine.give(id, &mut link.outbox);
-    match given {
-        Given::Bytes(_) => link.note_fragment(),
-        Given::Nothing => link.note_paid(),
-        Given::Failed(_) | Given::Over => {}
-    }
-    given
 }

@@ -5,9 +5,10 @@ use crate::inbox::{Inbox, READ_AHEAD};
 use crate::outbox::{OWN_ROOM, Outbox};
 use mio::{Registry, Token};
 use rb_address::{Family, Host, Who};
+use rb_model::Standing;
 use rb_policy::{
-    Evidence, Holder, Next, Origin, Phase, Round, after_read, after_write, ends_record,
-    evidence_of, is_cut_off, is_stuck, looks_in, outcome_of_count, phase_of, reads_on, round_of,
+    Evidence, Holder, Next, Origin, Round, after_read, after_write, evidence_of, is_cut_off,
+    looks_in, outcome_of_count, reads_on, round_of, standing_outside, stuck_at,
 };
 use rb_sockets::{Ends, Stream};
 use std::alloc::{AllocError, Global};
@@ -45,12 +46,10 @@ pub struct Link {
     since: u64,
     /// Whether it made progress in the turn that serves it.
     made_progress: bool,
-    /// Whether its first call, or the rest of a call, is yet to come.
-    is_reading: bool,
+    /// Where the core said last that it stands. Before its first record it counts as one that reads.
+    standing: Standing,
     /// What was read and not yet taken.
     pub inbox: Inbox,
-    /// Whether the core may owe a reply: from bytes that it took, until none is pending.
-    may_owe: bool,
     /// Its own, or the long one.
     pub outbox: Outbox,
     /// How many bytes were written in the last turn that served it.
@@ -59,8 +58,6 @@ pub struct Link {
     moved_some: bool,
     /// Whether the last read is not followed by another in this turn.
     read_was_short: bool,
-    /// Whether its call is forwarded and has not ended.
-    is_awaiting: bool,
     /// The last turn that served it.
     served_in: u64,
     /// Whether it is to be served though no event shows it.
@@ -80,14 +77,12 @@ impl Link {
             },
             since: 0,
             made_progress: false,
-            is_reading: false,
+            standing: Standing::Reading,
             inbox: Inbox::new(),
-            may_owe: false,
             outbox: Outbox::new(alloc, OWN_ROOM)?,
             written: 0,
             moved_some: false,
             read_was_short: false,
-            is_awaiting: false,
             served_in: 0,
             is_waiting: false,
         })
@@ -115,12 +110,10 @@ impl Link {
         self.held = None;
         self.origin = origin;
         self.since = moment;
-        self.is_reading = true;
+        self.standing = Standing::Reading;
         self.inbox.clear();
-        self.may_owe = false;
         self.outbox.clear();
         self.read_was_short = false;
-        self.is_awaiting = false;
         self.served_in = 0;
         self.is_waiting = false;
     }
@@ -196,11 +189,11 @@ impl Link {
         self.is_waiting
     }
 
-    /// It is to be served though no event shows it: its forwarded call has ended, and the core may owe the reply.
+    /// It is to be served though no event shows it: its forwarded call has ended. It counts as owing the reply, until the
+    /// core says whether there is one.
     pub(crate) fn wake(&mut self) {
         self.is_waiting = true;
-        self.is_awaiting = false;
-        self.may_owe = true;
+        self.standing = Standing::Owing;
     }
 
     /// Whether this turn has served it.
@@ -208,14 +201,14 @@ impl Link {
         self.served_in == turn.number
     }
 
-    fn phase(&self) -> Phase {
-        let is_owed = self.may_owe || !self.outbox.is_empty();
-        phase_of(self.is_awaiting, is_owed, self.is_reading)
+    /// Where it stands, as its client sees it: bytes are owed on it until its socket has taken them.
+    fn standing_outside(&self) -> Standing {
+        standing_outside(self.standing, !self.outbox.is_empty())
     }
 
     /// The round of a turn in which it is served.
     pub(crate) fn round(&self) -> Round {
-        round_of(self.is_waiting, self.phase())
+        round_of(self.is_waiting, self.standing_outside())
     }
 
     /// It is to be served though no event shows it again, if a connection has the place.
@@ -230,15 +223,18 @@ impl Link {
         }
         Some(Holder {
             origin: self.origin,
-            phase: self.phase(),
+            standing: self.standing_outside(),
             since: self.since,
         })
     }
 
-    /// Whether it is to be given up at this moment, in milliseconds, since its socket takes nothing of what waits for
-    /// it.
-    pub(crate) fn is_stuck(&self, moment: u64) -> bool {
-        !self.outbox.is_empty() && is_stuck(self.since, moment)
+    /// The moment, in milliseconds, at which it is given up, if its socket takes nothing of what waits for it until then.
+    pub(crate) fn stuck_at(&self) -> Option<u64> {
+        if self.outbox.is_empty() {
+            None
+        } else {
+            Some(stuck_at(self.since))
+        }
     }
 
     /// A turn serves it from here on. It has the long outbox meanwhile, where that is to spare.
@@ -270,41 +266,36 @@ impl Link {
         self.moved_some
     }
 
-    /// Whether the core may owe a reply.
-    pub fn may_owe(&self) -> bool {
-        self.may_owe
+    /// Where the core said last that it stands.
+    pub fn standing(&self) -> Standing {
+        self.standing
     }
 
-    /// The core took so many of the bytes that were read. It gave so many of a reply at once, and then owes none, or the
-    /// call is forwarded. Where a record ended is noted, as far as can be told; if it is answered later, `note_fragment`
-    /// notes that.
-    pub fn note_taken(&mut self, count: usize, given: usize, is_forwarded: bool)
+    /// Whether the core is to be called for it: bytes are to be handed in, or a reply is owed, and its socket has taken
+    /// all replies that were before.
+    pub fn is_for_the_core(&self) -> bool {
+        let has_some = !self.inbox.is_empty() || self.standing == Standing::Owing;
+        has_some && self.outbox.is_empty()
+    }
+
+    /// The core took so many of the bytes that were read, and says where it stands then. A record that ended is progress.
+    pub fn note_taken(&mut self, count: usize, standing: Standing)
         requires { count ≤ length self.old.inbox }
     {
-        let read = self.inbox.len();
         self.inbox.take(count);
-        self.may_owe = given == 0;
-        if count > 0 {
-            self.is_awaiting = is_forwarded;
-        }
-        if ends_record(count, read, given, self.is_awaiting) {
-            self.made_progress = true;
-            self.is_reading = false;
-        } else if count > 0 {
-            self.is_reading = true;
-        }
+        self.standing = standing;
+        self.made_progress |= count > 0 && standing != Standing::Reading;
     }
 
-    /// A fragment went into the outbox. Behind the last one of a reply the core need not be asked for another.
-    pub fn note_fragment(&mut self) {
-        self.made_progress = true;
-        self.is_reading = false;
-        self.may_owe = !self.outbox.is_reply_over();
+    /// The core gave so many bytes of the reply, which are in the outbox, and says where it stands then.
+    pub fn note_given(&mut self, count: usize, standing: Standing) {
+        self.standing = standing;
+        self.made_progress |= count > 0;
     }
 
-    /// The core owes no reply.
-    pub fn note_paid(&mut self) {
-        self.may_owe = false;
+    /// Its forwarded call was sent.
+    pub fn note_sent(&mut self) {
+        self.standing = Standing::Awaiting;
     }
 
     /// Makes at most one socket call: a write where replies wait, else a read. Where bytes are left that the core does
@@ -343,6 +334,7 @@ impl Link {
             self.read_was_short = !reads_on(n, READ_AHEAD, may_end);
             self.moved_some |= n > 0;
         }
-        after_read(outcome_of_count(&came), self.is_awaiting)
+        let waits = matches!(self.standing, Standing::Sends | Standing::Awaiting);
+        after_read(outcome_of_count(&came), waits)
     }
 }

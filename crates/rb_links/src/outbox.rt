@@ -23,8 +23,6 @@ pub struct Outbox {
     pub sent: usize,
     /// Where those end, and what is free begins.
     pub end: usize,
-    /// Whether the last fragment that was taken over is the last of its reply.
-    is_reply_over: bool,
 }
 
 impl Model for Outbox {
@@ -49,7 +47,6 @@ impl Outbox {
             bytes,
             sent: 0,
             end: 0,
-            is_reply_over: true,
         })
     }
 
@@ -64,11 +61,6 @@ impl Outbox {
     /// that each fragment is taken over whole.
     pub fn has_room(&self) -> bool {
         self.bytes.len() - self.end >= LONGEST_FRAGMENT
-    }
-
-    /// Whether the last fragment that was taken over is the last of its reply.
-    pub fn is_reply_over(&self) -> bool {
-        self.is_reply_over
     }
 
     /// Drops what is on its way.
@@ -102,26 +94,5 @@ impl Outbox {
             self.clear();
         }
         Ok(n)
-    }
-}
-
-/// `write` takes over as many bytes as there is room for: a fragment. The first bit of its header marks the last one
-/// of a reply (RFC 5531 section 11).
-impl Write for Outbox {
-    ghost use Rattle.std.specs.Prelude.{Some};
-
-    ghost contents = { λ outbox. Some outbox };
-
-    fn write(&mut self, bytes: &[u8]) -> io::Result<usize> {
-        self.is_reply_over = matches!(bytes, [0x80..=0xff, ..]);
-        let count = bytes.len().min(self.bytes.len() - self.end);
-        let behind = self.end + count;
-        self.bytes.as_mut_slice()[self.end..behind].copy_from_slice(&bytes[..count]);
-        self.end = behind;
-        Ok(count)
-    }
-
-    fn flush(&mut self) -> io::Result<()> {
-        Ok(())
     }
 }

@@ -5,6 +5,7 @@ use crate::link::{Link, Turn};
 use crate::outbox::{LONG_ROOM, Outbox};
 use mio::{Registry, Token};
 use rb_address::{Family, Who};
+use rb_forward::sooner;
 use rb_policy::{Admission, Holder, Origin, Round, accept_count, admit};
 use rb_sockets::{Ends, Stream};
 use std::alloc::{AllocError, Global};
@@ -22,6 +23,8 @@ pub struct Places {
     taken: usize,
     /// Whether connections may wait to be opened.
     are_held: bool,
+    /// Whether bytes may wait for the sockets of some.
+    are_owed: bool,
     /// Whether connections are to be served though no event shows them.
     are_left: bool,
     /// The key at which the last round of the next turn begins.
@@ -52,6 +55,7 @@ impl Places {
             holders,
             taken: 0,
             are_held: false,
+            are_owed: false,
             are_left: false,
             first_left: 0,
         })
@@ -60,11 +64,6 @@ impl Places {
     /// How many places there are.
     pub fn count(&self) -> usize {
         self.links.len()
-    }
-
-    /// Whether a connection has a place.
-    pub fn is_somebody_there(&self) -> bool {
-        self.taken > 0
     }
 
     /// How many connections a turn accepts, as the places are now.
@@ -144,12 +143,28 @@ impl Places {
         self.are_left = true;
     }
 
-    /// Whether the connection at a place is to be given up at this moment, in milliseconds, since its socket takes
-    /// nothing of what waits for it.
-    pub fn is_stuck(&self, key: usize, moment: u64) -> bool {
-        self.links
-            .get(key)
-            .is_some_and(|link| link.is_stuck(moment))
+    /// A turn has served the connection at a place: bytes may wait for its socket from here on.
+    pub fn note_served(&mut self, key: usize) {
+        self.are_owed |= self.stuck_at(key).is_some();
+    }
+
+    /// The moment, in milliseconds, at which the connection at a place is given up, if its socket takes nothing of what
+    /// waits for it until then; none where nothing waits.
+    pub fn stuck_at(&self, key: usize) -> Option<u64> {
+        self.links.get(key)?.stuck_at()
+    }
+
+    /// The first such moment of all connections.
+    pub fn next_stuck(&mut self) -> Option<u64> {
+        if !self.are_owed {
+            return None;
+        }
+        let mut next = None;
+        for link in &self.links {
+            next = sooner(next, link.stuck_at());
+        }
+        self.are_owed = next.is_some();
+        next
     }
 
     /// Closes the connection at a place, if there is one, and gives its number, where it is opened.

@@ -12,7 +12,7 @@ use std::net::Net;
 use std::rt::Clock;
 use std::sync::Wait;
 
-/// The longest wait of a turn, in milliseconds.
+/// The longest wait of a turn, in milliseconds, where a number of turns is asked for.
 const WAIT: u64 = 100;
 
 /// What is recorded goes to a file, as long as that takes it.
@@ -22,7 +22,7 @@ struct Recorder<F: Write + Drop> {
 }
 
 impl<F: Write + Drop> Recorder<F> {
-    /// Writes what the last turn recorded. After a fault, which is said once, nothing more is recorded.
+    /// Writes what was recorded and is not written yet: how the run begins, and what the last turn did. After a fault, which is said once, nothing more is recorded.
     fn write<R: Clock, E: Write>(&mut self, daemon: &mut Daemon<'_, R>, faults: &mut E) {
         let Some(file) = &mut self.file else {
             return;
@@ -92,13 +92,14 @@ where
     if let Err(status) = say_start(rt, service, settings, daemon.shortage(), faults) {
         return status;
     }
+    recorder.write(daemon, faults);
     match take_turns(rt, daemon, service, &mut recorder, faults) {
         Ok(()) => 0,
         Err(fault) => explain_fault(&fault, settings, faults).status,
     }
 }
 
-/// A turn, what was recorded of it, the lines of the log, and one for each listener that failed the first time and
+/// A turn, which waits so many milliseconds at most, what was recorded of it, the lines of the log, and one for each listener that failed the first time and
 /// for the rows that could not be written. Where standard error takes no lines they are lost.
 fn take_turn<R: Clock + Files, F: Write + Drop, E: Write>(
     rt: &R,
@@ -106,8 +107,9 @@ fn take_turn<R: Clock + Files, F: Write + Drop, E: Write>(
     service: &Service<'_>,
     recorder: &mut Recorder<F>,
     faults: &mut E,
+    longest: Option<u64>,
 ) -> Result<(), DaemonFault> {
-    let turned = daemon.turn(rt, WAIT);
+    let turned = daemon.turn(rt, longest);
     recorder.write(daemon, faults);
     let _ = daemon.write_log(faults);
     if let Some(fault) = daemon.take_fault() {
@@ -126,12 +128,12 @@ fn take_turns<R: Clock + Files + Wait, F: Write + Drop, E: Write>(
 ) -> Result<(), DaemonFault> {
     if service.turns > 0 {
         for _ in 0..service.turns {
-            take_turn(rt, daemon, service, recorder, faults)?;
+            take_turn(rt, daemon, service, recorder, faults, Some(WAIT))?;
         }
         return Ok(());
     }
     for _ in rt.forever() {
-        take_turn(rt, daemon, service, recorder, faults)?;
+        take_turn(rt, daemon, service, recorder, faults, None)?;
     }
     unreachable!()
 }

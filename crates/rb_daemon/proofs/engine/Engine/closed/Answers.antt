@@ -1,8 +1,8 @@
 use Rattle.rb_daemon.proofs.Reached.{closed_records, closed_served}
 use Rattle.rb_daemon.proofs.engine.Engine.closed.Goals as goal
 
-pub invariant_of-self-clause-served : goal.invariant_of-self-clause-served
-invariant_of-self-clause-served c = closed_served _ _ c.args.id _ _ _ c.closed-done.ensures.acts (rw c.show_done.ensures at c.«record».ensures) c.args.self.now.served
+pub invariant_of-self : goal.invariant_of-self
+invariant_of-self c = record { served = closed_served _ _ c.args.id _ _ _ c.closed-done.ensures.acts (rw c.show_done.ensures at c.«record».ensures) c.args.self.now.served }
 
 pub returns-clause-recorded : goal.returns-clause-recorded
 returns-clause-recorded c = closed_records _ _ c.args.id _ _ _ c.closed-done.ensures.acts (rw c.show_done.ensures at c.«record».ensures)

@@ -4,19 +4,20 @@ use Rattle.rb_model.specs.Exchanges.{count_given, taken_in}
 use Rattle.rb_daemon.proofs.Exchanges.{exchange_records, exchange_served}
 use Rattle.rb_daemon.proofs.engine.Engine.exchange.Goals as goal
 
-pub invariant_of-self-clause-served : goal.invariant_of-self-clause-served
-invariant_of-self-clause-served c =
-    exchange_served c.args.self.now.moment c.args.id (length c.exchange-done.new.room) (count_given c.exchange-done.result) c.args.piece.now (take (count_given c.exchange-done.result) c.exchange-done.new.room) (taken_in c.exchange-done.result) c.args.self.now.core c.exchange-done.new.self
-    (record {
-      count = omega (arith, c.exchange-done.ensures.fits, length-take (count_given c.exchange-done.result) c.exchange-done.new.room);
-      at_once = rw c.exchange-done.auto.room c.exchange-done.ensures.count;
-      acts = c.exchange-done.ensures.acts;
-    })
-    c.args.self.now.tape c.record_exchange.new.tape (rw c.count_given.ensures at c.record_exchange.ensures) c.args.self.now.served
+pub invariant_of-self : goal.invariant_of-self
+invariant_of-self c = record {
+  served = exchange_served c.args.self.now.moment c.args.id (length c.exchange-done.new.room) (count_given c.exchange-done.result) c.args.piece.now (take (count_given c.exchange-done.result) c.exchange-done.new.room) (taken_in c.exchange-done.result) c.args.self.now.core.core c.exchange-done.new.self.core
+      (record {
+        count = omega (arith, c.exchange-done.ensures.fits, length-take (count_given c.exchange-done.result) c.exchange-done.new.room);
+        at_once = rw c.exchange-done.auto.room c.exchange-done.ensures.count;
+        acts = c.exchange-done.ensures.acts;
+      })
+      c.args.self.now.tape c.record_exchange.new.tape (rw c.count_given.ensures at c.record_exchange.ensures) c.args.self.now.served;
+}
 
 pub returns-clause-recorded : goal.returns-clause-recorded
 returns-clause-recorded c =
-    exchange_records c.args.self.now.moment c.args.id (length c.exchange-done.new.room) (count_given c.exchange-done.result) c.args.piece.now (take (count_given c.exchange-done.result) c.exchange-done.new.room) (taken_in c.exchange-done.result) c.args.self.now.core c.exchange-done.new.self
+    exchange_records c.args.self.now.moment c.args.id (length c.exchange-done.new.room) (count_given c.exchange-done.result) c.args.piece.now (take (count_given c.exchange-done.result) c.exchange-done.new.room) (taken_in c.exchange-done.result) c.args.self.now.core.core c.exchange-done.new.self.core
     (record {
       count = omega (arith, c.exchange-done.ensures.fits, length-take (count_given c.exchange-done.result) c.exchange-done.new.room);
       at_once = rw c.exchange-done.auto.room c.exchange-done.ensures.count;

@@ -2,5 +2,5 @@ use Rattle.std.proofs.Common.{refl}
 use Rattle.rb_daemon.proofs.Reached.{new_served}
 use Rattle.rb_daemon.proofs.engine.Engine.new.Goals as goal
 
-pub invariant_of-result-clause-served : goal.invariant_of-result-clause-served
-invariant_of-result-clause-served c = new_served _ c.args.limits c.args.listener _ c.args.moment _ _ c.in_ok-tape.tape refl c.in_ok-tape.ensures.begun c.in_ok-core.ensures.made
+pub invariant_of-result : goal.invariant_of-result
+invariant_of-result c = record { served = new_served _ c.args.limits c.args.listener _ c.args.moment _ _ c.in_ok-tape.tape refl c.in_ok-tape.ensures.begun c.in_ok-core.ensures.made }

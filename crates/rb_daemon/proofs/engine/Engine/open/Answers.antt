@@ -1,8 +1,8 @@
 use Rattle.rb_daemon.proofs.Reached.{open_records, open_served}
 use Rattle.rb_daemon.proofs.engine.Engine.open.Goals as goal
 
-pub invariant_of-self-clause-served : goal.invariant_of-self-clause-served
-invariant_of-self-clause-served c = open_served _ _ c.args.self.now.moment c.args.who _ _ _ c.open-opened.ensures.acts (rw c.show_opened.ensures at c.«record».ensures) c.args.self.now.served
+pub invariant_of-self : goal.invariant_of-self
+invariant_of-self c = record { served = open_served _ _ c.args.self.now.moment c.args.who _ _ _ c.open-opened.ensures.acts (rw c.show_opened.ensures at c.«record».ensures) c.args.self.now.served }
 
 pub returns-clause-recorded : goal.returns-clause-recorded
 returns-clause-recorded c = open_records _ _ c.args.self.now.moment c.args.who _ _ _ c.open-opened.ensures.acts (rw c.show_opened.ensures at c.«record».ensures)
