@@ -4,8 +4,9 @@
 In docs/RULES.md a name has to stand where its column says, in the crate of its table or in the one that is named with
 it. In the other documents a name in backquotes that looks like one of this repository (it has an underscore, a `::`, a
 slash, a capital letter inside, or ends as a file) has to be one of it, or stand in tests/names-of-others. In
-docs/CLAIMS.md a name behind 'By CRATE:' has to stand in that crate. Prints a line for each name that is nowhere; the
-last line is 'N passed, N failed', and the status 1 where one failed.
+docs/CLAIMS.md a name behind 'By CRATE:' has to stand in that crate. Code that a README shows of an example has to
+stand there. Prints a line for each name that is nowhere; the last line is 'N passed, N failed', and the status 1 where
+one failed.
 """
 import re
 import sys
@@ -16,6 +17,8 @@ from pathlib import Path
 ROOT = Path(__file__).resolve().parent.parent
 CRATES = sorted([p.parent.name for p in ROOT.glob("crates/*/src")] + [p.parent.name for p in ROOT.glob("tests/crates/*/lib.rs")])
 DOCUMENTS = [ROOT / "README.md", *sorted((ROOT / "docs").glob("*.md")), *sorted(ROOT.glob("crates/*/README.md")), *sorted(ROOT.glob("tests/crates/*/README.md"))]
+# A document whose code is that of another file, word for word.
+SHOWN = {ROOT / "crates" / "rb_core" / "README.md": ROOT / "examples" / "embed" / "driver.rs"}
 OTHERS = set((ROOT / "tests" / "names-of-others").read_text().split())
 
 TICKED = re.compile(r"`([^`\n]+)`(?: \(([^)`]*)\))?(?: of `?(rb_\w+|rpcinfo|rpcbind)`?)?")
@@ -205,6 +208,13 @@ def main():
             failed += not holds
             if not holds:
                 print(f"{document.relative_to(ROOT)}:{line}: there is no `{name}`")
+    for document, source in SHOWN.items():
+        for shown in re.findall(r"^```rust\n(.*?)^```", document.read_text(), re.MULTILINE | re.DOTALL):
+            holds = shown in source.read_text()
+            passed += holds
+            failed += not holds
+            if not holds:
+                print(f"{document.relative_to(ROOT)}: its code is not that of {source.relative_to(ROOT)}")
     print(f"{passed} passed, {failed} failed")
     return 1 if failed else 0
 

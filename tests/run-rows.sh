@@ -291,10 +291,10 @@ run_all_listeners() {
     judge $bad "a daemon on all listeners, twice"
 }
 
-# A daemon that records is asked, over TCP and UDP; its record, of all that it was asked, agrees with a replay.
-run_record() {
-    local file=$work/record daemon check
-    "$program" serve --port 20112 --turns 60 --record "$file" > "$work/stdout" 2> "$work/stderr" &
+# Starts the daemon with these words, asks it over TCP and UDP, and waits for its end.
+serve_and_ask() {
+    local daemon
+    "$program" serve --port 20112 "$@" > "$work/stdout" 2> "$work/stderr" &
     daemon=$!
     until grep -q listening "$work/stdout" || ! kill -0 "$daemon" 2> /dev/null; do
         sleep 0.1
@@ -304,6 +304,12 @@ run_record() {
     "$rpcinfo" --port 20112 -u 127.0.0.1 100000 2 > /dev/null
     wait "$daemon"
     got=$?
+}
+
+# A daemon that records is asked, over TCP and UDP; its record, of all that it was asked, agrees with a replay.
+run_record() {
+    local file=$work/record check
+    serve_and_ask --turns 60 --record "$file"
     mapfile -t check < <(sed -n '1s/^# rpcbind //p' "$file" | tr ' ' '\n')
     echo "$(grep -c '^#> ' "$file") outputs agree" > "$work/wanted"
     [ "$got" -eq 0 ] && [ ! -s "$work/stderr" ] && grep -q '^datagram ' "$file" && grep -q '^gave ' "$file" \
@@ -323,11 +329,61 @@ run_record() {
     judge $? "a record that is cut in its last line"
 }
 
+# How often the daemon was on a processor and left it.
+count_switches() {
+    sed -n 's/^.*_ctxt_switches:[^0-9]*//p' "/proc/$daemon/status" | paste -s -d ' '
+}
+
+# A daemon of which nobody asks anything makes no system call: it is on no processor in two seconds, and records nothing.
+# Then it answers, and its connection that is idle wakes it no more often.
+run_idle_daemon() {
+    local file=$work/record daemon before size
+    start_daemon "$work/listening" --port 20112 --record "$file"
+    sleep 0.5
+    before=$(count_switches)
+    size=$(stat -c %s "$file")
+    sleep 2
+    [ "$before" = "$(count_switches)" ] && [ "$size" -eq "$(stat -c %s "$file")" ]
+    judge $? "an idle daemon sleeps"
+    exec 8<> /dev/tcp/127.0.0.1/20112
+    "$rpcinfo" --port 20112 -p 127.0.0.1 > /dev/null
+    got=$?
+    sleep 0.5
+    before=$(count_switches)
+    size=$(stat -c %s "$file")
+    sleep 2
+    [ "$got" -eq 0 ] && [ "$before" = "$(count_switches)" ] && [ "$size" -eq "$(stat -c %s "$file")" ]
+    judge $? "a daemon with an idle connection sleeps"
+    exec 8>&-
+    kill "$daemon"
+    wait "$daemon" 2> /dev/null
+}
+
+# A call that comes in three pieces is three events, and its reply two: nothing else is asked of the core.
+run_call_in_pieces() {
+    local file=$work/record daemon call piece
+    call=$(echo '(record xid=3 4 getaddr 100000 4 tcp)' | python3 -B tests/row.py)
+    start_daemon "$work/listening" --port 20112 --record "$file"
+    exec 8<> /dev/tcp/127.0.0.1/20112
+    for piece in "${call:0:40}" "${call:40:40}" "${call:80}"; do
+        sleep 0.2
+        printf "$(sed 's/../\\x&/g' <<< "$piece")" >&8
+    done
+    timeout 5 head -c 28 <&8 > "$work/reply"
+    kill "$daemon"
+    wait "$daemon" 2> /dev/null
+    exec 8>&-
+    printf '%s\n' open bytes bytes bytes pending gave > "$work/wanted"
+    grep -v '^#' "$file" | cut -d ' ' -f 1 > "$work/stdout"
+    [ "$(wc -c < "$work/reply")" -eq 28 ] && cmp -s "$work/stdout" "$work/wanted"
+    judge $? "a call in three pieces is five events"
+}
+
 # At its limit a record ends with a comment line, and what stands before agrees. At a fault of its file it ends, which is
 # said once. A file that can't be made ends the program.
 run_record_that_ends() {
     local file=$work/record check
-    run /dev/null serve --port 20112 --turns 30 --record "$file" --record-limit 1000
+    serve_and_ask --turns 30 --record "$file" --record-limit 1000
     [ "$got" -eq 0 ] && [ "$(stat -c %s "$file")" -le 1000 ] && tail -n 1 "$file" | grep -q '^# the limit'
     judge $? "a record that reaches its limit"
     mapfile -t check < <(sed -n '1s/^# rpcbind //p' "$file" | tr ' ' '\n')
@@ -337,7 +393,7 @@ run_record_that_ends() {
     judge $? "a record that reached its limit is checked"
     echo 'rpcbind: listening on 127.0.0.1 port 20112' > "$work/wanted"
     echo 'rpcbind: write the record: File too large (os error 27); it ends here' > "$work/wanted-stderr"
-    (trap '' XFSZ; ulimit -f 1; run /dev/null serve --port 20112 --turns 30 --record "$file" && exit "$got")
+    (trap '' XFSZ; ulimit -f 1; serve_and_ask --turns 30 --record "$file" && exit "$got")
     got=$?
     as_wanted "$work/wanted" "$work/wanted-stderr" 0
     judge $? "a record that its file does not take"
@@ -888,8 +944,8 @@ check_proofs_by_hand() {
 # Each name that the documents give is one of the repository's.
 check_names() {
     tests/check-names.py > "$work/names"
-    judge $? "names that documents give and that stand nowhere: $(grep -c 'there is no' "$work/names")"
-    grep 'there is no' "$work/names"
+    judge $? "names that documents give and that stand nowhere, and code of others: $(grep -c -e 'there is no' -e 'its code' "$work/names")"
+    grep -e 'there is no' -e 'its code' "$work/names"
 }
 
 # tests/row.py makes events from words: those of the example as they stand.
@@ -928,8 +984,10 @@ if [ -x "$program" ]; then
     run_many_short_outputs
     run_three_turns
     run_all_listeners
-    run_record
-    run_record_that_ends
+    run_idle_daemon
+    run_call_in_pieces
+    [ ! -x "$rpcinfo" ] || run_record
+    [ ! -x "$rpcinfo" ] || run_record_that_ends
     run_record_in_the_way
     run_record_of_another
     run_few_descriptors

@@ -166,7 +166,7 @@ impl<'a> Host<'a> {
     }
 
     pub(crate) fn turn(&mut self) {
-        if self.daemon.turn(&self.rt, WAIT).is_err() {
+        if self.daemon.turn(&self.rt, Some(WAIT)).is_err() {
             self.is_well = false;
         }
     }

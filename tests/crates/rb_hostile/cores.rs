@@ -1,9 +1,8 @@
 //! What the tests begin with: a core, and bytes that are written as words.
 
 use rb_address::{Host, Peer, Source, Trust, Who};
-use rb_core::{Core, CoreFault, Limits, Listener};
+use rb_core::{CoreFault, Limits, Listener, Metered};
 use rb_proto::{Announced, Terms};
-use rb_xdr::Meter;
 use std::alloc::{AllocError, Global};
 
 /// Who calls: nothing is known but what it says.
@@ -38,8 +37,8 @@ pub(crate) fn limits_of(rows: usize) -> Limits {
 }
 
 /// Its first forwarded call has the xid 1000, and its first moment is 0.
-pub(crate) fn core_of(alloc: Global, rows: usize, meter: &mut Meter) -> Result<Core, CoreFault> {
-    Core::new(alloc, limits_of(rows), listener(), 1000, 0, meter)
+pub(crate) fn core_of(alloc: Global, rows: usize) -> Result<Metered, CoreFault> {
+    Metered::new(alloc, limits_of(rows), listener(), 1000, 0)
 }
 
 pub(crate) fn bytes_of(alloc: Global, words: &[u32]) -> Result<Vec<u8>, AllocError> {

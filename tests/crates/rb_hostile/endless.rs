@@ -1,8 +1,7 @@
 //! Records that do not end: all of their bytes are taken, few are kept, and the connection is given up at its deadline.
 
 use crate::cores::{bytes_of, core_of, loopback};
-use rb_core::{Core, CoreFault, Expired, Taken};
-use rb_xdr::Meter;
+use rb_core::{CoreFault, Expired, Metered, Taken};
 use std::process::Abort;
 use std::test::Fail;
 
@@ -14,15 +13,9 @@ const HUGE: [u32; 11] = [0x7fffffff, 1, 0, 2, 100_000, 2, 0, 0, 0, 0, 0];
 const HELD_AT_MOST: u64 = 270 + 128 + 8816;
 
 /// The piece is taken so many times, each time whole, and no more than so many bytes are ever held.
-fn is_taken(
-    core: &mut Core,
-    piece: &[u8],
-    times: u32,
-    most: u64,
-    meter: &mut Meter,
-) -> Result<bool, CoreFault> {
+fn is_taken(core: &mut Metered, piece: &[u8], times: u32, most: u64) -> Result<bool, CoreFault> {
     for _i in 0..times {
-        let (Taken { count, closed }, _) = core.bytes(0, 1, piece, meter)?;
+        let (Taken { count, closed }, _) = core.bytes(0, 1, piece)?;
         if count != piece.len() || closed || core.held() > most {
             return Ok(false);
         }
@@ -31,42 +24,37 @@ fn is_taken(
 }
 
 /// A record that began at moment 0 is given up 30,000 ms later.
-fn is_given_up(rt: &impl Abort, core: &mut Core, meter: &mut Meter) {
-    assert_eq!(rt; core.expire(29_999, meter), Expired::Nothing);
-    assert_eq!(rt; core.expire(30_000, meter), Expired::ConnectionClosed(1));
+fn is_given_up(rt: &impl Abort, core: &mut Metered) {
+    assert_eq!(rt; core.expire(29_999), Expired::Nothing);
+    assert_eq!(rt; core.expire(30_000), Expired::ConnectionClosed(1));
 }
 
 /// Nothing is held but the six own rows and the connection.
 #[test]
 fn endless_records_of_empty_fragments(rt: HostRuntime) -> Result<(), Fail> {
-    let mut meter = Meter::new();
-    let mut core = core_of(rt.alloc(), 300, &mut meter)?;
-    assert_eq!(rt; core.open(0, loopback(), &mut meter), Ok(1));
-    assert_eq!(rt;
-        is_taken(&mut core, &[0; 4], 100_000, 398, &mut meter),
-        Ok(true)
-    );
+    let mut core = core_of(rt.alloc(), 300)?;
+    assert_eq!(rt; core.open(0, loopback()), Ok(1));
+    assert_eq!(rt; is_taken(&mut core, &[0; 4], 100_000, 398), Ok(true));
     assert_eq!(rt; core.held(), 398);
-    is_given_up(&rt, &mut core, &mut meter);
+    is_given_up(&rt, &mut core);
     Ok(())
 }
 
 /// A million bytes of one fragment: the call's head, and what would be its arguments.
 #[test]
 fn endless_records_of_one_fragment(rt: HostRuntime) -> Result<(), Fail> {
-    let mut meter = Meter::new();
     let first = bytes_of(rt.alloc(), &HUGE)?;
-    let mut core = core_of(rt.alloc(), 300, &mut meter)?;
-    assert_eq!(rt; core.open(0, loopback(), &mut meter), Ok(1));
-    assert_eq!(rt; is_taken(&mut core, &first, 1, 398, &mut meter), Ok(true));
+    let mut core = core_of(rt.alloc(), 300)?;
+    assert_eq!(rt; core.open(0, loopback()), Ok(1));
+    assert_eq!(rt; is_taken(&mut core, &first, 1, 398), Ok(true));
     assert_eq!(rt;
-        is_taken(&mut core, &[0xff; 960], 1, HELD_AT_MOST, &mut meter),
+        is_taken(&mut core, &[0xff; 960], 1, HELD_AT_MOST),
         Ok(true)
     );
     assert_eq!(rt;
-        is_taken(&mut core, &[0xff; 1000], 999, HELD_AT_MOST, &mut meter),
+        is_taken(&mut core, &[0xff; 1000], 999, HELD_AT_MOST),
         Ok(true)
     );
-    is_given_up(&rt, &mut core, &mut meter);
+    is_given_up(&rt, &mut core);
     Ok(())
 }

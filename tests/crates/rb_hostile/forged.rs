@@ -2,8 +2,7 @@
 
 use crate::cores::{bytes_of, core_of, loopback, set_call};
 use rb_address::{Host, Peer};
-use rb_core::{Core, FwdId, Outcome, Told};
-use rb_xdr::Meter;
+use rb_core::{FwdId, Metered, Outcome, Told};
 use std::process::Abort;
 use std::test::Fail;
 
@@ -35,19 +34,14 @@ fn success(xid: u32) -> [u8; 24] {
     ]
 }
 
-fn is_ignored(core: &mut Core, from: Peer, reply: &[u8], meter: &mut Meter) -> bool {
-    core.forward_reply(2000, from, reply, meter).is_none()
+fn is_ignored(core: &mut Metered, from: Peer, reply: &[u8]) -> bool {
+    core.forward_reply(2000, from, reply).is_none()
 }
 
 /// One bit of the xid is another.
-fn other_xids_are_ignored(core: &mut Core, meter: &mut Meter) -> bool {
+fn other_xids_are_ignored(core: &mut Metered) -> bool {
     for bit in 0..32 {
-        if !is_ignored(
-            core,
-            target(),
-            &success(XID ^ 1u32.wrapping_shl(bit)),
-            meter,
-        ) {
+        if !is_ignored(core, target(), &success(XID ^ 1u32.wrapping_shl(bit))) {
             return false;
         }
     }
@@ -55,12 +49,12 @@ fn other_xids_are_ignored(core: &mut Core, meter: &mut Meter) -> bool {
 }
 
 /// One bit of the host is another.
-fn other_hosts_are_ignored(core: &mut Core, meter: &mut Meter) -> bool {
+fn other_hosts_are_ignored(core: &mut Metered) -> bool {
     let honest = u32::from_be_bytes(HOST);
     for bit in 0..32 {
         let host = (honest ^ 1u32.wrapping_shl(bit)).to_be_bytes();
         let from = Peer::new(Host::V4(host), PORT);
-        if !is_ignored(core, from, &success(XID), meter) {
+        if !is_ignored(core, from, &success(XID)) {
             return false;
         }
     }
@@ -68,10 +62,10 @@ fn other_hosts_are_ignored(core: &mut Core, meter: &mut Meter) -> bool {
 }
 
 /// One bit of the port is another.
-fn other_ports_are_ignored(core: &mut Core, meter: &mut Meter) -> bool {
+fn other_ports_are_ignored(core: &mut Metered) -> bool {
     for bit in 0..16 {
         let from = Peer::new(Host::V4(HOST), PORT ^ 1u16.wrapping_shl(bit));
-        if !is_ignored(core, from, &success(XID), meter) {
+        if !is_ignored(core, from, &success(XID)) {
             return false;
         }
     }
@@ -79,19 +73,20 @@ fn other_ports_are_ignored(core: &mut Core, meter: &mut Meter) -> bool {
 }
 
 /// A call is forwarded, and waits to be sent.
-fn forwards(rt: &impl Abort, core: &mut Core, set: &[u8], indirect: &[u8], meter: &mut Meter) {
-    assert_eq!(rt; core.datagram(0, loopback(), set, meter), Outcome::Reply);
+fn forwards(rt: &impl Abort, core: &mut Metered, set: &[u8], indirect: &[u8]) {
+    assert_eq!(rt; core.datagram(0, loopback(), set), Outcome::Reply);
     assert_eq!(rt;
-        core.datagram(1000, loopback(), indirect, meter),
+        core.datagram(1000, loopback(), indirect),
         Outcome::Forwarded
     );
 }
 
 /// What the target answers passes in the last millisecond.
-fn honest_reply_passes(rt: &impl Abort, core: &mut Core, passed: &[u8], meter: &mut Meter) {
-    let told = core.forward_reply(5999, target(), &success(XID), meter);
-    assert_eq!(rt; told, Some(Told::Datagram(loopback())));
-    assert_eq!(rt; core.udp_reply(meter), passed);
+fn honest_reply_passes(rt: &impl Abort, core: &mut Metered, passed: &[u8]) {
+    let told = core.forward_reply(5999, target(), &success(XID));
+    let first = FwdId { number: 1 };
+    assert_eq!(rt; told, Some(Told::Datagram(first, loopback())));
+    assert_eq!(rt; core.udp_reply(), passed);
 }
 
 #[test]
@@ -99,18 +94,17 @@ fn forged_replies(rt: HostRuntime) -> Result<(), Fail> {
     let set = bytes_of(rt.alloc(), &set_call(1, 200_001, 17))?;
     let indirect = bytes_of(rt.alloc(), &INDIRECT)?;
     let passed = bytes_of(rt.alloc(), &PASSED)?;
-    let mut meter = Meter::new();
-    let mut core = core_of(rt.alloc(), 300, &mut meter)?;
-    forwards(&rt, &mut core, &set, &indirect, &mut meter);
+    let mut core = core_of(rt.alloc(), 300)?;
+    forwards(&rt, &mut core, &set, &indirect);
     assert!(rt;
-        is_ignored(&mut core, target(), &success(XID), &mut meter),
+        is_ignored(&mut core, target(), &success(XID)),
         "before it was sent"
     );
-    assert_eq!(rt; core.sent(FwdId { number: 1 }, &mut meter), Ok(()));
-    assert!(rt; other_xids_are_ignored(&mut core, &mut meter));
-    assert!(rt; other_hosts_are_ignored(&mut core, &mut meter));
-    assert!(rt; other_ports_are_ignored(&mut core, &mut meter));
-    assert!(rt; is_ignored(&mut core, target(), &[0, 0, 3], &mut meter));
-    honest_reply_passes(&rt, &mut core, &passed, &mut meter);
+    assert_eq!(rt; core.sent(FwdId { number: 1 }), Ok(()));
+    assert!(rt; other_xids_are_ignored(&mut core));
+    assert!(rt; other_hosts_are_ignored(&mut core));
+    assert!(rt; other_ports_are_ignored(&mut core));
+    assert!(rt; is_ignored(&mut core, target(), &[0, 0, 3]));
+    honest_reply_passes(&rt, &mut core, &passed);
     Ok(())
 }

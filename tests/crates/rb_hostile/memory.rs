@@ -4,11 +4,10 @@
 
 use crate::cores::{bytes_of, core_of, loopback, set_call};
 use rb_address::{Host, Peer};
-use rb_core::{Core, CoreFault, NoMemory};
+use rb_core::{CoreFault, Metered, NoMemory};
 use rb_lines::{ReadFault, read_events};
 use rb_replay::{Event, Output, replay};
 use rb_show::{Ask, Form, HeldBytes, InfoFault, Question, Shown, show_reply, write_call};
-use rb_xdr::Meter;
 use std::alloc::{AllocError, Global};
 use std::process::Abort;
 
@@ -49,40 +48,28 @@ fn are_all(outputs: &[Output]) -> bool {
 }
 
 /// Runs the events, and behind want of memory those that are left.
-fn run_on(
-    alloc: Global,
-    core: &mut Core,
-    events: &[Event],
-    meter: &mut Meter,
-) -> Result<Vec<Output>, NoMemory> {
+fn run_on(alloc: Global, core: &mut Metered, events: &[Event]) -> Result<Vec<Output>, NoMemory> {
     let mut outputs = Vec::new(alloc);
-    if replay(alloc, core, events, &mut outputs, meter).is_err() {
+    if replay(alloc, core, events, &mut outputs).is_err() {
         let left = events.get(outputs.len()..).unwrap_or(&[]);
-        replay(alloc, core, left, &mut outputs, meter)?;
+        replay(alloc, core, left, &mut outputs)?;
     }
     Ok(outputs)
 }
 
 /// The outputs are those of the whole run, where memory was wanted too.
-fn run_is_whole(
-    rt: &impl Abort,
-    alloc: Global,
-    core: &mut Core,
-    events: &[Event],
-    meter: &mut Meter,
-) {
-    let outputs = run_on(alloc, core, events, meter);
+fn run_is_whole(rt: &impl Abort, alloc: Global, core: &mut Metered, events: &[Event]) {
+    let outputs = run_on(alloc, core, events);
     assert!(rt; outputs.is_ok_and(|outputs| are_all(&outputs)));
 }
 
 #[test]
 fn refused_memory(rt: HostRuntime) {
-    let mut meter = Meter::new();
     let Ok(events) = all_events(rt.alloc()) else {
         return;
     };
-    match core_of(rt.alloc(), 8, &mut meter) {
-        Ok(mut core) => run_is_whole(&rt, rt.alloc(), &mut core, &events, &mut meter),
+    match core_of(rt.alloc(), 8) {
+        Ok(mut core) => run_is_whole(&rt, rt.alloc(), &mut core, &events),
         Err(fault) => assert_eq!(rt; fault, CoreFault::NoMemory),
     }
 }

@@ -2,8 +2,7 @@
 //! call, one that ends within its arguments is GARBAGE_ARGS.
 
 use crate::cores::{bytes_of, core_of, loopback};
-use rb_core::{Core, CoreFault, Outcome};
-use rb_xdr::Meter;
+use rb_core::{CoreFault, Metered, Outcome};
 use std::alloc::{AllocError, Global};
 use std::test::Fail;
 
@@ -88,64 +87,51 @@ fn header_of(data: &[u8]) -> [u8; 4] {
 }
 
 /// The datagram gets this reply, or is no call where that is empty.
-fn datagram_is_told(core: &mut Core, data: &[u8], reply: &[u8], meter: &mut Meter) -> bool {
-    let outcome = core.datagram(0, loopback(), data, meter);
+fn datagram_is_told(core: &mut Metered, data: &[u8], reply: &[u8]) -> bool {
+    let outcome = core.datagram(0, loopback(), data);
     if reply.is_empty() {
         outcome == Outcome::NoCall
     } else {
-        outcome == Outcome::Reply && core.udp_reply(meter) == reply
+        outcome == Outcome::Reply && core.udp_reply() == reply
     }
 }
 
 /// The record closes its connection.
-fn record_closes(
-    core: &mut Core,
-    id: u64,
-    data: &[u8],
-    meter: &mut Meter,
-) -> Result<bool, CoreFault> {
-    let (header, _) = core.bytes(0, id, &header_of(data), meter)?;
+fn record_closes(core: &mut Metered, id: u64, data: &[u8]) -> Result<bool, CoreFault> {
+    let (header, _) = core.bytes(0, id, &header_of(data))?;
     if header.closed {
         return Ok(true);
     }
-    let (record, _) = core.bytes(0, id, data, meter)?;
+    let (record, _) = core.bytes(0, id, data)?;
     Ok(record.closed)
 }
 
 /// The record gets this one for its reply, or closes its connection where that is empty.
-fn record_is_told(
-    core: &mut Core,
-    data: &[u8],
-    reply: &[u8],
-    meter: &mut Meter,
-) -> Result<bool, CoreFault> {
-    let id = core.open(0, loopback(), meter)?;
-    let closes = record_closes(core, id, data, meter)?;
+fn record_is_told(core: &mut Metered, data: &[u8], reply: &[u8]) -> Result<bool, CoreFault> {
+    let id = core.open(0, loopback())?;
+    let closes = record_closes(core, id, data)?;
     let is_told = if closes {
         reply.is_empty()
     } else {
-        core.pending(id, meter)? == reply
+        core.pending(id)? == reply
     };
-    core.closed(id, meter)?;
+    core.closed(id)?;
     Ok(is_told)
 }
 
 /// Each front of the call is no call where it is shorter than the head, and else gets this record for its reply, or as
 /// a datagram what follows the record's header.
 fn fronts_are_told(
-    core: &mut Core,
+    core: &mut Metered,
     call: &[u8],
     head: usize,
     reply: &[u8],
-    meter: &mut Meter,
 ) -> Result<bool, CoreFault> {
     for len in 0..call.len() {
         let front = &call[..len];
         let told: &[u8] = if len < head { &[] } else { reply };
         let unmarked = told.get(4..).unwrap_or(&[]);
-        if !datagram_is_told(core, front, unmarked, meter)
-            || !record_is_told(core, front, told, meter)?
-        {
+        if !datagram_is_told(core, front, unmarked) || !record_is_told(core, front, told)? {
             return Ok(false);
         }
     }
@@ -162,15 +148,14 @@ fn call_of(alloc: Global, head: &[u32], arguments: &[u32]) -> Result<Vec<u8>, Al
 /// Each of the procedures, called by AUTH_NONE.
 fn calls_by_nobody(
     alloc: Global,
-    core: &mut Core,
+    core: &mut Metered,
     procedures: &Procedures,
-    meter: &mut Meter,
 ) -> Result<bool, Fail> {
     let reply = bytes_of(alloc, &GARBAGE)?;
     for numbers in procedures.numbers {
         let (vers, proc) = *numbers;
         let call = call_of(alloc, &head_by_nobody(vers, proc), procedures.arguments)?;
-        if !fronts_are_told(core, &call, 40, &reply, meter)? {
+        if !fronts_are_told(core, &call, 40, &reply)? {
             return Ok(false);
         }
     }
@@ -179,32 +164,26 @@ fn calls_by_nobody(
 
 #[test]
 fn truncated_calls(rt: HostRuntime) -> Result<(), Fail> {
-    let mut meter = Meter::new();
-    let mut core = core_of(rt.alloc(), 300, &mut meter)?;
-    assert!(rt; calls_by_nobody(rt.alloc(), &mut core, &VOID, &mut meter)?);
-    assert!(rt; calls_by_nobody(rt.alloc(), &mut core, &OF_A_MAPPING, &mut meter)?);
-    assert!(rt; calls_by_nobody(rt.alloc(), &mut core, &SET, &mut meter)?);
-    assert!(rt; calls_by_nobody(rt.alloc(), &mut core, &OF_EMPTY_TEXTS, &mut meter)?);
-    assert!(rt; calls_by_nobody(rt.alloc(), &mut core, &OF_A_NETID, &mut meter)?);
-    assert!(rt; calls_by_nobody(rt.alloc(), &mut core, &OF_A_REMOTE_CALL, &mut meter)?);
-    assert!(rt; calls_by_nobody(rt.alloc(), &mut core, &UADDR2TADDR, &mut meter)?);
-    assert!(rt; calls_by_nobody(rt.alloc(), &mut core, &OTHER_UADDR2TADDR, &mut meter)?);
-    assert!(rt; calls_by_nobody(rt.alloc(), &mut core, &TADDR2UADDR, &mut meter)?);
+    let mut core = core_of(rt.alloc(), 300)?;
+    assert!(rt; calls_by_nobody(rt.alloc(), &mut core, &VOID)?);
+    assert!(rt; calls_by_nobody(rt.alloc(), &mut core, &OF_A_MAPPING)?);
+    assert!(rt; calls_by_nobody(rt.alloc(), &mut core, &SET)?);
+    assert!(rt; calls_by_nobody(rt.alloc(), &mut core, &OF_EMPTY_TEXTS)?);
+    assert!(rt; calls_by_nobody(rt.alloc(), &mut core, &OF_A_NETID)?);
+    assert!(rt; calls_by_nobody(rt.alloc(), &mut core, &OF_A_REMOTE_CALL)?);
+    assert!(rt; calls_by_nobody(rt.alloc(), &mut core, &UADDR2TADDR)?);
+    assert!(rt; calls_by_nobody(rt.alloc(), &mut core, &OTHER_UADDR2TADDR)?);
+    assert!(rt; calls_by_nobody(rt.alloc(), &mut core, &TADDR2UADDR)?);
     Ok(())
 }
 
 /// Each of the procedures, called by AUTH_SYS.
-fn calls_by_uid(
-    alloc: Global,
-    core: &mut Core,
-    procedures: &Procedures,
-    meter: &mut Meter,
-) -> Result<bool, Fail> {
+fn calls_by_uid(alloc: Global, core: &mut Metered, procedures: &Procedures) -> Result<bool, Fail> {
     let reply = bytes_of(alloc, &GARBAGE)?;
     for numbers in procedures.numbers {
         let (vers, proc) = *numbers;
         let call = call_of(alloc, &head_by_uid(vers, proc, 500), procedures.arguments)?;
-        if !fronts_are_told(core, &call, 60, &reply, meter)? {
+        if !fronts_are_told(core, &call, 60, &reply)? {
             return Ok(false);
         }
     }
@@ -213,33 +192,31 @@ fn calls_by_uid(
 
 #[test]
 fn truncated_calls_by_uid(rt: HostRuntime) -> Result<(), Fail> {
-    let mut meter = Meter::new();
-    let mut core = core_of(rt.alloc(), 300, &mut meter)?;
-    assert!(rt; calls_by_uid(rt.alloc(), &mut core, &VOID, &mut meter)?);
-    assert!(rt; calls_by_uid(rt.alloc(), &mut core, &OF_A_MAPPING, &mut meter)?);
-    assert!(rt; calls_by_uid(rt.alloc(), &mut core, &SET, &mut meter)?);
-    assert!(rt; calls_by_uid(rt.alloc(), &mut core, &OF_EMPTY_TEXTS, &mut meter)?);
+    let mut core = core_of(rt.alloc(), 300)?;
+    assert!(rt; calls_by_uid(rt.alloc(), &mut core, &VOID)?);
+    assert!(rt; calls_by_uid(rt.alloc(), &mut core, &OF_A_MAPPING)?);
+    assert!(rt; calls_by_uid(rt.alloc(), &mut core, &SET)?);
+    assert!(rt; calls_by_uid(rt.alloc(), &mut core, &OF_EMPTY_TEXTS)?);
     Ok(())
 }
 
 /// Of another RPC version, of another program, and of a flavor that is refused: each is no call before it ends.
 #[test]
 fn truncated_calls_of_others(rt: HostRuntime) -> Result<(), Fail> {
-    let mut meter = Meter::new();
     let other_version = bytes_of(rt.alloc(), &[5, 0, 3])?;
     let other_program = bytes_of(rt.alloc(), &[25, 0, 2, 200_001, 2, 1, 0, 0, 0, 0])?;
     let other_flavor = bytes_of(rt.alloc(), &[10, 0, 2, 200_009, 2, 1, 6, 0, 0, 0])?;
-    let mut core = core_of(rt.alloc(), 300, &mut meter)?;
+    let mut core = core_of(rt.alloc(), 300)?;
     assert_eq!(rt;
-        fronts_are_told(&mut core, &other_version, 12, &[], &mut meter),
+        fronts_are_told(&mut core, &other_version, 12, &[]),
         Ok(true)
     );
     assert_eq!(rt;
-        fronts_are_told(&mut core, &other_program, 40, &[], &mut meter),
+        fronts_are_told(&mut core, &other_program, 40, &[]),
         Ok(true)
     );
     assert_eq!(rt;
-        fronts_are_told(&mut core, &other_flavor, 40, &[], &mut meter),
+        fronts_are_told(&mut core, &other_flavor, 40, &[]),
         Ok(true)
     );
     Ok(())
@@ -256,19 +233,12 @@ fn call_of_credential(alloc: Global, len: u32) -> Result<Vec<u8>, AllocError> {
 /// A credential of 400 bytes ends at 432, and its verifier at 440. One of 401 is AUTH_BADCRED from its length on.
 #[test]
 fn truncated_calls_of_long_credentials(rt: HostRuntime) -> Result<(), Fail> {
-    let mut meter = Meter::new();
     let longest = call_of_credential(rt.alloc(), 400)?;
     let longer = call_of_credential(rt.alloc(), 401)?;
     let refusal = bytes_of(rt.alloc(), &[0x80000014, 9, 1, 1, 1, 1])?;
-    let mut core = core_of(rt.alloc(), 300, &mut meter)?;
-    assert_eq!(rt;
-        fronts_are_told(&mut core, &longest, 440, &[], &mut meter),
-        Ok(true)
-    );
-    assert_eq!(rt;
-        fronts_are_told(&mut core, &longer, 32, &refusal, &mut meter),
-        Ok(true)
-    );
+    let mut core = core_of(rt.alloc(), 300)?;
+    assert_eq!(rt; fronts_are_told(&mut core, &longest, 440, &[]), Ok(true));
+    assert_eq!(rt; fronts_are_told(&mut core, &longer, 32, &refusal), Ok(true));
     Ok(())
 }
 
@@ -283,19 +253,12 @@ fn callit_of(alloc: Global, len: u32) -> Result<Vec<u8>, AllocError> {
 /// Arguments of 8,800 bytes are whole with the last of them, and those of 8,801 are too many.
 #[test]
 fn truncated_calls_of_greatest_arguments(rt: HostRuntime) -> Result<(), Fail> {
-    let mut meter = Meter::new();
     let reply = bytes_of(rt.alloc(), &GARBAGE)?;
     let greatest = callit_of(rt.alloc(), 8800)?;
     let whole = greatest.get(..8856).ok_or("short")?;
     let greater = callit_of(rt.alloc(), 8801)?;
-    let mut core = core_of(rt.alloc(), 300, &mut meter)?;
-    assert_eq!(rt;
-        fronts_are_told(&mut core, whole, 40, &reply, &mut meter),
-        Ok(true)
-    );
-    assert_eq!(rt;
-        fronts_are_told(&mut core, &greater, 40, &reply, &mut meter),
-        Ok(true)
-    );
+    let mut core = core_of(rt.alloc(), 300)?;
+    assert_eq!(rt; fronts_are_told(&mut core, whole, 40, &reply), Ok(true));
+    assert_eq!(rt; fronts_are_told(&mut core, &greater, 40, &reply), Ok(true));
     Ok(())
 }

@@ -2,10 +2,9 @@
 //! bytes.
 
 use crate::cores::{bytes_of, core_of, loopback, set_call};
-use rb_core::{Core, NoMemory};
+use rb_core::{Metered, NoMemory};
 use rb_lines::{ReadFault, read_events};
 use rb_replay::{Event, Output, replay};
-use rb_xdr::Meter;
 use std::alloc::{AllocError, Global};
 use std::test::Fail;
 
@@ -28,13 +27,12 @@ const FRAGMENTS: u32 = 20;
 
 /// Gives so many bytes at once, of what is pending on the connection, and joins them to those before.
 fn give_at_once(
-    core: &mut Core,
+    core: &mut Metered,
     id: u64,
     count: usize,
     joined: &mut Vec<u8>,
-    meter: &mut Meter,
 ) -> Result<(), AllocError> {
-    let given = match core.pending(id, meter) {
+    let given = match core.pending(id) {
         Ok(pending) => {
             let front = &pending[..pending.len().min(count)];
             joined.extend_from_slice(front)?;
@@ -42,39 +40,32 @@ fn give_at_once(
         }
         Err(_) => return Ok(()),
     };
-    let _ = core.gave(0, id, given, meter);
+    let _ = core.gave(0, id, given);
     Ok(())
 }
 
 /// Gives so many bytes, at once or one by one.
 fn give(
-    core: &mut Core,
+    core: &mut Metered,
     id: u64,
     count: usize,
     way: Way,
     joined: &mut Vec<u8>,
-    meter: &mut Meter,
 ) -> Result<(), AllocError> {
     if way != Way::InSingleBytes {
-        return give_at_once(core, id, count, joined, meter);
+        return give_at_once(core, id, count, joined);
     }
     for _i in 0..count {
-        give_at_once(core, id, 1, joined, meter)?;
+        give_at_once(core, id, 1, joined)?;
     }
     Ok(())
 }
 
 /// Gives all that the connection owes, fragment by fragment.
-fn give_all(
-    core: &mut Core,
-    id: u64,
-    way: Way,
-    joined: &mut Vec<u8>,
-    meter: &mut Meter,
-) -> Result<(), AllocError> {
+fn give_all(core: &mut Metered, id: u64, way: Way, joined: &mut Vec<u8>) -> Result<(), AllocError> {
     for _i in 0..FRAGMENTS {
-        let count = core.pending(id, meter).map_or(0, |pending| pending.len());
-        give(core, id, count, way, joined, meter)?;
+        let count = core.pending(id).map_or(0, |pending| pending.len());
+        give(core, id, count, way, joined)?;
     }
     Ok(())
 }
@@ -82,47 +73,39 @@ fn give_all(
 /// Lets one event happen. What is given is joined.
 fn happen(
     alloc: Global,
-    core: &mut Core,
+    core: &mut Metered,
     event: &[Event],
     way: Way,
     joined: &mut Vec<u8>,
-    meter: &mut Meter,
 ) -> Result<(), Fail> {
     if let [Event::Gave(_, id, count)] = event {
-        give(core, *id, usize::try_from(*count)?, way, joined, meter)?;
+        give(core, *id, usize::try_from(*count)?, way, joined)?;
     } else {
-        replay(alloc, core, event, &mut Vec::new(alloc), meter)?;
+        replay(alloc, core, event, &mut Vec::new(alloc))?;
     }
     if way == Way::WithEmptyWrites {
-        give_at_once(core, 1, 0, joined, meter)?;
-        give_at_once(core, 2, 0, joined, meter)?;
+        give_at_once(core, 1, 0, joined)?;
+        give_at_once(core, 2, 0, joined)?;
     }
     Ok(())
 }
 
 /// All that the events give, and then all that the connections owe.
-fn given(
-    alloc: Global,
-    core: &mut Core,
-    events: &[Event],
-    way: Way,
-    meter: &mut Meter,
-) -> Result<Vec<u8>, Fail> {
+fn given(alloc: Global, core: &mut Metered, events: &[Event], way: Way) -> Result<Vec<u8>, Fail> {
     let mut joined = Vec::new(alloc);
     for event in events.chunks(1) {
-        happen(alloc, core, event, way, &mut joined, meter)?;
+        happen(alloc, core, event, way, &mut joined)?;
     }
-    give_all(core, 1, way, &mut joined, meter)?;
-    give_all(core, 2, way, &mut joined, meter)?;
+    give_all(core, 1, way, &mut joined)?;
+    give_all(core, 2, way, &mut joined)?;
     Ok(joined)
 }
 
 /// A new core with this limit of rows gives these bytes, in each of the three ways.
 fn is_given(alloc: Global, rows: usize, events: &[Event], wanted: &[u8]) -> Result<bool, Fail> {
     for way in [Way::AsItIs, Way::WithEmptyWrites, Way::InSingleBytes] {
-        let mut meter = Meter::new();
-        let mut core = core_of(alloc, rows, &mut meter)?;
-        let given = given(alloc, &mut core, events, way, &mut meter)?;
+        let mut core = core_of(alloc, rows)?;
+        let given = given(alloc, &mut core, events, way)?;
         if given.as_slice() != wanted {
             return Ok(false);
         }

@@ -127,7 +127,7 @@ impl<'r, 'f> Client<'r, 'f> {
         let mut got = Vec::new(self.rt.alloc());
         let mut room = [0; 1024];
         for _ in 0..TURNS {
-            daemon.turn(self.rt, WAIT).ok()?;
+            daemon.turn(self.rt, Some(WAIT)).ok()?;
             let len = stream.read(&mut room).unwrap_or(0);
             got.extend_from_slice(room.get(..len)?).ok()?;
             let answer = self.show(ask, xid, &got);
@@ -256,7 +256,7 @@ impl Caller {
     ) -> Option<(u32, SocketAddr)> {
         let mut room = [0; 1024];
         for _ in 0..TURNS {
-            daemon.turn(rt, WAIT).ok()?;
+            daemon.turn(rt, Some(WAIT)).ok()?;
             if let Ok((_, sender)) = self.socket.recv_from(&mut room) {
                 let [a, b, c, d, ..] = room;
                 return Some((u32::from_be_bytes([a, b, c, d]), sender));
@@ -273,7 +273,7 @@ impl Caller {
     ) -> Option<Vec<u8>> {
         let mut room = [0; 1024];
         for _ in 0..TURNS {
-            daemon.turn(rt, WAIT).ok()?;
+            daemon.turn(rt, Some(WAIT)).ok()?;
             if let Ok((len, _)) = self.socket.recv_from(&mut room) {
                 let header = LAST | u32::try_from(len).ok()?;
                 let mut record = Vec::new(rt.alloc());

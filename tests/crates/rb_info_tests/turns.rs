@@ -75,7 +75,7 @@ pub fn receive(
     got: &mut [u8; 256],
 ) -> usize {
     for _ in 0..TURNS {
-        if daemon.turn(rt, WAIT).is_err() {
+        if daemon.turn(rt, Some(WAIT)).is_err() {
             return 0;
         }
         if let Ok(len) = stream.read(got) {

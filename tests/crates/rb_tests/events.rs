@@ -1,9 +1,10 @@
 use crate::address::claims;
 use crate::proto::listener;
 use rb_address::Who;
-use rb_core::{Core, CoreFault, Exchanged, Limits, NoMemory, Outcome, Standing, Taken};
+use rb_core::{
+    CoreFault, Exchanged, Expired, Limits, Metered, NoMemory, Outcome, Standing, Taken, Told,
+};
 use rb_replay::{Event, Output, replay};
-use rb_xdr::Meter;
 use std::alloc::{AllocError, Global};
 use std::process::Abort;
 use std::test::Fail;
@@ -30,8 +31,8 @@ const NULL_RECORD: [u32; 11] = [0x8000_0028, 1, 0, 2, 100_000, 2, 0, 0, 0, 0, 0]
 // The first bytes of a record with that call and 100,000 bytes behind it.
 const OVERLONG: [u32; 11] = [0x8001_86c8, 1, 0, 2, 100_000, 2, 0, 0, 0, 0, 0];
 
-fn new_core(alloc: Global, meter: &mut Meter) -> Result<Core, CoreFault> {
-    Core::new(alloc, LIMITS, listener(), 1000, 0, meter)
+fn new_core(alloc: Global) -> Result<Metered, CoreFault> {
+    Metered::new(alloc, LIMITS, listener(), 1000, 0)
 }
 
 fn words(alloc: Global, numbers: &[u32]) -> Result<Vec<u8>, AllocError> {
@@ -43,32 +44,26 @@ fn words(alloc: Global, numbers: &[u32]) -> Result<Vec<u8>, AllocError> {
 }
 
 // The outputs of the events.
-fn outputs(
-    alloc: Global,
-    core: &mut Core,
-    events: &[Event],
-    meter: &mut Meter,
-) -> Result<Vec<Output>, NoMemory> {
+fn outputs(alloc: Global, core: &mut Metered, events: &[Event]) -> Result<Vec<Output>, NoMemory> {
     let mut outputs = Vec::new(alloc);
-    replay(alloc, core, events, &mut outputs, meter)?;
+    replay(alloc, core, events, &mut outputs)?;
     Ok(outputs)
 }
 
 // The call is answered, and the 24 bytes of its reply are held.
-fn null_is_answered(rt: &impl Abort, core: &mut Core, call: &[u8], meter: &mut Meter) {
+fn null_is_answered(rt: &impl Abort, core: &mut Metered, call: &[u8]) {
     assert_eq!(rt; core.held(), 270);
-    assert_eq!(rt; core.datagram(0, loopback(), call, meter), Outcome::Reply);
-    assert_eq!(rt; core.udp_reply(meter), NULL_REPLY);
+    assert_eq!(rt; core.datagram(0, loopback(), call), Outcome::Reply);
+    assert_eq!(rt; core.udp_reply(), NULL_REPLY);
     assert_eq!(rt; core.held(), 294);
     assert!(rt; core.held() <= core.bytes_bound());
 }
 
 #[test]
 fn new_core_has_memory(rt: HostRuntime) -> Result<(), Fail> {
-    let mut meter = Meter::new();
     let call = words(rt.alloc(), &NULL)?;
-    let mut core = new_core(rt.alloc(), &mut meter)?;
-    null_is_answered(&rt, &mut core, &call, &mut meter);
+    let mut core = new_core(rt.alloc())?;
+    null_is_answered(&rt, &mut core, &call);
     Ok(())
 }
 
@@ -80,7 +75,7 @@ fn limits_and_numbers(rt: HostRuntime) {
             rows,
             forwards,
         };
-        let made = Core::new(rt.alloc(), limits, listener(), 1000, 0, &mut Meter::new());
+        let made = Metered::new(rt.alloc(), limits, listener(), 1000, 0);
         assert!(rt; matches!(made, Err(CoreFault::BadLimits)));
     }
 }
@@ -95,10 +90,9 @@ fn set_and_nothing(alloc: Global) -> Result<Vec<Event>, AllocError> {
 
 #[test]
 fn replay_has_memory(rt: HostRuntime) -> Result<(), Fail> {
-    let mut meter = Meter::new();
     let events = set_and_nothing(rt.alloc())?;
-    let mut core = new_core(rt.alloc(), &mut meter)?;
-    let given = outputs(rt.alloc(), &mut core, &events, &mut meter)?;
+    let mut core = new_core(rt.alloc())?;
+    let given = outputs(rt.alloc(), &mut core, &events)?;
     assert!(rt; matches!(given.as_slice(), [Output::Replied(_), Output::Silent]));
     Ok(())
 }
@@ -124,14 +118,9 @@ fn rest_is_pending(outputs: &[Output]) -> bool {
     matches!(outputs.get(3), Some(Output::Pending(rest)) if rest.as_slice() == REST.as_slice())
 }
 
-fn connection_is_served(
-    rt: &impl Abort,
-    alloc: Global,
-    core: &mut Core,
-    meter: &mut Meter,
-) -> Result<(), Fail> {
+fn connection_is_served(rt: &impl Abort, alloc: Global, core: &mut Metered) -> Result<(), Fail> {
     let events = one_connection(alloc)?;
-    let given = outputs(alloc, core, &events, meter)?;
+    let given = outputs(alloc, core, &events)?;
     assert!(rt; given.len() == 6 && rest_is_pending(&given));
     assert!(rt; matches!(given.last(), Some(Output::Done)));
     assert_eq!(rt; core.held(), 270);
@@ -140,9 +129,8 @@ fn connection_is_served(
 
 #[test]
 fn connections_have_memory(rt: HostRuntime) -> Result<(), Fail> {
-    let mut meter = Meter::new();
-    let mut core = new_core(rt.alloc(), &mut meter)?;
-    connection_is_served(&rt, rt.alloc(), &mut core, &mut meter)
+    let mut core = new_core(rt.alloc())?;
+    connection_is_served(&rt, rt.alloc(), &mut core)
 }
 
 fn null_call(alloc: Global) -> Result<Vec<Event>, AllocError> {
@@ -158,11 +146,10 @@ fn is_null_reply(outputs: &[Output]) -> bool {
 /// A NULL call and its reply, of which 24 bytes are held.
 #[test]
 fn null_reply(rt: HostRuntime) -> Result<(), Fail> {
-    let mut meter = Meter::new();
     let events = null_call(rt.alloc())?;
-    let mut core = new_core(rt.alloc(), &mut meter)?;
+    let mut core = new_core(rt.alloc())?;
     assert_eq!(rt; core.held(), 270);
-    let given = outputs(rt.alloc(), &mut core, &events, &mut meter)?;
+    let given = outputs(rt.alloc(), &mut core, &events)?;
     assert!(rt; is_null_reply(&given));
     assert_eq!(rt; core.held(), 294);
     Ok(())
@@ -187,14 +174,9 @@ fn took(outputs: &[Output], count: usize) -> bool {
 }
 
 // A piece of 1,000 bytes arrives 99 times, each time whole, and never more than 9,214 bytes are held.
-fn stays_small(
-    alloc: Global,
-    core: &mut Core,
-    piece: &[Event],
-    meter: &mut Meter,
-) -> Result<bool, NoMemory> {
+fn stays_small(alloc: Global, core: &mut Metered, piece: &[Event]) -> Result<bool, NoMemory> {
     for _i in 0..99 {
-        let given = outputs(alloc, core, piece, meter)?;
+        let given = outputs(alloc, core, piece)?;
         if !took(&given, 1000) || core.held() > 9214 {
             return Ok(false);
         }
@@ -202,41 +184,26 @@ fn stays_small(
     Ok(true)
 }
 
-fn connection_opens(
-    rt: &impl Abort,
-    alloc: Global,
-    core: &mut Core,
-    meter: &mut Meter,
-) -> Result<(), Fail> {
+fn connection_opens(rt: &impl Abort, alloc: Global, core: &mut Metered) -> Result<(), Fail> {
     let open = opening(alloc)?;
-    let given = outputs(alloc, core, &open, meter)?;
+    let given = outputs(alloc, core, &open)?;
     assert!(rt; matches!(given.as_slice(), [Output::Opened(1)]) && core.held() == 398);
     Ok(())
 }
 
 // The first 44 bytes of the record.
-fn record_begins(
-    rt: &impl Abort,
-    alloc: Global,
-    core: &mut Core,
-    meter: &mut Meter,
-) -> Result<(), Fail> {
+fn record_begins(rt: &impl Abort, alloc: Global, core: &mut Metered) -> Result<(), Fail> {
     let first = arrival(alloc, &words(alloc, &OVERLONG)?)?;
-    let given = outputs(alloc, core, &first, meter)?;
+    let given = outputs(alloc, core, &first)?;
     assert!(rt; took(&given, 44) && core.held() == 398);
     Ok(())
 }
 
 // The 100,000 bytes behind them.
-fn record_ends(
-    rt: &impl Abort,
-    alloc: Global,
-    core: &mut Core,
-    meter: &mut Meter,
-) -> Result<(), Fail> {
+fn record_ends(rt: &impl Abort, alloc: Global, core: &mut Metered) -> Result<(), Fail> {
     let next = arrival(alloc, &[0xff; 1000])?;
-    assert!(rt; stays_small(alloc, core, &next, meter)?);
-    let given = outputs(alloc, core, &next, meter)?;
+    assert!(rt; stays_small(alloc, core, &next)?);
+    let given = outputs(alloc, core, &next)?;
     assert!(rt; took(&given, 1000) && core.held() == 450);
     assert!(rt; core.held() <= core.bytes_bound());
     Ok(())
@@ -245,12 +212,11 @@ fn record_ends(
 /// What is held while a record of 100,044 bytes comes in, in 101 pieces.
 #[test]
 fn overlong_record_is_answered(rt: HostRuntime) -> Result<(), Fail> {
-    let mut meter = Meter::new();
-    let mut core = new_core(rt.alloc(), &mut meter)?;
+    let mut core = new_core(rt.alloc())?;
     assert_eq!(rt; core.held(), 270);
-    connection_opens(&rt, rt.alloc(), &mut core, &mut meter)?;
-    record_begins(&rt, rt.alloc(), &mut core, &mut meter)?;
-    record_ends(&rt, rt.alloc(), &mut core, &mut meter)
+    connection_opens(&rt, rt.alloc(), &mut core)?;
+    record_begins(&rt, rt.alloc(), &mut core)?;
+    record_ends(&rt, rt.alloc(), &mut core)
 }
 
 /// The whole reply to a NULL call of xid 1 on a connection.
@@ -260,12 +226,11 @@ const NULL_MARKED: [u8; 28] = [
 
 // The whole record is taken, so many bytes of its reply are given at once, and the connection stands so then.
 fn gives_at_once(
-    core: &mut Core,
+    core: &mut Metered,
     record: &[u8],
     room: &mut [u8],
     given: usize,
     standing: Standing,
-    meter: &mut Meter,
 ) -> bool {
     let taken = Taken {
         count: 44,
@@ -276,40 +241,39 @@ fn gives_at_once(
         given,
         standing,
     };
-    core.exchange(0, 1, record, room, meter) == Ok(exchanged)
+    core.exchange(0, 1, record, room) == Ok(exchanged)
 }
 
 // Where there is room for the longest fragment the reply is given at once, and is pending no more.
-fn gives_with_room(core: &mut Core, record: &[u8], meter: &mut Meter) -> bool {
+fn gives_with_room(core: &mut Metered, record: &[u8]) -> bool {
     let mut room = [0; 1028];
-    gives_at_once(core, record, &mut room, 28, Standing::Idle, meter)
+    gives_at_once(core, record, &mut room, 28, Standing::Idle)
         && room.starts_with(&NULL_MARKED)
-        && core.pending(1, meter) == Ok(&[])
+        && core.pending(1) == Ok(&[])
 }
 
 // Where there is a byte less the reply is pending.
-fn waits_without_room(core: &mut Core, record: &[u8], meter: &mut Meter) -> bool {
+fn waits_without_room(core: &mut Metered, record: &[u8]) -> bool {
     let mut room = [0; 1027];
-    gives_at_once(core, record, &mut room, 0, Standing::Owing, meter)
-        && core.pending(1, meter) == Ok(NULL_MARKED.as_slice())
+    gives_at_once(core, record, &mut room, 0, Standing::Owing)
+        && core.pending(1) == Ok(NULL_MARKED.as_slice())
 }
 
 #[test]
 fn replies_are_given_at_once(rt: HostRuntime) -> Result<(), Fail> {
-    let mut meter = Meter::new();
     let record = words(rt.alloc(), &NULL_RECORD)?;
-    let mut core = new_core(rt.alloc(), &mut meter)?;
-    connection_opens(&rt, rt.alloc(), &mut core, &mut meter)?;
-    assert!(rt; gives_with_room(&mut core, &record, &mut meter));
-    assert!(rt; waits_without_room(&mut core, &record, &mut meter));
+    let mut core = new_core(rt.alloc())?;
+    connection_opens(&rt, rt.alloc(), &mut core)?;
+    assert!(rt; gives_with_room(&mut core, &record));
+    assert!(rt; waits_without_room(&mut core, &record));
     Ok(())
 }
 
 // Each byte of the record is taken by itself, in at most 328 steps.
-fn bytes_are_cheap(core: &mut Core, front: &[u8], meter: &mut Meter) -> Result<bool, CoreFault> {
+fn bytes_are_cheap(core: &mut Metered, front: &[u8]) -> Result<bool, CoreFault> {
     for byte in front {
-        let (Taken { count, closed }, _) = core.bytes(0, 1, &[*byte], meter)?;
-        if count != 1 || closed || core.steps(meter) > 328 {
+        let (Taken { count, closed }, _) = core.bytes(0, 1, &[*byte])?;
+        if count != 1 || closed || core.steps() > 328 {
             return Ok(false);
         }
     }
@@ -343,7 +307,6 @@ fn greatest_callit(alloc: Global) -> Result<Vec<u8>, AllocError> {
 /// At limits of 4 connections a byte that ends no record takes at most 8 steps, 64 for each connection, and 64.
 #[test]
 fn single_bytes_are_cheap(rt: HostRuntime) -> Result<(), Fail> {
-    let mut meter = Meter::new();
     let limits = Limits {
         conns: 4,
         rows: 8,
@@ -351,59 +314,99 @@ fn single_bytes_are_cheap(rt: HostRuntime) -> Result<(), Fail> {
     };
     let record = greatest_callit(rt.alloc())?;
     let (_, front) = record.split_last().ok_or("empty")?;
-    let mut core = Core::new(rt.alloc(), limits, listener(), 1000, 0, &mut meter)?;
-    assert_eq!(rt; core.open(0, loopback(), &mut meter), Ok(1));
-    assert_eq!(rt; bytes_are_cheap(&mut core, front, &mut meter), Ok(true));
+    let mut core = Metered::new(rt.alloc(), limits, listener(), 1000, 0)?;
+    assert_eq!(rt; core.open(0, loopback()), Ok(1));
+    assert_eq!(rt; bytes_are_cheap(&mut core, front), Ok(true));
     Ok(())
 }
 
 // The bytes are taken, the connection stands so then, and this is the next deadline.
 fn bytes_leave(
-    core: &mut Core,
+    core: &mut Metered,
     now: u64,
     piece: &[u8],
     standing: Standing,
     deadline: Option<u64>,
-    meter: &mut Meter,
 ) -> bool {
-    matches!(core.bytes(now, 1, piece, meter), Ok((_, stands)) if stands == standing)
-        && core.next_deadline(meter) == deadline
+    matches!(core.bytes(now, 1, piece), Ok((_, stands)) if stands == standing)
+        && core.next_deadline() == deadline
 }
 
 // The same where so many bytes were given.
 fn giving_leaves(
-    core: &mut Core,
+    core: &mut Metered,
     now: u64,
     count: usize,
     standing: Standing,
     deadline: Option<u64>,
-    meter: &mut Meter,
 ) -> bool {
-    core.gave(now, 1, count, meter) == Ok(standing) && core.next_deadline(meter) == deadline
+    core.gave(now, 1, count) == Ok(standing) && core.next_deadline() == deadline
 }
 
 // From the opening at the moment 0: a record in two pieces, and its reply in two.
-fn a_call_goes_on(core: &mut Core, first: &[u8], second: &[u8], meter: &mut Meter) -> bool {
-    core.next_deadline(meter) == Some(300_000)
-        && bytes_leave(core, 10, first, Standing::Reading, Some(30_010), meter)
-        && bytes_leave(core, 20, second, Standing::Owing, Some(30_020), meter)
-        && giving_leaves(core, 30, 3, Standing::Owing, Some(30_030), meter)
-        && giving_leaves(core, 40, 25, Standing::Idle, Some(300_040), meter)
+fn a_call_goes_on(core: &mut Metered, first: &[u8], second: &[u8]) -> bool {
+    core.next_deadline() == Some(300_000)
+        && bytes_leave(core, 10, first, Standing::Reading, Some(30_010))
+        && bytes_leave(core, 20, second, Standing::Owing, Some(30_020))
+        && giving_leaves(core, 30, 3, Standing::Owing, Some(30_030))
+        && giving_leaves(core, 40, 25, Standing::Idle, Some(300_040))
 }
 
 /// Where a connection stands after each call on it, and the next deadline then: a call and its reply, and a record that is
 /// no call.
 #[test]
 fn standings_and_next_deadlines(rt: HostRuntime) -> Result<(), Fail> {
-    let mut meter = Meter::new();
     let first = words(rt.alloc(), &[0x8000_0028, 1, 0, 2, 100_000, 2])?;
     let second = words(rt.alloc(), &[0; 5])?;
     let no_call = words(rt.alloc(), &[0x8000_0004, 1])?;
-    let mut core = new_core(rt.alloc(), &mut meter)?;
-    assert_eq!(rt; core.next_deadline(&mut meter), None);
-    connection_opens(&rt, rt.alloc(), &mut core, &mut meter)?;
-    assert!(rt; a_call_goes_on(&mut core, &first, &second, &mut meter));
-    assert!(rt; bytes_leave(&mut core, 50, &no_call, Standing::Lost, None, &mut meter));
-    assert_eq!(rt; core.gave(60, 1, 1, &mut meter), Err(CoreFault::Gone));
+    let mut core = new_core(rt.alloc())?;
+    assert_eq!(rt; core.next_deadline(), None);
+    connection_opens(&rt, rt.alloc(), &mut core)?;
+    assert!(rt; a_call_goes_on(&mut core, &first, &second));
+    assert!(rt; bytes_leave(&mut core, 50, &no_call, Standing::Lost, None));
+    assert_eq!(rt; core.gave(60, 1, 1), Err(CoreFault::Gone));
+    Ok(())
+}
+
+// A SET of version 2, of program 200001 version 1 over UDP at port 2049.
+const SET: [u32; 14] = [2, 0, 2, 100_000, 2, 1, 0, 0, 0, 0, 200_001, 1, 17, 2049];
+
+// A whole record with an INDIRECT of version 4 to procedure 0 of that program, without arguments.
+const INDIRECT_RECORD: [u32; 15] = [
+    0x8000_0038,
+    15,
+    0,
+    2,
+    100_000,
+    4,
+    10,
+    0,
+    0,
+    0,
+    0,
+    200_001,
+    1,
+    0,
+    0,
+];
+
+// The bytes come, the connection stands so then, and the call that was forwarded at the moment 10 is due next.
+fn waits_for_target(core: &mut Metered, now: u64, record: &[u8], standing: Standing) -> bool {
+    bytes_leave(core, now, record, standing, Some(5_010))
+}
+
+/// A call that is forwarded is told behind its bytes, and not again; at its deadline the connection goes on.
+#[test]
+fn forwarded_calls_are_told_once(rt: HostRuntime) -> Result<(), Fail> {
+    let set = words(rt.alloc(), &SET)?;
+    let record = words(rt.alloc(), &INDIRECT_RECORD)?;
+    let mut core = new_core(rt.alloc())?;
+    connection_opens(&rt, rt.alloc(), &mut core)?;
+    assert_eq!(rt; core.datagram(0, loopback(), &set), Outcome::Reply);
+    assert!(rt; waits_for_target(&mut core, 10, &record, Standing::Sends));
+    assert!(rt; core.unsent().is_some());
+    assert!(rt; waits_for_target(&mut core, 20, &record, Standing::Awaiting));
+    let ended = Expired::Ended(Told::TcpReady(1));
+    assert_eq!(rt; core.expire(5_010), ended);
     Ok(())
 }

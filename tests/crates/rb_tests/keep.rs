@@ -1,8 +1,7 @@
 //! Rows that are kept: written, read and set again.
 use crate::proto::listener;
-use rb_core::{Core, Limits, Outcome};
+use rb_core::{Limits, Metered, Outcome};
 use rb_keep::{KeepFault, read_rows, set_call, this_machine, write_rows};
-use rb_xdr::Meter;
 use std::test::Fail;
 
 const LIMITS: Limits = Limits {
@@ -25,18 +24,17 @@ datagram 8 127.0.0.1:0 \
 #[test]
 fn kept_rows_are_set_again(rt: HostRuntime) -> Result<(), Fail> {
     let alloc = rt.alloc();
-    let mut meter = Meter::new();
-    let mut core = Core::new(alloc, LIMITS, listener(), 1000, 8, &mut meter)?;
+    let mut core = Metered::new(alloc, LIMITS, listener(), 1000, 8)?;
     let rows = read_rows(alloc, KEPT)?;
     assert_eq!(rt; rows.len(), 2);
     for row in &rows {
         let call = set_call(row);
-        let told = core.datagram(8, this_machine(), call.as_slice(), &mut meter);
+        let told = core.datagram(8, this_machine(), call.as_slice());
         assert_eq!(rt; told, Outcome::Reply);
     }
     assert_eq!(rt; core.changes(), 2);
     let mut written = Vec::new(alloc);
-    write_rows(&core, &mut written, &mut meter)?;
+    write_rows(&mut core, &mut written)?;
     assert_eq!(rt; written.as_slice(), KEPT);
     Ok(())
 }

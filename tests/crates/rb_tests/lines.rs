@@ -1,10 +1,9 @@
 //! Event lines, read and run.
 use crate::proto::listener;
 use rb_address::Who;
-use rb_core::{Core, Limits};
+use rb_core::{Limits, Metered};
 use rb_lines::{Beginning, ReadFault, read_events};
 use rb_replay::{Event, run_replay};
-use rb_xdr::Meter;
 use std::alloc::{AllocError, Global};
 use std::io;
 use std::io::{BufWriter, ErrorKind, Read};
@@ -110,6 +109,6 @@ fn greatest_limits_have_memory(rt: HostRuntime) {
         rows: 4096,
         forwards: 64,
     };
-    let made = Core::new(rt.alloc(), limits, listener(), 1000, 0, &mut Meter::new());
+    let made = Metered::new(rt.alloc(), limits, listener(), 1000, 0);
     assert!(rt; made.is_ok());
 }

@@ -147,10 +147,13 @@ fn count_at(rate: &mut LogRate, now: u64, lines: u32) -> u32 {
 fn lines_of_a_second_are_few(rt: HostRuntime) {
     let mut rate = LogRate::new();
     assert_eq!(rt; count_at(&mut rate, 5_000, LINES), LINES);
+    assert_eq!(rt; rate.next_line(), None);
     assert_eq!(rt; count_at(&mut rate, 5_999, 17), 0);
+    assert_eq!(rt; rate.next_line(), Some(6_000));
     assert_eq!(rt; rate.take_left_out(5_999), 0);
     assert_eq!(rt; rate.take_left_out(6_000), 17);
     assert_eq!(rt; rate.take_left_out(6_000), 0);
+    assert_eq!(rt; rate.next_line(), None);
     assert_eq!(rt; count_at(&mut rate, 6_000, 2), 2);
     assert_eq!(rt; rate.take_left_out(7_000), 0);
 }

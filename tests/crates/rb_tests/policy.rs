@@ -1,12 +1,12 @@
-//! Whom the daemon believes, row by row; which hosts it serves, announces and is asked at; and when it reads the kernel's
-//! tables.
+//! Whom the daemon believes, row by row; which hosts it serves, announces and is asked at; how long it waits, and when it
+//! reads the kernel's tables.
 use crate::evidence::{AT_31112, table_at};
 use rb_address::{Family, Host, Owner, Peer, Source, Trust, Who};
 use rb_policy::{
-    BETWEEN_READINGS, Brake, Entrance, Evidence, LONGEST_TABLE, Rate, address_for, announced_inet,
-    announced_inet6, binds_loopback6, evidence_of, forwards_inet, forwards_inet6, has_every_host,
-    host_asked, ip_of, is_bound, is_no_address, is_shown, lets_in_root_alone, looks_in, may_read,
-    origin_of, socket_of, somebody, trust_of, wait_for_reading, whole_text,
+    BETWEEN_READINGS, Brake, Entrance, Evidence, LONGEST_TABLE, Rate, WaysBack, address_for,
+    announced_inet, announced_inet6, binds_loopback6, evidence_of, forwards_inet, forwards_inet6,
+    has_every_host, host_asked, ip_of, is_bound, is_no_address, is_shown, lets_in_root_alone,
+    looks_in, may_read, next_reading, origin_of, somebody, trust_of, wait_of, whole_text,
 };
 use std::net::{IpAddr, Ipv4Addr, Ipv6Addr, SocketAddr};
 use std::test::Fail;
@@ -147,10 +147,20 @@ fn readings_wait(rt: HostRuntime) {
     assert!(rt; !may_read(1019, Some(1000)));
     assert!(rt; may_read(1020, Some(1000)));
     assert!(rt; !may_read(999, Some(1000)));
-    assert_eq!(rt; wait_for_reading(1000, None, 50), 0);
-    assert_eq!(rt; wait_for_reading(1005, Some(1000), 50), 15);
-    assert_eq!(rt; wait_for_reading(1005, Some(1000), 10), 10);
-    assert_eq!(rt; wait_for_reading(2000, Some(1000), 50), 0);
+    assert_eq!(rt; next_reading(None), 0);
+    assert_eq!(rt; next_reading(Some(1000)), 1020);
+}
+
+/// Until the next thing is due, and no longer than a turn may wait.
+#[test]
+fn turns_wait(rt: HostRuntime) {
+    assert_eq!(rt; wait_of(true, 1000, Some(1005), None), Some(0));
+    assert_eq!(rt; wait_of(false, 1000, Some(1005), None), Some(5));
+    assert_eq!(rt; wait_of(false, 1000, Some(999), None), Some(0));
+    assert_eq!(rt; wait_of(false, 1000, Some(1005), Some(3)), Some(3));
+    assert_eq!(rt; wait_of(false, 1000, Some(1005), Some(7)), Some(5));
+    assert_eq!(rt; wait_of(false, 1000, None, Some(3)), Some(3));
+    assert_eq!(rt; wait_of(false, 1000, None, None), None);
 }
 
 #[test]
@@ -201,12 +211,23 @@ fn hosts_are_asked(rt: HostRuntime) {
     assert_eq!(rt; host_asked(INET6, Family::Inet6), INET6);
     assert_eq!(rt; host_asked(ANY6, Family::Inet6), ANY6);
     assert_eq!(rt; host_asked(ANY6, Family::Inet), ANY);
-    let bound = [ELSEWHERE, INET, INET6];
-    assert_eq!(rt; socket_of(&bound, INET), Some(1));
-    assert_eq!(rt; socket_of(&bound, INET6), Some(2));
-    assert_eq!(rt; socket_of(&bound, ANY), None);
-    assert_eq!(rt; socket_of(&[INET, ANY6], ANY), Some(1));
-    assert_eq!(rt; socket_of(&[INET, ANY6], ANY6), Some(1));
+}
+
+/// Each call's end goes back to the socket on which it came, once; there is room for two.
+#[test]
+fn ends_go_back(rt: HostRuntime) -> Result<(), Fail> {
+    let mut ways = WaysBack::new(rt.alloc(), 2)?;
+    assert_eq!(rt; ways.take(7), None);
+    ways.note(7, 1);
+    ways.note(9, 0);
+    ways.note(8, 3);
+    assert_eq!(rt; ways.take(8), None);
+    assert_eq!(rt; ways.take(9), Some(0));
+    assert_eq!(rt; ways.take(9), None);
+    ways.note(8, 3);
+    assert_eq!(rt; ways.take(7), Some(1));
+    assert_eq!(rt; ways.take(8), Some(3));
+    Ok(())
 }
 
 #[test]
