@@ -158,7 +158,7 @@ one_sent kind caller =
 abbrev pub EndsWithNote : Kind → Caller → Outcome → Note → Option Ended × Ledger → Type 0
 EndsWithNote kind caller outcome note given =
     given ≡ (
-      Some (record { forward = forward_at kind caller loopback listener_host; outcome = outcome }),
+      Some (record { id = record { number = 1 }; forward = forward_at kind caller loopback listener_host; outcome = outcome }),
       record fresh { history = note ∷ []; forwards = record { next = 2; all = [] } },
     )
 
