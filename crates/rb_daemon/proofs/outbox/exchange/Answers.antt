@@ -1,5 +1,6 @@
-use Rattle.std.proofs.Common.{ℕ, List, ◌≤◌, ◌+◌, ◌-◌, ◌++◌, take, drop, length, ap, ◌∙◌, arith}
+use Rattle.std.proofs.Common.{ℕ, List, ◌≤◌, ◌+◌, ◌-◌, ◌++◌, take, drop, length, [], add-zero, ap, ◌∙◌, arith}
 use Rattle.std.proofs.lemmas.List.{with_items_is}
+use Rattle.std.proofs.lemmas.Result.{err_from_is_err_and}
 use Rattle.rb_links.proofs.Outboxes.{waits_more, room_stays}
 use Rattle.rb_daemon.proofs.outbox.exchange.Goals as goal
 use borrow.Rule.Slice.PartMut.{post_of}
@@ -23,3 +24,23 @@ returns-clause-acts c =
           ∙ ap (λ (xs : List ℕ). xs ++ given) c.outbox.view_is;
       moment = c.in_ok-done.ensures.moment;
     }
+
+pub returns-in_err-done-clause-acts : goal.returns-in_err-done-clause-acts
+returns-in_err-done-clause-acts c =
+    let p = err_from_is_err_and c.from_residual.result c.from_residual.ensures.1 in
+    let sent = c.outbox.inside.sent in
+    let end = c.outbox.inside.end in
+    let same = c.as_mut_slice.ensures.value in
+    let fits : end ≤ length c.as_mut_slice.result.now = omega (arith, c.outbox.invariant.1, ap (λ (xs : List ℕ). length xs) same) in
+    rw (p.1, p.2) (record {
+      room = length c.exchange.new.room;
+      given = [];
+      acts = c.in_err-done.ensures.acts;
+      appended =
+          ap (λ (xs : List ℕ). drop sent (take end xs))
+          (with_items_is c.outbox.inside.bytes _ (room_stays end (length c.as_mut_slice.result.now - end) c.as_mut_slice.result.now c.exchange.new.room fits c.exchange.auto.room ∙ c.as_mut_slice.ensures.len))
+          ∙ (rw (add-zero end) at (waits_more sent end 0 c.as_mut_slice.result.now c.exchange.new.room (post_of end (length c.as_mut_slice.result.now - end) c.as_mut_slice.result.now) c.outbox.invariant.0 fits (omega arith)))
+          ∙ ap (λ (xs : List ℕ). drop sent (take end xs) ++ []) same
+          ∙ ap (λ (xs : List ℕ). xs ++ []) c.outbox.view_is;
+      moment = c.in_err-done.ensures.moment;
+    })
