@@ -1,6 +1,6 @@
 //! A byte buffer of fixed capacity, whose calls are counted.
 ghost use Rattle.std.specs.Prelude.{◌≡◌, ◌+◌, ◌-◌, ◌<◌, ◌≤◌, [], ◌∷◌, length, IfOk, slice_range, vec_len, vec_capacity};
-ghost use Rattle.rb_xdr.specs.Puts.{Puts};
+ghost use Rattle.rb_xdr.specs.Puts.{Puts, Appends, HasRoom};
 ghost use Rattle.rb_xdr.specs.Meter.{Pays};
 
 use crate::full::Full;
@@ -92,10 +92,18 @@ impl Kept {
         if self.memory.len() - self.len < bytes.len() {
             return Err(Full { value: () });
         }
+        self.append(bytes);
+        Ok(())
+    }
+
+    /// Adds these bytes at the end, which have room there. Their steps are for the caller to pay.
+    pub(crate) fn append(&mut self, bytes: &[u8])
+        requires { HasRoom bytes.now self.old }
+        ensures { Appends bytes.now self.old self.new }
+    {
         let end = self.len + bytes.len();
         self.memory[self.len..end].copy_from_slice(bytes);
         self.len = end;
-        Ok(())
     }
 
     /// The bytes from `range.start` up to, and without, `range.end`, which is at most the number of bytes. A step for

@@ -26,19 +26,18 @@ pub fn residue(count: usize) -> usize
 }
 
 /// Writes the residual bytes behind so much content: each number of them by itself, as a copy of a length that is known.
+/// Their steps are for the caller to pay.
 #[tactic(auto, using(crate::proofs::XdrSets::lengths))]
-fn write_residue(count: usize, out: &mut Kept, meter: &mut Meter)
-    requires tie { meter.old.tie ≡ out.old.tie }
+fn append_residue(count: usize, out: &mut Kept)
     requires room { HasRoom (replicate (residue count) 0) out.old }
     ensures written { Appends (replicate (residue count) 0) out.old out.new }
-    ensures cost { Pays meter.old meter.new (residue count) }
 {
-    let _ = match residue(count) {
-        0 => Ok(()),
-        1 => out.extend(&[0], meter),
-        2 => out.extend(&[0, 0], meter),
-        _ => out.extend(&[0, 0, 0], meter),
-    };
+    match residue(count) {
+        0 => {}
+        1 => out.append(&[0]),
+        2 => out.append(&[0, 0]),
+        _ => out.append(&[0, 0, 0]),
+    }
 }
 
 /// Whether each of the bytes is zero, as residual bytes have to be (RFC 4506 section 3).
@@ -95,7 +94,7 @@ pub fn take_opaque(bytes: &[u8], limit: usize) -> Result<(&[u8], usize), XdrFaul
 
 /// Adds the spelling of this content, as opaque data or as a string (RFC 4506, sections 4.10 and 4.11),
 /// at the end of a buffer that has room for it, in as many steps as the spelling has bytes.
-#[tactic(auto, using(crate::proofs::XdrSets::lengths), unfolding(crate::specs::Xdr::opaque))]
+#[tactic(auto, using(crate::proofs::XdrSets::lengths), unfolding(crate::specs::Xdr::opaque, crate::specs::Xdr::number))]
 pub fn write_opaque(content: &[u8], out: &mut Kept, meter: &mut Meter)
     requires tie { meter.old.tie ≡ out.old.tie }
     requires count { length content.now < 2 ^ 32 }
@@ -103,9 +102,11 @@ pub fn write_opaque(content: &[u8], out: &mut Kept, meter: &mut Meter)
     ensures written { Appends (opaque content.now) out.old out.new }
     ensures cost { Pays meter.old meter.new (length (opaque content.now)) }
 {
-    (content.len() as u32).write(out, meter);
-    let _ = out.extend(content, meter);
-    write_residue(content.len(), out, meter);
+    let count = content.len();
+    meter.pay((4 + count + residue(count)) as u64);
+    out.append(&(count as u32).to_be_bytes());
+    out.append(content);
+    append_residue(count, out);
 }
 
 /// Opaque data (RFC 4506 section 4.10): bytes, at most `N` of them and fewer than 2^32.
