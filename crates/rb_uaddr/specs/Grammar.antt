@@ -53,7 +53,8 @@ pub record SpellsShortened (host text : List ℕ) : Type 0 where
   pub host_is : host ≡ octets_of (group_values front ++ replicate (8 - length front - length back) 0 ++ group_values back)
   pub text_is : text ≡ join_with_byte colon front ++ codes "::" ++ join_with_byte colon back
 
--- The third form, which ends in an IPv4 address, is no part of a universal address; nor is a zone.
+-- The third form, which ends in an IPv4 address, is left out here, though RFC 5665 section 5.2.3.4 allows it; a zone is no part
+-- of a universal address.
 abbrev pub SpellsHost : List ℕ → List ℕ → Type 0
 SpellsHost host text = SpellsInFull host text ⊎ SpellsShortened host text
 
@@ -129,7 +130,7 @@ PrintedIsRead = (u : Uaddr) → IsUaddr u → parse (text_of u) ≡ Some u
 abbrev pub OneSpelling : Type 0
 OneSpelling = (text host : List ℕ) (port : ℕ) → parse text ≡ Some (V4 host port) → text_of (V4 host port) ≡ text
 
--- An IPv6 host is printed as RFC 5952 recommends, and in no other way.
+-- An IPv6 host is printed as RFC 5952 section 4 recommends, always in groups, and in no other way.
 abbrev pub GroupIsPrinted : Type 0
 GroupIsPrinted = (n : ℕ) (text : List ℕ) → n < 2 ^ 16 → PrintsGroup n text ↔ (text ≡ hex n)
 
