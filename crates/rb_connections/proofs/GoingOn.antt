@@ -10,7 +10,7 @@ use Rattle.rb_connections.proofs.Holding.{stays_changed}
 use Rattle.rb_connections.proofs.Listings.{keeps_changed}
 
 pub goes_on_same : (table : Table) → GoOn table table
-goes_on_same table = record { lists = λ registry told. told; free = λ id none. none; stays = record { conns = refl; tie = refl; within = λ within. within } }
+goes_on_same table = record { lists = λ registry told. told; free = λ id none. none; stays = record { conns = refl; memory = refl; tie = refl; within = λ within. within } }
 
 pub goes_on_changed : (view now : Table) → view ≡ now → (k : ℕ) (old new : Slot) → value_at view.slots k ≡ Some old
     → SlotKeepsListing old new → new.number ≡ old.number → is_awaiting_stage new.stage ≡ is_awaiting_stage old.stage → IsWithin new

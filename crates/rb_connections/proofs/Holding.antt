@@ -61,4 +61,4 @@ module _ (slots : List Slot) (slot : Slot) (buffer : slot.buffer.bytes ≡ []) (
 
 -- the table with a slot changed
 pub stays_changed : (view now : Table) (k : ℕ) (new : Slot) → view ≡ now → IsWithin new → StaysTable now (record view { slots = with_value view.slots k new })
-stays_changed view now k new is fits = rw (← is) (record { conns = refl; tie = refl; within = λ within. All-with_value IsWithin view.slots k new within fits })
+stays_changed view now k new is fits = rw (← is) (record { conns = refl; memory = refl; tie = refl; within = λ within. All-with_value IsWithin view.slots k new within fits })

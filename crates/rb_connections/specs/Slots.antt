@@ -196,8 +196,11 @@ TableGivesInto registry id clock old new room result =
     Acts (StandsForConnections registry) (on_live id (give_fitting clock (length room))) old new (bytes_given room result)
 
 -- a table without connections, for at most so many, counted by this meter
-abbrev pub empty_table : ℕ → ℕ → Table
-empty_table conns tie = record { slots = []; last_number = 0; conns = conns; tie = tie }
+pub record IsEmptyTable (conns tie : ℕ) (table : Table) : Type 0 where
+  pub slots : table.slots ≡ []
+  pub last_number : table.last_number ≡ 0
+  pub conns_are : table.conns ≡ conns
+  pub tie_is : table.tie ≡ tie
 
 -- ---- what is looked for
 
@@ -314,10 +317,11 @@ pub record StaysSlot (tie : ℕ) (old new : Slot) : Type 0 where
   pub number : new.number ≡ old.number
   pub buffers : HasBuffers tie new
 
--- as many connections as before may be there, counted by the same meter, and none comes to hold more than its buffers have
--- room for
+-- as many connections as before may be there, in as much memory, counted by the same meter, and none comes to hold more than
+-- its buffers have room for
 pub record StaysTable (old new : Table) : Type 0 where
   pub conns : new.conns ≡ old.conns
+  pub memory : new.memory ≡ old.memory
   pub tie : new.tie ≡ old.tie
   pub within : AreWithin old.slots → AreWithin new.slots
 

@@ -100,11 +100,13 @@ IsWithin slot = charge slot ≤ most_charge
 -- ---- all connections
 
 -- the slots of connections with their keys, in order of opening, the last number that was given, how many connections
--- there may be, and the number of the meter that counts the steps
+-- there may be, the memory that the tables of slots and of spare buffers hold (as of a `Pool`), and the number of the meter
+-- that counts the steps
 pub record Table : Type 0 where
   pub slots : List (ℕ × Slot)
   pub last_number : ℕ
   pub conns : ℕ
+  pub memory : (ℕ × ℕ) × (ℕ × ℕ)
   pub tie : ℕ
 
 pub record StandsForConnections (registry : Registry) (table : Table) (connections : Connections) : Type 0 where

@@ -29,7 +29,8 @@ pub const BUFFER_SIZE: usize = if LONGEST_KEPT < LONGEST_REPLY {
     LONGEST_KEPT
 };
 
-/// The connections that are open, in the order of their openings, and spare buffers for those that may be opened.
+/// The connections that are open, in the order of their openings, and spare buffers for those that may be opened. `new`
+/// takes all of the memory, and no later call changes how much there is.
 #[derive(Drop)]
 pub struct Connections {
     slots: Pool<Slot>,
@@ -62,7 +63,13 @@ impl Model for Connections {
 
     ghost Value = { Table };
 
-    ghost view = { λ c. record { slots = c.slots.entries; last_number = c.last_number; conns = c.conns; tie = c.slots.tie } };
+    ghost view = { λ c. record {
+      slots = c.slots.entries;
+      last_number = c.last_number;
+      conns = c.conns;
+      memory = (c.slots.memory, c.spare.memory);
+      tie = c.slots.tie;
+    } };
 
     ghost invariant = { λ c. IsTable c.slots c.spare c.last_number c.conns c.held };
 }
@@ -78,6 +85,7 @@ fn take_buffers(spare: &mut Pool<Buffers>, meter: &mut Meter) -> Buffers
     ensures distinct { HasDistinctKeys spare.new.entries }
     ensures made { AreSpare spare.old.tie result }
     ensures cap { spare.new.cap ≡ spare.old.cap }
+    ensures memory { spare.new.memory ≡ spare.old.memory }
     ensures tie { spare.new.tie ≡ spare.old.tie }
     ensures cost { PaysAtMost meter.old meter.new 2 }
 {
@@ -101,6 +109,7 @@ fn put_buffers(spare: &mut Pool<Buffers>, mut buffers: Buffers, meter: &mut Mete
     ensures buffers { All (AreSpare spare.old.tie) (values_of spare.new.entries) }
     ensures distinct { HasDistinctKeys spare.new.entries }
     ensures cap { spare.new.cap ≡ spare.old.cap }
+    ensures memory { spare.new.memory ≡ spare.old.memory }
     ensures tie { spare.new.tie ≡ spare.old.tie }
     ensures cost { PaysAtMost meter.old meter.new 3 }
 {
@@ -120,6 +129,7 @@ fn put_slot(slots: &mut Pool<Slot>, slot: Slot, meter: &mut Meter) -> usize
     ensures more { length slots.new.entries ≡ length slots.old.entries + 1 }
     ensures distinct { HasDistinctKeys slots.new.entries }
     ensures cap { slots.new.cap ≡ slots.old.cap }
+    ensures memory { slots.new.memory ≡ slots.old.memory }
     ensures tie { slots.new.tie ≡ slots.old.tie }
     ensures cost { PaysAtMost meter.old meter.new 1 }
 {
@@ -235,7 +245,7 @@ impl Connections {
     ghost use Rattle.rb_model.specs.Losses.{expire_first};
     ghost use Rattle.rb_model.specs.Standings.{as_done, without_standing};
     ghost use Rattle.rb_connections.specs.Standings.{TellsStanding, TellsGiven, TellsReceived, IsStanding};
-    ghost use Rattle.rb_connections.specs.Slots.{Finds, TableActs, TableGives, TableGivesInto, TableHasArguments, TableLends, TableShows, TakesWhole, KeepsWhole, StaysTable, IsDraft, IsEmptyDraft, empty_table, take_piece, HasBuffers};
+    ghost use Rattle.rb_connections.specs.Slots.{Finds, TableActs, TableGives, TableGivesInto, TableHasArguments, TableLends, TableShows, TakesWhole, KeepsWhole, StaysTable, IsDraft, IsEmptyDraft, IsEmptyTable, take_piece, HasBuffers};
     ghost use Rattle.rb_model.specs.Gives.{given_in};
     ghost use Rattle.rb_model.specs.Step.{pending_at};
     ghost use Rattle.rb_connections.specs.Costs.{slot_count, look_cost, received_cost, taken_cost, settling_cost, PaysToGive, PaysToGiveInto};
@@ -247,7 +257,7 @@ impl Connections {
     /// An empty table of at most `conns` connections, whose memory is all allocated here.
     pub fn new(alloc: Global, conns: usize, meter: &mut Meter) -> Result<Connections, NoMemory>
         requires { conns ≤ 256 }
-        ensures empty { IfOk result (λ c. c ≡ empty_table conns meter.old.tie) }
+        ensures empty { IfOk result (λ c. IsEmptyTable conns meter.old.tie c) }
         ensures cost { PaysAtMost meter.old meter.new (3 * conns) }
     {
         let spare = make_spare(alloc, conns, meter)?;

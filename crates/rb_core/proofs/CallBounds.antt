@@ -74,6 +74,9 @@ module _ (core : Held) (a b : Meter) where
   pub look_within : PaysAtMost a b (look_cost core.connections) → StaysWithinSteps core 0 0 a b
   look_within pays = record { within = λ s h reached. at_most a b (look_cost core.connections) _ (omega (arith, few_connections s h reached)) pays }
 
+  pub length_within : PaysAtMost a b (look_cost core.connections + 1) → StaysWithinSteps core 0 0 a b
+  length_within pays = record { within = λ s h reached. at_most a b (look_cost core.connections + 1) _ (omega (arith, few_connections s h reached)) pays }
+
   pub pending_within : (given : ℕ) → PaysAtMost a b (look_cost core.connections + pending_cost) → StaysWithinSteps core 0 given a b
   pending_within given pays = record { within = λ s h reached. at_most a b (look_cost core.connections + pending_cost) _ (omega (arith, few_connections s h reached)) pays }
 

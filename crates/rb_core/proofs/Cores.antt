@@ -50,5 +50,5 @@ pub core_moved : (setting : Setting) (old new : Table) (books : Books) (reply dr
     → IsCore setting new books reply after ended len
 core_moved setting old new books reply draft after arguments ended len h stays awaited told =
     core_changed setting old new books books reply reply draft after arguments ended len len h stays
-    (record { limit = refl; cap = refl; first_xid = refl; registry = refl; stats = refl; forwards = refl }) refl refl h.len h.short
+    (record { limit = refl; cap = refl; first_xid = refl; registry = refl; stats = refl; forwards = refl; memory = record { registry = refl; stats = refl; forwards = refl } }) refl refl h.len h.short
     awaited (told h.lists)

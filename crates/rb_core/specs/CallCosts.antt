@@ -1,5 +1,5 @@
 -- What calls cost at most, by what is held.
-use Rattle.std.specs.Prelude.{◌≡◌, ℕ, ◌+◌, Bool, false, List, length, Option, Some, Result}
+use Rattle.std.specs.Prelude.{◌≡◌, ℕ, ◌+◌, ◌*◌, Bool, false, List, length, Option, Some, Result}
 use Rattle.std.specs.Borrow.{Bor}
 use Rattle.rb_xdr.specs.Kept.{Kept}
 use Rattle.rb_xdr.specs.Meter.{Meter, PaysAtMost}
@@ -11,7 +11,9 @@ use Rattle.rb_proto.specs.declared.books.Books.{Books}
 use Rattle.rb_proto.specs.declared.context.Context.{Context}
 use Rattle.rb_proto.specs.declared.listener.Announced.{Announced}
 use Rattle.rb_proto.specs.Answers.{comes_from_here}
-use Rattle.rb_proto.specs.Callers.{may_register}
+use Rattle.rb_proto.specs.Callers.{may_register, own_rows}
+use Rattle.rb_proto.specs.declared.listener.Listener.{Listener}
+use Rattle.rb_model.specs.declared.types.Limits.{Limits}
 use Rattle.rb_model.specs.declared.types.CoreFault.{CoreFault}
 use Rattle.rb_model.specs.declared.types.Given.{Given}
 use Rattle.rb_model.specs.Gives.{give_into_cost, given_in}
@@ -31,6 +33,11 @@ use Rattle.rb_core.specs.declared.calls.Piece.{Piece}
 use Rattle.rb_model.specs.declared.types.Exchanged.{Exchanged}
 use Rattle.rb_core.specs.Core.{arguments_in, received_in}
 use Rattle.rb_model.specs.Exchanges.{count_given}
+
+-- ---- what it costs to make a core
+
+abbrev pub making_cost : Limits → Listener → ℕ
+making_cost limits listener = 18 * length (own_rows listener) + 3 * limits.conns + 2 * limits.forwards
 
 -- ---- by what is kept
 

@@ -1,5 +1,6 @@
 pub mod StandsFor
 pub mod HeldBytes
+pub mod Memory
 pub mod AtOnce
 pub mod Gives
 pub mod Awaits

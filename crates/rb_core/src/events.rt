@@ -7,7 +7,7 @@ ghost use Rattle.rb_model.specs.Bounds.{bytes_bound};
 use crate::calls::{
     Piece, give_at_once, lend_arguments, serve_verdict, standing_behind, take_piece,
 };
-use crate::seen::Seen;
+use crate::seen::{Seen, forget};
 use rb_address::{Peer, Who};
 use rb_connections::{BUFFER_SIZE, CONNECTION_CHARGE, Connections, EndedRecord, Received};
 use rb_forward::{ENTRY_CHARGE, Ended, FwdId, LONGEST_FORWARDED_CALL, Unsent, sooner};
@@ -165,32 +165,29 @@ impl Core {
     ghost use Rattle.std.specs.Prelude.{◌≡◌, ◌+◌, ◌*◌, ◌≤◌, ◌↔◌, [], true, false, length, take, IsTrue, IfOk, IfErr, IfSome, IsErrOf, OnErr, not};
     ghost use Rattle.std.specs.Borrow.{sem};
     ghost use Rattle.rb_xdr.specs.Meter.{Pays, PaysAtMost};
-    ghost use Rattle.rb_proto.specs.Callers.{own_rows};
     ghost use Rattle.rb_model.specs.State.{are_good, opening};
     ghost use Rattle.rb_model.specs.Calls.{longest_reply};
-    ghost use Rattle.rb_model.specs.Connections.{longest_fragment};
     ghost use Rattle.rb_forward.specs.Costs.{sent_cost};
     ghost use Rattle.rb_forward.specs.Outcomes.{PassesWithin};
     ghost use Rattle.rb_forward.specs.StandsFor.{slots_of, longest_forwarded_call};
     ghost use Rattle.rb_forward.specs.Table.{plain_unsent, count_lent, is_waiting, IsNew};
-    ghost use Rattle.rb_model.specs.Step.{datagram, open_connection, bytes, pending, gave, close_connection, next_lost, unsent_call, sent_call};
-    ghost use Rattle.rb_connections.specs.Giving.{pending_count};
+    ghost use Rattle.rb_model.specs.Step.{datagram, open_connection, bytes, gave, close_connection, next_lost, unsent_call, sent_call};
     ghost use Rattle.rb_model.specs.Ending.{forward_reply, expire_connection, expire};
     ghost use Rattle.rb_connections.specs.Awaits.{IsIdleSince};
-    ghost use Rattle.rb_core.specs.HeldBytes.{held};
+    ghost use Rattle.rb_core.specs.HeldBytes.{held, NeverPasses};
     ghost use Rattle.rb_model.specs.Bounds.{bytes_bound};
-    ghost use Rattle.rb_core.specs.HeldBytes.{NeverPasses};
-    ghost use Rattle.rb_core.specs.Events.{count_shown, OnlyBegins, BeginsAt, LendsFrom, TellsSteps, length_taken, length_lent, length_given, StaysWithinSteps, ExchangesWithinSteps, StaysCheapIfQuiet};
-    ghost use Rattle.rb_connections.specs.Slots.{Acts, Shows, Lends};
+    ghost use Rattle.rb_core.specs.Events.{count_shown, OnlyBegins, BeginsAt, LendsFrom, TellsSteps, length_taken, length_given, StaysWithinSteps, ExchangesWithinSteps, StaysCheapIfQuiet};
+    ghost use Rattle.rb_connections.specs.Slots.{Acts, Shows};
     ghost use Rattle.rb_core.specs.StandsFor.{StandsFor};
     ghost use Rattle.rb_core.specs.Core.{ActsWithReply, TellsCaller, context_of};
+    ghost use Rattle.rb_core.specs.Memory.{KeepsMemory};
     ghost use Rattle.rb_model.specs.Exchanges.{count_given};
     ghost use Rattle.rb_model.specs.Standings.{as_done, without_standing};
     ghost use Rattle.rb_core.specs.Standings.{StandsThen, StandsBehind};
     ghost use Rattle.rb_core.specs.AtOnce.{AnswersGiving, CountsGiven, Exchanges, GivesAtOnce};
-    ghost use Rattle.rb_core.specs.CallCosts.{sizes_of, PaysForBytes, PaysForDatagram, PaysForExchange, PaysForPlainDatagram, PaysForPlainExchange, PaysForPlainRecord, PaysToAnswer, PaysToGive, lending_cost};
+    ghost use Rattle.rb_core.specs.CallCosts.{making_cost, sizes_of, PaysForBytes, PaysForDatagram, PaysForExchange, PaysForPlainDatagram, PaysForPlainExchange, PaysForPlainRecord, PaysToAnswer, PaysToGive, lending_cost};
     ghost use Rattle.rb_connections.specs.Costs.{look_cost, slot_count};
-    ghost use Rattle.rb_model.specs.Costs.{close_cost, ended_cost, tell_cost, pending_cost};
+    ghost use Rattle.rb_model.specs.Costs.{close_cost, ended_cost, tell_cost};
 
     /// Makes a core with the daemon's own rows alone, at the moment `now` (milliseconds since the start of 1970). It
     /// takes all its memory here. `first_xid` is the xid of the first call that it forwards. `BadLimits` where a limit is
@@ -212,8 +209,7 @@ impl Core {
         ensures bad { IsErrOf result CoreFault.BadLimits ↔ IsTrue (not (are_good limits listener)) }
         ensures memory { IfErr result
             (λ fault. IsTrue (are_good limits listener) → fault ≡ CoreFault.NoMemory) }
-        ensures cost { PaysAtMost meter.old meter.new
-            (18 * length (own_rows listener) + 3 * limits.conns + 2 * limits.forwards) }
+        ensures cost { PaysAtMost meter.old meter.new (making_cost limits listener) }
     {
         if !are_good(&limits, &listener) {
             return Err(CoreFault::BadLimits);
@@ -272,6 +268,7 @@ impl Core {
         requires { meter.old.tie ≡ self.old.tie }
         ensures acts { ActsWithReply (λ s. datagram s now who content.now) self.old self.new result }
         ensures tie { self.new.tie ≡ self.old.tie }
+        ensures memory { KeepsMemory self.old self.new }
         ensures begun { self.new.steps_before ≡ count_shown meter.old }
         ensures held { NeverPasses self.new }
         ensures short { length self.new.reply ≤ longest_reply }
@@ -280,7 +277,7 @@ impl Core {
         ensures bound { StaysWithinSteps self.old (length content.now) 0 meter.old meter.new }
     {
         self.steps_before = meter.count();
-        self.seen = None;
+        forget(&mut self.seen);
         self.clock = self.clock.max(now);
         let longest = longest_to(&self.listener.terms, &who, content.len());
         let context = self.context(Caller::Udp(who, longest));
@@ -328,6 +325,7 @@ impl Core {
             self.old self.new result }
         ensures refused { OnErr result (OnlyBegins self.old self.new) }
         ensures tie { self.new.tie ≡ self.old.tie }
+        ensures memory { KeepsMemory self.old self.new }
         ensures begun { self.new.steps_before ≡ count_shown meter.old }
         ensures held { NeverPasses self.new }
         ensures cost { PaysAtMost meter.old meter.new 4 }
@@ -358,6 +356,7 @@ impl Core {
         ensures within { IfOk result (λ done. done.0.count ≤ length piece.now) }
         ensures refused { OnErr result (OnlyBegins self.old self.new) }
         ensures tie { self.new.tie ≡ self.old.tie }
+        ensures memory { KeepsMemory self.old self.new }
         ensures begun { self.new.steps_before ≡ count_shown meter.old }
         ensures held { NeverPasses self.new }
         ensures same_meter { meter.new.tie ≡ meter.old.tie }
@@ -397,6 +396,7 @@ impl Core {
         ensures within { IfOk result (λ done. done.taken.count ≤ length piece.now) }
         ensures refused { OnErr result (OnlyBegins self.old self.new) }
         ensures tie { self.new.tie ≡ self.old.tie }
+        ensures memory { KeepsMemory self.old self.new }
         ensures begun { self.new.steps_before ≡ count_shown meter.old }
         ensures held { NeverPasses self.new }
         ensures same_meter { meter.new.tie ≡ meter.old.tie }
@@ -407,7 +407,7 @@ impl Core {
         ensures bound { ExchangesWithinSteps self.old result meter.old meter.new }
     {
         self.steps_before = meter.count();
-        self.seen = None;
+        forget(&mut self.seen);
         let clock = self.clock.max(now);
         let buffer = &mut self.arguments;
         let got = take_piece(&mut self.connections, id, piece, clock, buffer, meter)?;
@@ -454,6 +454,7 @@ impl Core {
         ensures within { result.1 ≤ length room.new }
         ensures count { GivesAtOnce room.old id ended arguments.entry self.old result.1 }
         ensures tie { self.new.tie ≡ self.old.tie }
+        ensures memory { KeepsMemory self.old self.new }
         ensures begun { self.new.steps_before ≡ self.old.steps_before }
         ensures cost { PaysToAnswer ended
             self.old self.new arguments.entry room.old result.1 meter.old meter.new }
@@ -487,32 +488,9 @@ impl Core {
         (served.is_no_call(), 0, standing)
     }
 
-    /// The number of bytes that are pending on a connection. `Gone` where there is no such connection, or it is Lost.
-    pub fn pending_len(&self, id: u64, meter: &mut Meter) -> Result<usize, CoreFault>
-        requires { meter.old.tie ≡ self.now.tie }
-        ensures len { Shows StandsFor (λ s. pending_count (pending s id)) self.now result }
-        ensures cost { PaysAtMost meter.old meter.new (look_cost self.now.connections + 1) }
-    {
-        self.connections.pending_len(id, meter)
-    }
-
-    /// The rest of the current fragment of the reply that a connection owes (RFC 5531 section 11), at most 1,028 bytes;
-    /// empty where it owes none. `Gone` where there is no such connection, or it is Lost.
-    #[tactic(auto, using(crate::proofs::CallBounds::pending_within))]
-    pub fn pending(&mut self, id: u64, meter: &mut Meter) -> Result<&[u8], CoreFault>
-        requires { meter.old.tie ≡ self.old.tie }
-        ensures* begun { sem 𝓛 (LendsFrom self.entry meter.old) }
-        ensures lent { Lends StandsFor (λ s. pending s id) self.old result }
-        ensures few { IfOk result (λ bytes. length bytes.now ≤ longest_fragment) }
-        ensures cost { PaysAtMost meter.old meter.new (look_cost self.old.connections + pending_cost) }
-        ensures bound { StaysWithinSteps self.old 0 (length_lent result) meter.old meter.new }
-    {
-        self.begin(meter);
-        self.lend_pending(id, meter)
-    }
-
     /// Records that `n` pending bytes were given at the moment `now`, or all if fewer are pending, and returns where the
-    /// connection stands then. `Gone` where there is no such connection, or it is Lost.
+    /// connection stands then. `Gone` where there is no such connection, or it is Lost. However great `n` is, it costs no
+    /// more than where nothing was given.
     #[tactic(auto, using(crate::proofs::HeldBytes::never_passes))]
     pub fn gave(
         &mut self,
@@ -526,12 +504,14 @@ impl Core {
         ensures stands { IfOk result (StandsThen id self.new) }
         ensures refused { OnErr result (OnlyBegins self.old self.new) }
         ensures tie { self.new.tie ≡ self.old.tie }
+        ensures memory { KeepsMemory self.old self.new }
         ensures begun { self.new.steps_before ≡ count_shown meter.old }
         ensures held { NeverPasses self.new }
         ensures same_meter { meter.new.tie ≡ meter.old.tie }
         ensures cost { PaysToGive self.old id meter.old meter.new }
         ensures bound { StaysWithinSteps self.old 0
             (length_given (as_done result) n) meter.old meter.new }
+        ensures few { StaysWithinSteps self.old 0 0 meter.old meter.new }
     {
         self.steps_before = meter.count();
         let clock = self.clock.max(now);
@@ -550,6 +530,7 @@ impl Core {
         ensures acts { Acts StandsFor (λ s. close_connection s id) self.old self.new result }
         ensures refused { OnErr result (OnlyBegins self.old self.new) }
         ensures tie { self.new.tie ≡ self.old.tie }
+        ensures memory { KeepsMemory self.old self.new }
         ensures begun { self.new.steps_before ≡ count_shown meter.old }
         ensures held { NeverPasses self.new }
         ensures cost { PaysAtMost meter.old meter.new (close_cost (sizes_of self.old self.new)) }
@@ -597,6 +578,7 @@ impl Core {
         ensures acts { Acts StandsFor (λ s. sent_call s id.number) self.old self.new result }
         ensures refused { OnErr result (OnlyBegins self.old self.new) }
         ensures tie { self.new.tie ≡ self.old.tie }
+        ensures memory { KeepsMemory self.old self.new }
         ensures begun { self.new.steps_before ≡ count_shown meter.old }
         ensures held { NeverPasses self.new }
         ensures cost { PaysAtMost meter.old meter.new (sent_cost self.old.books.forwards.cap) }
@@ -623,6 +605,7 @@ impl Core {
         requires { meter.old.tie ≡ self.old.tie }
         ensures acts { Acts StandsFor (λ s. forward_reply s now from bytes.now) self.old self.new result }
         ensures tie { self.new.tie ≡ self.old.tie }
+        ensures memory { KeepsMemory self.old self.new }
         ensures begun { self.new.steps_before ≡ count_shown meter.old }
         ensures held { NeverPasses self.new }
         ensures short { length self.new.reply ≤ longest_reply }
@@ -646,6 +629,7 @@ impl Core {
         requires { meter.old.tie ≡ self.old.tie }
         ensures acts { Acts StandsFor (λ s. expire s now) self.old self.new result }
         ensures tie { self.new.tie ≡ self.old.tie }
+        ensures memory { KeepsMemory self.old self.new }
         ensures begun { self.new.steps_before ≡ count_shown meter.old }
         ensures held { NeverPasses self.new }
         ensures short { length self.new.reply ≤ longest_reply }
@@ -667,6 +651,7 @@ impl Core {
         requires { meter.old.tie ≡ self.old.tie }
         ensures acts { Acts StandsFor expire_connection self.old self.new result }
         ensures tie { self.new.tie ≡ self.old.tie }
+        ensures memory { KeepsMemory self.old self.new }
         ensures begun { self.new.steps_before ≡ self.old.steps_before }
         ensures reply { self.new.reply ≡ self.old.reply }
         ensures cost { PaysAtMost meter.old meter.new (look_cost self.old.connections) }
@@ -715,6 +700,7 @@ impl Core {
         requires alone { IsNew ended.now.forward.caller (slots_of self.old.books.forwards) }
         ensures acts { TellsCaller message.now ended.now self.old self.new result }
         ensures tie { self.new.tie ≡ self.old.tie }
+        ensures memory { KeepsMemory self.old self.new }
         ensures begun { self.new.steps_before ≡ self.old.steps_before }
         ensures short { length self.new.reply ≤ longest_reply }
         ensures cost { PaysAtMost meter.old meter.new (tell_cost (slot_count self.old.connections)) }
@@ -757,6 +743,7 @@ impl Core {
     ghost use Rattle.rb_proto.specs.Costs.{zero_cost};
     ghost use Rattle.rb_model.specs.Step.{zero_stats};
     ghost use Rattle.rb_core.specs.HeldBytes.{NeverPasses};
+    ghost use Rattle.rb_core.specs.Memory.{KeepsMemory};
     ghost use Rattle.rb_core.specs.Events.{count_shown, BeginsAt, StaysWithinSteps};
 
     /// Statistics begin anew: nothing was called. Nothing else changes. At most 2 steps for each of 192 keys, and 1.
@@ -765,6 +752,7 @@ impl Core {
         requires { meter.old.tie ≡ self.old.tie }
         ensures acts { Acts StandsFor (λ s. (tt {0}, zero_stats s)) self.old self.new (tt {0}) }
         ensures tie { self.new.tie ≡ self.old.tie }
+        ensures memory { KeepsMemory self.old self.new }
         ensures begun { self.new.steps_before ≡ count_shown meter.old }
         ensures held { NeverPasses self.new }
         ensures cost { PaysAtMost meter.old meter.new zero_cost }

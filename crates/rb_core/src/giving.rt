@@ -4,6 +4,7 @@ ghost use Rattle.rb_model.specs.Gives.{given_in};
 ghost use Rattle.rb_core.specs.Events.{count_shown, GivesWithinSteps, OnlyBegins};
 ghost use Rattle.rb_core.specs.Gives.{GivesInto};
 ghost use Rattle.rb_core.specs.HeldBytes.{NeverPasses};
+ghost use Rattle.rb_core.specs.Memory.{KeepsMemory};
 ghost use Rattle.rb_core.specs.CallCosts.{PaysToGiveInto};
 ghost use Rattle.rb_core.specs.Standings.{StandsThen};
 
@@ -33,6 +34,7 @@ impl Core {
         ensures stands { IfOk result (λ done. StandsThen id self.new done.standing) }
         ensures refused { OnErr result (OnlyBegins self.old self.new) }
         ensures tie { self.new.tie ≡ self.old.tie }
+        ensures memory { KeepsMemory self.old self.new }
         ensures begun { self.new.steps_before ≡ count_shown meter.old }
         ensures held { NeverPasses self.new }
         ensures same_meter { meter.new.tie ≡ meter.old.tie }

@@ -34,7 +34,6 @@ impl Metered {
     ghost use Rattle.std.specs.Prelude.{◌≡◌, ◌+◌, ◌*◌, ◌≤◌, ◌↔◌, length, Some, IsTrue, IfOk, IfErr, IfSome, IfNone, IsErrOf, OnErr, not};
     ghost use Rattle.std.specs.Borrow.{sem};
     ghost use Rattle.rb_xdr.specs.Meter.{PaysAtMost};
-    ghost use Rattle.rb_proto.specs.Callers.{own_rows};
     ghost use Rattle.rb_proto.specs.Costs.{zero_cost};
     ghost use Rattle.rb_proto.specs.Ledger.{rows_in};
     ghost use Rattle.rb_forward.specs.Costs.{sent_cost};
@@ -57,12 +56,13 @@ impl Metered {
     ghost use Rattle.rb_connections.specs.Costs.{look_cost, slot_count as connection_count};
     ghost use Rattle.rb_core.specs.StandsFor.{StandsFor};
     ghost use Rattle.rb_core.specs.HeldBytes.{held, NeverPasses};
+    ghost use Rattle.rb_core.specs.Memory.{KeepsMemory};
     ghost use Rattle.rb_core.specs.Events.{count_shown, OnlyBegins, BeginsAt, GivesWithinSteps, TellsSteps, length_taken, length_lent, length_given, StaysWithinSteps, ExchangesWithinSteps, StaysCheapIfQuiet};
     ghost use Rattle.rb_core.specs.Core.{ActsWithReply};
     ghost use Rattle.rb_core.specs.Standings.{StandsThen, StandsBehind};
     ghost use Rattle.rb_core.specs.AtOnce.{CountsGiven, Exchanges};
     ghost use Rattle.rb_core.specs.Gives.{GivesInto};
-    ghost use Rattle.rb_core.specs.CallCosts.{sizes_of, PaysForBytes, PaysForDatagram, PaysForExchange, PaysForPlainDatagram, PaysForPlainExchange, PaysForPlainRecord, PaysToGive, PaysToGiveInto, lending_cost};
+    ghost use Rattle.rb_core.specs.CallCosts.{making_cost, sizes_of, PaysForBytes, PaysForDatagram, PaysForExchange, PaysForPlainDatagram, PaysForPlainExchange, PaysForPlainRecord, PaysToGive, PaysToGiveInto, lending_cost};
     ghost use Rattle.rb_core.specs.Looks.{rows_shown, StandsAmong, IsAtStart, row_behind, PassesOne, IsAtEnd, slot_count, slots_behind};
     ghost use Rattle.rb_core.specs.Lending.{LendsWithin, LendsRow};
 
@@ -81,12 +81,39 @@ impl Metered {
         ensures bad { IsErrOf result CoreFault.BadLimits ↔ IsTrue (not (are_good limits listener)) }
         ensures memory { IfErr result
             (λ fault. IsTrue (are_good limits listener) → fault ≡ CoreFault.NoMemory) }
-        ensures cost { IfOk result (λ made. made.meter.steps
-            ≤ 18 * length (own_rows listener) + 3 * limits.conns + 2 * limits.forwards) }
+        ensures cost { IfOk result (λ made. made.meter.steps ≤ making_cost limits listener) }
     {
-        let mut meter = Meter::new();
+        Metered::counted_by(Meter::new(), alloc, limits, listener, first_xid, now)
+    }
+
+    /// As `new`, with a meter that counts on from where it stands. The making costs at most what `Core::new` does.
+    pub fn counted_by(
+        mut meter: Meter,
+        alloc: Global,
+        limits: Limits,
+        listener: Listener,
+        first_xid: u32,
+        now: u64,
+    ) -> Result<Metered, CoreFault>
+        ensures made { IfOk result
+            (λ made. StandsFor made.core (opening limits listener first_xid now)) }
+        ensures begun { IfOk result (λ made. made.core.steps_before ≡ count_shown made.meter) }
+        ensures bad { IsErrOf result CoreFault.BadLimits ↔ IsTrue (not (are_good limits listener)) }
+        ensures memory { IfErr result
+            (λ fault. IsTrue (are_good limits listener) → fault ≡ CoreFault.NoMemory) }
+        ensures cost { IfOk result
+            (λ made. PaysAtMost meter made.meter (making_cost limits listener)) }
+    {
         let core = Core::new(alloc, limits, listener, first_xid, now, &mut meter)?;
         Ok(Metered { core, meter })
+    }
+
+    /// The meter, which has counted each call.
+    pub fn into_meter(self) -> Meter
+        ensures { result ≡ self.meter }
+    {
+        let Metered { core: _, meter } = self;
+        meter
     }
 
     /// Answers a datagram from `who` at the moment `now`, as `Core::datagram`. At `Reply` the reply is lent by
@@ -96,6 +123,7 @@ impl Metered {
         ensures acts { ActsWithReply (λ s. datagram s now who content.now)
             self.old.core self.new.core result }
         ensures begun { self.new.core.steps_before ≡ count_shown self.old.meter }
+        ensures memory { KeepsMemory self.old.core self.new.core }
         ensures held { NeverPasses self.new.core }
         ensures short { length self.new.core.reply ≤ longest_reply }
         ensures cost { PaysForDatagram self.old.core self.new.core
@@ -127,6 +155,7 @@ impl Metered {
             self.old.core self.new.core result }
         ensures refused { OnErr result (OnlyBegins self.old.core self.new.core) }
         ensures begun { self.new.core.steps_before ≡ count_shown self.old.meter }
+        ensures memory { KeepsMemory self.old.core self.new.core }
         ensures held { NeverPasses self.new.core }
         ensures cost { PaysAtMost self.old.meter self.new.meter 4 }
         ensures bound { StaysWithinSteps self.old.core 0 0 self.old.meter self.new.meter }
@@ -144,6 +173,7 @@ impl Metered {
         ensures within { IfOk result (λ done. done.0.count ≤ length piece.now) }
         ensures refused { OnErr result (OnlyBegins self.old.core self.new.core) }
         ensures begun { self.new.core.steps_before ≡ count_shown self.old.meter }
+        ensures memory { KeepsMemory self.old.core self.new.core }
         ensures held { NeverPasses self.new.core }
         ensures cost { PaysForBytes self.old.core self.new.core
             id piece.now self.old.meter self.new.meter }
@@ -174,6 +204,7 @@ impl Metered {
         ensures within { IfOk result (λ done. done.taken.count ≤ length piece.now) }
         ensures refused { OnErr result (OnlyBegins self.old.core self.new.core) }
         ensures begun { self.new.core.steps_before ≡ count_shown self.old.meter }
+        ensures memory { KeepsMemory self.old.core self.new.core }
         ensures held { NeverPasses self.new.core }
         ensures cost { PaysForExchange self.old.core self.new.core
             id piece.now room.old result self.old.meter self.new.meter }
@@ -191,6 +222,7 @@ impl Metered {
         ensures stays { self.new.core ≡ self.old.core }
         ensures cost { PaysAtMost self.old.meter self.new.meter
             (look_cost self.old.core.connections + 1) }
+        ensures bound { StaysWithinSteps self.old.core 0 0 self.old.meter self.new.meter }
     {
         self.core.pending_len(id, &mut self.meter)
     }
@@ -215,10 +247,12 @@ impl Metered {
         ensures stands { IfOk result (StandsThen id self.new.core) }
         ensures refused { OnErr result (OnlyBegins self.old.core self.new.core) }
         ensures begun { self.new.core.steps_before ≡ count_shown self.old.meter }
+        ensures memory { KeepsMemory self.old.core self.new.core }
         ensures held { NeverPasses self.new.core }
         ensures cost { PaysToGive self.old.core id self.old.meter self.new.meter }
         ensures bound { StaysWithinSteps self.old.core 0
             (length_given (as_done result) n) self.old.meter self.new.meter }
+        ensures few { StaysWithinSteps self.old.core 0 0 self.old.meter self.new.meter }
     {
         self.core.gave(now, id, n, &mut self.meter)
     }
@@ -233,6 +267,7 @@ impl Metered {
         ensures stands { IfOk result (λ done. StandsThen id self.new.core done.standing) }
         ensures refused { OnErr result (OnlyBegins self.old.core self.new.core) }
         ensures begun { self.new.core.steps_before ≡ count_shown self.old.meter }
+        ensures memory { KeepsMemory self.old.core self.new.core }
         ensures held { NeverPasses self.new.core }
         ensures cost { PaysToGiveInto self.old.core id result self.old.meter self.new.meter }
         ensures bound { GivesWithinSteps
@@ -248,6 +283,7 @@ impl Metered {
             self.old.core self.new.core result }
         ensures refused { OnErr result (OnlyBegins self.old.core self.new.core) }
         ensures begun { self.new.core.steps_before ≡ count_shown self.old.meter }
+        ensures memory { KeepsMemory self.old.core self.new.core }
         ensures held { NeverPasses self.new.core }
         ensures cost { PaysAtMost self.old.meter self.new.meter
             (close_cost (sizes_of self.old.core self.new.core)) }
@@ -286,6 +322,7 @@ impl Metered {
             self.old.core self.new.core result }
         ensures refused { OnErr result (OnlyBegins self.old.core self.new.core) }
         ensures begun { self.new.core.steps_before ≡ count_shown self.old.meter }
+        ensures memory { KeepsMemory self.old.core self.new.core }
         ensures held { NeverPasses self.new.core }
         ensures cost { PaysAtMost self.old.meter self.new.meter
             (sent_cost self.old.core.books.forwards.cap) }
@@ -301,6 +338,7 @@ impl Metered {
         ensures acts { Acts StandsFor (λ s. forward_reply s now from bytes.now)
             self.old.core self.new.core result }
         ensures begun { self.new.core.steps_before ≡ count_shown self.old.meter }
+        ensures memory { KeepsMemory self.old.core self.new.core }
         ensures held { NeverPasses self.new.core }
         ensures short { length self.new.core.reply ≤ longest_reply }
         ensures cost { PaysAtMost self.old.meter self.new.meter
@@ -316,6 +354,7 @@ impl Metered {
     pub fn expire(&mut self, now: u64) -> Expired
         ensures acts { Acts StandsFor (λ s. expire s now) self.old.core self.new.core result }
         ensures begun { self.new.core.steps_before ≡ count_shown self.old.meter }
+        ensures memory { KeepsMemory self.old.core self.new.core }
         ensures held { NeverPasses self.new.core }
         ensures short { length self.new.core.reply ≤ longest_reply }
         ensures cost { PaysAtMost self.old.meter self.new.meter
@@ -343,6 +382,7 @@ impl Metered {
         ensures acts { Acts StandsFor (λ s. (tt {0}, zero_stats s))
             self.old.core self.new.core (tt {0}) }
         ensures begun { self.new.core.steps_before ≡ count_shown self.old.meter }
+        ensures memory { KeepsMemory self.old.core self.new.core }
         ensures held { NeverPasses self.new.core }
         ensures cost { PaysAtMost self.old.meter self.new.meter zero_cost }
         ensures bound { StaysWithinSteps self.old.core 0 0 self.old.meter self.new.meter }

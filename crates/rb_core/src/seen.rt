@@ -69,6 +69,13 @@ pub enum Seen {
     Refused(RefusedCall),
 }
 
+/// Nothing is to be told any more. Where nothing was, nothing is written: it is as long as the longest texts of a call.
+pub(crate) fn forget(seen: &mut Option<Seen>) {
+    if seen.is_some() {
+        *seen = None;
+    }
+}
+
 /// What is to be told of a message, where anything is; `is_accepted` is whether it changed the rows.
 pub fn seen_of(context: &Context, message: &Message, is_accepted: bool) -> Option<Seen> {
     let status = match message {

@@ -21,12 +21,14 @@ pub record StandsForEntry (first_xid : ℕ) (slot : Slot) (e : Entry) : Type 0 w
 -- ---- the table
 
 -- the slots of entries with their keys, in the order of their calls, the last number that was given, the xid of the first
--- entry, how many entries there may be, and the number of the meter that counts the calls
+-- entry, how many entries there may be, the memory that the tables of slots and of spare buffers hold (as of a `Pool`), and
+-- the number of the meter that counts the calls
 pub record Table : Type 0 where
   pub slots : List (ℕ × Slot)
   pub last_number : ℕ
   pub first_xid : ℕ
   pub cap : ℕ
+  pub memory : (ℕ × ℕ) × (ℕ × ℕ)
   pub tie : ℕ
 
 pub record StandsForForwards (table : Table) (f : Forwards) : Type 0 where

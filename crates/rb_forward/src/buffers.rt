@@ -30,6 +30,7 @@ pub(crate) fn take_buffer(spare: &mut Pool<Kept>, meter: &mut Meter) -> Kept
     ensures distinct { HasDistinctKeys spare.new.entries }
     ensures made { IsSpare spare.old.tie result }
     ensures cap { spare.new.cap ≡ spare.old.cap }
+    ensures memory { spare.new.memory ≡ spare.old.memory }
     ensures tie { spare.new.tie ≡ spare.old.tie }
     ensures cost { PaysAtMost meter.old meter.new 2 }
 {
@@ -53,6 +54,7 @@ pub(crate) fn put_buffer(spare: &mut Pool<Kept>, mut buffer: Kept, meter: &mut M
     ensures buffers { All (IsSpare spare.old.tie) (values_of spare.new.entries) }
     ensures distinct { HasDistinctKeys spare.new.entries }
     ensures cap { spare.new.cap ≡ spare.old.cap }
+    ensures memory { spare.new.memory ≡ spare.old.memory }
     ensures tie { spare.new.tie ≡ spare.old.tie }
     ensures cost { PaysAtMost meter.old meter.new 2 }
 {

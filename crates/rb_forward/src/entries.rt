@@ -146,6 +146,7 @@ pub(crate) fn put_slot(slots: &mut Pool<Slot>, slot: Slot, meter: &mut Meter)
     ensures more { length slots.new.entries ≡ length slots.old.entries + 1 }
     ensures distinct { HasDistinctKeys slots.new.entries }
     ensures cap { slots.new.cap ≡ slots.old.cap }
+    ensures memory { slots.new.memory ≡ slots.old.memory }
     ensures tie { slots.new.tie ≡ slots.old.tie }
     ensures cost { PaysAtMost meter.old meter.new 1 }
 {

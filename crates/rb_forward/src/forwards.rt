@@ -20,7 +20,8 @@ pub const ENTRY_CHARGE: u64 = 128;
 /// A target's time to answer, in milliseconds.
 pub const PATIENCE: u64 = 5000;
 
-/// The calls that are forwarded, in the order in which they came, and the buffers that no call is in.
+/// The calls that are forwarded, in the order in which they came, and the buffers that no call is in. `new` takes all of
+/// the memory, and no later call changes how much there is.
 #[derive(Drop)]
 pub struct Forwards {
     slots: Pool<Slot>,
@@ -72,6 +73,7 @@ impl Model for Forwards {
       last_number = f.last_number;
       first_xid = f.first_xid;
       cap = f.cap;
+      memory = (f.slots.memory, f.spare.memory);
       tie = f.slots.tie;
     } };
 
@@ -139,6 +141,7 @@ impl Forwards {
         ensures err { OnErr result (self.new ≡ self.old) }
         ensures first_xid { self.new.first_xid ≡ self.old.first_xid }
         ensures cap { self.new.cap ≡ self.old.cap }
+        ensures memory { self.new.memory ≡ self.old.memory }
         ensures tie { self.new.tie ≡ self.old.tie }
         ensures cost { PaysAtMost meter.old meter.new (start_cost (length args.now)) }
     {
@@ -201,6 +204,7 @@ impl Forwards {
         ensures err { OnErr result (self.new ≡ self.old) }
         ensures first_xid { self.new.first_xid ≡ self.old.first_xid }
         ensures cap { self.new.cap ≡ self.old.cap }
+        ensures memory { self.new.memory ≡ self.old.memory }
         ensures tie { self.new.tie ≡ self.old.tie }
         ensures cost { PaysAtMost meter.old meter.new (sent_cost self.old.cap) }
     {
@@ -233,6 +237,7 @@ impl Forwards {
         ensures waiting { NoneWaitsAnew (slots_of self.old) (slots_of self.new) }
         ensures first_xid { self.new.first_xid ≡ self.old.first_xid }
         ensures cap { self.new.cap ≡ self.old.cap }
+        ensures memory { self.new.memory ≡ self.old.memory }
         ensures tie { self.new.tie ≡ self.old.tie }
         ensures cost { PaysAtMost meter.old meter.new (end_cost self.old.cap) }
     {
@@ -254,6 +259,7 @@ impl Forwards {
         ensures waiting { NoneWaitsAnew (slots_of self.old) (slots_of self.new) }
         ensures first_xid { self.new.first_xid ≡ self.old.first_xid }
         ensures cap { self.new.cap ≡ self.old.cap }
+        ensures memory { self.new.memory ≡ self.old.memory }
         ensures tie { self.new.tie ≡ self.old.tie }
         ensures cost { PaysAtMost meter.old meter.new (end_cost self.old.cap) }
     {
@@ -270,6 +276,7 @@ impl Forwards {
         ensures waiting { NoneWaitsAnew (slots_of self.old) (slots_of self.new) }
         ensures first_xid { self.new.first_xid ≡ self.old.first_xid }
         ensures cap { self.new.cap ≡ self.old.cap }
+        ensures memory { self.new.memory ≡ self.old.memory }
         ensures tie { self.new.tie ≡ self.old.tie }
         ensures cost { PaysAtMost meter.old meter.new (end_cost self.old.cap) }
     {
@@ -299,6 +306,7 @@ impl Forwards {
         ensures waiting { NoneWaitsAnew (slots_of self.old) (slots_of self.new) }
         ensures first_xid { self.new.first_xid ≡ self.old.first_xid }
         ensures cap { self.new.cap ≡ self.old.cap }
+        ensures memory { self.new.memory ≡ self.old.memory }
         ensures tie { self.new.tie ≡ self.old.tie }
         ensures cost { PaysAtMost meter.old meter.new (end_cost self.old.cap) }
     {

@@ -62,7 +62,13 @@ pub record AreTied (tie : ℕ) (books : Books) : Type 0 where
   pub stats : tie ≡ books.stats.tie
   pub forwards : tie ≡ books.forwards.tie
 
--- the limits of rows and of forwarded calls, the first xid of those, and the books' meter stay
+-- the rows, the statistics and the forwarded calls have as much memory as before
+pub record SameMemory (old new : Books) : Type 0 where
+  pub registry : new.registry.memory ≡ old.registry.memory
+  pub stats : new.stats.memory ≡ old.stats.memory
+  pub forwards : new.forwards.memory ≡ old.forwards.memory
+
+-- the limits of rows and of forwarded calls, the first xid of those, the books' meter and their memory stay
 pub record SameFrame (old new : Books) : Type 0 where
   pub limit : new.registry.limit ≡ old.registry.limit
   pub cap : new.forwards.cap ≡ old.forwards.cap
@@ -70,6 +76,7 @@ pub record SameFrame (old new : Books) : Type 0 where
   pub registry : new.registry.tie ≡ old.registry.tie
   pub stats : new.stats.tie ≡ old.stats.tie
   pub forwards : new.forwards.tie ≡ old.forwards.tie
+  pub memory : SameMemory old new
 
 -- the changes that removed the rows which are retained
 abbrev pub removals_in : Books → List ℕ

@@ -16,7 +16,7 @@ use rb_xdr::Meter;
 use std::alloc::Global;
 
 /// What is remembered of calls: the rows that they set, what they were, and those that were forwarded. One meter counts
-/// the steps on all of it.
+/// the steps on all of it. `new` takes all of the memory, and no later call changes how much there is.
 #[derive(Drop)]
 pub struct Books {
     /// The rows that calls set.

@@ -58,6 +58,7 @@ fn note_outcome(stats: &mut Stats, asked: Asked, passed: bool, meter: &mut Meter
     requires { meter.old.tie ≡ stats.old.tie }
     ensures history { HasNotedWhere
         (counts_forward asked.caller passed) (note_asked asked passed) stats.old stats.new }
+    ensures memory { stats.new.memory ≡ stats.old.memory }
     ensures tie { stats.new.tie ≡ stats.old.tie }
     ensures cost { PaysAtMost meter.old meter.new (note_cost + 2) }
 {
@@ -86,6 +87,7 @@ pub(crate) fn note_end(stats: &mut Stats, ended: &Ended, meter: &mut Meter)
     requires { meter.old.tie ≡ stats.old.tie }
     ensures history { HasNotedWhere
         (counts_end ended.now) (end_note ended.now) stats.old stats.new }
+    ensures memory { stats.new.memory ≡ stats.old.memory }
     ensures tie { stats.new.tie ≡ stats.old.tie }
     ensures cost { PaysAtMost meter.old meter.new (note_cost + 2) }
 {

@@ -125,6 +125,7 @@ fn note_lookup(
     ensures history { HasNotedWhere
         (counts_look_up (who_of context.now.caller) target.vers (option_copied found.entry))
         (LookedUp (version_of head.now.vers) target (is_some found.entry)) stats.old stats.new }
+    ensures memory { stats.new.memory ≡ stats.old.memory }
     ensures tie { stats.new.tie ≡ stats.old.tie }
     ensures cost { PaysAtMost meter.old meter.new (note_cost + 2) }
 {

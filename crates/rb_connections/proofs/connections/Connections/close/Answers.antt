@@ -63,7 +63,7 @@ invariant_of-self c =
 
 pub returns-clause-acts : goal.returns-clause-acts
 returns-clause-acts c =
-    λ registry. rw c.remove.ensures.entries (
+    λ registry. rw (c.remove.ensures.entries, c.put_buffers.ensures.memory) (
     acts_from registry (close_in_table c.args.id) (the_view c.self.inside) c.args.self.now _ _ c.self.view_is
     (one_closed registry c.args.id (the_view c.self.inside) c.in-Some.key c.in-Some-remove.slot c.self.invariant.distinct c.self.invariant.numbers (sym c.in-Some.ensures.key) (sym c.in-Some-remove.ensures.value)))
 
@@ -71,8 +71,8 @@ pub returns-in_default-clause-goes_on : goal.returns-in_default-clause-goes_on
 returns-in_default-clause-goes_on c = goes_on_same _
 
 pub returns-clause-goes_on : goal.returns-clause-goes_on
-returns-clause-goes_on c = rw c.remove.ensures.entries (record {
+returns-clause-goes_on c = rw (c.remove.ensures.entries, c.put_buffers.ensures.memory) (record {
   lists = keeps_less (the_view c.self.inside) c.args.self.now c.self.view_is c.in-Some.key;
   free = freed_from (the_view c.self.inside) c.args.self.now _ c.self.view_is (none_freed_by_close (the_view c.self.inside) c.in-Some.key);
-  stays = rw (← c.self.view_is) (record { conns = refl; tie = refl; within = λ within. All-without IsWithin c.self.inside.slots.entries c.in-Some.key within });
+  stays = rw (← c.self.view_is) (record { conns = refl; memory = refl; tie = refl; within = λ within. All-without IsWithin c.self.inside.slots.entries c.in-Some.key within });
 })

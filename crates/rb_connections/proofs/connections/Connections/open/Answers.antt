@@ -76,6 +76,7 @@ returns-clause-goes_on c = record {
   free = freed_from (the_view c.self.inside) c.args.self.now _ c.self.view_is (none_freed_by_open (the_view c.self.inside) _ _ c.put_slot-key.ensures.last refl refl);
   stays = rw (← c.self.view_is) (record {
     conns = refl;
+    memory = rw (c.put_slot-key.ensures.memory, c.take_buffers-buffer.ensures.memory) refl;
     tie = c.put_slot-key.ensures.tie;
     within = λ within.
         rw c.put_slot-key.ensures.last

@@ -97,7 +97,7 @@ returns-then-given-gt0-clause-acts c =
     answered_from c.args.id c.args.ended c.args.arguments (lent_then c) (the_view c.self.inside) c.args.self.now c.lend_arguments-arguments.ensures.value c.self.view_is _ false once.result once.new.room
     (answers (view_then c) c.args.id c.args.ended.who (message_with c.args.ended.verdict (lent_then c)) (lent_then c) v.new.books v.new.connections
     (served_in v.new.books.registry v.result v.new.out.bytes) (acts_then c) v.ensures.leaves.frame v.ensures.open.stays (v.ensures.open.idle c.args.id (idle_then c).is_idle)
-    v.new.connections Silent (take once.result once.new.room) (record { conns = refl; tie = refl; within = λ within. within })
+    v.new.connections Silent (take once.result once.new.room) (record { conns = refl; memory = refl; tie = refl; within = λ within. within })
     (leaves_none v.new.books.registry v.result v.new.out once.new.draft _ (omega (arith, length-take once.result once.new.room, once.ensures.within, c.if-given-gt0.true)) reply)
     (λ o h.
     subst (λ (t : Connections). StandsForConnections v.new.books.registry v.new.connections t)

@@ -38,3 +38,9 @@ returns-in_err-standing-clause-bound c = gave_within c.args.self.now _ _ c.args.
 
 pub returns-clause-bound : goal.returns-clause-bound
 returns-clause-bound c = gave_within c.args.self.now _ _ c.args.id _ (returns-clause-cost c)
+
+pub returns-in_err-standing-clause-few : goal.returns-in_err-standing-clause-few
+returns-in_err-standing-clause-few c = gave_within c.args.self.now _ _ c.args.id 0 (returns-in_err-standing-clause-cost c)
+
+pub returns-clause-few : goal.returns-clause-few
+returns-clause-few c = gave_within c.args.self.now _ _ c.args.id 0 (returns-clause-cost c)
