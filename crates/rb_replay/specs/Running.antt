@@ -1,5 +1,5 @@
 -- What `rpcbind replay` does with its input.
-use Rattle.std.specs.Prelude.{◌≡◌, ◌≢◌, ◌≤◌, ℕ, ◌+◌, ◌++◌, not, Bool, true, IsTrue, List, [], take, Option, IfSome, IfOk, Result, Ok, Err}
+use Rattle.std.specs.Prelude.{◌≡◌, ◌≢◌, ◌≤◌, ℕ, ◌+◌, ◌-◌, ◌++◌, not, Bool, true, IsTrue, List, [], take, Option, IfSome, IfOk, Result, Ok, Err}
 use Rattle.std.specs.Io.Buffered.{writer_contents}
 use Rattle.std.specs.declared.io.buffered.BufWriter.{BufWriter}
 use Rattle.rb_model.specs.State.{State, are_good, opening}
@@ -7,6 +7,9 @@ use Rattle.rb_model.specs.declared.types.Limits.{Limits}
 use Rattle.rb_model.specs.Step.{Event, run, IsReached}
 use Rattle.rb_model.specs.Plain.{outputs_of}
 use Rattle.rb_record.specs.Printing.{Writes}
+use Rattle.rb_xdr.specs.Meter.{Meter, PaysAtMost}
+use Rattle.rb_core.specs.CallCosts.{making_cost}
+use Rattle.rb_core.specs.Events.{count_shown}
 use Rattle.rb_core.specs.StandsFor.{Held, StandsFor}
 use Rattle.rb_lines.specs.declared.lines.ReadFault.{ReadFault}
 use Rattle.rb_lines.specs.declared.options.Beginning.{Beginning}
@@ -98,14 +101,24 @@ RunsFrom limits events core result =
 abbrev pub KeepsBound : Ran → Type 0
 KeepsBound ran = ran.steps ≤ ran.bound
 
--- The printed outputs of the run of these events were written, and where it is asked for, how many steps were taken, which are
--- no more than they may be; and nothing else.
-abbrev pub PrintsRun : {W A : Type 0} → Beginning → (W → Option (List ℕ))
+-- A core was made, and its meter counted on: it paid no more than the making costs.
+abbrev pub BeginsFrom : Beginning → Meter → Meter → Type 0
+BeginsFrom beginning old begun = PaysAtMost old begun (making_cost beginning.limits beginning.listener)
+
+-- So many steps were counted from where the core was made.
+pub record AreCounted (beginning : Beginning) (taken : ℕ) (old now : Meter) : Type 0 where
+  pub begun : Meter
+  pub begins : BeginsFrom beginning old begun
+  pub rise : taken ≡ count_shown now - count_shown begun
+
+-- The printed outputs of the run of these events were written, and where it is asked for, how many steps the meter counted of
+-- the run, which are no more than they may be; and nothing else.
+abbrev pub PrintsRun : {W A : Type 0} → Beginning → Meter → Meter → (W → Option (List ℕ))
     → BufWriter W A → BufWriter W A → Result (List Event) ReadFault → Type 0
-PrintsRun beginning contents old new (Ok events) =
-    (taken : ℕ) × (taken ≤ bound_of beginning events)
+PrintsRun beginning before now contents old new (Ok events) =
+    (taken : ℕ) × (taken ≤ bound_of beginning events) × AreCounted beginning taken before now
     × BufWrites contents old new (report_of (run (first_state beginning) events) ++ steps_line_if beginning.steps taken (bound_of beginning events))
-PrintsRun beginning contents old new (Err fault) = ⊥
+PrintsRun beginning before now contents old new (Err fault) = ⊥
 
 -- Where the bytes that a reader has left are known, this holds of what they read as.
 abbrev pub Reads : {R : Type 0} → (R → Option (List ℕ)) → R
@@ -113,10 +126,10 @@ abbrev pub Reads : {R : Type 0} → (R → Option (List ℕ)) → R
 Reads remaining reader Holds = IfSome (remaining reader) (λ input. Holds (read input))
 
 -- Where they are known, what `PrintsRun` says of what they read as was written.
-abbrev pub Replays : {R W A : Type 0} → Beginning → (R → Option (List ℕ)) → R
+abbrev pub Replays : {R W A : Type 0} → Beginning → Meter → Meter → (R → Option (List ℕ)) → R
     → (W → Option (List ℕ)) → BufWriter W A → BufWriter W A → Type 0
-Replays beginning remaining reader contents old new =
-    Reads remaining reader (PrintsRun beginning contents old new)
+Replays beginning before now remaining reader contents old new =
+    Reads remaining reader (PrintsRun beginning before now contents old new)
 
 -- What was read of an input is all of it, or enough to show that it is too long.
 abbrev pub IsEnoughOf : Option (List ℕ) → List ℕ → Type 0

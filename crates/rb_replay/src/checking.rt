@@ -15,6 +15,7 @@ use rb_lines::{
     read_events,
 };
 use rb_model::Output;
+use rb_xdr::Meter;
 use std::alloc::Global;
 use std::io::{BufWriter, Read, Write};
 
@@ -143,7 +144,7 @@ fn check_lines(
         Ok(events) => events,
         Err(fault) => return Err(Fault::Lines(fault)),
     };
-    let ran = run_from(alloc, beginning, &events)?;
+    let ran = run_from(alloc, beginning, &events, &mut Meter::new())?;
     match compare(alloc, text, &ran.outputs) {
         Ok(()) => Ok(ran.outputs.len()),
         Err(Fault::Lacks(next)) if is_cut => Ok(next.saturating_sub(1)),

@@ -13,6 +13,7 @@ pub use checking::{check_text, run_check};
 pub use laws::runs_are_served_within_bounds;
 pub use rb_core::Core;
 pub use rb_model::{Event, Output};
+pub use rb_xdr::Meter;
 pub use run::replay;
 pub use run_bound::whole_bound;
 pub use running::run_replay;

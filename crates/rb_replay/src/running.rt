@@ -7,7 +7,7 @@ ghost use Rattle.rb_core.specs.StandsFor.{StandsFor};
 ghost use Rattle.rb_core.specs.Events.{count_shown};
 ghost use Rattle.rb_lines.specs.Lines.{read};
 ghost use Rattle.rb_lines.specs.Faults.{status_of};
-ghost use Rattle.rb_replay.specs.Running.{first_state, IsFresh, IsRunOf, KeepsBound, BufWrites, IsEnoughOf, IsReplayFault, IsCoreFault, IsRefused, PrintsRun, Reads, Replays, Refuses, RunsFrom, ran_text, Explains};
+ghost use Rattle.rb_replay.specs.Running.{first_state, BeginsFrom, AreCounted, IsFresh, IsRunOf, KeepsBound, BufWrites, IsEnoughOf, IsReplayFault, IsCoreFault, IsRefused, PrintsRun, Reads, Replays, Refuses, RunsFrom, ran_text, Explains};
 
 use crate::run::replay;
 use crate::run_bound::whole_bound;
@@ -19,9 +19,10 @@ use rb_lines::{
 use rb_model::{Event, Limits, Output};
 use rb_proto::Listener;
 use rb_uaddr::AddressText;
+use rb_xdr::Meter;
 use std::alloc::Global;
-use std::io;
 use std::io::{BufWriter, Read, Write};
+use std::{io, mem};
 
 /// The first bytes of what the reader has left: as many as an input may have, and one more.
 pub(crate) fn read_input<R: Read>(alloc: Global, reader: &mut R) -> Result<Vec<u8>, Fault>
@@ -57,9 +58,10 @@ fn listener_like(listener: &Listener) -> Listener
     }
 }
 
-/// A new core, as a replay begins.
-fn first_core(alloc: Global, beginning: &Beginning) -> Result<Metered, Fault>
+/// A new core, as a replay begins, with a meter that counts on.
+fn first_core(alloc: Global, beginning: &Beginning, meter: Meter) -> Result<Metered, Fault>
     ensures made { IfOk result (λ made. StandsFor made.core (first_state beginning.now)) }
+    ensures cost { IfOk result (λ made. BeginsFrom beginning.now meter made.meter) }
     ensures good { OnOk result (IsTrue (are_good beginning.now.limits beginning.now.listener)) }
     ensures err { IfErr result (IsCoreFault beginning.now) }
 {
@@ -71,7 +73,7 @@ fn first_core(alloc: Global, beginning: &Beginning) -> Result<Metered, Fault>
         steps: _,
     } = beginning;
     let listener = listener_like(listener);
-    match Metered::new(alloc, *limits, listener, *first_xid, *moment) {
+    match Metered::counted_by(meter, alloc, *limits, listener, *first_xid, *moment) {
         Ok(core) => Ok(core),
         Err(CoreFault::BadLimits) => Err(Fault::BadLimits),
         Err(_) => Err(Fault::NoMemory),
@@ -118,15 +120,25 @@ fn run_on(
     }
 }
 
-/// Runs the events, from a new core.
-pub(crate) fn run_from(alloc: Global, beginning: &Beginning, events: &[Event]) -> Result<Ran, Fault>
+/// Runs the events, from a new core whose steps the meter counts.
+pub(crate) fn run_from(
+    alloc: Global,
+    beginning: &Beginning,
+    events: &[Event],
+    meter: &mut Meter,
+) -> Result<Ran, Fault>
     ensures ok { IfOk result (IsRunOf beginning.now (events_of events.now)) }
     ensures within { IfOk result KeepsBound }
+    ensures counted { IfOk result
+        (λ ran. AreCounted beginning.now ran.steps meter.old meter.new) }
     ensures good { OnOk result (IsTrue (are_good beginning.now.limits beginning.now.listener)) }
     ensures err { IfErr result (IsCoreFault beginning.now) }
 {
-    let mut core = first_core(alloc, beginning)?;
-    run_on(alloc, &mut core, &beginning.limits, events)
+    let counting = mem::replace(meter, Meter::new());
+    let mut core = first_core(alloc, beginning, counting)?;
+    let ran = run_on(alloc, &mut core, &beginning.limits, events)?;
+    *meter = core.into_meter();
+    Ok(ran)
 }
 
 /// Writes what a run is printed as, to the last byte, and its steps where that is asked for.
@@ -155,9 +167,10 @@ fn replay_text<W: Write + Drop>(
     beginning: &Beginning,
     text: &[u8],
     out: &mut BufWriter<W>,
+    meter: &mut Meter,
 ) -> Result<(), Fault>
     ensures ok { OnOk result
-        (PrintsRun beginning.now W.contents out.old out.new (read text.now)) }
+        (PrintsRun beginning.now meter.old meter.new W.contents out.old out.new (read text.now)) }
     ensures good { OnOk result (IsTrue (are_good beginning.now.limits beginning.now.listener)) }
     ensures flushed { OnOk result (writer_buffer out.new ≡ []) }
     ensures err { IfErr result (λ fault. IsReplayFault beginning.now fault (read text.now)) }
@@ -167,7 +180,7 @@ fn replay_text<W: Write + Drop>(
         Ok(events) => events,
         Err(fault) => return Err(Fault::Lines(fault)),
     };
-    let ran = run_from(alloc, beginning, &events)?;
+    let ran = run_from(alloc, beginning, &events, meter)?;
     match put_ran(&ran, beginning.steps, out) {
         Ok(()) => Ok(()),
         Err(WriteFailed) => Err(Fault::WriteFailed),
@@ -180,16 +193,17 @@ fn replay_all<R: Read, W: Write + Drop>(
     beginning: &Beginning,
     reader: &mut R,
     out: &mut BufWriter<W>,
+    meter: &mut Meter,
 ) -> Result<(), Fault>
-    ensures ok { OnOk result
-        (Replays beginning.now R.remaining reader.old W.contents out.old out.new) }
+    ensures ok { OnOk result (Replays beginning.now meter.old meter.new
+        R.remaining reader.old W.contents out.old out.new) }
     ensures good { OnOk result (IsTrue (are_good beginning.now.limits beginning.now.listener)) }
     ensures flushed { OnOk result (writer_buffer out.new ≡ []) }
     ensures refused { IfErr result (Refuses beginning.now R.remaining reader.old) }
     ensures unwritten { IfErr result (λ fault. status_of fault ≡ 2 → out.new ≡ out.old) }
 {
     let text = read_input(alloc, reader)?;
-    replay_text(alloc, beginning, &text, out)
+    replay_text(alloc, beginning, &text, out, meter)
 }
 
 /// Runs the command `replay`: it reads event lines to the end, makes a core, runs their events on it and writes a
@@ -198,16 +212,19 @@ fn replay_all<R: Read, W: Write + Drop>(
 /// Status 0 says that all went well and that the writer's buffer was written out. 2 says that the input is no event
 /// lines, and nothing was run or written, whatever the limits are. 1 says that the limits are out of their ranges, or
 /// that reading, writing or memory failed. What is wrong is written to `faults`; at 0 nothing is.
+///
+/// The meter counts the steps of the run, from where it stands; where the run fails, it may count none of them.
 pub fn run_replay<R: Read, W: Write + Drop, E: Write>(
     alloc: Global,
     beginning: &Beginning,
     reader: &mut R,
     out: &mut BufWriter<W>,
     faults: &mut E,
+    meter: &mut Meter,
 ) -> Ending
     ensures status { result.status ≤ 2 }
-    ensures ok { result.status ≡ 0
-        → Replays beginning.now R.remaining reader.old W.contents out.old out.new }
+    ensures ok { result.status ≡ 0 → Replays beginning.now meter.old meter.new
+        R.remaining reader.old W.contents out.old out.new }
     ensures good { result.status ≡ 0 → IsTrue (are_good beginning.now.limits beginning.now.listener) }
     ensures flushed { result.status ≡ 0 → writer_buffer out.new ≡ [] }
     ensures quiet { result.status ≡ 0 → faults.new ≡ faults.old }
@@ -216,7 +233,7 @@ pub fn run_replay<R: Read, W: Write + Drop, E: Write>(
     ensures told { Explains
         beginning.now R.remaining reader.old E.contents faults.old faults.new result }
 {
-    match replay_all(alloc, beginning, reader, out) {
+    match replay_all(alloc, beginning, reader, out, meter) {
         Ok(()) => DONE,
         Err(fault) => explain_run(fault, &beginning.limits, &beginning.listener, faults),
     }

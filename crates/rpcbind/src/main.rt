@@ -7,7 +7,7 @@ mod service;
 
 use rb_commands::{Words, command_words, read_words};
 use rb_lines::{Beginning, Fault, explain};
-use rb_replay::{run_check, run_replay};
+use rb_replay::{Meter, run_check, run_replay};
 use service::run_service;
 use std::io;
 use std::io::BufWriter;
@@ -27,6 +27,7 @@ fn replay(rt: &HostRuntime, beginning: &Beginning) -> u8
         &mut rt.reader(),
         &mut output,
         &mut faults,
+        &mut Meter::new(),
     )
     .status
 }

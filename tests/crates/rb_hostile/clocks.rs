@@ -1,7 +1,7 @@
 //! Moments that are earlier than the last one: they count as the last one, and bring no deadline nearer or farther.
 use crate::cores::{limits_of, listener};
 use rb_lines::Beginning;
-use rb_replay::run_replay;
+use rb_replay::{Meter, run_replay};
 use std::alloc::{AllocError, Global};
 use std::io::BufWriter;
 use std::test::Fail;
@@ -22,7 +22,15 @@ fn printed(alloc: Global, mut lines: &[u8]) -> Result<Vec<u8>, AllocError> {
     };
     let mut output = BufWriter::new(alloc, Vec::new(alloc)).map_err(|_| AllocError)?;
     let mut faults = Vec::new(alloc);
-    run_replay(alloc, &beginning, &mut lines, &mut output, &mut faults);
+    let mut meter = Meter::new();
+    run_replay(
+        alloc,
+        &beginning,
+        &mut lines,
+        &mut output,
+        &mut faults,
+        &mut meter,
+    );
     let (printed, _) = output.into_parts();
     Ok(printed)
 }

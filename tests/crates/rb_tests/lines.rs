@@ -3,7 +3,7 @@ use crate::proto::listener;
 use rb_address::Who;
 use rb_core::{Limits, Metered};
 use rb_lines::{Beginning, ReadFault, read_events};
-use rb_replay::{Event, run_replay};
+use rb_replay::{Event, Meter, run_replay};
 use std::alloc::{AllocError, Global};
 use std::io;
 use std::io::{BufWriter, ErrorKind, Read};
@@ -37,7 +37,15 @@ fn beginning() -> Beginning {
 fn ran<R: Read>(alloc: Global, reader: &mut R) -> Result<(u8, Vec<u8>, Vec<u8>), AllocError> {
     let mut output = BufWriter::new(alloc, Vec::new(alloc)).map_err(|_| AllocError)?;
     let mut faults = Vec::new(alloc);
-    let ending = run_replay(alloc, &beginning(), reader, &mut output, &mut faults);
+    let (beginning, mut meter) = (beginning(), Meter::new());
+    let ending = run_replay(
+        alloc,
+        &beginning,
+        reader,
+        &mut output,
+        &mut faults,
+        &mut meter,
+    );
     let (printed, _) = output.into_parts();
     Ok((ending.status, printed, faults))
 }
