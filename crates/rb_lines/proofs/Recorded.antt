@@ -1,26 +1,28 @@
 -- Lines that were recorded, read back.
 use Rattle.std.specs.List.{flat_map, concat, onto_first, list_all, AllByRecursion}
 use Rattle.std.specs.Prelude.{IfSome}
-use Rattle.std.specs.Fmt.{decimal}
+use Rattle.std.specs.Fmt.{decimal, digits, digits_onto, digit_glyph}
+use Rattle.std.specs.Net.Text.{ipv4_text}
 use Rattle.std.specs.Char.{digit_value}
-use Rattle.std.proofs.Common.{◌≡◌, ◌<◌, ◌≤◌, ◌/◌, ◌%◌, ℕ, zero, suc, Bool, true, false, cond, eqb, codes, List, [], ◌∷◌, ◌++◌, map, slice_index, Option, Some, None, refl, sym, ap, subst, ◌∙◌, arith, inl, inr, ◌⊎◌, append_assoc, take}
+use Rattle.std.proofs.Common.{◌≡◌, ◌<◌, ◌≤◌, ◌/◌, ◌%◌, ℕ, zero, suc, Bool, true, false, cond, eqb, codes, List, [], ◌∷◌, ◌++◌, map, slice_index, Option, Some, None, refl, sym, ap, subst, ◌∙◌, arith, inl, inr, ◌⊎◌, append_assoc, length, take}
 use Rattle.std.proofs.lemmas.Fmt.{decimal_is_IsNumeral}
 use Rattle.std.proofs.lemmas.List.Elements.{All-append, All-cons, All-nil, All-head, All-tail}
 use Rattle.std.proofs.lemmas.List.Splits.{slice_split-cons_yes, slice_split-cons_no}
 use Rattle.std.proofs.lemmas.Bool.{and_parts, leb-true, ne_eqb}
+use Rattle.std.proofs.lemmas.Bool.Decides.{nat_tests}
+use Rattle.rb_uaddr.specs.Uaddr.{ipv6_host_text}
 use Rattle.rb_address.specs.declared.host.Host.{Host}
 use Rattle.rb_address.specs.declared.host.Host.TheVariants.{V4, V6}
 use Rattle.rb_address.specs.declared.peer.Peer.{Peer}
 use Rattle.rb_address.specs.declared.who.Source.{Source}
+use Rattle.rb_address.specs.declared.who.Source.TheVariants.{Inet, Local}
 use Rattle.rb_address.specs.declared.who.Who.{Who}
-use Rattle.rb_address.specs.Hosts.{IsHost}
-use Rattle.rb_address.specs.Peers.{IsPeer, bare_host_text, peer_text}
-use Rattle.rb_address.specs.Callers.{IsSource, IsWho, source_text, who_text}
+use Rattle.rb_address.specs.Peers.{IsPeer, bare_host_text, host_text, peer_text}
+use Rattle.rb_address.specs.Callers.{IsWho, source_text, who_text}
 use Rattle.rb_address.specs.Reading.{SpellsPeer}
 use Rattle.rb_address.specs.CallerTexts.{SpellsWho}
-use Rattle.rb_address.proofs.HostTexts.{IsWithout}
-use Rattle.rb_address.proofs.Words.{numeral_without}
-use Rattle.rb_address.proofs.CallerWords.{low_outside, bare_without, source_without, peer_without, who_without}
+use Rattle.rb_address.proofs.HostTexts.{IsWithout, host_without}
+use Rattle.rb_address.proofs.CallerWords.{who_without}
 use Rattle.rb_forward.specs.Forwards.{Unsent as UnsentCall}
 use Rattle.rb_proto.specs.declared.listener.Forwarding.{Forwarding}
 use Rattle.rb_proto.specs.declared.listener.Forwarding.TheVariants.{Anywhere, ForAll, ForLocal}
@@ -36,13 +38,13 @@ use Rattle.rb_model.specs.Step.Output.{Opened, Refused, TooMuch, Took, TookAndCl
 use Rattle.rb_record.specs.Printing.{hex_text, refusal_text, bytes_line, peer_line, source_line, output_text}
 use Rattle.rb_record.specs.Entries.{event_text, entry_text, run_entries, run_text, limits_text, announce_text, inet_text, inet6_text, local_text, lists_text, forwarding_text, terms_text, listener_text, options_text}
 use Rattle.rb_record.specs.Tapes.{last_line}
-use Rattle.rb_lines.specs.Lines.{line, lines_of}
+use Rattle.rb_lines.specs.Lines.{longest_input, line, lines_of}
 use Rattle.rb_lines.specs.Lines.Line.{Skipped, Happens}
 use Rattle.rb_lines.specs.LineLaws.{event_in, has_bad}
 use Rattle.rb_lines.specs.LineGrammar.{Spells, SpellsNumber, SpellsByte, SpellsBytes, SpellsHex, ◌␣◌, SpellsEvent}
 use Rattle.rb_lines.specs.OutputLines.{output_line_in, output_lines_in, output_lines}
 use Rattle.rb_lines.specs.Options.{is_quotable, is_path}
-use Rattle.rb_lines.specs.RecordLaws.{Fits, AreBytes, HasLine, HasUnsentLine, HasLostLine, HasOutputLine, HasListenerText, RecordsAreRead, EndedRecordsAreRead}
+use Rattle.rb_lines.specs.RecordLaws.{Fits, AreBytes, HasLine, HasPath, ReadsAs, RecordsAreRead, EndedRecordsAreRead}
 use Rattle.rb_lines.proofs.LineLaws.{reads_the_events}
 use Rattle.rb_lines.proofs.LineWords.{line_of, skipped_say_nothing}
 use Rattle.hex.specs.Hex.{encode_with, encode_lower, lower_digits}
@@ -95,14 +97,55 @@ apart (x ∷ xs) none = at (eqb x 10) refl none (λ less. apart xs less)
 number_spelled : (n : ℕ) → Fits n → SpellsNumber n (decimal n)
 number_spelled n fits = let is = decimal_is_IsNumeral n fits in record { digits = is.0; value = is.1; fits = fits }
 
-number_apart : (n : ℕ) → Fits n → IsWithout 10 (decimal n)
-number_apart n fits = numeral_without 10 (decimal n) (decimal_is_IsNumeral n fits).0.1 (λ l h. omega arith)
+glyph_apart : (digit : ℕ) → eqb (digit_glyph false digit) 10 ≡ false
+glyph_apart digit = ne_eqb (digit_glyph false digit) 10 (λ e. grind (arith, nat_tests, e))
+
+digits_onto_apart : (most n : ℕ) (more : List ℕ) → IsWithout 10 more → IsWithout 10 (digits_onto most 10 false n more)
+digits_onto_apart zero n more none = none
+digits_onto_apart (suc most) n more none = by_last (eqb (n / 10) 0) (digits_onto_apart most (n / 10) (digit_glyph false (n % 10) ∷ more) longer)
+  where
+    longer : IsWithout 10 (digit_glyph false (n % 10) ∷ more)
+    longer = behind (digit_glyph false (n % 10)) more (glyph_apart (n % 10)) none
+
+    by_last : (last : Bool) → IsWithout 10 (digits_onto most 10 false (n / 10) (digit_glyph false (n % 10) ∷ more)) → IsWithout 10 (cond last (digit_glyph false (n % 10) ∷ more) (digits_onto most 10 false (n / 10) (digit_glyph false (n % 10) ∷ more)))
+    by_last true others = longer
+    by_last false others = others
+
+-- whatever number it is
+number_apart : (n : ℕ) → IsWithout 10 (decimal n)
+unfolding digits
+number_apart n = digits_onto_apart 64 n [] nothing
 
 peer_spelled : (p : Peer) → IsPeer p → SpellsPeer p (peer_text p)
 peer_spelled p is = record { is_peer = is; text_is = refl }
 
-peer_apart : (p : Peer) → IsPeer p → IsWithout 10 (peer_text p)
-peer_apart p is = peer_without 10 (omega arith) p is
+dot_apart : IsWithout 10 (codes ".")
+dot_apart = apart (codes ".") refl
+
+dots_apart : (octets : List ℕ) → IsWithout 10 (ipv4_text octets)
+dots_apart octets =
+    let octet : (i : ℕ) → IsWithout 10 (decimal (slice_index octets i)) = λ i. number_apart (slice_index octets i) in
+    let one = joined _ (codes ".") (octet 0) dot_apart in
+    let two = joined _ (codes ".") (joined _ _ one (octet 1)) dot_apart in
+    let three = joined _ (codes ".") (joined _ _ two (octet 2)) dot_apart in
+    joined _ _ three (octet 3)
+
+groups_apart : (octets : List ℕ) → IsWithout 10 (ipv6_host_text octets)
+groups_apart octets = host_without 10 (inl (omega arith)) octets
+
+bare_apart : (h : Host) → IsWithout 10 (bare_host_text h)
+bare_apart (V4 octets) = dots_apart octets
+bare_apart (V6 octets) = groups_apart octets
+
+host_apart : (h : Host) → IsWithout 10 (host_text h)
+host_apart (V4 octets) = dots_apart octets
+host_apart (V6 octets) =
+    let front = joined (codes "[") (ipv6_host_text octets) (apart (codes "[") refl) (groups_apart octets) in
+    joined (codes "[" ++ ipv6_host_text octets) (codes "]") front (apart (codes "]") refl)
+
+-- whatever host and port it has
+peer_apart : (p : Peer) → IsWithout 10 (peer_text p)
+peer_apart p = joined _ (decimal p.port) (joined (host_text p.host) (codes ":") (host_apart p.host) (apart (codes ":") refl)) (number_apart p.port)
 
 who_spelled : (w : Who) → IsWho w → SpellsWho w (who_text w)
 who_spelled w is = record { is_who = is; text_is = refl }
@@ -110,8 +153,9 @@ who_spelled w is = record { is_who = is; text_is = refl }
 who_apart : (w : Who) → IsWho w → IsWithout 10 (who_text w)
 who_apart w is = who_without 10 (omega arith) w is
 
-source_apart : (s : Source) → IsSource s → IsWithout 10 (source_text s)
-source_apart s is = source_without 10 (low_outside 10 (omega arith)) s is
+source_apart : (s : Source) → IsWithout 10 (source_text s)
+source_apart (Inet p) = peer_apart p
+source_apart Local = apart (codes "local") refl
 
 -- ---- hexadecimal digits
 
@@ -246,14 +290,14 @@ unfolding output_line_in
 event_line (Open now from) h = record {
   body = codes "open" ++ 32 ∷ (decimal now ++ 32 ∷ who_text from);
   whole = ap (λ (t : List ℕ). codes "open " ++ t) (ended (decimal now) (who_text from));
-  apart = apart_pair (codes "open") (decimal now ++ 32 ∷ who_text from) open_apart (apart_pair (decimal now) (who_text from) (number_apart now h.0) (who_apart from h.1));
+  apart = apart_pair (codes "open") (decimal now ++ 32 ∷ who_text from) open_apart (apart_pair (decimal now) (who_text from) (number_apart now) (who_apart from h.1));
   spelled = spaced (Spells (codes "open")) (SpellsNumber now ␣ SpellsWho from) (codes "open") _ refl (spaced (SpellsNumber now) (SpellsWho from) (decimal now) (who_text from) (number_spelled now h.0) (who_spelled from h.1));
   quiet = refl;
 }
 event_line (Bytes now id bytes) h = record {
   body = codes "bytes" ++ 32 ∷ (decimal now ++ 32 ∷ (decimal id ++ 32 ∷ hex_text bytes));
   whole = ap (λ (t : List ℕ). codes "bytes " ++ t) (ap (λ (t : List ℕ). decimal now ++ 32 ∷ t) (ended (decimal id) (hex_text bytes)) ∙ ended (decimal now) (decimal id ++ 32 ∷ hex_text bytes));
-  apart = apart_pair (codes "bytes") (decimal now ++ 32 ∷ (decimal id ++ 32 ∷ hex_text bytes)) bytes_apart (apart_pair (decimal now) (decimal id ++ 32 ∷ hex_text bytes) (number_apart now h.0) (apart_pair (decimal id) (hex_text bytes) (number_apart id h.1) (hex_apart bytes)));
+  apart = apart_pair (codes "bytes") (decimal now ++ 32 ∷ (decimal id ++ 32 ∷ hex_text bytes)) bytes_apart (apart_pair (decimal now) (decimal id ++ 32 ∷ hex_text bytes) (number_apart now) (apart_pair (decimal id) (hex_text bytes) (number_apart id) (hex_apart bytes)));
   spelled = spaced (Spells (codes "bytes")) (SpellsNumber now ␣ SpellsNumber id ␣ SpellsHex bytes) (codes "bytes") _ refl
       (spaced (SpellsNumber now) (SpellsNumber id ␣ SpellsHex bytes) (decimal now) _ (number_spelled now h.0) (spaced (SpellsNumber id) (SpellsHex bytes) (decimal id) (hex_text bytes) (number_spelled id h.1) (hex_spelled bytes h.2)));
   quiet = refl;
@@ -261,14 +305,14 @@ event_line (Bytes now id bytes) h = record {
 event_line (Pending id) h = record {
   body = codes "pending" ++ 32 ∷ decimal id;
   whole = refl;
-  apart = apart_pair (codes "pending") (decimal id) pending_apart (number_apart id h);
+  apart = apart_pair (codes "pending") (decimal id) pending_apart (number_apart id);
   spelled = spaced (Spells (codes "pending")) (SpellsNumber id) (codes "pending") (decimal id) refl (number_spelled id h);
   quiet = refl;
 }
 event_line (Gave now id n) h = record {
   body = codes "gave" ++ 32 ∷ (decimal now ++ 32 ∷ (decimal id ++ 32 ∷ decimal n));
   whole = ap (λ (t : List ℕ). codes "gave " ++ t) (ap (λ (t : List ℕ). decimal now ++ 32 ∷ t) (ended (decimal id) (decimal n)) ∙ ended (decimal now) (decimal id ++ 32 ∷ decimal n));
-  apart = apart_pair (codes "gave") (decimal now ++ 32 ∷ (decimal id ++ 32 ∷ decimal n)) gave_apart (apart_pair (decimal now) (decimal id ++ 32 ∷ decimal n) (number_apart now h.0) (apart_pair (decimal id) (decimal n) (number_apart id h.1) (number_apart n h.2)));
+  apart = apart_pair (codes "gave") (decimal now ++ 32 ∷ (decimal id ++ 32 ∷ decimal n)) gave_apart (apart_pair (decimal now) (decimal id ++ 32 ∷ decimal n) (number_apart now) (apart_pair (decimal id) (decimal n) (number_apart id) (number_apart n)));
   spelled = spaced (Spells (codes "gave")) (SpellsNumber now ␣ SpellsNumber id ␣ SpellsNumber n) (codes "gave") _ refl
       (spaced (SpellsNumber now) (SpellsNumber id ␣ SpellsNumber n) (decimal now) _ (number_spelled now h.0) (spaced (SpellsNumber id) (SpellsNumber n) (decimal id) (decimal n) (number_spelled id h.1) (number_spelled n h.2)));
   quiet = refl;
@@ -276,7 +320,7 @@ event_line (Gave now id n) h = record {
 event_line (Closed id) h = record {
   body = codes "closed" ++ 32 ∷ decimal id;
   whole = refl;
-  apart = apart_pair (codes "closed") (decimal id) closed_apart (number_apart id h);
+  apart = apart_pair (codes "closed") (decimal id) closed_apart (number_apart id);
   spelled = spaced (Spells (codes "closed")) (SpellsNumber id) (codes "closed") (decimal id) refl (number_spelled id h);
   quiet = refl;
 }
@@ -284,7 +328,7 @@ event_line NextLost h = record { body = codes "lost"; whole = refl; apart = lost
 event_line (Datagram now from bytes) h = record {
   body = codes "datagram" ++ 32 ∷ (decimal now ++ 32 ∷ (who_text from ++ 32 ∷ hex_text bytes));
   whole = ap (λ (t : List ℕ). codes "datagram " ++ t) (ap (λ (t : List ℕ). decimal now ++ 32 ∷ t) (ended (who_text from) (hex_text bytes)) ∙ ended (decimal now) (who_text from ++ 32 ∷ hex_text bytes));
-  apart = apart_pair (codes "datagram") (decimal now ++ 32 ∷ (who_text from ++ 32 ∷ hex_text bytes)) datagram_apart (apart_pair (decimal now) (who_text from ++ 32 ∷ hex_text bytes) (number_apart now h.0) (apart_pair (who_text from) (hex_text bytes) (who_apart from h.1) (hex_apart bytes)));
+  apart = apart_pair (codes "datagram") (decimal now ++ 32 ∷ (who_text from ++ 32 ∷ hex_text bytes)) datagram_apart (apart_pair (decimal now) (who_text from ++ 32 ∷ hex_text bytes) (number_apart now) (apart_pair (who_text from) (hex_text bytes) (who_apart from h.1) (hex_apart bytes)));
   spelled = spaced (Spells (codes "datagram")) (SpellsNumber now ␣ SpellsWho from ␣ SpellsHex bytes) (codes "datagram") _ refl
       (spaced (SpellsNumber now) (SpellsWho from ␣ SpellsHex bytes) (decimal now) _ (number_spelled now h.0) (spaced (SpellsWho from) (SpellsHex bytes) (who_text from) (hex_text bytes) (who_spelled from h.1) (hex_spelled bytes h.2)));
   quiet = refl;
@@ -293,14 +337,14 @@ event_line Unsent h = record { body = codes "unsent"; whole = refl; apart = unse
 event_line (Sent number) h = record {
   body = codes "sent" ++ 32 ∷ decimal number;
   whole = refl;
-  apart = apart_pair (codes "sent") (decimal number) sent_apart (number_apart number h);
+  apart = apart_pair (codes "sent") (decimal number) sent_apart (number_apart number);
   spelled = spaced (Spells (codes "sent")) (SpellsNumber number) (codes "sent") (decimal number) refl (number_spelled number h);
   quiet = refl;
 }
 event_line (Forward now from bytes) h = record {
   body = codes "forward" ++ 32 ∷ (decimal now ++ 32 ∷ (peer_text from ++ 32 ∷ hex_text bytes));
   whole = ap (λ (t : List ℕ). codes "forward " ++ t) (ap (λ (t : List ℕ). decimal now ++ 32 ∷ t) (ended (peer_text from) (hex_text bytes)) ∙ ended (decimal now) (peer_text from ++ 32 ∷ hex_text bytes));
-  apart = apart_pair (codes "forward") (decimal now ++ 32 ∷ (peer_text from ++ 32 ∷ hex_text bytes)) forward_apart (apart_pair (decimal now) (peer_text from ++ 32 ∷ hex_text bytes) (number_apart now h.0) (apart_pair (peer_text from) (hex_text bytes) (peer_apart from h.1) (hex_apart bytes)));
+  apart = apart_pair (codes "forward") (decimal now ++ 32 ∷ (peer_text from ++ 32 ∷ hex_text bytes)) forward_apart (apart_pair (decimal now) (peer_text from ++ 32 ∷ hex_text bytes) (number_apart now) (apart_pair (peer_text from) (hex_text bytes) (peer_apart from) (hex_apart bytes)));
   spelled = spaced (Spells (codes "forward")) (SpellsNumber now ␣ SpellsPeer from ␣ SpellsHex bytes) (codes "forward") _ refl
       (spaced (SpellsNumber now) (SpellsPeer from ␣ SpellsHex bytes) (decimal now) _ (number_spelled now h.0) (spaced (SpellsPeer from) (SpellsHex bytes) (peer_text from) (hex_text bytes) (peer_spelled from h.1) (hex_spelled bytes h.2)));
   quiet = refl;
@@ -308,7 +352,7 @@ event_line (Forward now from bytes) h = record {
 event_line (Expire now) h = record {
   body = codes "expire" ++ 32 ∷ decimal now;
   whole = refl;
-  apart = apart_pair (codes "expire") (decimal now) expire_apart (number_apart now h);
+  apart = apart_pair (codes "expire") (decimal now) expire_apart (number_apart now);
   spelled = spaced (Spells (codes "expire")) (SpellsNumber now) (codes "expire") (decimal now) refl (number_spelled now h);
   quiet = refl;
 }
@@ -401,64 +445,64 @@ word_line word bytes apart = record {
 }
 
 -- a word, and bytes to or for a peer
-to_line : (word : List ℕ) (p : Peer) (bytes : List ℕ) → IsWithout 10 word → IsPeer p → IsLine (peer_line word p bytes)
-to_line word p bytes apart is = record {
+to_line : (word : List ℕ) (p : Peer) (bytes : List ℕ) → IsWithout 10 word → IsLine (peer_line word p bytes)
+to_line word p bytes apart = record {
   body = word ++ (peer_text p ++ 32 ∷ hex_text bytes);
   whole = ap (λ (t : List ℕ). word ++ t) (ended (peer_text p) (hex_text bytes)) ∙ sym (append_assoc word (peer_text p ++ 32 ∷ hex_text bytes) (10 ∷ []));
-  apart = joined word (peer_text p ++ 32 ∷ hex_text bytes) apart (apart_pair (peer_text p) (hex_text bytes) (peer_apart p is) (hex_apart bytes));
+  apart = joined word (peer_text p ++ 32 ∷ hex_text bytes) apart (apart_pair (peer_text p) (hex_text bytes) (peer_apart p) (hex_apart bytes));
 }
 
 -- a word, and bytes to where a call came from
-back_line : (word : List ℕ) (s : Source) (bytes : List ℕ) → IsWithout 10 word → IsSource s → IsLine (source_line word s bytes)
-back_line word s bytes apart is = record {
+back_line : (word : List ℕ) (s : Source) (bytes : List ℕ) → IsWithout 10 word → IsLine (source_line word s bytes)
+back_line word s bytes apart = record {
   body = word ++ (source_text s ++ 32 ∷ hex_text bytes);
   whole = ap (λ (t : List ℕ). word ++ t) (ended (source_text s) (hex_text bytes)) ∙ sym (append_assoc word (source_text s ++ 32 ∷ hex_text bytes) (10 ∷ []));
-  apart = joined word (source_text s ++ 32 ∷ hex_text bytes) apart (apart_pair (source_text s) (hex_text bytes) (source_apart s is) (hex_apart bytes));
+  apart = joined word (source_text s ++ 32 ∷ hex_text bytes) apart (apart_pair (source_text s) (hex_text bytes) (source_apart s) (hex_apart bytes));
 }
 
 -- a word, a number and another word
-number_line : (word : List ℕ) (n : ℕ) (last : List ℕ) → IsWithout 10 word → Fits n → IsWithout 10 last → IsLine (word ++ (decimal n ++ (last ++ 10 ∷ [])))
-number_line word n last apart fits behind = record {
+number_line : (word : List ℕ) (n : ℕ) (last : List ℕ) → IsWithout 10 word → IsWithout 10 last → IsLine (word ++ (decimal n ++ (last ++ 10 ∷ [])))
+number_line word n last apart behind = record {
   body = word ++ (decimal n ++ last);
   whole = ap (λ (t : List ℕ). word ++ t) (sym (append_assoc (decimal n) last (10 ∷ []))) ∙ sym (append_assoc word (decimal n ++ last) (10 ∷ []));
-  apart = joined word (decimal n ++ last) apart (joined (decimal n) last (number_apart n fits) behind);
+  apart = joined word (decimal n ++ last) apart (joined (decimal n) last (number_apart n) behind);
 }
 
 plain_line : (word : List ℕ) → IsWithout 10 word → IsLine (word ++ 10 ∷ [])
 plain_line word apart = record { body = word; whole = refl; apart = apart }
 
-unsent_is_line : (unsent : Option UnsentCall) → HasUnsentLine unsent → IsLine (output_text (UnsentIs unsent))
-unsent_is_line None h = plain_line (codes "unsent -") w_unsent_none
-unsent_is_line (Some unsent) h =
-    let tail = to_line (32 ∷ []) unsent.target unsent.call (behind 32 [] refl nothing) h.1 in
+unsent_is_line : (unsent : Option UnsentCall) → IsLine (output_text (UnsentIs unsent))
+unsent_is_line None = plain_line (codes "unsent -") w_unsent_none
+unsent_is_line (Some unsent) =
+    let tail = to_line (32 ∷ []) unsent.target unsent.call (behind 32 [] refl nothing) in
     record {
       body = codes "unsent " ++ (decimal unsent.number ++ tail.body);
       whole = ap (λ (t : List ℕ). codes "unsent " ++ t) (ap (λ (t : List ℕ). decimal unsent.number ++ t) tail.whole ∙ sym (append_assoc (decimal unsent.number) tail.body (10 ∷ [])));
-      apart = joined (codes "unsent ") (decimal unsent.number ++ tail.body) w_unsent (joined (decimal unsent.number) tail.body (number_apart unsent.number h.0) tail.apart);
+      apart = joined (codes "unsent ") (decimal unsent.number ++ tail.body) w_unsent (joined (decimal unsent.number) tail.body (number_apart unsent.number) tail.apart);
     }
 
-lost_is_line : (id : Option ℕ) → HasLostLine id → IsLine (output_text (LostIs id))
-lost_is_line None h = plain_line (codes "lost -") w_lost_none
-lost_is_line (Some id) h = number_line (codes "lost ") id [] w_lost h nothing
+lost_is_line : (id : Option ℕ) → IsLine (output_text (LostIs id))
+lost_is_line None = plain_line (codes "lost -") w_lost_none
+lost_is_line (Some id) = number_line (codes "lost ") id [] w_lost nothing
 
-output_line : (o : Output) → HasOutputLine o → IsLine (output_text o)
-output_line (Replied bytes) h = word_line (codes "reply ") bytes w_reply
-output_line Silent h = plain_line (codes "silent") w_silent
-output_line (Opened id) h = number_line (codes "open ") id [] w_open h nothing
-output_line (Refused fault) h = fault_line fault
-output_line (Took n) h = number_line (codes "took ") n [] w_took h nothing
-output_line (TookAndClosed n) h = number_line (codes "took ") n (codes " closed") w_took h w_and_closed
-output_line (IsPending bytes) h = word_line (codes "pending ") bytes w_pending
-output_line Done h = plain_line (codes "ok") w_ok
-output_line TooMuch h = plain_line (codes "toomuch") w_toomuch
-output_line (LostIs id) h = lost_is_line id h
-output_line Forwarded h = plain_line (codes "forwarded") w_forwarded
-output_line (UnsentIs unsent) h = unsent_is_line unsent h
-output_line Ignored h = plain_line (codes "ignored") w_ignored
-output_line Nothing h = plain_line (codes "nothing") w_nothing
-output_line (ConnectionClosed id) h = number_line (codes "closed ") id [] w_closed h nothing
-output_line (Ready id) h = number_line (codes "ready ") id [] w_ready h nothing
-output_line (RepliedTo who bytes) h = back_line (codes "datagram ") who.source bytes w_datagram h
+output_line : (o : Output) → IsLine (output_text o)
+output_line (Replied bytes) = word_line (codes "reply ") bytes w_reply
+output_line Silent = plain_line (codes "silent") w_silent
+output_line (Opened id) = number_line (codes "open ") id [] w_open nothing
+output_line (Refused fault) = fault_line fault
+output_line (Took n) = number_line (codes "took ") n [] w_took nothing
+output_line (TookAndClosed n) = number_line (codes "took ") n (codes " closed") w_took w_and_closed
+output_line (IsPending bytes) = word_line (codes "pending ") bytes w_pending
+output_line Done = plain_line (codes "ok") w_ok
+output_line TooMuch = plain_line (codes "toomuch") w_toomuch
+output_line (LostIs id) = lost_is_line id
+output_line Forwarded = plain_line (codes "forwarded") w_forwarded
+output_line (UnsentIs unsent) = unsent_is_line unsent
+output_line Ignored = plain_line (codes "ignored") w_ignored
+output_line Nothing = plain_line (codes "nothing") w_nothing
+output_line (ConnectionClosed id) = number_line (codes "closed ") id [] w_closed nothing
+output_line (Ready id) = number_line (codes "ready ") id [] w_ready nothing
+output_line (RepliedTo who bytes) = back_line (codes "datagram ") who.source bytes w_datagram
 
 -- ---- what lines say
 
@@ -509,17 +553,17 @@ entry_lines e o rest l m =
     ∙ lines_behind (event_text e) ((codes "#> " ++ output_text o) ++ rest) (record { body = l.body; whole = l.whole; apart = l.apart })
     ∙ ap (λ (ls : List (List ℕ)). l.body ∷ ls) (lines_behind (codes "#> " ++ output_text o) rest (marked_line (output_text o) m))
 
-says_run : (s : State) (events : List Event) → AllByRecursion HasLine events → AllByRecursion HasOutputLine (run s events) → Says (lines_of (run_text s events)) events (run s events)
+says_run : (s : State) (events : List Event) → AllByRecursion HasLine events → Says (lines_of (run_text s events)) events (run s events)
 unfolding run_entries
-says_run s [] all given = says_nothing
-says_run s (e ∷ events) all given =
+says_run s [] all = says_nothing
+says_run s (e ∷ events) all =
     let o : Output = (step s e).0 in
     let rest : List ℕ = run_text (step s e).1 events in
     let l : IsEventLine e = event_line e all.0 in
-    let m : IsLine (output_text o) = output_line o given.0 in
+    let m : IsLine (output_text o) = output_line o in
     subst (λ (ls : List (List ℕ)). Says ls (e ∷ events) (run s (e ∷ events))) (sym (entry_lines e o rest l m))
     (says_more l.body (codes "#> " ++ m.body) (lines_of rest) e o events (run (step s e).1 events) (line_of l.body e l.spelled) l.quiet (marked_skipped m.body)
-    (marked_said m.body ∙ ap (λ (t : List ℕ). t ∷ []) (sym m.whole)) (says_run (step s e).1 events all.1 given.1))
+    (marked_said m.body ∙ ap (λ (t : List ℕ). t ∷ []) (sym m.whole)) (says_run (step s e).1 events all.1))
 
 -- ---- its options
 
@@ -553,16 +597,16 @@ o_now = apart (codes " --now ") refl
 o_head : IsWithout 10 (codes "# rpcbind replay --check")
 o_head = apart (codes "# rpcbind replay --check") refl
 
-announce_apart : (h : Host) → IsHost h → IsWithout 10 (announce_text h)
-announce_apart h is = joined (codes " --announce ") (bare_host_text h) o_announce (bare_without 10 (low_outside 10 (omega arith)) h is)
+announce_apart : (h : Host) → IsWithout 10 (announce_text h)
+announce_apart h = joined (codes " --announce ") (bare_host_text h) o_announce (bare_apart h)
 
-inet_apart : (a : Option (List ℕ)) → IfSome a (λ octets. IsHost (V4 octets)) → IsWithout 10 (inet_text a)
-inet_apart None is = nothing
-inet_apart (Some octets) is = announce_apart (V4 octets) is
+inet_apart : (a : Option (List ℕ)) → IsWithout 10 (inet_text a)
+inet_apart None = nothing
+inet_apart (Some octets) = announce_apart (V4 octets)
 
-inet6_apart : (a : Option (List ℕ)) → IfSome a (λ octets. IsHost (V6 octets)) → IsWithout 10 (inet6_text a)
-inet6_apart None is = nothing
-inet6_apart (Some octets) is = announce_apart (V6 octets) is
+inet6_apart : (a : Option (List ℕ)) → IsWithout 10 (inet6_text a)
+inet6_apart None = nothing
+inet6_apart (Some octets) = announce_apart (V6 octets)
 
 path_apart : (path : List ℕ) → list_all is_quotable path ≡ true → IsWithout 10 path
 path_apart [] are = nothing
@@ -587,18 +631,18 @@ terms_apart terms = joined (lists_text terms.long_replies) (forwarding_text term
     forwarding_apart ForAll = apart (codes " --forward-for all") refl
     forwarding_apart ForLocal = apart (codes " --forward-for local") refl
 
-listener_apart : (listener : Listener) → HasListenerText listener → IsWithout 10 (listener_text listener)
+listener_apart : (listener : Listener) → HasPath listener → IsWithout 10 (listener_text listener)
 listener_apart listener is =
-    let path = joined (local_text listener.local) (terms_text listener.terms) (local_apart listener.local is.path) (terms_apart listener.terms) in
-    let port = joined (decimal listener.port) (local_text listener.local ++ terms_text listener.terms) (number_apart listener.port (omega (arith, is.port))) path in
-    joined (inet_text listener.announced.inet) _ (inet_apart listener.announced.inet is.inet)
-    (joined (inet6_text listener.announced.inet6) _ (inet6_apart listener.announced.inet6 is.inet6) (joined (codes " --port ") _ o_port port))
+    let path = joined (local_text listener.local) (terms_text listener.terms) (local_apart listener.local is) (terms_apart listener.terms) in
+    let port = joined (decimal listener.port) (local_text listener.local ++ terms_text listener.terms) (number_apart listener.port) path in
+    joined (inet_text listener.announced.inet) _ (inet_apart listener.announced.inet)
+    (joined (inet6_text listener.announced.inet6) _ (inet6_apart listener.announced.inet6) (joined (codes " --port ") _ o_port port))
 
-options_line : (limits : Limits) (listener : Listener) (first_xid now : ℕ) → Fits limits.conns → Fits limits.rows → Fits limits.forwards → HasListenerText listener → Fits first_xid → Fits now → IsLine (options_text limits listener first_xid now)
-options_line limits listener first_xid now conns rows forwards is_listener xid_fits now_fits =
-    let of_limits = joined (codes " --conns ") _ o_conns (joined (decimal limits.conns) _ (number_apart limits.conns conns) (joined (codes " --rows ") _ o_rows (joined (decimal limits.rows) _ (number_apart limits.rows rows) (joined (codes " --forwards ") _ o_forwards (number_apart limits.forwards forwards))))) in
-    let of_listener = listener_apart listener is_listener in
-    let tail = joined (codes " --xid ") (decimal first_xid ++ (codes " --now " ++ decimal now)) o_xid (joined (decimal first_xid) (codes " --now " ++ decimal now) (number_apart first_xid xid_fits) (joined (codes " --now ") (decimal now) o_now (number_apart now now_fits))) in
+options_line : (limits : Limits) (listener : Listener) (first_xid now : ℕ) → HasPath listener → IsLine (options_text limits listener first_xid now)
+options_line limits listener first_xid now path =
+    let of_limits = joined (codes " --conns ") _ o_conns (joined (decimal limits.conns) _ (number_apart limits.conns) (joined (codes " --rows ") _ o_rows (joined (decimal limits.rows) _ (number_apart limits.rows) (joined (codes " --forwards ") _ o_forwards (number_apart limits.forwards))))) in
+    let of_listener = listener_apart listener path in
+    let tail = joined (codes " --xid ") (decimal first_xid ++ (codes " --now " ++ decimal now)) o_xid (joined (decimal first_xid) (codes " --now " ++ decimal now) (number_apart first_xid) (joined (codes " --now ") (decimal now) o_now (number_apart now))) in
     record {
       body = codes "# rpcbind replay --check" ++ (limits_text limits ++ (listener_text listener ++ (codes " --xid " ++ (decimal first_xid ++ (codes " --now " ++ decimal now)))));
       whole = ap (λ (t : List ℕ). codes "# rpcbind replay --check" ++ t)
@@ -619,13 +663,13 @@ options_quiet rest = refl
 
 pub records_are_read : RecordsAreRead
 unfolding output_lines_in output_lines options_line
-records_are_read limits listener first_xid now events conns rows forwards is_listener xid_fits now_fits all given short =
+records_are_read limits listener first_xid now events path all short =
     let s : State = opening limits listener first_xid now in
-    let l : IsLine (options_text limits listener first_xid now) = options_line limits listener first_xid now conns rows forwards is_listener xid_fits now_fits in
+    let l : IsLine (options_text limits listener first_xid now) = options_line limits listener first_xid now path in
     let text : List ℕ = options_text limits listener first_xid now ++ run_text s events in
     let says : Says (lines_of text) events (run s events) =
     subst (λ (ls : List (List ℕ)). Says ls events (run s events)) (sym (lines_behind (options_text limits listener first_xid now) (run_text s events) l))
-    (says_comment l.body (lines_of (run_text s events)) events (run s events) (options_skipped _) (options_quiet _) (says_run s events all given)) in
+    (says_comment l.body (lines_of (run_text s events)) events (run s events) (options_skipped _) (options_quiet _) (says_run s events all)) in
     record {
       events_are = (reads_the_events text events).1 (short, says.good, says.events_are);
       outputs_are = says.outputs_are;
@@ -633,19 +677,19 @@ records_are_read limits listener first_xid now events conns rows forwards is_lis
 
 -- ---- a record that ended
 
-says_first : (s : State) (events : List Event) (k : ℕ) (tail : List ℕ) → Says (lines_of tail) [] [] → AllByRecursion HasLine events → AllByRecursion HasOutputLine (run s events) → Says (lines_of (concat (take k (run_entries s events)) ++ tail)) (take k events) (run s (take k events))
+says_first : (s : State) (events : List Event) (k : ℕ) (tail : List ℕ) → Says (lines_of tail) [] [] → AllByRecursion HasLine events → Says (lines_of (concat (take k (run_entries s events)) ++ tail)) (take k events) (run s (take k events))
 unfolding run_entries
-says_first s events zero tail end all given = end
-says_first s [] (suc k) tail end all given = end
-says_first s (e ∷ events) (suc k) tail end all given =
+says_first s events zero tail end all = end
+says_first s [] (suc k) tail end all = end
+says_first s (e ∷ events) (suc k) tail end all =
     let o : Output = (step s e).0 in
     let front : List ℕ = concat (take k (run_entries (step s e).1 events)) in
     let l : IsEventLine e = event_line e all.0 in
-    let m : IsLine (output_text o) = output_line o given.0 in
+    let m : IsLine (output_text o) = output_line o in
     subst (λ (ls : List (List ℕ)). Says ls (e ∷ take k events) (run s (e ∷ take k events)))
     (sym (ap lines_of (append_assoc (entry_text e o) front tail) ∙ entry_lines e o (front ++ tail) l m))
     (says_more l.body (codes "#> " ++ m.body) (lines_of (front ++ tail)) e o (take k events) (run (step s e).1 (take k events)) (line_of l.body e l.spelled) l.quiet (marked_skipped m.body)
-    (marked_said m.body ∙ ap (λ (t : List ℕ). t ∷ []) (sym m.whole)) (says_first (step s e).1 events k tail end all.1 given.1))
+    (marked_said m.body ∙ ap (λ (t : List ℕ). t ∷ []) (sym m.whole)) (says_first (step s e).1 events k tail end all.1))
 
 abbrev ending_body : List ℕ
 ending_body = codes "# the limit of this record is reached: what follows is not in it"
@@ -668,18 +712,25 @@ last_says last (inr is) =
     (subst (λ (ls : List (List ℕ)). Says ls [] []) (sym (lines_behind last_line [] ending_line))
     (says_comment ending_body (lines_of []) [] [] ending_skipped ending_quiet says_nothing))
 
+-- with no entry at all
+pub no_entries_are_read : (text last : List ℕ) → text ≡ last → (last ≡ []) ⊎ (last ≡ last_line) → length text ≤ longest_input → ReadsAs text [] []
+unfolding output_lines_in output_lines
+no_entries_are_read text last is ends short =
+    let says : Says (lines_of text) [] [] = subst (λ (t : List ℕ). Says (lines_of t) [] []) (sym is) (last_says last ends) in
+    record { events_are = (reads_the_events text []).1 (short, says.good, says.events_are); outputs_are = says.outputs_are }
+
 pub ended_records_are_read : EndedRecordsAreRead
 unfolding output_lines_in output_lines options_line
-ended_records_are_read limits listener first_xid now events text k held count conns rows forwards is_listener xid_fits now_fits all given short =
+ended_records_are_read limits listener first_xid now events text k held count path all short =
     let s : State = opening limits listener first_xid now in
     let options : List ℕ = options_text limits listener first_xid now in
     let front : List ℕ = concat (take k (run_entries s events)) in
-    let l : IsLine options = options_line limits listener first_xid now conns rows forwards is_listener xid_fits now_fits in
+    let l : IsLine options = options_line limits listener first_xid now path in
     let is : text ≡ options ++ (front ++ held.last) =
     held.is ∙ ap (λ (n : ℕ). concat (take n (options ∷ run_entries s events)) ++ held.last) count ∙ append_assoc options front held.last in
     let says : Says (lines_of text) (take k events) (run s (take k events)) =
     subst (λ (ls : List (List ℕ)). Says ls (take k events) (run s (take k events))) (sym (ap lines_of is ∙ lines_behind options (front ++ held.last) l))
-    (says_comment l.body (lines_of (front ++ held.last)) (take k events) (run s (take k events)) (options_skipped _) (options_quiet _) (says_first s events k held.last (last_says held.last held.last_is) all given)) in
+    (says_comment l.body (lines_of (front ++ held.last)) (take k events) (run s (take k events)) (options_skipped _) (options_quiet _) (says_first s events k held.last (last_says held.last held.last_is) all)) in
     record {
       events_are = (reads_the_events text (take k events)).1 (short, says.good, says.events_are);
       outputs_are = says.outputs_are;

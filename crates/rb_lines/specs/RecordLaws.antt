@@ -1,17 +1,13 @@
 -- What was recorded of a run is read back as its events, and what it says of outputs is what they gave.
-use Rattle.std.specs.Prelude.{◌≡◌, ◌≤◌, ◌<◌, ℕ, suc, ◌^◌, true, List, ◌∷◌, ◌++◌, length, take, Option, Some, None, IfSome, Ok}
+use Rattle.std.specs.Prelude.{◌≡◌, ◌≤◌, ◌<◌, ℕ, suc, ◌^◌, true, List, ◌∷◌, ◌++◌, length, take, IfSome, Ok}
 use Rattle.std.specs.List.{AllByRecursion}
-use Rattle.rb_address.specs.declared.host.Host.TheVariants.{V4, V6}
-use Rattle.rb_address.specs.Hosts.{IsHost}
 use Rattle.rb_address.specs.Peers.{IsPeer}
-use Rattle.rb_address.specs.Callers.{IsSource, IsWho}
-use Rattle.rb_forward.specs.Forwards.{Unsent as UnsentCall}
+use Rattle.rb_address.specs.Callers.{IsWho}
 use Rattle.rb_proto.specs.declared.listener.Listener.{Listener}
 use Rattle.rb_model.specs.declared.types.Limits.{Limits}
 use Rattle.rb_model.specs.State.{opening}
 use Rattle.rb_model.specs.Step.{Event, Output, run}
 use Rattle.rb_model.specs.Step.Event.{Datagram, Open, Bytes, Pending, Gave, Closed, NextLost, Unsent, Sent, Forward, Expire, ZeroStats}
-use Rattle.rb_model.specs.Step.Output.{Opened, Took, TookAndClosed, LostIs, UnsentIs, ConnectionClosed, Ready, RepliedTo}
 use Rattle.rb_record.specs.Entries.{run_entries, run_text, options_text}
 use Rattle.rb_record.specs.Tapes.{HasFirst}
 use Rattle.rb_lines.specs.Lines.{longest_input, read}
@@ -40,31 +36,9 @@ HasLine (Forward now from bytes) = Fits now × IsPeer from × AreBytes bytes
 HasLine (Expire now) = Fits now
 HasLine ZeroStats = Unit {0}
 
-abbrev pub HasUnsentLine : Option UnsentCall → Type 0
-HasUnsentLine None = Unit {0}
-HasUnsentLine (Some unsent) = Fits unsent.number × IsPeer unsent.target
-
-abbrev pub HasLostLine : Option ℕ → Type 0
-HasLostLine None = Unit {0}
-HasLostLine (Some id) = Fits id
-
-abbrev pub HasOutputLine : Output → Type 0
-HasOutputLine (Opened id) = Fits id
-HasOutputLine (Took n) = Fits n
-HasOutputLine (TookAndClosed n) = Fits n
-HasOutputLine (LostIs id) = HasLostLine id
-HasOutputLine (UnsentIs unsent) = HasUnsentLine unsent
-HasOutputLine (ConnectionClosed id) = Fits id
-HasOutputLine (Ready id) = Fits id
-HasOutputLine (RepliedTo who bytes) = IsSource who.source
-HasOutputLine other = Unit {0}
-
--- its text can be read: hosts as their types have them, a port, and a path as `--local` takes it
-pub record HasListenerText (listener : Listener) : Type 0 where
-  pub inet : IfSome listener.announced.inet (λ octets. IsHost (V4 octets))
-  pub inet6 : IfSome listener.announced.inet6 (λ octets. IsHost (V6 octets))
-  pub port : listener.port < 2 ^ 16
-  pub path : IfSome listener.local (λ path. is_path path ≡ true)
+-- The path of the local socket, where there is one, is as `--local` takes it.
+abbrev pub HasPath : Listener → Type 0
+HasPath listener = IfSome listener.local (λ path. is_path path ≡ true)
 
 -- ---- the law
 
@@ -78,9 +52,7 @@ pub record ReadsAs (text : List ℕ) (events : List Event) (outputs : List Outpu
 abbrev pub RecordsAreRead : Type 0
 RecordsAreRead =
     (limits : Limits) (listener : Listener) (first_xid now : ℕ) (events : List Event)
-    → Fits limits.conns → Fits limits.rows → Fits limits.forwards
-    → HasListenerText listener → Fits first_xid → Fits now
-    → AllByRecursion HasLine events → AllByRecursion HasOutputLine (run (opening limits listener first_xid now) events)
+    → HasPath listener → AllByRecursion HasLine events
     → length (options_text limits listener first_xid now ++ run_text (opening limits listener first_xid now) events) ≤ longest_input
     → ReadsAs (options_text limits listener first_xid now ++ run_text (opening limits listener first_xid now) events) events (run (opening limits listener first_xid now) events)
 
@@ -91,8 +63,6 @@ EndedRecordsAreRead =
     (limits : Limits) (listener : Listener) (first_xid now : ℕ) (events : List Event) (text : List ℕ) (k : ℕ)
     (held : HasFirst (options_text limits listener first_xid now ∷ run_entries (opening limits listener first_xid now) events) text)
     → held.count ≡ suc k
-    → Fits limits.conns → Fits limits.rows → Fits limits.forwards
-    → HasListenerText listener → Fits first_xid → Fits now
-    → AllByRecursion HasLine events → AllByRecursion HasOutputLine (run (opening limits listener first_xid now) events)
+    → HasPath listener → AllByRecursion HasLine events
     → length text ≤ longest_input
     → ReadsAs text (take k events) (run (opening limits listener first_xid now) (take k events))

@@ -14,7 +14,7 @@ pub struct Moments {
 }
 
 impl Moments {
-    ghost use Rattle.std.specs.Prelude.{◌≡◌, max};
+    ghost use Rattle.std.specs.Prelude.{◌≡◌, ◌≤◌, max};
     ghost use Rattle.rb_policy.specs.Moments.{next_moment, rest_of_wait};
 
     /// The first moment is that of the wall clock. Both clocks in milliseconds.
@@ -36,10 +36,12 @@ impl Moments {
     }
 
     /// The moment of a turn. Where nothing waits for a deadline, it is the wall clock's if that is later: so a clock
-    /// that is set forward ends nobody's connection, and one that is set back stops no deadline.
+    /// that is set forward ends nobody's connection, and one that is set back stops no deadline. It is never before the
+    /// last one.
     pub fn next(&mut self, wall: u64, monotonic: u64, follows_wall: bool) -> u64
         ensures moment { result
             ≡ next_moment self.old.last self.old.monotonic monotonic wall follows_wall }
+        ensures rises { self.old.last ≤ result }
         ensures last { self.new.last ≡ result }
         ensures monotonic { self.new.monotonic ≡ max self.old.monotonic monotonic }
     {
