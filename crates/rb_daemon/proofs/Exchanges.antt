@@ -1,5 +1,6 @@
 -- Bytes that came on a connection, and the reply that was given at once: what is recorded of both, and where a run goes on.
 use Rattle.std.specs.Prelude.{◌||◌}
+use Rattle.std.specs.List.{AllByRecursion}
 use Rattle.std.proofs.Common.{◌≡◌, ◌<◌, ◌≤◌, ℕ, zero, suc, Bool, true, false, cond, List, [], ◌∷◌, length, take, drop, eqb, Option, Some, None, Result, Ok, Err, arith, refl, sym, ap, subst, ◌∙◌, inl, inr, ◌⊎◌}
 use Rattle.std.proofs.lemmas.Bool.{cond-false, ne_eqb}
 use Rattle.std.proofs.lemmas.List.{length-take, length-drop, take_all}
@@ -18,6 +19,7 @@ use Rattle.rb_record.specs.Tapes.{Tape, Records}
 use Rattle.rb_connections.specs.Slots.{Acts, Shows}
 use Rattle.rb_model.specs.Exchanges.{count_now, without_front, exchange, fits_at_once, at_once_in, at_once_on, at_once}
 use Rattle.rb_core.specs.StandsFor.{Held, StandsFor}
+use Rattle.rb_lines.specs.RecordLaws.{Fits, AreBytes, HasLine}
 use Rattle.rb_daemon.specs.Recording.{given_events, exchange_events, output_or_refusal, given_entries, exchange_entries}
 use Rattle.rb_daemon.specs.Served.{IsServed}
 use Rattle.rb_daemon.proofs.Reached.{output_state, output_given, look_state, look_output, gave_output, given_state, served_on}
@@ -155,8 +157,12 @@ module _ (now id room n : ℕ) (piece given : List ℕ) (r : Result Taken CoreFa
   exchange_records before later records s stands =
       subst (λ (entries : List (List ℕ)). Records entries before later) (exchange_is s now id n piece given r (ap (λ (x : Result Taken CoreFault × List ℕ). x.0) (h.acts.gives s stands)) (given_of s stands)) records
 
-  pub exchange_served : (before later : Tape) → Records (exchange_entries now id piece (output_or_refusal show_taken r) given) before later → ∥ IsServed old before ∥₁ → ∥ IsServed new later ∥₁
-  exchange_served before later records =
-      served_on old new before later (λ s. exchange_events now id piece n)
+  exchange_lines : Fits now → Fits id → AreBytes piece → Fits n → (none : Bool) → AllByRecursion HasLine (Bytes now id piece ∷ cond none [] (given_events now id n))
+  exchange_lines now_fits id_fits small n_fits true = ((now_fits, id_fits, small), tt)
+  exchange_lines now_fits id_fits small n_fits false = ((now_fits, id_fits, small), (id_fits, ((now_fits, id_fits, n_fits), tt)))
+
+  pub exchange_served : (before later : Tape) → Records (exchange_entries now id piece (output_or_refusal show_taken r) given) before later → Fits now → Fits id → AreBytes piece → Fits n → ∥ IsServed old before ∥₁ → ∥ IsServed new later ∥₁
+  exchange_served before later records now_fits id_fits small n_fits =
+      served_on old new before later (λ s. exchange_events now id piece n) (λ s h. exchange_lines now_fits id_fits small n_fits (eqb n 0))
       (λ s stands. subst (StandsFor new) (ap (λ (k : ℕ). without_front now k id (bytes s now id piece).1) (sym (h.at_once s stands)) ∙ exchange_state s now id n piece given (given_of s stands)) (h.acts.stands s stands))
       (exchange_records before later records)

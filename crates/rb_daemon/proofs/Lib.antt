@@ -1,3 +1,6 @@
 pub mod Reached
 pub mod Exchanges
 pub mod Pieces
+pub mod ServedBounds
+pub mod Rooms
+pub mod ServedRecords

@@ -1,17 +1,18 @@
 -- What is given into a room, piece by piece: what is recorded of it, and where a run goes on.
-use Rattle.std.specs.List.{flat_map}
-use Rattle.std.proofs.Common.{◌≡◌, ◌<◌, ◌≤◌, ℕ, zero, suc, min, max, false, lit<, List, [], ◌∷◌, ◌++◌, length, take, drop, Option, Some, None, Result, Ok, Err, arith, refl, sym, ap, subst, ◌∙◌, append_assoc, append-nil, length-append}
+use Rattle.std.specs.List.{AllByRecursion}
+use Rattle.std.proofs.Common.{◌≡◌, ◌<◌, ◌≤◌, ℕ, zero, suc, min, max, false, lit<, List, [], ◌∷◌, ◌++◌, length, take, drop, Option, Some, None, Result, Ok, Err, arith, refl, sym, ap, subst, ◌∙◌, append_assoc, append-nil}
 use Rattle.std.proofs.Math.Bridge.{le_prop}
 use Rattle.std.proofs.Math.Logic.{∥∥₁_elim}
 use Rattle.std.proofs.lemmas.Grind.{flat_map-append}
 use Rattle.std.proofs.lemmas.List.{length-take, length-drop, take_min, drop_min, nil_from_length}
 use Rattle.std.proofs.Math.Seq.{take-append_seam, drop-append_seam}
 use Rattle.rb_model.specs.declared.types.CoreFault.{CoreFault}
+use Rattle.rb_model.specs.declared.types.Given.{Given}
 use Rattle.rb_model.specs.State.{State, Phase, Connection}
 use Rattle.rb_model.specs.State.Phase.{Idle, Reading, Owing, Awaiting, Lost}
 use Rattle.rb_model.specs.Connections.{longest_fragment, pending_in, live_connection, on_found}
 use Rattle.rb_model.specs.Sessions.{pending_bytes}
-use Rattle.rb_model.specs.Gives.{end_within, fitting_of, fitting_in, give_fitting, unless_nothing, give_into, cut_from, pieces_of, piece_events, piece_outputs, first_piece, GivesBySteps}
+use Rattle.rb_model.specs.Gives.{end_within, fitting_of, fitting_in, give_fitting, unless_nothing, give_into, bytes_given, cut_from, pieces_of, piece_events, piece_outputs, first_piece, GivesBySteps}
 use Rattle.rb_model.specs.Step.{Event, Output, unless_refused, pending_on, pending, step, run, after}
 use Rattle.rb_model.proofs.Gives.{count_pending}
 use Rattle.rb_model.specs.Step.Event.{Pending, Gave}
@@ -22,6 +23,7 @@ use Rattle.rb_record.specs.Tapes.{Tape, Records}
 use Rattle.rb_record.proofs.Tapes.{records_more}
 use Rattle.rb_connections.specs.Slots.{Acts, Shows}
 use Rattle.rb_core.specs.StandsFor.{Held, StandsFor}
+use Rattle.rb_lines.specs.RecordLaws.{Fits, HasLine}
 use Rattle.rb_daemon.specs.Served.{IsServed}
 use Rattle.rb_daemon.proofs.Reached.{none_recorded, off_recorded, served_on}
 use Rattle.rb_daemon.specs.Recording.{given_entries, pieces_entries, give_events}
@@ -168,7 +170,7 @@ module _ (s : State) (now id room : ℕ) where
       let both : Err fault ≡ Ok (give_fitting (max s.clock now) room c).0 = gives ∙ nothing_gives s r in
       absurd cc
 
-  refused_stays : (fault : CoreFault) → Err fault ≡ (give_into s now id room).0 → (give_into s now id room).1 ≡ s
+  pub refused_stays : (fault : CoreFault) → Err fault ≡ (give_into s now id room).0 → (give_into s now id room).1 ≡ s
   unfolding give_into
   refused_stays fault gives = refused_on fault (live_connection id s.connections.all) gives
 
@@ -188,6 +190,31 @@ module _ (s : State) (now id room : ℕ) where
       ap (λ (pieces : List (List ℕ)). pieces_entries now id pieces) (pieces_none (first_piece s id))
       ∙ ap (λ (pieces : List (List ℕ)). run_entries s (piece_events now id pieces)) (sym (pieces_none (first_piece s id)))
 
+-- ---- their lines
+
+cut_lines : (now id k n : ℕ) (bytes : List ℕ) → Fits now → Fits id → Fits (length bytes) → AllByRecursion HasLine (piece_events now id (cut_from k n bytes))
+cut_lines now id zero n bytes now_fits id_fits few = tt
+cut_lines now id (suc k) n [] now_fits id_fits few = tt
+cut_lines now id (suc k) n (byte ∷ bytes) now_fits id_fits few = (
+  id_fits,
+  (
+    (now_fits, id_fits, omega (arith, few, length-take n (byte ∷ bytes))),
+    cut_lines now id k longest_fragment (drop n (byte ∷ bytes)) now_fits id_fits (omega (arith, few, length-drop n (byte ∷ bytes))),
+  ),
+)
+
+give_lines : (now id : ℕ) (bytes : List ℕ) (s : State) → Fits now → Fits id → Fits (length bytes) → AllByRecursion HasLine (give_events now id bytes s)
+unfolding pieces_of
+give_lines now id bytes s now_fits id_fits few = cut_lines now id (length bytes) (first_piece s id) bytes now_fits id_fits few
+
+pub none_given : Fits 0
+none_given = omega arith
+
+-- no more bytes are given than there is room for
+pub few_given : (room : List ℕ) (r : Result Given CoreFault) → Fits (length room) → Fits (length (pending_bytes (bytes_given room r)))
+few_given room (Ok given) few = omega (arith, few, length-take given.count room)
+few_given room (Err fault) few = none_given
+
 -- ---- a call
 
 -- The pieces of what was given were recorded, from each state that the core stood for.
@@ -199,9 +226,9 @@ module _ (now id room : ℕ) (r : Result (List ℕ) CoreFault) (old new : Held) 
   gives_records before later records s h =
       subst (λ (entries : List (List ℕ)). Records entries before later) (entries_are s now id room r (acts.gives s h)) (records s h)
 
-  pub gives_served : (before later : Tape) → RecordsPieces now id (pending_bytes r) old before later → ∥ IsServed old before ∥₁ → ∥ IsServed new later ∥₁
-  gives_served before later records =
-      served_on old new before later (λ s. give_events now id (pending_bytes r) s)
+  pub gives_served : (before later : Tape) → RecordsPieces now id (pending_bytes r) old before later → Fits now → Fits id → Fits (length (pending_bytes r)) → ∥ IsServed old before ∥₁ → ∥ IsServed new later ∥₁
+  gives_served before later records now_fits id_fits few =
+      served_on old new before later (λ s. give_events now id (pending_bytes r) s) (λ s h. give_lines now id (pending_bytes r) s now_fits id_fits few)
       (λ s h. subst (StandsFor new) (state_after s now id room r (acts.gives s h)) (acts.stands s h))
       (gives_records before later records)
 

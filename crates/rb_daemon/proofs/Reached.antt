@@ -1,25 +1,30 @@
 -- A state that a run reaches goes on by each event, and so does its record.
-use Rattle.std.specs.Prelude.{OnOk, OnErr}
-use Rattle.std.proofs.Common.{◌≡◌, ◌≤◌, ℕ, Bool, true, false, cond, List, [], ◌∷◌, ◌++◌, length, append-nil, Option, Some, None, Result, Ok, Err, refl, sym, ap, subst, ◌∙◌, inl, inr, ◌⊎◌}
+use Rattle.std.specs.Prelude.{OnOk, OnErr, IsTrue, IsErrOf, not}
+use Rattle.std.specs.List.{AllByRecursion}
+use Rattle.std.proofs.Common.{◌≡◌, ◌<◌, ◌≤◌, ℕ, suc, Bool, true, false, cond, List, [], ◌∷◌, ◌++◌, length, append-nil, slice_index_or, Option, Some, None, Result, Ok, Err, refl, sym, ap, subst, ◌∙◌, inl, inr, ◌⊎◌}
 use Rattle.std.proofs.Math.Bridge.{le_prop}
 use Rattle.std.proofs.Math.Logic.{∥∥₁_elim}
 use Rattle.std.proofs.lemmas.Bool.{le-ltb}
 use Rattle.rb_address.specs.declared.peer.Peer.{Peer}
 use Rattle.rb_address.specs.declared.who.Who.{Who}
+use Rattle.rb_address.specs.Callers.{IsWho}
+use Rattle.rb_address.specs.Peers.{IsPeer}
 use Rattle.rb_forward.specs.Forwards.{Unsent as UnsentCall}
 use Rattle.rb_proto.specs.declared.listener.Listener.{Listener}
 use Rattle.rb_model.specs.declared.types.CoreFault.{CoreFault}
+use Rattle.rb_model.specs.declared.types.CoreFault.TheVariants.{BadLimits}
 use Rattle.rb_model.specs.declared.types.Limits.{Limits}
 use Rattle.rb_model.specs.declared.types.Told.{Told}
 use Rattle.rb_model.specs.declared.types.Expired.{Expired}
 use Rattle.rb_model.specs.declared.types.Expired.TheVariants as expiries
-use Rattle.rb_model.specs.State.{State, opening}
+use Rattle.rb_model.specs.State.{Setting, State, opening, are_good}
 use Rattle.rb_model.specs.Calls.{Outcome, Outcome as outcomes}
 use Rattle.rb_model.specs.Ending.{forward_reply, expire}
 use Rattle.rb_model.specs.Step.{Event, Output, step, after, open_connection, pending, gave, close_connection, next_lost, datagram, zero_stats, unsent_call, sent_call, output_or, show_done, show_outcome, show_told, show_end, show_expired, is_too_much}
 use Rattle.rb_model.specs.Step.Event.{Open, Pending, Gave, Closed, NextLost, Datagram, Unsent, Sent, Forward, Expire, ZeroStats}
 use Rattle.rb_model.specs.Step.Output.{Opened, TooMuch, IsPending, Done, LostIs, Replied, Forwarded as OutForwarded, Silent, UnsentIs, Ignored, Nothing, ConnectionClosed}
 use Rattle.rb_laws.proofs.RunLaws.{after-append}
+use Rattle.rb_laws.proofs.EntriesKept.{after-setting}
 use Rattle.rb_record.specs.Entries.{entry_text, run_entries, options_text}
 use Rattle.rb_record.specs.Tapes.{Tape, Records, IsRecordOf, empty_tape}
 use Rattle.rb_record.proofs.RunTexts.{run_entries-append, one_recorded}
@@ -29,8 +34,10 @@ use Rattle.rb_model.specs.declared.served.Outcome.TheVariants as outcome_kinds
 use Rattle.rb_model.specs.Served.{outcome_with}
 use Rattle.rb_connections.specs.Slots.{Acts, Shows}
 use Rattle.rb_core.specs.Core.{ActsWithReply}
+use Rattle.rb_core.specs.HeldBytes.{IsListener}
 use Rattle.rb_core.specs.StandsFor.{Held, StandsFor}
 use Rattle.rb_core.proofs.Begun.{with_steps_before, stands_begun}
+use Rattle.rb_lines.specs.RecordLaws.{Fits, AreBytes, HasLine}
 use Rattle.rb_daemon.specs.Recording.{given_events, send_events_of, send_events, output_or_refusal}
 use Rattle.rb_daemon.specs.Served.{IsServed}
 use mathlib.Core.Bool.{true≢false}
@@ -67,9 +74,19 @@ more_recorded l h xid now first more s before later is was records =
     (ap (λ (t : State). run_entries (opening l h xid now) first ++ run_entries t more) is ∙ sym (run_entries-append (opening l h xid now) first more))
     (record_goes_on (options_text l h xid now ∷ run_entries (opening l h xid now) first) (run_entries s more) before later was records)
 
+-- the lines of events behind others
+lines_append : (xs ys : List Event) → AllByRecursion HasLine xs → AllByRecursion HasLine ys → AllByRecursion HasLine (xs ++ ys)
+lines_append [] ys a b = b
+lines_append (x ∷ xs) ys a b = (a.0, lines_append xs ys a.1 b)
+
+-- what the type of a slice says of its bytes
+pub bytes_are : (xs : List ℕ) → ((i : ℕ) → slice_index_or xs i 0 < 256) → AreBytes xs
+bytes_are [] small = tt
+bytes_are (x ∷ xs) small = (small 0, bytes_are xs (λ i. small (suc i)))
+
 -- a core that stands for a reached state goes on by events to one that does, as they are recorded
-pub served_on : (old new : Held) (before later : Tape) (events : State → List Event) → ((s : State) → StandsFor old s → StandsFor new (after s (events s))) → ((s : State) → StandsFor old s → Records (run_entries s (events s)) before later) → ∥ IsServed old before ∥₁ → ∥ IsServed new later ∥₁
-served_on old new before later events stands records held =
+pub served_on : (old new : Held) (before later : Tape) (events : State → List Event) → ((s : State) → StandsFor old s → AllByRecursion HasLine (events s)) → ((s : State) → StandsFor old s → StandsFor new (after s (events s))) → ((s : State) → StandsFor old s → Records (run_entries s (events s)) before later) → ∥ IsServed old before ∥₁ → ∥ IsServed new later ∥₁
+served_on old new before later events lines stands records held =
     ∥∥₁_elim held squash₁ (λ h.
     let r = h.reached in
     let first = opening r.limits r.listener r.first_xid r.now in
@@ -84,21 +101,32 @@ served_on old new before later events stands records held =
         events = r.events ++ events h.state;
         is = ap (λ (t : State). after t (events h.state)) r.is ∙ sym (after-append first r.events (events h.state));
       };
+      good = subst (λ (x : Setting). are_good x.limits x.listener ≡ true) (sym (after-setting h.state (events h.state))) h.good;
+      listener = subst (λ (x : Setting). IsListener x.listener) (sym (after-setting h.state (events h.state))) h.listener;
+      lines = lines_append r.events (events h.state) h.lines (lines h.state h.stands);
       recorded = more_recorded r.limits r.listener r.first_xid r.now r.events (events h.state) h.state before later r.is h.recorded (records h.state h.stands);
     } ∣₁)
 
-pub new_served : (core : Held) (l : Limits) (h : Listener) (xid now limit : ℕ) (empty tape : Tape) → empty ≡ empty_tape limit → Records (options_text l h xid now ∷ []) empty tape → StandsFor core (opening l h xid now) → ∥ IsServed core tape ∥₁
+-- limits that are not refused are good
+pub good_from : {T : Type 0} (good : Bool) (made : T) → (IsTrue (not good) → IsErrOf (Ok made) BadLimits) → good ≡ true
+good_from true made kept = refl
+good_from false made kept = let wrong = kept refl in absurd cc
+
+pub new_served : (core : Held) (l : Limits) (h : Listener) (xid now limit : ℕ) (empty tape : Tape) → empty ≡ empty_tape limit → Records (options_text l h xid now ∷ []) empty tape → StandsFor core (opening l h xid now) → are_good l h ≡ true → IsListener h → ∥ IsServed core tape ∥₁
 unfolding run_entries
-new_served core l h xid now limit empty tape is records stands = ∣ record {
+new_served core l h xid now limit empty tape is records stands good listener = ∣ record {
   state = opening l h xid now;
   stands = stands;
   reached = record { limits = l; listener = h; first_xid = xid; now = now; events = []; is = refl };
+  good = good;
+  listener = listener;
+  lines = tt;
   recorded = record_goes_on [] (options_text l h xid now ∷ []) empty tape (subst (IsRecordOf []) (sym is) (new_record limit)) records;
 } ∣₁
 
 still_served : (core : Held) (before later : Tape) → later.text ≡ before.text → later.limit ≡ before.limit → (later.is_on ≡ true → before.is_on ≡ true) → ∥ IsServed core before ∥₁ → ∥ IsServed core later ∥₁
 still_served core before later text limit on held =
-    ∥∥₁_elim held squash₁ (λ h. ∣ record { state = h.state; stands = h.stands; reached = h.reached; recorded = record_stays _ before later text limit on h.recorded } ∣₁)
+    ∥∥₁_elim held squash₁ (λ h. ∣ record { state = h.state; stands = h.stands; reached = h.reached; good = h.good; listener = h.listener; lines = h.lines; recorded = record_stays _ before later text limit on h.recorded } ∣₁)
 
 -- what was recorded was written out, or that failed
 pub written_served : {E : Type 0} (core : Held) (before later : Tape) (n : ℕ) (r : Result (Unit {0}) E) → OnOk r (later ≡ record before { written = n }) → OnErr r (later ≡ record before { is_on = false }) → ∥ IsServed core before ∥₁ → ∥ IsServed core later ∥₁
@@ -136,20 +164,21 @@ unfolding step
 open_records old new now who r before later acts records s h =
     one_recorded s (Open now who) (output_or_refusal Opened r) before later (ap (output_or_refusal Opened) (acts.gives s h) ∙ output_given Opened (open_connection s now who)) records
 
-pub open_served : (old new : Held) (now : ℕ) (who : Who) (r : Result ℕ CoreFault) (before later : Tape) → Acts StandsFor (λ s. open_connection s now who) old new r → Records (entry_text (Open now who) (output_or_refusal Opened r) ∷ []) before later → ∥ IsServed old before ∥₁ → ∥ IsServed new later ∥₁
+pub open_served : (old new : Held) (now : ℕ) (who : Who) (r : Result ℕ CoreFault) (before later : Tape) → Acts StandsFor (λ s. open_connection s now who) old new r → Records (entry_text (Open now who) (output_or_refusal Opened r) ∷ []) before later → Fits now → ∥ IsWho who ∥₁ → ∥ IsServed old before ∥₁ → ∥ IsServed new later ∥₁
 unfolding step
-open_served old new now who r before later acts records =
-    served_on old new before later (λ s. Open now who ∷ []) (λ s h. subst (StandsFor new) (sym (output_state Opened (open_connection s now who))) (acts.stands s h)) (open_records old new now who r before later acts records)
+open_served old new now who r before later acts records fits is_who =
+    λ held. ∥∥₁_elim is_who squash₁ (λ w.
+    served_on old new before later (λ s. Open now who ∷ []) (λ s h. ((fits, w), tt)) (λ s h. subst (StandsFor new) (sym (output_state Opened (open_connection s now who))) (acts.stands s h)) (open_records old new now who r before later acts records) held)
 
 pub closed_records : (old new : Held) (id : ℕ) (r : Result (Unit {0}) CoreFault) (before later : Tape) → Acts StandsFor (λ s. close_connection s id) old new r → Records (entry_text (Closed id) (output_or_refusal show_done r) ∷ []) before later → (s : State) → StandsFor old s → Records (run_entries s (Closed id ∷ [])) before later
 unfolding step
 closed_records old new id r before later acts records s h =
     one_recorded s (Closed id) (output_or_refusal show_done r) before later (ap (output_or_refusal show_done) (acts.gives s h) ∙ output_given show_done (close_connection s id)) records
 
-pub closed_served : (old new : Held) (id : ℕ) (r : Result (Unit {0}) CoreFault) (before later : Tape) → Acts StandsFor (λ s. close_connection s id) old new r → Records (entry_text (Closed id) (output_or_refusal show_done r) ∷ []) before later → ∥ IsServed old before ∥₁ → ∥ IsServed new later ∥₁
+pub closed_served : (old new : Held) (id : ℕ) (r : Result (Unit {0}) CoreFault) (before later : Tape) → Acts StandsFor (λ s. close_connection s id) old new r → Records (entry_text (Closed id) (output_or_refusal show_done r) ∷ []) before later → Fits id → ∥ IsServed old before ∥₁ → ∥ IsServed new later ∥₁
 unfolding step
-closed_served old new id r before later acts records =
-    served_on old new before later (λ s. Closed id ∷ []) (λ s h. subst (StandsFor new) (sym (output_state show_done (close_connection s id))) (acts.stands s h)) (closed_records old new id r before later acts records)
+closed_served old new id r before later acts records fits =
+    served_on old new before later (λ s. Closed id ∷ []) (λ s h. (fits, tt)) (λ s h. subst (StandsFor new) (sym (output_state show_done (close_connection s id))) (acts.stands s h)) (closed_records old new id r before later acts records)
 
 pub lost_records : (old : Held) (lost : Option ℕ) (before later : Tape) → Shows StandsFor next_lost old lost → Records (entry_text NextLost (LostIs lost) ∷ []) before later → (s : State) → StandsFor old s → Records (run_entries s (NextLost ∷ [])) before later
 unfolding step
@@ -158,7 +187,7 @@ lost_records old lost before later shows records s h = one_recorded s NextLost (
 pub lost_served : (old new : Held) (n : ℕ) (lost : Option ℕ) (before later : Tape) → new ≡ with_steps_before old n → Shows StandsFor next_lost old lost → Records (entry_text NextLost (LostIs lost) ∷ []) before later → ∥ IsServed old before ∥₁ → ∥ IsServed new later ∥₁
 unfolding step
 lost_served old new n lost before later is shows records =
-    served_on old new before later (λ s. NextLost ∷ []) (stands_begun old new n is) (lost_records old lost before later shows records)
+    served_on old new before later (λ s. NextLost ∷ []) (λ s h. (tt, tt)) (stands_begun old new n is) (lost_records old lost before later shows records)
 
 -- ---- a datagram
 
@@ -185,24 +214,25 @@ datagram_records old new now who content given before later acts records s h =
     one_recorded s (Datagram now who content) (answer_shown given new.reply) before later (answer_is given new.reply (datagram s now who content) (acts.gives s h)) records
 
 -- with a look at the reply behind it
-pub datagram_served : (old new after_look : Held) (n now : ℕ) (who : Who) (content : List ℕ) (given : outcome.Outcome) (before later : Tape) → after_look ≡ with_steps_before new n → ActsWithReply (λ s. datagram s now who content) old new given → Records (entry_text (Datagram now who content) (answer_shown given new.reply) ∷ []) before later → ∥ IsServed old before ∥₁ → ∥ IsServed after_look later ∥₁
+pub datagram_served : (old new after_look : Held) (n now : ℕ) (who : Who) (content : List ℕ) (given : outcome.Outcome) (before later : Tape) → after_look ≡ with_steps_before new n → ActsWithReply (λ s. datagram s now who content) old new given → Records (entry_text (Datagram now who content) (answer_shown given new.reply) ∷ []) before later → Fits now → ∥ IsWho who ∥₁ → AreBytes content → ∥ IsServed old before ∥₁ → ∥ IsServed after_look later ∥₁
 unfolding step
-datagram_served old new after_look n now who content given before later is acts records =
-    served_on old after_look before later (λ s. Datagram now who content ∷ [])
+datagram_served old new after_look n now who content given before later is acts records fits is_who small =
+    λ held. ∥∥₁_elim is_who squash₁ (λ w.
+    served_on old after_look before later (λ s. Datagram now who content ∷ []) (λ s h. ((fits, w, small), tt))
     (λ s h. stands_begun new after_look n is _ (subst (StandsFor new) (sym (outcome_state (datagram s now who content))) (acts.stands s h)))
-    (datagram_records old new now who content given before later acts records)
+    (datagram_records old new now who content given before later acts records) held)
 
 -- a look at the core changes nothing that is served
 pub looked_served : (old new : Held) (n : ℕ) (tape : Tape) → new ≡ with_steps_before old n → ∥ IsServed old tape ∥₁ → ∥ IsServed new tape ∥₁
 looked_served old new n tape is held =
-    ∥∥₁_elim held squash₁ (λ h. ∣ record { state = h.state; stands = stands_begun old new n is h.state h.stands; reached = h.reached; recorded = h.recorded } ∣₁)
+    ∥∥₁_elim held squash₁ (λ h. ∣ record { state = h.state; stands = stands_begun old new n is h.state h.stands; reached = h.reached; good = h.good; listener = h.listener; lines = h.lines; recorded = h.recorded } ∣₁)
 
 -- so of one that is no call, or is not answered
 pub silent_records : (old new : Held) (now : ℕ) (who : Who) (content : List ℕ) (given : outcome.Outcome) (before later : Tape) → (given ≡ outcome_kinds.NoCall) ⊎ (given ≡ outcome_kinds.Silent) → ActsWithReply (λ s. datagram s now who content) old new given → Records (entry_text (Datagram now who content) Silent ∷ []) before later → (s : State) → StandsFor old s → Records (run_entries s (Datagram now who content ∷ [])) before later
 silent_records old new now who content given before later is acts records =
     datagram_records old new now who content given before later acts (subst (λ (x : Output). Records (entry_text (Datagram now who content) x ∷ []) before later) (answer_silent given new.reply is) records)
 
-pub silent_served : (old new : Held) (now : ℕ) (who : Who) (content : List ℕ) (given : outcome.Outcome) (before later : Tape) → (given ≡ outcome_kinds.NoCall) ⊎ (given ≡ outcome_kinds.Silent) → ActsWithReply (λ s. datagram s now who content) old new given → Records (entry_text (Datagram now who content) Silent ∷ []) before later → ∥ IsServed old before ∥₁ → ∥ IsServed new later ∥₁
+pub silent_served : (old new : Held) (now : ℕ) (who : Who) (content : List ℕ) (given : outcome.Outcome) (before later : Tape) → (given ≡ outcome_kinds.NoCall) ⊎ (given ≡ outcome_kinds.Silent) → ActsWithReply (λ s. datagram s now who content) old new given → Records (entry_text (Datagram now who content) Silent ∷ []) before later → Fits now → ∥ IsWho who ∥₁ → AreBytes content → ∥ IsServed old before ∥₁ → ∥ IsServed new later ∥₁
 silent_served old new now who content given before later is acts records =
     datagram_served old new new new.steps_before now who content given before later refl acts (subst (λ (x : Output). Records (entry_text (Datagram now who content) x ∷ []) before later) (answer_silent given new.reply is) records)
 
@@ -215,7 +245,7 @@ zeroed_records old before later records s h = one_recorded s ZeroStats Done befo
 pub zeroed_served : (old new : Held) (before later : Tape) → Acts StandsFor (λ s. (tt {0}, zero_stats s)) old new (tt {0}) → Records (entry_text ZeroStats Done ∷ []) before later → ∥ IsServed old before ∥₁ → ∥ IsServed new later ∥₁
 unfolding step
 zeroed_served old new before later acts records =
-    served_on old new before later (λ s. ZeroStats ∷ []) (λ s h. acts.stands s h) (zeroed_records old before later records)
+    served_on old new before later (λ s. ZeroStats ∷ []) (λ s h. (tt, tt)) (λ s h. acts.stands s h) (zeroed_records old before later records)
 
 -- ---- the end of a forwarded call
 
@@ -241,13 +271,15 @@ unfolding step
 forward_stands old new after_look n now from message r is acts s h =
     stands_begun new after_look n is _ (subst (StandsFor new) (sym (end_state (forward_reply s now from message))) (acts.stands s h))
 
-pub ignored_served : (old new : Held) (now : ℕ) (from : Peer) (message : List ℕ) (before later : Tape) → Acts StandsFor (λ s. forward_reply s now from message) old new None → Records (entry_text (Forward now from message) Ignored ∷ []) before later → ∥ IsServed old before ∥₁ → ∥ IsServed new later ∥₁
-ignored_served old new now from message before later acts records =
-    served_on old new before later (λ s. Forward now from message ∷ []) (forward_stands old new new new.steps_before now from message None refl acts) (ignored_records old new now from message before later acts records)
+pub ignored_served : (old new : Held) (now : ℕ) (from : Peer) (message : List ℕ) (before later : Tape) → Acts StandsFor (λ s. forward_reply s now from message) old new None → Records (entry_text (Forward now from message) Ignored ∷ []) before later → Fits now → ∥ IsPeer from ∥₁ → AreBytes message → ∥ IsServed old before ∥₁ → ∥ IsServed new later ∥₁
+ignored_served old new now from message before later acts records fits is_peer small =
+    λ held. ∥∥₁_elim is_peer squash₁ (λ w.
+    served_on old new before later (λ s. Forward now from message ∷ []) (λ s h. ((fits, w, small), tt)) (forward_stands old new new new.steps_before now from message None refl acts) (ignored_records old new now from message before later acts records) held)
 
-pub forward_served : (old new after_look : Held) (n now : ℕ) (from : Peer) (message : List ℕ) (told : Told) (before later : Tape) → after_look ≡ with_steps_before new n → Acts StandsFor (λ s. forward_reply s now from message) old new (Some told) → Records (entry_text (Forward now from message) (show_told new.reply told) ∷ []) before later → ∥ IsServed old before ∥₁ → ∥ IsServed after_look later ∥₁
-forward_served old new after_look n now from message told before later is acts records =
-    served_on old after_look before later (λ s. Forward now from message ∷ []) (forward_stands old new after_look n now from message (Some told) is acts) (forward_records old new now from message told before later acts records)
+pub forward_served : (old new after_look : Held) (n now : ℕ) (from : Peer) (message : List ℕ) (told : Told) (before later : Tape) → after_look ≡ with_steps_before new n → Acts StandsFor (λ s. forward_reply s now from message) old new (Some told) → Records (entry_text (Forward now from message) (show_told new.reply told) ∷ []) before later → Fits now → ∥ IsPeer from ∥₁ → AreBytes message → ∥ IsServed old before ∥₁ → ∥ IsServed after_look later ∥₁
+forward_served old new after_look n now from message told before later is acts records fits is_peer small =
+    λ held. ∥∥₁_elim is_peer squash₁ (λ w.
+    served_on old after_look before later (λ s. Forward now from message ∷ []) (λ s h. ((fits, w, small), tt)) (forward_stands old new after_look n now from message (Some told) is acts) (forward_records old new now from message told before later acts records) held)
 
 -- ---- what is due
 
@@ -268,10 +300,10 @@ expire_records old new now due before later acts records s h =
     one_recorded s (Expire now) (due_shown due new.reply) before later (due_is new.reply due (expire s now) (acts.gives s h) (acts.stands s h).reply) records
 
 -- with a look at the reply behind it
-pub expire_served : (old new after_look : Held) (n now : ℕ) (due : Expired) (before later : Tape) → after_look ≡ with_steps_before new n → Acts StandsFor (λ s. expire s now) old new due → Records (entry_text (Expire now) (due_shown due new.reply) ∷ []) before later → ∥ IsServed old before ∥₁ → ∥ IsServed after_look later ∥₁
+pub expire_served : (old new after_look : Held) (n now : ℕ) (due : Expired) (before later : Tape) → after_look ≡ with_steps_before new n → Acts StandsFor (λ s. expire s now) old new due → Records (entry_text (Expire now) (due_shown due new.reply) ∷ []) before later → Fits now → ∥ IsServed old before ∥₁ → ∥ IsServed after_look later ∥₁
 unfolding step
-expire_served old new after_look n now due before later is acts records =
-    served_on old after_look before later (λ s. Expire now ∷ [])
+expire_served old new after_look n now due before later is acts records fits =
+    served_on old after_look before later (λ s. Expire now ∷ []) (λ s h. (fits, tt))
     (λ s h. stands_begun new after_look n is _ (subst (StandsFor new) (sym (expired_state (expire s now))) (acts.stands s h)))
     (expire_records old new now due before later acts records)
 
@@ -320,7 +352,7 @@ none_records old before later shows records s h =
 pub none_served : (old new : Held) (n : ℕ) (before later : Tape) → new ≡ with_steps_before old n → Shows StandsFor unsent_call old None → Records (entry_text Unsent (UnsentIs None) ∷ []) before later → ∥ IsServed old before ∥₁ → ∥ IsServed new later ∥₁
 unfolding step
 none_served old new n before later is shows records =
-    served_on old new before later (λ s. Unsent ∷ []) (stands_begun old new n is) (unsent_records old None before later shows records)
+    served_on old new before later (λ s. Unsent ∷ []) (λ s h. (tt, tt)) (stands_begun old new n is) (unsent_records old None before later shows records)
 
 pub sent_records : (old mid new : Held) (n : ℕ) (unsent : UnsentCall) (r : Result (Unit {0}) CoreFault) (before between later : Tape) → mid ≡ with_steps_before old n → Shows StandsFor unsent_call old (Some unsent) → Acts StandsFor (λ s. sent_call s unsent.number) mid new r → Records (entry_text Unsent (UnsentIs (Some unsent)) ∷ []) before between → Records (entry_text (Sent unsent.number) (output_or_refusal show_done r) ∷ []) between later → (s : State) → StandsFor old s → Records (run_entries s (send_events s)) before later
 unfolding step
@@ -329,9 +361,9 @@ sent_records old mid new n unsent r before between later is shows acts one two s
     (two_recorded s Unsent (Sent unsent.number) (UnsentIs (Some unsent)) (output_or_refusal show_done r) before between later (ap UnsentIs (shows s h))
     (ap (output_or_refusal show_done) (acts.gives s (stands_begun old mid n is s h)) ∙ output_given show_done (sent_call s unsent.number)) one two)
 
-pub sent_served : (old mid new : Held) (n : ℕ) (unsent : UnsentCall) (r : Result (Unit {0}) CoreFault) (before between later : Tape) → mid ≡ with_steps_before old n → Shows StandsFor unsent_call old (Some unsent) → Acts StandsFor (λ s. sent_call s unsent.number) mid new r → Records (entry_text Unsent (UnsentIs (Some unsent)) ∷ []) before between → Records (entry_text (Sent unsent.number) (output_or_refusal show_done r) ∷ []) between later → ∥ IsServed old before ∥₁ → ∥ IsServed new later ∥₁
+pub sent_served : (old mid new : Held) (n : ℕ) (unsent : UnsentCall) (r : Result (Unit {0}) CoreFault) (before between later : Tape) → mid ≡ with_steps_before old n → Shows StandsFor unsent_call old (Some unsent) → Acts StandsFor (λ s. sent_call s unsent.number) mid new r → Records (entry_text Unsent (UnsentIs (Some unsent)) ∷ []) before between → Records (entry_text (Sent unsent.number) (output_or_refusal show_done r) ∷ []) between later → Fits unsent.number → ∥ IsServed old before ∥₁ → ∥ IsServed new later ∥₁
 unfolding step
-sent_served old mid new n unsent r before between later is shows acts one two =
-    served_on old new before later send_events
+sent_served old mid new n unsent r before between later is shows acts one two fits =
+    served_on old new before later send_events (λ s h. subst (λ (u : Option UnsentCall). AllByRecursion HasLine (send_events_of u)) (shows s h) (tt, (fits, tt)))
     (λ s h. subst (λ (u : Option UnsentCall). StandsFor new (after s (send_events_of u))) (shows s h) (subst (StandsFor new) (sym (output_state show_done (sent_call s unsent.number))) (acts.stands s (stands_begun old mid n is s h))))
     (sent_records old mid new n unsent r before between later is shows acts one two)

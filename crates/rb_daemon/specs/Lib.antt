@@ -1,3 +1,5 @@
 pub mod Served
 pub mod Moves
 pub mod Recording
+pub mod ServedLaws
+pub mod PlainCallers

@@ -10,9 +10,10 @@ use Rattle.rb_record.specs.Tapes.{Records}
 use Rattle.rb_connections.specs.Slots.{Acts, Shows}
 use Rattle.rb_model.specs.declared.types.Exchanged.{Exchanged}
 use Rattle.rb_model.specs.declared.types.Given.{Given}
-use Rattle.rb_model.specs.Exchanges.{exchange, taken_in, count_now}
+use Rattle.rb_model.specs.Exchanges.{exchange, taken_in, count_given, count_now}
 use Rattle.rb_model.specs.Gives.{give_into, given_in, bytes_given}
 use Rattle.rb_core.specs.StandsFor.{StandsFor}
+use Rattle.rb_links.specs.Outgoing.{Outgoing}
 use Rattle.rb_daemon.specs.declared.engine.Engine.{Engine}
 use Rattle.rb_daemon.specs.Recording.{give_events}
 
@@ -37,20 +38,22 @@ RecordsEvents events old new = (s : State) → StandsFor old.core.core s → Rec
 abbrev pub CountsGiven : ℕ → List ℕ → ℕ → Engine → ℕ → Type 0
 CountsGiven id piece room engine count = Shows StandsFor (count_now engine.moment id piece room) engine.core.core count
 
--- Bytes came on a connection, and what is given at once stands in the outbox, behind what it held.
-pub record FillsOutbox (id : ℕ) (piece : List ℕ) (old new : Engine) (before after : List ℕ) (result : Result Exchanged CoreFault) : Type 0 where
-  pub room : ℕ
+-- Bytes came on a connection. The core had all the free room of the outbox, and what it gave at once stands there, behind
+-- what the outbox held.
+pub record FillsOutbox (id : ℕ) (piece : List ℕ) (old new : Engine) (before after : Outgoing) (result : Result Exchanged CoreFault) : Type 0 where
   pub given : List ℕ
-  pub acts : ActsNow (λ s now. exchange now id piece room s) old new (taken_in result, given)
-  pub appended : after ≡ before ++ given
+  pub count : count_given result ≡ length given
+  pub acts : ActsNow (λ s now. exchange now id piece before.free s) old new (taken_in result, given)
+  pub appended : after.bytes ≡ before.bytes ++ given
   pub moment : new.moment ≡ old.moment
 
--- What is given on a connection into some room stands in the outbox, behind what it held, and is recorded.
-pub record GivesToOutbox (id : ℕ) (old new : Engine) (before after : List ℕ) (result : Result Given CoreFault) : Type 0 where
-  pub room : ℕ
+-- What is owed on a connection is given into all the free room of the outbox, as far as it fits. It stands there, behind what
+-- the outbox held, and is recorded. Where that is no byte, the core stays.
+pub record GivesToOutbox (id : ℕ) (old new : Engine) (before after : Outgoing) (result : Result Given CoreFault) : Type 0 where
   pub given : List ℕ
   pub count : given_in result ≡ length given
-  pub acts : ActsNow (λ s now. give_into s now id room) old new (bytes_given given result)
-  pub appended : after ≡ before ++ given
+  pub acts : ActsNow (λ s now. give_into s now id before.free) old new (bytes_given given result)
+  pub idle : given_in result ≡ 0 → Moves (λ s now. s) old new
+  pub appended : after.bytes ≡ before.bytes ++ given
   pub recorded : RecordsEvents (λ s now. give_events now id given s) old new
   pub moment : new.moment ≡ old.moment

@@ -1,10 +1,11 @@
 -- What holds of the daemon's core between two events, and what its calls answer.
-use Rattle.std.specs.Prelude.{ℕ, ◌==◌, Bool, not, List, length, Option, Some, None}
+use Rattle.std.specs.List.{AllByRecursion}
+use Rattle.std.specs.Prelude.{◌≡◌, ℕ, ◌==◌, Bool, true, not, List, length, Option, Some, None}
 use Rattle.rb_address.specs.declared.peer.Peer.{Peer}
 use Rattle.rb_address.specs.declared.who.Who.{Who}
 use Rattle.rb_registry.specs.declared.row.Row.{Row}
 use Rattle.rb_forward.specs.Forwards.{Unsent}
-use Rattle.rb_model.specs.State.{State}
+use Rattle.rb_model.specs.State.{State, are_good}
 use Rattle.rb_model.specs.declared.types.Told.TheVariants.{TcpReady, Datagram, Silent}
 use Rattle.rb_model.specs.declared.types.Expired.TheVariants.{Nothing as NothingDue, Ended, ConnectionClosed}
 use Rattle.rb_model.specs.declared.types.Told.{Told}
@@ -16,17 +17,23 @@ use Rattle.rb_model.specs.Step.{datagram, unsent_call, sent_call, IsReached}
 use Rattle.rb_model.specs.ChangeLaws.{this_machine, set_bytes}
 use Rattle.rb_record.specs.Tapes.{Tape}
 use Rattle.rb_core.specs.StandsFor.{Held, StandsFor}
+use Rattle.rb_core.specs.HeldBytes.{IsListener}
+use Rattle.rb_lines.specs.RecordLaws.{HasLine}
 use Rattle.rb_daemon.specs.declared.engine.Answer.{Answer}
 use Rattle.rb_daemon.specs.declared.engine.Answer.TheVariants as answers
 use Rattle.rb_daemon.specs.declared.engine.Due.{Due}
 use Rattle.rb_daemon.specs.Recording.{HasRecorded}
 use Rattle.rb_daemon.specs.declared.engine.Due.TheVariants as dues
 
--- The core stands for a state that a run of events reaches from an opening, and the tape is a record of that run.
+-- The core stands for a state that a run of events reaches from an opening, and the tape is a record of that run. Its limits
+-- are good, its listener has a port of 16 bits and a short path, and each of its events has a line.
 pub record IsServed (core : Held) (tape : Tape) : Type 0 where
   pub state : State
   pub stands : StandsFor core state
   pub reached : IsReached state
+  pub good : are_good state.setting.limits state.setting.listener ≡ true
+  pub listener : IsListener state.setting.listener
+  pub lines : AllByRecursion HasLine reached.events
   pub recorded : HasRecorded reached tape
 
 -- ---- datagrams

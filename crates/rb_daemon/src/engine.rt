@@ -1,21 +1,23 @@
 //! Where events go to the core: in the order in which they happen, each by one function.
-ghost use Rattle.std.specs.Prelude.{◌≡◌, [], ◌∷◌, IfOk, IfErr};
+ghost use Rattle.std.specs.Prelude.{◌≡◌, ◌<◌, ◌^◌, [], ◌∷◌, length, IfOk, IfErr};
 ghost use Rattle.rb_model.specs.Gives.{first_piece};
 ghost use Rattle.rb_connections.specs.Slots.{Shows};
 ghost use Rattle.rb_core.specs.Events.{OnlyBegins};
+ghost use Rattle.rb_core.specs.HeldBytes.{IsListener};
 ghost use Rattle.rb_core.specs.StandsFor.{StandsFor};
 ghost use Rattle.rb_record.specs.Entries.{options_of};
 ghost use Rattle.rb_record.specs.Tapes.{Records, empty_tape};
 ghost use Rattle.rb_daemon.specs.Recording.{end_entry};
 ghost use Rattle.rb_daemon.specs.Served.{IsServed, ready_of};
 
+use crate::callers::{Caller, Sender};
 use crate::log::Log;
 use crate::showing::{
     count_given, record_exchange, record_pieces, record_unsent, show_done, show_opened,
 };
-use rb_address::{Peer, Source, Who};
+use rb_address::{Source, Who};
 use rb_core::{CoreFault, Exchanged, Expired, Given, Limits, Listener, Metered, Outcome, Told};
-use rb_keep::{set_call, this_machine, write_rows};
+use rb_keep::{set_call, write_rows};
 use rb_record::{Happening, Shown, Start, Tape};
 use rb_registry::Row;
 use rb_sockets::{CallSocket, CallSockets, ForwardSockets, Logged};
@@ -35,6 +37,7 @@ pub(crate) struct Engine {
     /// What is told of the calls.
     log: Log,
     ghost served: { ∥ IsServed core.core tape ∥₁ },
+    ghost fits: { moment < 2 ^ 64 },
 }
 
 /// What is done about a datagram.
@@ -116,6 +119,28 @@ fn begin_tape(alloc: Global, limit: usize, start: &Start<'_>) -> Result<Tape, Co
     Ok(tape)
 }
 
+/// Says what the types of a listener say of it.
+fn check_listener(listener: &Listener)
+    ensures { IsListener listener.now }
+{
+    let _port = listener.port;
+    if let Some(path) = &listener.local {
+        let _path = path.as_slice();
+    }
+}
+
+/// Says what its type says of a number.
+fn number_fits(n: u64)
+    ensures { n < 2 ^ 64 }
+{}
+
+/// Says what its type says of how many bytes there are.
+fn count_fits(bytes: &[u8])
+    ensures { length bytes.now < 2 ^ 64 }
+{
+    let _count = bytes.len();
+}
+
 impl Engine {
     ghost use Rattle.std.specs.Prelude.{◌≡◌, ◌≤◌, ◌↔◌, [], ◌∷◌, false, IsTrue, IsErrOf, length, not, IfOk, OnOk, OnErr};
     ghost use Rattle.rb_record.specs.Printing.{Writes};
@@ -152,6 +177,7 @@ impl Engine {
         ensures record { IfOk result (λ engine. engine.tape.limit ≡ record_limit) }
         ensures bad { IsErrOf result CoreFault.BadLimits ↔ IsTrue (not (are_good limits listener)) }
     {
+        check_listener(&listener);
         let first_xid = (moment % 0x1_0000_0000) as u32;
         let start = Start {
             limits,
@@ -231,11 +257,13 @@ impl Engine {
     }
 
     /// A connection was accepted. `Full` where all places of the core are taken, `Spent` where its numbers are.
-    pub(crate) fn open(&mut self, who: Who) -> Result<u64, CoreFault>
-        ensures acts { ActsNow (λ s now. open_connection s now who) self.old self.new result }
-        ensures recorded { RecordsEvents (λ s now. Open now who ∷ []) self.old self.new }
+    pub(crate) fn open(&mut self, caller: Caller) -> Result<u64, CoreFault>
+        ensures acts { ActsNow (λ s now. open_connection s now caller.who)
+            self.old self.new result }
+        ensures recorded { RecordsEvents (λ s now. Open now caller.who ∷ []) self.old self.new }
         ensures moment { self.new.moment ≡ self.old.moment }
     {
+        let who = caller.who;
         let opened = self.core.open(self.moment, who);
         self.tape
             .record(&Happening::Open(self.moment, who), &show_opened(opened));
@@ -261,6 +289,7 @@ impl Engine {
             (λ s now. exchange_events now id piece.now (count_given result)) self.old self.new }
         ensures moment { self.new.moment ≡ self.old.moment }
     {
+        count_fits(room);
         let done = self.core.exchange(self.moment, id, piece, room);
         let given = &room[..count_given(&done)];
         record_exchange(&mut self.tape, self.moment, id, piece, given, &done);
@@ -278,6 +307,7 @@ impl Engine {
             (λ s now. give_events now id (pending_bytes (bytes_given room.new result)) s) self.old self.new }
         ensures moment { self.new.moment ≡ self.old.moment }
     {
+        count_fits(room);
         if !self.tape.is_on() {
             return self.core.give(self.moment, id, room);
         }
@@ -323,12 +353,14 @@ impl Engine {
     }
 
     /// Takes a datagram in. Where it has a reply, `reply` sends it.
-    pub(crate) fn answer(&mut self, who: Who, content: &[u8]) -> Answer
-        ensures acts { ActsNow (answer_datagram who content.now) self.old self.new result }
+    pub(crate) fn answer(&mut self, caller: Caller, content: &[u8]) -> Answer
+        ensures acts { ActsNow (answer_datagram caller.who content.now)
+            self.old self.new result }
         ensures recorded { RecordsEvents
-            (λ s now. Datagram now who content.now ∷ []) self.old self.new }
+            (λ s now. Datagram now caller.who content.now ∷ []) self.old self.new }
         ensures moment { self.new.moment ≡ self.old.moment }
     {
+        let who = caller.who;
         let event = Happening::Datagram(self.moment, who, content);
         match self.core.datagram(self.moment, who, content) {
             Outcome::Reply => {
@@ -365,7 +397,7 @@ impl Engine {
     {
         let before = self.core.changes();
         let call = set_call(row);
-        self.answer(this_machine(), call.as_slice());
+        self.answer(Caller::of_this_machine(), call.as_slice());
         before != self.core.changes()
     }
 
@@ -400,15 +432,17 @@ impl Engine {
     /// Takes a datagram in that came where forwarded calls are sent from. The answer is the connection that goes on.
     pub(crate) fn take_forward_reply(
         &mut self,
-        from: Peer,
+        sender: Sender,
         content: &[u8],
         calls: &mut CallSockets,
     ) -> Option<u64>
-        ensures acts { ActsNow (take_forward_reply from content.now) self.old self.new result }
+        ensures acts { ActsNow (take_forward_reply sender.peer content.now)
+            self.old self.new result }
         ensures recorded { RecordsEvents
-            (λ s now. Forward now from content.now ∷ []) self.old self.new }
+            (λ s now. Forward now sender.peer content.now ∷ []) self.old self.new }
         ensures moment { self.new.moment ≡ self.old.moment }
     {
+        let from = sender.peer;
         let event = Happening::Forward(self.moment, from, content);
         let Some(told) = self.core.forward_reply(self.moment, from, content) else {
             self.tape.record(&event, &Shown::Ignored);
@@ -454,6 +488,7 @@ impl Engine {
             return None;
         };
         let id = unsent.id;
+        number_fits(id.number);
         record_unsent(&mut self.tape, id.number, unsent.target, unsent.call);
         forwards.call(unsent.call, unsent.target);
         let done = self.core.sent(id);

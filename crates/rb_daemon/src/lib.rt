@@ -1,9 +1,11 @@
 //! The daemon: sockets around the core. Each turn waits once, and then serves what the wait showed.
 #![tactic(auto)]
 
+mod callers;
 mod daemon;
 mod engine;
 mod keeping;
+mod laws;
 mod log;
 mod outbox;
 mod serving;
@@ -11,6 +13,7 @@ mod showing;
 mod steps;
 
 pub use daemon::Daemon;
+pub use laws::{served_cores_are_bounded, served_records_are_read};
 pub use rb_model::Limits;
 pub use rb_policy::Rate;
 pub use rb_proto::{Forwarding, Terms};

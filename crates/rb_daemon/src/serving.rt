@@ -1,6 +1,7 @@
 //! The core with its sockets and connections, and what a turn does with them.
 ghost use Rattle.std.specs.Prelude.{◌≤◌, length};
 
+use crate::callers::{Caller, Sender};
 use crate::engine::{Answer, Due, Engine};
 use crate::keeping::Keeper;
 use crate::steps::{Progress, serve};
@@ -299,7 +300,7 @@ impl Serving {
             return;
         }
         let content = &self.datagram[..len];
-        let answer = self.engine.answer(who, content);
+        let answer = self.engine.answer(Caller::of(who), content);
         self.engine.tell_call();
         match answer {
             Answer::Reply => {
@@ -361,9 +362,10 @@ impl Serving {
         let Some(peer) = from else {
             return;
         };
+        let sender = Sender::of(peer);
         let content = &self.datagram[..len];
         let calls = &mut self.sockets.calls;
-        if let Some(id) = self.engine.take_forward_reply(peer, content, calls) {
+        if let Some(id) = self.engine.take_forward_reply(sender, content, calls) {
             self.places.wake(id);
         }
     }
@@ -524,7 +526,7 @@ impl Serving {
 
     /// Opens the connection at a place. One that the core does not take, or whose events can't be shown, is closed.
     fn open_at(&mut self, registry: &Registry, key: usize, who: Who) {
-        let Ok(id) = self.engine.open(who) else {
+        let Ok(id) = self.engine.open(Caller::of(who)) else {
             self.close(key);
             return;
         };

@@ -28,6 +28,13 @@ room_stays end k held new fits as_many =
     let part = length-take k (drop end held) in
     omega (arith, all, behind, rest, part, length-take-le end held fits, length-drop end held, fits, as_many)
 
+-- what is handed in as room is all that is free
+pub all_is_free : (end free : ℕ) (held shown new : List ℕ) → shown ≡ held → end ≤ length held → length new ≡ length (take (length shown - end) (drop end shown)) → length held - end ≡ free → length new ≡ free
+all_is_free end free held shown new same fits as_many is =
+    let part = length-take (length shown - end) (drop end shown) in
+    let rest = length-drop end shown in
+    omega (arith, part, rest, ap (λ (xs : List ℕ). length xs) same, fits, as_many, is)
+
 -- what is written to a socket are the bytes that wait
 pub waits : (sent end : ℕ) (held shown now : List ℕ) → shown ≡ held → drop sent (take end held) ≡ now → sent ≤ end → take (end - sent) (drop sent shown) ≡ now
 waits sent end held shown now same is before =

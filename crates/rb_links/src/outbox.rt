@@ -1,6 +1,4 @@
 //! Bytes of replies on their way from the core to a socket.
-ghost use Rattle.std.specs.Prelude.{◌≡◌, ◌≤◌, ℕ, List, length, take, drop};
-
 use rb_rpc::LONGEST_FRAGMENT;
 use std::alloc::{AllocError, Global};
 use std::io::Write;
@@ -26,20 +24,28 @@ pub struct Outbox {
 }
 
 impl Model for Outbox {
-    ghost Value = { List ℕ };
+    ghost use Rattle.std.specs.Prelude.{◌≤◌, ◌-◌, length, take, drop};
+    ghost use Rattle.rb_links.specs.Outgoing.{Outgoing};
 
-    ghost view = { λ outbox. drop outbox.sent (take outbox.end outbox.bytes.items) };
+    ghost Value = { Outgoing };
+
+    ghost view = { λ outbox. record {
+      bytes = drop outbox.sent (take outbox.end outbox.bytes.items);
+      free = length outbox.bytes.items - outbox.end;
+      room = length outbox.bytes.items;
+    } };
 
     ghost invariant = { λ outbox. (outbox.sent ≤ outbox.end) × (outbox.end ≤ length outbox.bytes.items) };
 }
 
 impl Outbox {
-    ghost use Rattle.std.specs.Prelude.{◌≡◌, ◌==◌, [], IfOk, OnErr};
+    ghost use Rattle.std.specs.Prelude.{◌≡◌, ◌==◌, nat_le, length, drop, IfOk, OnErr};
     ghost use Rattle.std.specs.Io.KnownBytes.{WriteAppends};
+    ghost use Rattle.rb_links.specs.Outgoing.{nothing_in};
 
     /// An empty one with this room. It is written to, so that its memory is the process's from here on.
     pub(crate) fn new(alloc: Global, room: usize) -> Result<Outbox, AllocError>
-        ensures { IfOk result (λ outbox. outbox ≡ []) }
+        ensures { IfOk result (λ outbox. outbox ≡ nothing_in room) }
     {
         let mut bytes = Vec::with_capacity(alloc, room)?;
         bytes.resize(room, 0)?;
@@ -52,20 +58,22 @@ impl Outbox {
 
     /// Whether the socket has taken all of it.
     pub fn is_empty(&self) -> bool
-        ensures { result ≡ (length self.now == 0) }
+        ensures { result ≡ (length self.now.bytes == 0) }
     {
         self.sent == self.end
     }
 
     /// Whether any fragment fits. Where one may not, nothing more is taken over until the socket has taken all, so
     /// that each fragment is taken over whole.
-    pub fn has_room(&self) -> bool {
+    pub fn has_room(&self) -> bool
+        ensures { result ≡ nat_le LONGEST_FRAGMENT self.now.free }
+    {
         self.bytes.len() - self.end >= LONGEST_FRAGMENT
     }
 
     /// Drops what is on its way.
     pub(crate) fn clear(&mut self)
-        ensures { self.new ≡ [] }
+        ensures { self.new ≡ nothing_in self.old.room }
     {
         self.sent = 0;
         self.end = 0;
@@ -73,8 +81,8 @@ impl Outbox {
 
     /// Swaps the two where both are empty and the other one is longer.
     pub(crate) fn take_longer(&mut self, other: &mut Outbox)
-        ensures stays { self.new ≡ self.old }
-        ensures other { other.new ≡ other.old }
+        ensures stays { self.new.bytes ≡ self.old.bytes }
+        ensures other { other.new.bytes ≡ other.old.bytes }
     {
         if self.is_empty() && other.is_empty() && self.bytes.len() < other.bytes.len() {
             mem::swap(self, other);
@@ -84,8 +92,8 @@ impl Outbox {
     /// Writes what waits, once.
     pub(crate) fn send<W: Write>(&mut self, writer: &mut W) -> io::Result<usize>
         ensures written { WriteAppends (W.contents writer.old) (W.contents writer.new)
-            result self.old }
-        ensures left { IfOk result (λ n. self.new ≡ drop n self.old) }
+            result self.old.bytes }
+        ensures left { IfOk result (λ n. self.new.bytes ≡ drop n self.old.bytes) }
         ensures kept { OnErr result (self.new ≡ self.old) }
     {
         let n = writer.write(&self.bytes.as_slice()[self.sent..self.end])?;

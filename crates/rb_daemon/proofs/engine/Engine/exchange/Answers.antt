@@ -1,6 +1,7 @@
 use Rattle.std.proofs.Common.{take, length, arith}
 use Rattle.std.proofs.lemmas.List.{length-take}
 use Rattle.rb_model.specs.Exchanges.{count_given, taken_in}
+use Rattle.rb_daemon.proofs.Reached.{bytes_are}
 use Rattle.rb_daemon.proofs.Exchanges.{exchange_records, exchange_served}
 use Rattle.rb_daemon.proofs.engine.Engine.exchange.Goals as goal
 
@@ -12,7 +13,8 @@ invariant_of-self c = record {
         at_once = rw c.exchange-done.auto.room c.exchange-done.ensures.count;
         acts = c.exchange-done.ensures.acts;
       })
-      c.args.self.now.tape c.record_exchange.new.tape (rw c.count_given.ensures at c.record_exchange.ensures) c.args.self.now.served;
+      c.args.self.now.tape c.record_exchange.new.tape (rw c.count_given.ensures at c.record_exchange.ensures) c.args.self.now.fits c.ranges.id.fits (bytes_are c.args.piece.now (λ i. (c.type_inv.piece i).fits)) (omega (arith, c.count_fits.ensures, c.exchange-done.auto.room, c.exchange-done.ensures.fits)) c.args.self.now.served;
+  fits = c.args.self.now.fits;
 }
 
 pub returns-clause-recorded : goal.returns-clause-recorded

@@ -1,4 +1,4 @@
-use Rattle.std.proofs.Common.{◌≡◌, ◌<◌, ◌≤◌, ℕ, false, List, [], length, take, min, Result, Ok, Err, arith, refl, sym, ap, subst, ◌∙◌}
+use Rattle.std.proofs.Common.{◌≡◌, ◌≤◌, ℕ, false, List, [], length, take, Result, Ok, arith, refl, sym, ap, subst, ◌∙◌}
 use Rattle.std.proofs.lemmas.List.{length-take}
 use Rattle.std.proofs.lemmas.Result.{err_from_is_err_and}
 use Rattle.rb_model.specs.declared.types.CoreFault.{CoreFault}
@@ -10,7 +10,7 @@ use Rattle.rb_record.specs.Tapes.{Records}
 use Rattle.rb_connections.specs.Slots.{Acts}
 use Rattle.rb_core.specs.StandsFor.{Held, StandsFor}
 use Rattle.rb_daemon.specs.Recording.{give_events}
-use Rattle.rb_daemon.proofs.Pieces.{gives_records, gives_served, off_pieces, no_pieces, all_pieces, first_some}
+use Rattle.rb_daemon.proofs.Pieces.{few_given, none_given, gives_records, gives_served, off_pieces, no_pieces, all_pieces, first_some}
 use Rattle.rb_daemon.proofs.engine.Engine.give.Goals as goal
 
 -- a step from a core that is the same acts as one from this
@@ -25,7 +25,8 @@ invariant_of-self c =
     let off : c.args.self.now.tape.is_on ≡ false = sym c.is_on.ensures ∙ c.if-not-is_on.true in
     record {
       served = gives_served c.args.self.now.moment c.args.id (length c.give.new.room) (bytes_given c.give.new.room c.give.result) c.args.self.now.core.core c.give.new.self.core c.give.ensures.acts c.args.self.now.tape c.args.self.now.tape
-          (off_pieces c.args.self.now.moment c.args.id (pending_bytes (bytes_given c.give.new.room c.give.result)) c.args.self.now.core.core c.args.self.now.tape off c.args.self.now.served) c.args.self.now.served;
+          (off_pieces c.args.self.now.moment c.args.id (pending_bytes (bytes_given c.give.new.room c.give.result)) c.args.self.now.core.core c.args.self.now.tape off c.args.self.now.served) c.args.self.now.fits c.ranges.id.fits (few_given c.give.new.room c.give.result (omega (arith, c.give.auto.room, c.count_fits.ensures))) c.args.self.now.served;
+      fits = c.args.self.now.fits;
     }
 
 pub returns-then-not-is_on-clause-recorded : goal.returns-then-not-is_on-clause-recorded
@@ -39,7 +40,8 @@ invariant_of-self-in-Break-1 c =
     record {
       served = gives_served c.args.self.now.moment c.args.id (length c.give-2.new.room) _ c.args.self.now.core.core c.give-2.new.self.core
           (from_same c.args.self.now.moment c.args.id (length c.give-2.new.room) c.count_pending-first.new.core.core c.args.self.now.core.core c.give-2.new.self.core _ c.count_pending-first.ensures.stays c.in_err-given.ensures.acts)
-          c.args.self.now.tape c.args.self.now.tape (no_pieces c.args.self.now.moment c.args.id [] c.args.self.now.core.core c.args.self.now.tape refl c.args.self.now.served) c.args.self.now.served;
+          c.args.self.now.tape c.args.self.now.tape (no_pieces c.args.self.now.moment c.args.id [] c.args.self.now.core.core c.args.self.now.tape refl c.args.self.now.served) c.args.self.now.fits c.ranges.id.fits none_given c.args.self.now.served;
+      fits = c.args.self.now.fits;
     }
 
 pub returns-in_err-given-clause-recorded : goal.returns-in_err-given-clause-recorded
@@ -65,7 +67,8 @@ invariant_of-self-then-given-gt0 c =
       served = gives_served c.args.self.now.moment c.args.id (length c.give-2.new.room) (Ok bytes) c.args.self.now.core.core c.give-2.new.self.core
           (from_same c.args.self.now.moment c.args.id (length c.give-2.new.room) c.count_pending-first.new.core.core c.args.self.now.core.core c.give-2.new.self.core (Ok bytes) c.count_pending-first.ensures.stays c.in_ok-given.ensures.acts)
           c.args.self.now.tape c.record_pieces.new.tape
-          (all_pieces c.args.self.now.moment c.args.id c.count_pending-first.result bytes c.args.self.now.core.core c.args.self.now.tape c.record_pieces.new.tape c.count_pending-first.ensures.count c.record_pieces.ensures) c.args.self.now.served;
+          (all_pieces c.args.self.now.moment c.args.id c.count_pending-first.result bytes c.args.self.now.core.core c.args.self.now.tape c.record_pieces.new.tape c.count_pending-first.ensures.count c.record_pieces.ensures) c.args.self.now.fits c.ranges.id.fits (omega (arith, length-take c.in_ok-given.given.count c.give-2.new.room, c.give-2.auto.room, c.count_fits.ensures)) c.args.self.now.served;
+      fits = c.args.self.now.fits;
     }
 
 pub invariant_of-self-else-given-gt0 : goal.invariant_of-self-else-given-gt0
@@ -75,7 +78,8 @@ invariant_of-self-else-given-gt0 c =
       served = gives_served c.args.self.now.moment c.args.id (length c.give-2.new.room) (Ok bytes) c.args.self.now.core.core c.give-2.new.self.core
           (from_same c.args.self.now.moment c.args.id (length c.give-2.new.room) c.count_pending-first.new.core.core c.args.self.now.core.core c.give-2.new.self.core (Ok bytes) c.count_pending-first.ensures.stays c.in_ok-given.ensures.acts)
           c.args.self.now.tape c.args.self.now.tape
-          (no_pieces c.args.self.now.moment c.args.id bytes c.args.self.now.core.core c.args.self.now.tape (nothing_taken c.in_ok-given.given.count c.give-2.new.room c.if-given-gt0.false) c.args.self.now.served) c.args.self.now.served;
+          (no_pieces c.args.self.now.moment c.args.id bytes c.args.self.now.core.core c.args.self.now.tape (nothing_taken c.in_ok-given.given.count c.give-2.new.room c.if-given-gt0.false) c.args.self.now.served) c.args.self.now.fits c.ranges.id.fits (omega (arith, length-take c.in_ok-given.given.count c.give-2.new.room, c.give-2.auto.room, c.count_fits.ensures)) c.args.self.now.served;
+      fits = c.args.self.now.fits;
     }
 
 pub returns-then-given-gt0-clause-recorded : goal.returns-then-given-gt0-clause-recorded

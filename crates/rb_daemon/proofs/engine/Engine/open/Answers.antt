@@ -2,7 +2,7 @@ use Rattle.rb_daemon.proofs.Reached.{open_records, open_served}
 use Rattle.rb_daemon.proofs.engine.Engine.open.Goals as goal
 
 pub invariant_of-self : goal.invariant_of-self
-invariant_of-self c = record { served = open_served _ _ c.args.self.now.moment c.args.who _ _ _ c.open-opened.ensures.acts (rw c.show_opened.ensures at c.«record».ensures) c.args.self.now.served }
+invariant_of-self c = record { served = open_served _ _ c.args.self.now.moment c.args.caller.who _ _ _ c.open-opened.ensures.acts (rw c.show_opened.ensures at c.«record».ensures) c.args.self.now.fits c.args.caller.is_who c.args.self.now.served; fits = c.args.self.now.fits }
 
 pub returns-clause-recorded : goal.returns-clause-recorded
-returns-clause-recorded c = open_records _ _ c.args.self.now.moment c.args.who _ _ _ c.open-opened.ensures.acts (rw c.show_opened.ensures at c.«record».ensures)
+returns-clause-recorded c = open_records _ _ c.args.self.now.moment c.args.caller.who _ _ _ c.open-opened.ensures.acts (rw c.show_opened.ensures at c.«record».ensures)

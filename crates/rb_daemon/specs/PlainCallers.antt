@@ -1,0 +1,17 @@
+-- Callers and peers with each host in its plain form: a host ::ffff:a.b.c.d counts as a.b.c.d.
+use Rattle.rb_address.specs.declared.peer.Peer.{Peer}
+use Rattle.rb_address.specs.declared.who.Source.{Source}
+use Rattle.rb_address.specs.declared.who.Source.TheVariants.{Inet, Local}
+use Rattle.rb_address.specs.declared.who.Who.{Who}
+use Rattle.rb_address.specs.Hosts.{plain_host}
+use Rattle.rb_address.specs.Peers.{peer_at}
+
+abbrev pub plain_peer : Peer → Peer
+plain_peer peer = peer_at peer.host peer.port
+
+abbrev pub plain_source : Source → Source
+plain_source (Inet peer) = Inet (plain_peer peer)
+plain_source Local = Local
+
+abbrev pub plain_who : Who → Who
+plain_who who = record { source = plain_source who.source; asked = plain_host who.asked; trust = who.trust }

@@ -1,0 +1,49 @@
+-- Laws of the core between two events of the daemon: bounds that hold with no premise on its limits or its listener.
+use Rattle.std.specs.Prelude.{◌≡◌, ◌≤◌, ℕ, true, List, length, take}
+use Rattle.rb_model.specs.State.{State, opening}
+use Rattle.rb_model.specs.Bounds.{bytes_bound, bound_at}
+use Rattle.rb_model.specs.Costs.{event_cost, run_cost}
+use Rattle.rb_model.specs.Step.{Event, run, IsReached}
+use Rattle.rb_model.specs.WholeRuns.{args_waiting, whole_bound}
+use Rattle.rb_record.specs.Tapes.{Tape}
+use Rattle.rb_core.specs.StandsFor.{Held, StandsFor}
+use Rattle.rb_core.specs.HeldBytes.{held}
+use Rattle.rb_lines.specs.Lines.{longest_input}
+use Rattle.rb_lines.specs.RecordLaws.{HasPath, ReadsAs}
+use Rattle.rb_daemon.specs.Served.{IsServed}
+
+-- ---- bounds
+
+-- What the core holds is no more than the bound of its limits.
+abbrev pub ServedBytesAreBounded : Type 0
+ServedBytesAreBounded = (core : Held) (tape : Tape) → ∥ IsServed core tape ∥₁ → held core ≤ bytes_bound core.setting.limits
+
+-- Whatever state that a run reaches the core stands for, no event costs more than its bound there.
+abbrev pub ServedStepsAreBounded : Type 0
+ServedStepsAreBounded =
+    (core : Held) (tape : Tape) → ∥ IsServed core tape ∥₁ → (s : State) → StandsFor core s → IsReached s
+    → (event : Event) → event_cost s event ≤ bound_at s event
+
+-- And no run from there costs more than its whole bound.
+abbrev pub ServedRunsAreBounded : Type 0
+ServedRunsAreBounded =
+    (core : Held) (tape : Tape) → ∥ IsServed core tape ∥₁ → (s : State) → StandsFor core s → IsReached s
+    → (events : List Event)
+    → run_cost s events ≤ whole_bound s.setting.limits (args_waiting s.connections.all) events (run s events)
+
+-- ---- the record
+
+-- The text of a tape reads as the first events of a run, all of them while the recording goes on, and says what they gave.
+pub record ReadsBack (s : State) (r : IsReached s) (tape : Tape) : Type 0 where
+  pub count : ℕ
+  pub are_there : count ≤ length r.events
+  pub all : tape.is_on ≡ true → count ≡ length r.events
+  pub reads : ReadsAs tape.text (take count r.events) (run (opening r.limits r.listener r.first_xid r.now) (take count r.events))
+
+-- So does the record of the daemon, where it may be no longer than an input, and the path of the local socket is as `--local`
+-- takes it. Its first line has the options of the run, so `replay --check` finds no difference.
+abbrev pub ServedRecordsAreRead : Type 0
+ServedRecordsAreRead =
+    (core : Held) (tape : Tape) (served : IsServed core tape)
+    → HasPath served.reached.listener → tape.limit ≤ longest_input
+    → ReadsBack served.state served.reached tape

@@ -1,0 +1,18 @@
+//! What holds of the core of a running daemon.
+ghost use Rattle.rb_daemon.specs.ServedLaws.{ServedBytesAreBounded, ServedStepsAreBounded, ServedRunsAreBounded, ServedRecordsAreRead};
+
+/// Between two events of the daemon, whatever it is asked for and whatever limits and listener it was given: what its core
+/// holds is at most the bound of its limits. From each state that a run reaches and that the core stands for, an event
+/// costs at most its bound, and a run at most its whole bound.
+pub fn served_cores_are_bounded()
+    ensures bytes { ServedBytesAreBounded }
+    ensures events { ServedStepsAreBounded }
+    ensures runs { ServedRunsAreBounded }
+{}
+
+/// Between two events of the daemon, the text of its record reads as the first events of the run that brought the core where
+/// it is, all of them while the recording goes on, and says what they gave: so `replay --check` of it finds no difference.
+/// It does where the record may be no longer than an input, and the path of the local socket is as `--local` takes it.
+pub fn served_records_are_read()
+    ensures { ServedRecordsAreRead }
+{}
