@@ -6,3 +6,5 @@ pub mod Tellings
 pub mod Listed
 pub mod HeadReads
 pub mod Taken
+pub mod LastingFaults
+pub mod ShownLists

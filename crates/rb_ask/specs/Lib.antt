@@ -6,3 +6,5 @@ pub mod HeadLaws
 pub mod Lists
 pub mod Telling
 pub mod WholeLists
+pub mod FaultLaws
+pub mod ListLaws

@@ -13,7 +13,7 @@ mod whole_list;
 pub use fault::InfoFault;
 pub use head::take_head;
 pub use item::take_item;
-pub use laws::heads_are_read;
+pub use laws::{faults_stay, heads_are_read, lists_are_shown};
 pub use list::{Style, show_item, show_list};
 pub use record::Record;
 pub use source::{ByteSource, HeldBytes, ReadBytes, SourceFailed};
