@@ -10,13 +10,14 @@
 # them cut into pieces of 1, of 7 and of 1,000 bytes: all its outputs stay, with the sums of what the pieces took.
 # A row of rpcinfo is NAME.input, NAME.args, whose comment is the rule, and NAME.expected in tests/rows-rpcinfo, with the
 # same NAME.status and NAME.stderr.
-# The daemon that keeps its rows is run by tests/keep.sh.
+# The daemon that keeps its rows is run by tests/keep.sh, and the programs whose memory is refused by tests/refused.sh.
 # Each difference is printed. The last line is 'N passed, N failed'; the status is 1 where one failed.
 set -u
 cd "$(dirname "$0")/.." || exit 1
 
 . tests/daemon.sh
 . tests/keep.sh
+. tests/refused.sh
 
 program=${1:-$PWD/crates/rpcbind/out/rpcbind}
 rpcinfo=${2:-$PWD/crates/rpcinfo/out/rpcinfo}
@@ -972,6 +973,7 @@ if [ -x "$rpcinfo" ]; then
     beside run_rpcinfo_endless_reply
     beside run_rpcinfo_long_reply_cut_off
     beside run_rpcinfo_longest_texts
+    [ ! -x "$program" ] || beside run_refused_memory
 fi
 if [ -x "$program" ]; then
     beside run_longest_inputs

@@ -1,0 +1,86 @@
+# Memory that is refused: the built programs with tests/refuse.c in front of the C library, which refuses them one allocation,
+# the first in the first run, the second in the next, and so on until a run asks for no more. Sourced by tests/run-rows.sh.
+#
+# A run that is refused memory does all that it does else, or ends with status 1 and the one line that says so; what it has
+# written then is a front of what it writes else. Where rpcinfo is refused memory while it writes, it says that the write
+# failed.
+
+# Runs a command over a file, and refuses it the allocation of this number.
+run_refused() {
+    local number=$1 input=$2
+    shift 2
+    REFUSE=$number LD_PRELOAD=$work/refuse.so "$@" < "$input" > "$work/stdout" 2> "$work/stderr" 9> "$work/refused"
+    got=$?
+}
+
+# Whether the last run did all, which is to write what $1 has, or was refused memory and says so.
+is_right() {
+    local said='no memory'
+    if [ "$got" -eq 0 ]; then
+        as_wanted "$1" /dev/null 0
+    else
+        head -c "$(stat -c %s "$work/stdout")" "$1" > "$work/front"
+        grep -qx 'rpcinfo: write failed' "$work/stderr" && said='write failed'
+        echo "$(basename "$2"): $said" > "$work/line"
+        as_wanted "$work/front" "$work/line" 1
+    fi
+}
+
+# Refuses each allocation of a command over a file, which writes what $2 has.
+refuse_in_turn() {
+    local what=$1 wanted=$2 number=0 bad=0
+    shift 2
+    while [ "$bad" -eq 0 ]; do
+        number=$((number + 1))
+        run_refused "$number" "$@"
+        [ -s "$work/refused" ] || break
+        is_right "$wanted" "$2" || bad=1
+    done
+    [ "$bad" -eq 0 ] && [ "$number" -gt 1 ] && is_right "$wanted" "$2"
+    judge $? "$what that is refused memory, at allocation $number"
+}
+
+# `replay` reads lines, makes a core and runs their events.
+refuse_replay() {
+    local row=tests/rows/forward_by_callit
+    refuse_in_turn 'a replay' "$row.expected" "$row.events" "$program" replay --conns 3
+}
+
+# `serve` makes a core and the places of its connections, and listens.
+refuse_serve() {
+    printf 'rpcbind: listening on %s\n' '127.0.0.1 port 20113' > "$work/served"
+    refuse_in_turn 'a daemon' "$work/served" \
+        /dev/null "$program" serve --port 20113 --conns 3 --rows 20 --forwards 3 --turns 1
+}
+
+# rpcinfo reads a reply, and shows it.
+refuse_reply() {
+    local row=tests/rows-rpcinfo/rpcinfo_rows words
+    mapfile -t words < <(grep -v '^#' "$row.args")
+    refuse_in_turn 'a reply' "$row.expected" "$row.input" "$rpcinfo" "${words[@]}"
+}
+
+# rpcinfo writes a call to a daemon, which has its memory, and shows the reply.
+refuse_call() {
+    local daemon
+    "$program" serve --port 20114 > "$work/served" 2>&1 &
+    daemon=$!
+    until grep -qs listening "$work/served" || ! kill -0 "$daemon" 2> /dev/null; do
+        sleep 0.1
+    done
+    "$rpcinfo" --port 20114 -p 127.0.0.1 > "$work/rows" 2>&1
+    refuse_in_turn 'a call over TCP' "$work/rows" /dev/null "$rpcinfo" --port 20114 -p 127.0.0.1
+    kill "$daemon"
+    wait "$daemon" 2> /dev/null
+}
+
+run_refused_memory() {
+    if [ -n "$has_checks" ] || ! "${CC:-cc}" -O1 -shared -fPIC -o "$work/refuse.so" tests/refuse.c; then
+        echo 'not run: memory that is refused'
+        return
+    fi
+    refuse_replay
+    refuse_serve
+    refuse_reply
+    refuse_call
+}
