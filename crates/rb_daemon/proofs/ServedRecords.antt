@@ -1,16 +1,16 @@
 -- The record of a served core is read back.
 use Rattle.std.specs.List.{concat, AllByRecursion}
-use Rattle.std.proofs.Common.{◌≡◌, ◌≤◌, ℕ, zero, suc, Bool, true, false, List, [], ◌∷◌, ◌++◌, length, take, arith, refl, sym, ap, subst, ◌∙◌}
+use Rattle.std.proofs.Common.{◌≡◌, ◌≤◌, ℕ, zero, suc, Bool, true, false, List, [], ◌∷◌, ◌++◌, length, take, arith, refl, sym, ap, subst, ◌∙◌, ◌⊎◌, inl, inr, append-nil}
 use Rattle.std.proofs.lemmas.List.{take_all}
 use Rattle.rb_model.specs.State.{State, opening}
 use Rattle.rb_model.specs.Step.{Event, step, run, IsReached}
 use Rattle.rb_record.specs.Entries.{run_entries, options_text}
-use Rattle.rb_record.specs.Tapes.{Tape, HasFirst}
+use Rattle.rb_record.specs.Tapes.{Tape, last_line, IsFull, EndsWithin, HasFirst}
 use Rattle.rb_lines.specs.Lines.{longest_input}
 use Rattle.rb_lines.specs.RecordLaws.{HasLine, HasPath, ReadsAs}
 use Rattle.rb_lines.proofs.Recorded.{records_are_read, ended_records_are_read, no_entries_are_read}
 use Rattle.rb_daemon.specs.Recording.{HasRecorded}
-use Rattle.rb_daemon.specs.ServedLaws.{ReadsBack, ServedRecordsAreRead}
+use Rattle.rb_daemon.specs.ServedLaws.{ReadsBack, IsFront, ServedRecordsAreRead, ServedRecordsEndFull}
 use mathlib.Core.Bool.{true≢false}
 
 entry_count : (s : State) (events : List Event) → length (run_entries s events) ≡ length events
@@ -59,3 +59,15 @@ pub served_records_are_read : ServedRecordsAreRead
 served_records_are_read core tape served path few =
     let within = served.recorded.within in
     reads_back served.state served.reached tape served.recorded path served.lines (omega (arith, within, few))
+
+-- ---- where a record ends
+
+ends_full : (limit : ℕ) (entries : List (List ℕ)) (text : List ℕ) (held : HasFirst entries text) → (held.last ≡ last_line → IsFull limit [] entries held.count) → (held.last ≡ []) ⊎ (held.last ≡ last_line) → IsFront entries text ⊎ EndsWithin limit entries [] text
+ends_full limit entries text held full (inl none) =
+    inl (held.count, held.is ∙ ap (λ (t : List ℕ). concat (take held.count entries) ++ t) none ∙ append-nil (concat (take held.count entries)))
+ends_full limit entries text held full (inr line) =
+    inr (record { count = held.count; is_full = full line; text = held.is ∙ ap (λ (t : List ℕ). concat (take held.count entries) ++ t) line })
+
+pub served_records_end_full : ServedRecordsEndFull
+served_records_end_full core tape served =
+    ends_full tape.limit _ tape.text served.recorded.first served.recorded.ends served.recorded.first.last_is

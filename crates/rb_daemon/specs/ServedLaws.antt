@@ -1,15 +1,17 @@
 -- Laws of the core between two events of the daemon: bounds that hold with no premise on its limits or its listener.
-use Rattle.std.specs.Prelude.{◌≡◌, ◌≤◌, ℕ, true, List, length, take}
+use Rattle.std.specs.Prelude.{◌≡◌, ◌≤◌, ℕ, true, List, [], length, take, ◌⊎◌}
+use Rattle.std.specs.List.{concat}
 use Rattle.rb_model.specs.State.{State, opening}
 use Rattle.rb_model.specs.Bounds.{bytes_bound, bound_at}
 use Rattle.rb_model.specs.Costs.{event_cost, run_cost}
 use Rattle.rb_model.specs.Step.{Event, run, IsReached}
 use Rattle.rb_model.specs.WholeRuns.{args_waiting, whole_bound}
-use Rattle.rb_record.specs.Tapes.{Tape}
+use Rattle.rb_record.specs.Tapes.{Tape, EndsWithin}
 use Rattle.rb_core.specs.StandsFor.{Held, StandsFor}
 use Rattle.rb_core.specs.HeldBytes.{held}
 use Rattle.rb_lines.specs.Lines.{longest_input}
 use Rattle.rb_lines.specs.RecordLaws.{HasPath, ReadsAs}
+use Rattle.rb_daemon.specs.Recording.{entries_of}
 use Rattle.rb_daemon.specs.Served.{IsServed}
 
 -- ---- bounds
@@ -47,3 +49,13 @@ ServedRecordsAreRead =
     (core : Held) (tape : Tape) (served : IsServed core tape)
     → HasPath served.reached.listener → tape.limit ≤ longest_input
     → ReadsBack served.state served.reached tape
+
+-- a text has the first of these entries, and nothing else
+abbrev pub IsFront : List (List ℕ) → List ℕ → Type 0
+IsFront entries text = (count : ℕ) × (text ≡ concat (take count entries))
+
+-- The record of the daemon has the first entries of its run alone, or ends in front of the first one that does not fit.
+abbrev pub ServedRecordsEndFull : Type 0
+ServedRecordsEndFull =
+    (core : Held) (tape : Tape) (served : IsServed core tape)
+    → IsFront (entries_of served.reached) tape.text ⊎ EndsWithin tape.limit (entries_of served.reached) [] tape.text

@@ -1,5 +1,5 @@
 //! What holds of the core of a running daemon.
-ghost use Rattle.rb_daemon.specs.ServedLaws.{ServedBytesAreBounded, ServedStepsAreBounded, ServedRunsAreBounded, ServedRecordsAreRead};
+ghost use Rattle.rb_daemon.specs.ServedLaws.{ServedBytesAreBounded, ServedStepsAreBounded, ServedRunsAreBounded, ServedRecordsAreRead, ServedRecordsEndFull};
 
 /// Between two events of the daemon, whatever it is asked for and whatever limits and listener it was given: what its core
 /// holds is at most the bound of its limits. From each state that a run reaches and that the core stands for, an event
@@ -12,7 +12,9 @@ pub fn served_cores_are_bounded()
 
 /// Between two events of the daemon, the text of its record reads as the first events of the run that brought the core where
 /// it is, all of them while the recording goes on, and says what they gave: so `replay --check` of it finds no difference.
-/// It does where the record may be no longer than an input, and the path of the local socket is as `--local` takes it.
+/// It does if the record may be no longer than an input, and the path of the local socket is as `--local` takes it. If the
+/// record has its last line, it is full: the next entry of the run does not fit.
 pub fn served_records_are_read()
-    ensures { ServedRecordsAreRead }
+    ensures read { ServedRecordsAreRead }
+    ensures full { ServedRecordsEndFull }
 {}

@@ -68,7 +68,14 @@ nothing limit = (omega arith, omega arith, λ i. omega arith)
 fits : (row : Row) → IsSpelled row → length row.addr ≤ 128 → IsRpcb (rpcb_for row)
 fits row is few = record { prog = is.prog; vers = is.vers; netid = netid_is_content row.netid; addr = (few, omega (arith, few), is.addr); owner = nothing 128 }
 
-asks-set : (row : Row) → IsSpelled row → length row.addr ≤ 128 → Asks 4 1 (requests.Rpcb rpcbs.Set (rpcb_for row)) (rpcb_spelling (rpcb_for row))
+-- the call that sets a row: the version and the procedure of SET
+abbrev set_vers : ℕ
+set_vers = 4
+
+abbrev set_proc : ℕ
+set_proc = 1
+
+asks-set : (row : Row) → IsSpelled row → length row.addr ≤ 128 → Asks set_vers set_proc (requests.Rpcb rpcbs.Set (rpcb_for row)) (rpcb_spelling (rpcb_for row))
 unfolding procedure_at
 asks-set row is few = (refl, record { fits = fits row is few; rest = []; whole = sym (append-nil (rpcb_spelling (rpcb_for row))) })
 
@@ -91,7 +98,7 @@ told : (row : Row) → row_of_rpcb (owner_named (credential_for row.owner)) (rpc
 unfolding row_of_rpcb
 told row = rw (named row.netid, owned row.owner) refl
 
-request_read : (bytes : List ℕ) → read_request 4 1 bytes ≡ or_garbage (request 4 1 bytes)
+request_read : (bytes : List ℕ) → read_request set_vers set_proc bytes ≡ or_garbage (request set_vers set_proc bytes)
 unfolding is_known procedure_at
 request_read bytes = refl
 
@@ -100,8 +107,8 @@ unfolding row_asked
 asked row is few =
     let spelling : List ℕ = rpcb_spelling (rpcb_for row) in
     ap (row_by_verdict (set_bytes row)) (written_again (set_head row) spelling (head_fits row) is.owner)
-    ∙ ap (λ (bytes : List ℕ). row_of_reading (owner_named (credential_for row.owner)) (read_request 4 1 bytes)) (drop-append_seam (call_bytes (set_head row)) spelling)
-    ∙ ap (row_of_reading (owner_named (credential_for row.owner))) (request_read spelling ∙ ap or_garbage (asked_request 4 1 spelling (requests.Rpcb rpcbs.Set (rpcb_for row)) (asks-set row is few)))
+    ∙ ap (λ (bytes : List ℕ). row_of_reading (owner_named (credential_for row.owner)) (read_request set_vers set_proc bytes)) (drop-append_seam (call_bytes (set_head row)) spelling)
+    ∙ ap (row_of_reading (owner_named (credential_for row.owner))) (request_read spelling ∙ ap or_garbage (asked_request set_vers set_proc spelling (requests.Rpcb rpcbs.Set (rpcb_for row)) (asks-set row is few)))
     ∙ told row
 
 set : (row : Row) → IsSpelled row → length row.addr ≤ 128 → row_set (set_bytes row) ≡ Some row

@@ -1,4 +1,3 @@
 pub mod Prints
-pub mod Written
 pub mod RunTexts
 pub mod Tapes

@@ -1,10 +1,12 @@
 -- Printed digits, piece by piece.
 use Rattle.std.specs.Io.KnownBytes.{Appends}
-use Rattle.std.proofs.Common.{◌≡◌, ℕ, true, List, [], ◌∷◌, ◌++◌, length, take, drop, ◌/◌, ◌%◌, slice_index, eqb, Option, Result, Ok, Err, OnOk, refl, sym, ap, subst, ◌∙◌, append_assoc, take-append-drop}
+use Rattle.std.proofs.Common.{◌≡◌, ℕ, true, List, [], ◌∷◌, ◌++◌, ◌*◌, ◌<◌, length, take, drop, arith, ◌/◌, ◌%◌, slice_index, eqb, Option, refl, sym, ap, ◌∙◌, take-append-drop}
 use Rattle.std.proofs.KnownBytes.{Appends-nil, Appends-trans}
 use Rattle.std.proofs.lemmas.Bool.{eqb-true}
 use Rattle.std.proofs.lemmas.List.{nil_from_length}
-use Rattle.hex.specs.Hex.{encode_with, encode_lower}
+use Rattle.hex.proofs.HexLemmas.{length-encode_with}
+use Rattle.hex.specs.Hex.{encode_with, encode_lower, lower_digits}
+use Rattle.rb_record.specs.Printing.{hex_text}
 
 encode_with-append : (digits xs ys : List ℕ) → encode_with digits (xs ++ ys) ≡ encode_with digits xs ++ encode_with digits ys
 unfolding encode_with
@@ -24,7 +26,7 @@ nothing_left old rest none =
     let empty : rest ≡ [] = nil_from_length rest (eqb-true (length rest) 0 (sym none)) in
     rw empty (Appends-nil old)
 
--- two texts, and what is written behind them where that goes well
-pub behind_two : {E : Type 0} (result : Result (Unit {0}) E) (old new after : Option (List ℕ)) (first second third : List ℕ) → Appends old new (first ++ second) → OnOk result (Appends new after third) → OnOk result (Appends old after (first ++ (second ++ third)))
-behind_two (Ok done) old new after first second third before more = subst (Appends old after) (append_assoc first second third) (Appends-trans old new after (first ++ second) third before more)
-behind_two (Err fault) old new after first second third before more = tt
+-- two digits for each of some bytes
+pub some_digits : (bytes : List ℕ) → 0 < length bytes → length (hex_text bytes) ≡ 2 * length bytes
+some_digits [] some = absurd (omega (arith, some))
+some_digits (byte ∷ bytes) some = length-encode_with lower_digits (byte ∷ bytes)

@@ -1,5 +1,5 @@
 -- What a tape holds.
-use Rattle.std.specs.Prelude.{if◌then◌else◌, ◌≡◌, ◌≤◌, ◌<◌, ◌+◌, nat_le, nat_lt, ℕ, Bool, true, false, List, [], ◌++◌, length, take, drop, codes, ◌⊎◌}
+use Rattle.std.specs.Prelude.{◌≡◌, ◌≤◌, ◌+◌, nat_le, nat_lt, ℕ, Bool, true, false, List, [], ◌∷◌, ◌++◌, length, take, drop, codes, ◌⊎◌}
 use Rattle.std.specs.List.{concat}
 
 -- All that was recorded, how many bytes of it the file has, whether the recording goes on, and how many bytes there may be.
@@ -21,31 +21,34 @@ last_line = codes "# the limit of this record is reached: what follows is not in
 abbrev pub empty_tape : ℕ → Tape
 empty_tape limit = record { text = []; written = 0; is_on = nat_lt (length last_line) limit; limit = limit }
 
--- Whether an entry can be recorded behind a text: the last line has to fit behind both.
+-- Whether an entry can be recorded after a text: the last line has to fit after both.
 abbrev pub entry_fits : ℕ → List ℕ → List ℕ → Bool
 entry_fits limit text entry = nat_le (length text + length entry + length last_line) limit
 
--- a text with an entry behind it, or with the last line where that does not fit
-abbrev pub with_entry : ℕ → List ℕ → List ℕ → List ℕ
-with_entry limit text entry = text ++ (if entry_fits limit text entry then entry else last_line)
+-- After a text and the first of these entries, so many, the next entry does not fit.
+pub record IsFull (limit : ℕ) (text : List ℕ) (entries : List (List ℕ)) (count : ℕ) : Type 0 where
+  pub next : List ℕ
+  pub left : List (List ℕ)
+  pub is_next : drop count entries ≡ next ∷ left
+  pub is_too_long : entry_fits limit (text ++ concat (take count entries)) next ≡ false
 
--- Of these entries the first ones were recorded, whole, but not all; and behind them the last line.
-pub record EndsWithin (entries : List (List ℕ)) (old new : List ℕ) : Type 0 where
+-- Of these entries the first ones were recorded, whole, up to one that does not fit; and after them the last line.
+pub record EndsWithin (limit : ℕ) (entries : List (List ℕ)) (old new : List ℕ) : Type 0 where
   pub count : ℕ
-  pub some_are_left : count < length entries
+  pub is_full : IsFull limit old entries count
   pub text : new ≡ old ++ (concat (take count entries) ++ last_line)
 
--- Where the recording goes on, it went on before, and these entries are recorded behind what was. Where they reach the limit,
--- it ends in front of the first that does not fit. Where it had ended, all stays.
+-- While the recording goes on, it went on before, and these entries are recorded after what was. It ends in front of the
+-- first entry that does not fit, and nowhere else. If it had ended, all stays.
 pub record Records (entries : List (List ℕ)) (old new : Tape) : Type 0 where
   pub on : new.is_on ≡ true → old.is_on ≡ true
   pub grows : new.is_on ≡ true → new.text ≡ old.text ++ concat entries
-  pub ends : old.is_on ≡ true → new.is_on ≡ false → EndsWithin entries old.text new.text
+  pub ends : old.is_on ≡ true → new.is_on ≡ false → EndsWithin old.limit entries old.text new.text
   pub stays : old.is_on ≡ false → new ≡ old
   pub limit : new.limit ≡ old.limit
   pub within : length new.text ≤ new.limit
 
--- A text has the first of these entries, whole, and behind them nothing, or the last line.
+-- A text has the first of these entries, whole, and after them nothing, or the last line.
 pub record HasFirst (entries : List (List ℕ)) (text : List ℕ) : Type 0 where
   pub count : ℕ
   pub are_there : count ≤ length entries
@@ -53,8 +56,10 @@ pub record HasFirst (entries : List (List ℕ)) (text : List ℕ) : Type 0 where
   pub last_is : (last ≡ []) ⊎ (last ≡ last_line)
   pub is : text ≡ concat (take count entries) ++ last
 
--- A tape is a record of these entries: it has all of them while the recording goes on, and the first ones in any case.
+-- A tape is a record of these entries: it has all of them while the recording goes on, and the first ones in any case. It has
+-- the last line only if the next entry does not fit.
 pub record IsRecordOf (entries : List (List ℕ)) (tape : Tape) : Type 0 where
   pub all : tape.is_on ≡ true → tape.text ≡ concat entries
   pub first : HasFirst entries tape.text
+  pub ends : first.last ≡ last_line → IsFull tape.limit [] entries first.count
   pub within : length tape.text ≤ tape.limit

@@ -1,17 +1,14 @@
-//! What a record is made of: the options of its replay, and events with what they gave.
-ghost use Rattle.std.specs.Prelude.{OnOk};
-ghost use Rattle.rb_record.specs.Printing.{Writes};
-ghost use Rattle.rb_record.specs.Entries.{entry_of, limits_text, announce_text, inet_text, inet6_text, local_text, lists_text, forwarding_text, listener_text, options_of};
+//! The options of the replay of a run.
+ghost use Rattle.std.specs.Prelude.{◌≡◌, ◌≤◌, ◌+◌, ◌++◌, length};
+ghost use Rattle.rb_record.specs.Lines.{line_text};
+ghost use Rattle.rb_record.specs.Entries.{limits_text, announce_text, inet_text, inet6_text, local_text, lists_text, forwarding_text, listener_text, options_of};
 
-use crate::happening::{Happening, write_event};
-use crate::printing::write_output;
-use crate::shown::Shown;
+use crate::front::Front;
+use crate::line::Line;
 use rb_address::Host;
 use rb_model::Limits;
 use rb_proto::{Forwarding, Listener};
 use rb_uaddr::AddressText;
-use std::io;
-use std::io::Write;
 
 /// What a run begins with.
 #[derive(Clone, Copy, Debug)]
@@ -27,104 +24,96 @@ pub struct Start<'a> {
     pub moment: u64,
 }
 
-/// Writes an entry: the line of an event, and behind it the line of its output as a comment that begins with `#> `.
-/// An error where the writer fails; how much of the entry it has then is not known.
-pub fn write_entry<W: Write>(
-    event: &Happening<'_>,
-    output: &Shown<'_>,
-    writer: &mut W,
-) -> io::Result<()>
-    ensures { OnOk result
-        (Writes W.contents writer.old writer.new (entry_of event.now output.now)) }
-{
-    write_event(event, writer)?;
-    writer.write_all(b"#> ")?;
-    write_output(output, writer)
-}
-
-fn write_limits<W: Write>(limits: &Limits, writer: &mut W) -> io::Result<()>
-    ensures { OnOk result (Writes W.contents writer.old writer.new (limits_text limits.now)) }
+fn push_limits(front: &mut Front, limits: &Limits)
+    requires { length front.old.text.items + 89 ≤ 640 }
+    ensures text { front.new.text.items ≡ front.old.text.items ++ limits_text limits.now }
+    ensures short { length front.new.text.items ≤ length front.old.text.items + 89 }
 {
     let Limits {
         conns,
         rows,
         forwards,
     } = *limits;
-    write!(
-        writer,
-        " --conns {conns} --rows {rows} --forwards {forwards}"
-    )
+    front.push(b" --conns ");
+    front.push_number(conns as u64);
+    front.push(b" --rows ");
+    front.push_number(rows as u64);
+    front.push(b" --forwards ");
+    front.push_number(forwards as u64);
 }
 
-fn write_announce<W: Write>(host: Host, writer: &mut W) -> io::Result<()>
-    ensures { OnOk result (Writes W.contents writer.old writer.new (announce_text host)) }
+fn push_announce(front: &mut Front, host: Host)
+    requires { length front.old.text.items + 95 ≤ 640 }
+    ensures text { front.new.text.items ≡ front.old.text.items ++ announce_text host }
+    ensures short { length front.new.text.items ≤ length front.old.text.items + 95 }
 {
-    write!(writer, " --announce {host}")
+    front.push(b" --announce ");
+    front.push_host(host);
 }
 
-/// Writes the announced host of IPv4, where it is served.
-#[tactic(auto, using(crate::proofs::Written::nothing))]
-fn write_inet<W: Write>(announced: Option<[u8; 4]>, writer: &mut W) -> io::Result<()>
-    ensures { OnOk result (Writes W.contents writer.old writer.new (inet_text announced)) }
+/// The announced host of IPv4, if it is served.
+fn push_inet(front: &mut Front, announced: Option<[u8; 4]>)
+    requires { length front.old.text.items + 95 ≤ 640 }
+    ensures text { front.new.text.items ≡ front.old.text.items ++ inet_text announced }
+    ensures short { length front.new.text.items ≤ length front.old.text.items + 95 }
 {
-    match announced {
-        Some(octets) => write_announce(Host::V4(octets), writer),
-        None => Ok(()),
+    if let Some(octets) = announced {
+        push_announce(front, Host::V4(octets));
     }
 }
 
-/// Writes the announced host of IPv6, where it is served.
-#[tactic(auto, using(crate::proofs::Written::nothing))]
-fn write_inet6<W: Write>(announced: Option<[u8; 16]>, writer: &mut W) -> io::Result<()>
-    ensures { OnOk result (Writes W.contents writer.old writer.new (inet6_text announced)) }
+/// The announced host of IPv6, if it is served.
+fn push_inet6(front: &mut Front, announced: Option<[u8; 16]>)
+    requires { length front.old.text.items + 95 ≤ 640 }
+    ensures text { front.new.text.items ≡ front.old.text.items ++ inet6_text announced }
+    ensures short { length front.new.text.items ≤ length front.old.text.items + 95 }
 {
-    match announced {
-        Some(octets) => write_announce(Host::V6(octets), writer),
-        None => Ok(()),
+    if let Some(octets) = announced {
+        push_announce(front, Host::V6(octets));
     }
 }
 
-/// Writes the path of the local socket, where there is one.
-#[tactic(auto, using(crate::proofs::Written::nothing))]
-fn write_local<W: Write>(local: &Option<AddressText>, writer: &mut W) -> io::Result<()>
-    ensures { OnOk result (Writes W.contents writer.old writer.new (local_text local.now)) }
+/// The path of the local socket, if there is one.
+fn push_local(front: &mut Front, local: &Option<AddressText>)
+    requires { length front.old.text.items + 139 ≤ 640 }
+    ensures text { front.new.text.items ≡ front.old.text.items ++ local_text local.now }
+    ensures short { length front.new.text.items ≤ length front.old.text.items + 139 }
 {
-    match local {
-        Some(path) => {
-            writer.write_all(b" --local '")?;
-            writer.write_all(path.as_slice())?;
-            writer.write_all(b"'")
-        }
-        None => Ok(()),
+    if let Some(path) = local {
+        front.push(b" --local '");
+        front.push(path.as_slice());
+        front.push(b"'");
     }
 }
 
-/// Writes that no long replies go to strangers over UDP, where none do.
-#[tactic(auto, using(crate::proofs::Written::nothing))]
-fn write_lists<W: Write>(long_replies: bool, writer: &mut W) -> io::Result<()>
-    ensures { OnOk result (Writes W.contents writer.old writer.new (lists_text long_replies)) }
+/// That no long replies go to strangers over UDP, if none do.
+fn push_lists(front: &mut Front, long_replies: bool)
+    requires { length front.old.text.items + 18 ≤ 640 }
+    ensures text { front.new.text.items ≡ front.old.text.items ++ lists_text long_replies }
+    ensures short { length front.new.text.items ≤ length front.old.text.items + 18 }
 {
-    if long_replies {
-        Ok(())
-    } else {
-        writer.write_all(b" --udp-lists local")
+    if !long_replies {
+        front.push(b" --udp-lists local");
     }
 }
 
-/// Writes for whom calls are forwarded, where that is not for everybody to anywhere.
-#[tactic(auto, using(crate::proofs::Written::nothing))]
-fn write_forwarding<W: Write>(forwarding: Forwarding, writer: &mut W) -> io::Result<()>
-    ensures { OnOk result (Writes W.contents writer.old writer.new (forwarding_text forwarding)) }
+/// For whom calls are forwarded, if that is not for everybody to anywhere.
+fn push_forwarding(front: &mut Front, forwarding: Forwarding)
+    requires { length front.old.text.items + 20 ≤ 640 }
+    ensures text { front.new.text.items ≡ front.old.text.items ++ forwarding_text forwarding }
+    ensures short { length front.new.text.items ≤ length front.old.text.items + 20 }
 {
     match forwarding {
-        Forwarding::Anywhere => Ok(()),
-        Forwarding::ForAll => writer.write_all(b" --forward-for all"),
-        Forwarding::ForLocal => writer.write_all(b" --forward-for local"),
+        Forwarding::Anywhere => {}
+        Forwarding::ForAll => front.push(b" --forward-for all"),
+        Forwarding::ForLocal => front.push(b" --forward-for local"),
     }
 }
 
-fn write_listener<W: Write>(listener: &Listener, writer: &mut W) -> io::Result<()>
-    ensures { OnOk result (Writes W.contents writer.old writer.new (listener_text listener.now)) }
+fn push_listener(front: &mut Front, listener: &Listener)
+    requires { length front.old.text.items + 395 ≤ 640 }
+    ensures text { front.new.text.items ≡ front.old.text.items ++ listener_text listener.now }
+    ensures short { length front.new.text.items ≤ length front.old.text.items + 395 }
 {
     let Listener {
         announced,
@@ -132,18 +121,18 @@ fn write_listener<W: Write>(listener: &Listener, writer: &mut W) -> io::Result<(
         local,
         terms,
     } = listener;
-    write_inet(announced.inet, writer)?;
-    write_inet6(announced.inet6, writer)?;
-    write!(writer, " --port {port}")?;
-    write_local(local, writer)?;
-    write_lists(terms.long_replies, writer)?;
-    write_forwarding(terms.forwarding, writer)
+    push_inet(front, announced.inet);
+    push_inet6(front, announced.inet6);
+    front.push(b" --port ");
+    front.push_number(u64::from(*port));
+    push_local(front, local);
+    push_lists(front, terms.long_replies);
+    push_forwarding(front, terms.forwarding);
 }
 
-/// Writes a comment line: the command that checks a record of a run that begins so. An error where the writer fails;
-/// how much of the line it has then is not known.
-pub fn write_options<W: Write>(start: &Start<'_>, writer: &mut W) -> io::Result<()>
-    ensures { OnOk result (Writes W.contents writer.old writer.new (options_of start.now)) }
+/// A comment line: the command that checks a record of a run that begins so.
+pub(crate) fn options_line<'a>(start: &Start<'_>) -> Line<'a>
+    ensures { line_text result ≡ options_of start.now }
 {
     let Start {
         limits,
@@ -151,8 +140,12 @@ pub fn write_options<W: Write>(start: &Start<'_>, writer: &mut W) -> io::Result<
         first_xid,
         moment,
     } = start;
-    writer.write_all(b"# rpcbind replay --check")?;
-    write_limits(limits, writer)?;
-    write_listener(listener, writer)?;
-    writeln!(writer, " --xid {first_xid} --now {moment}")
+    let mut front = Front::new("# rpcbind replay --check");
+    push_limits(&mut front, limits);
+    push_listener(&mut front, listener);
+    front.push(b" --xid ");
+    front.push_number(u64::from(*first_xid));
+    front.push(b" --now ");
+    front.push_number(*moment);
+    Line::of(front)
 }

@@ -1,9 +1,12 @@
 //! The lines that events are written as.
-ghost use Rattle.std.specs.Prelude.{OnOk};
+ghost use Rattle.std.specs.Prelude.{◌≡◌, ◌≤◌, ◌+◌, ◌++◌, length, decimal, codes, OnOk};
+ghost use Rattle.rb_model.specs.Step.Event.{Open, Bytes, Gave, Datagram, Forward};
+ghost use Rattle.rb_record.specs.Lines.{line_text};
 ghost use Rattle.rb_record.specs.Printing.{Writes};
-ghost use Rattle.rb_record.specs.Entries.{who_line, event_of, event_text};
+ghost use Rattle.rb_record.specs.Entries.{event_of, event_text};
 
-use crate::printing::{write_bytes, write_to};
+use crate::front::Front;
+use crate::line::Line;
 use rb_address::{Peer, Who};
 use std::io;
 use std::io::Write;
@@ -37,41 +40,86 @@ pub enum Happening<'a> {
     ZeroStats,
 }
 
-/// Writes a line of a word, a caller, and bytes from it.
-fn write_from<W: Write>(word: &str, from: Who, bytes: &[u8], writer: &mut W) -> io::Result<()>
-    ensures { OnOk result
-        (Writes W.contents writer.old writer.new (who_line word.now from bytes.now)) }
+/// The front of a line that begins with a word and a moment or a number.
+fn front_at(word: &str, number: u64) -> Front
+    requires { length word.now ≤ 64 }
+    ensures text { result.text.items ≡ word.now ++ decimal number ++ codes " " }
+    ensures short { length result.text.items ≤ length word.now + 21 }
 {
-    write!(writer, "{word}{from}")?;
-    write_bytes(" ", bytes, writer)
+    let mut front = Front::new(word);
+    front.push_number(number);
+    front.push(b" ");
+    front
 }
 
-/// Writes the line of an event (docs/EVENTS.md). An error where the writer fails; how much of the line it has then is
-/// not known.
+fn open_line<'a>(now: u64, from: Who) -> Line<'a>
+    ensures { line_text result ≡ event_text (Open now from) }
+{
+    let mut front = front_at("open ", now);
+    front.push_who(from);
+    Line::of(front)
+}
+
+fn bytes_line<'a>(now: u64, id: u64, bytes: &'a [u8]) -> Line<'a>
+    ensures { line_text result ≡ event_text (Bytes now id bytes.now) }
+{
+    let mut front = front_at("bytes ", now);
+    front.push_number(id);
+    front.push(b" ");
+    Line::with(front, bytes)
+}
+
+fn gave_line<'a>(now: u64, id: u64, count: usize) -> Line<'a>
+    ensures { line_text result ≡ event_text (Gave now id count) }
+{
+    let mut front = front_at("gave ", now);
+    front.push_number(id);
+    front.push(b" ");
+    front.push_number(count as u64);
+    Line::of(front)
+}
+
+fn datagram_line<'a>(now: u64, from: Who, bytes: &'a [u8]) -> Line<'a>
+    ensures { line_text result ≡ event_text (Datagram now from bytes.now) }
+{
+    let mut front = front_at("datagram ", now);
+    front.push_who(from);
+    front.push(b" ");
+    Line::with(front, bytes)
+}
+
+fn forward_line<'a>(now: u64, from: Peer, bytes: &'a [u8]) -> Line<'a>
+    ensures { line_text result ≡ event_text (Forward now from bytes.now) }
+{
+    let mut front = front_at("forward ", now);
+    front.push_peer(from);
+    front.push(b" ");
+    Line::with(front, bytes)
+}
+
+/// The line of an event (docs/EVENTS.md).
+pub(crate) fn event_line<'a>(event: &Happening<'a>) -> Line<'a>
+    ensures { line_text result ≡ event_text (event_of event.now) }
+{
+    match *event {
+        Happening::Open(now, from) => open_line(now, from),
+        Happening::Bytes(now, id, bytes) => bytes_line(now, id, bytes),
+        Happening::Pending(id) => Line::number("pending ", id),
+        Happening::Gave(now, id, n) => gave_line(now, id, n),
+        Happening::Closed(id) => Line::number("closed ", id),
+        Happening::NextLost => Line::word("lost"),
+        Happening::Datagram(now, from, bytes) => datagram_line(now, from, bytes),
+        Happening::Unsent => Line::word("unsent"),
+        Happening::Sent(number) => Line::number("sent ", number),
+        Happening::Forward(now, from, bytes) => forward_line(now, from, bytes),
+        Happening::Expire(now) => Line::number("expire ", now),
+        Happening::ZeroStats => Line::word("zero"),
+    }
+}
+
+/// Writes the line of an event. An error if the writer fails; how much of the line it has then is not known.
 pub fn write_event<W: Write>(event: &Happening<'_>, writer: &mut W) -> io::Result<()>
     ensures { OnOk result (Writes W.contents writer.old writer.new (event_text (event_of event.now))) }
 {
-    match event {
-        Happening::Open(now, from) => writeln!(writer, "open {now} {from}"),
-        Happening::Bytes(now, id, bytes) => {
-            write!(writer, "bytes {now} {id}")?;
-            write_bytes(" ", bytes, writer)
-        }
-        Happening::Pending(id) => writeln!(writer, "pending {id}"),
-        Happening::Gave(now, id, n) => writeln!(writer, "gave {now} {id} {n}"),
-        Happening::Closed(id) => writeln!(writer, "closed {id}"),
-        Happening::NextLost => writer.write_all(b"lost\n"),
-        Happening::Datagram(now, from, bytes) => {
-            write!(writer, "datagram {now}")?;
-            write_from(" ", *from, bytes, writer)
-        }
-        Happening::Unsent => writer.write_all(b"unsent\n"),
-        Happening::Sent(number) => writeln!(writer, "sent {number}"),
-        Happening::Forward(now, from, bytes) => {
-            write!(writer, "forward {now}")?;
-            write_to(" ", *from, bytes, writer)
-        }
-        Happening::Expire(now) => writeln!(writer, "expire {now}"),
-        Happening::ZeroStats => writer.write_all(b"zero\n"),
-    }
+    event_line(event).write_to(writer)
 }

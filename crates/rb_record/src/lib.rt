@@ -2,12 +2,14 @@
 #![tactic(auto)]
 
 mod entries;
+mod front;
 mod happening;
+mod line;
 mod printing;
 mod shown;
 mod tape;
 
-pub use entries::{Start, write_entry, write_options};
+pub use entries::Start;
 pub use happening::{Happening, write_event};
 pub use printing::write_output;
 pub use shown::{Shown, ShownCall, show};

@@ -1,123 +1,118 @@
 //! The lines that outputs are printed as.
-ghost use Rattle.std.specs.Prelude.{OnOk};
-ghost use Rattle.hex.specs.Hex.{encode_lower};
-ghost use Rattle.rb_address.specs.Peers.{peer_text};
-ghost use Rattle.rb_record.specs.Printing.{hex_text, bytes_line, peer_line, source_line, call_of, unsent_line, refusal_text, output_text, shown_output, Writes};
+ghost use Rattle.std.specs.Prelude.{◌≡◌, codes, OnOk, option_map};
+ghost use Rattle.rb_model.specs.Step.Output.{TookAndClosed, LostIs, UnsentIs};
+ghost use Rattle.rb_record.specs.Lines.{line_text};
+ghost use Rattle.rb_record.specs.Printing.{call_of, source_line, unsent_line, refusal_text, output_text, shown_output, Writes};
 
+use crate::front::Front;
+use crate::line::Line;
 use crate::shown::{Shown, ShownCall};
 use rb_address::{Peer, Source};
 use rb_model::CoreFault;
 use std::io;
 use std::io::Write;
 
-/// How many bytes are printed at a time.
-const PIECE: usize = 512;
-
-/// Writes bytes as two hexadecimal digits each, in lower case.
-fn write_digits<W: Write>(bytes: &[u8], writer: &mut W) -> io::Result<()>
-    ensures { OnOk result (Writes W.contents writer.old writer.new (encode_lower bytes.now)) }
+/// The line of a reply, with where its call came from.
+fn reply_line<'a>(source: Source, bytes: &'a [u8]) -> Line<'a>
+    ensures { line_text result ≡ source_line (codes "datagram ") source bytes.now }
 {
-    let mut digits = [0; 2 * PIECE];
-    let mut rest = bytes;
-    while !rest.is_empty() {
-        let (piece, more) = rest.split_at(rest.len().min(PIECE));
-        let text = &mut digits[..2 * piece.len()];
-        hex::encode_to_slice(piece, text).unwrap();
-        writer.write_all(text)?;
-        rest = more;
+    let mut front = Front::new("datagram ");
+    front.push_source(source);
+    front.push(b" ");
+    Line::with(front, bytes)
+}
+
+/// The line of a forwarded call that is to be sent.
+fn call_line<'a>(number: u64, target: Peer, call: &'a [u8]) -> Line<'a>
+    ensures { line_text result
+        ≡ unsent_line (record { number = number; target = target; call = call.now }) }
+{
+    let mut front = Front::new("unsent ");
+    front.push_number(number);
+    front.push(b" ");
+    front.push_peer(target);
+    front.push(b" ");
+    Line::with(front, call)
+}
+
+/// The line of a look for a forwarded call that is to be sent.
+fn unsent_line<'a>(call: Option<ShownCall<'a>>) -> Line<'a>
+    ensures { line_text result ≡ output_text (UnsentIs (option_map call_of call.entry)) }
+{
+    match call {
+        None => Line::word("unsent -"),
+        Some(
+            ShownCall {
+                number,
+                target,
+                call,
+            },
+        ) => call_line(number, target, call),
     }
-    Ok(())
 }
 
-/// Writes bytes in hexadecimal digits, or `-` for none.
-fn write_hex<W: Write>(bytes: &[u8], writer: &mut W) -> io::Result<()>
-    ensures { OnOk result (Writes W.contents writer.old writer.new (hex_text bytes.now)) }
+/// The line of bytes that were taken by a connection that is lost now.
+fn closed_line<'a>(count: usize) -> Line<'a>
+    ensures { line_text result ≡ output_text (TookAndClosed count) }
 {
-    if bytes.is_empty() {
-        return writer.write_all(b"-");
+    let mut front = Front::new("took ");
+    front.push_number(count as u64);
+    front.push(b" closed");
+    Line::of(front)
+}
+
+/// The line of a look for a connection that is lost.
+fn lost_line<'a>(id: Option<u64>) -> Line<'a>
+    ensures { line_text result ≡ output_text (LostIs id) }
+{
+    match id {
+        None => Line::word("lost -"),
+        Some(id) => Line::number("lost ", id),
     }
-    write_digits(bytes, writer)
 }
 
-/// Writes a line of a word and bytes.
-pub(crate) fn write_bytes<W: Write>(word: &str, bytes: &[u8], writer: &mut W) -> io::Result<()>
-    ensures { OnOk result (Writes W.contents writer.old writer.new (bytes_line word.now bytes.now)) }
-{
-    writer.write_all(word.as_bytes())?;
-    write_hex(bytes, writer)?;
-    writer.write_all(b"\n")
-}
-
-/// Writes a line of a word, and bytes to or for a peer.
-pub(crate) fn write_to<W: Write>(
-    word: &str,
-    to: Peer,
-    bytes: &[u8],
-    writer: &mut W,
-) -> io::Result<()>
-    ensures { OnOk result (Writes W.contents writer.old writer.new (peer_line word.now to bytes.now)) }
-{
-    write!(writer, "{word}{to}")?;
-    write_bytes(" ", bytes, writer)
-}
-
-/// Writes a line of a word, and bytes to where a call came from.
-fn write_back<W: Write>(word: &str, source: Source, bytes: &[u8], writer: &mut W) -> io::Result<()>
-    ensures { OnOk result
-        (Writes W.contents writer.old writer.new (source_line word.now source bytes.now)) }
-{
-    write!(writer, "{word}{source}")?;
-    write_bytes(" ", bytes, writer)
-}
-
-/// Writes the line of a forwarded call that is to be sent.
-fn write_unsent<W: Write>(call: &ShownCall<'_>, writer: &mut W) -> io::Result<()>
-    ensures { OnOk result (Writes W.contents writer.old writer.new
-        (unsent_line (call_of call.now))) }
-{
-    let number = call.number;
-    write!(writer, "unsent {number}")?;
-    write_to(" ", call.target, call.call, writer)
-}
-
-/// Writes the line of a refused call.
-fn write_refusal<W: Write>(fault: CoreFault, writer: &mut W) -> io::Result<()>
-    ensures { OnOk result (Writes W.contents writer.old writer.new (refusal_text fault)) }
+/// The line of a refused call.
+fn refusal_line<'a>(fault: CoreFault) -> Line<'a>
+    ensures { line_text result ≡ refusal_text fault }
 {
     match fault {
-        CoreFault::Full => writer.write_all(b"full\n"),
-        CoreFault::Spent => writer.write_all(b"spent\n"),
-        CoreFault::Gone => writer.write_all(b"gone\n"),
-        CoreFault::NoMemory => writer.write_all(b"no memory\n"),
-        CoreFault::BadLimits => writer.write_all(b"bad limits\n"),
+        CoreFault::Full => Line::word("full"),
+        CoreFault::Spent => Line::word("spent"),
+        CoreFault::Gone => Line::word("gone"),
+        CoreFault::NoMemory => Line::word("no memory"),
+        CoreFault::BadLimits => Line::word("bad limits"),
     }
 }
 
-/// Writes the line of an output (docs/EVENTS.md). An error where the writer fails; how much of the line it has then
-/// is not known.
+/// The line of an output (docs/EVENTS.md).
+pub(crate) fn output_line<'a>(output: &Shown<'a>) -> Line<'a>
+    ensures { line_text result ≡ output_text (shown_output output.now) }
+{
+    match *output {
+        Shown::Replied(bytes) => Line::bytes("reply ", bytes),
+        Shown::Silent => Line::word("silent"),
+        Shown::Opened(id) => Line::number("open ", id),
+        Shown::Refused(fault) => refusal_line(fault),
+        Shown::Took(n) => Line::number("took ", n as u64),
+        Shown::TookAndClosed(n) => closed_line(n),
+        Shown::Pending(bytes) => Line::bytes("pending ", bytes),
+        Shown::Done => Line::word("ok"),
+        Shown::TooMuch => Line::word("toomuch"),
+        Shown::Lost(id) => lost_line(id),
+        Shown::Forwarded => Line::word("forwarded"),
+        Shown::Unsent(call) => unsent_line(call),
+        Shown::Ignored => Line::word("ignored"),
+        Shown::Nothing => Line::word("nothing"),
+        Shown::ConnectionClosed(id) => Line::number("closed ", id),
+        Shown::Ready(id) => Line::number("ready ", id),
+        Shown::RepliedTo(who, bytes) => reply_line(who.source, bytes),
+    }
+}
+
+/// Writes the line of an output. An error if the writer fails; how much of the line it has then is not known.
 pub fn write_output<W: Write>(output: &Shown<'_>, writer: &mut W) -> io::Result<()>
     ensures { OnOk result
         (Writes W.contents writer.old writer.new (output_text (shown_output output.now))) }
 {
-    match output {
-        Shown::Replied(bytes) => write_bytes("reply ", bytes, writer),
-        Shown::Silent => writer.write_all(b"silent\n"),
-        Shown::Opened(id) => writeln!(writer, "open {id}"),
-        Shown::Refused(fault) => write_refusal(*fault, writer),
-        Shown::Took(n) => writeln!(writer, "took {n}"),
-        Shown::TookAndClosed(n) => writeln!(writer, "took {n} closed"),
-        Shown::Pending(bytes) => write_bytes("pending ", bytes, writer),
-        Shown::Done => writer.write_all(b"ok\n"),
-        Shown::TooMuch => writer.write_all(b"toomuch\n"),
-        Shown::Lost(None) => writer.write_all(b"lost -\n"),
-        Shown::Lost(Some(id)) => writeln!(writer, "lost {id}"),
-        Shown::Forwarded => writer.write_all(b"forwarded\n"),
-        Shown::Unsent(None) => writer.write_all(b"unsent -\n"),
-        Shown::Unsent(Some(unsent)) => write_unsent(unsent, writer),
-        Shown::Ignored => writer.write_all(b"ignored\n"),
-        Shown::Nothing => writer.write_all(b"nothing\n"),
-        Shown::ConnectionClosed(id) => writeln!(writer, "closed {id}"),
-        Shown::Ready(id) => writeln!(writer, "ready {id}"),
-        Shown::RepliedTo(who, bytes) => write_back("datagram ", who.source, bytes, writer),
-    }
+    output_line(output).write_to(writer)
 }

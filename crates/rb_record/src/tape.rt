@@ -1,9 +1,11 @@
 //! The tape that a run is recorded on.
 ghost use Rattle.std.specs.Prelude.{◌≡◌, ◌≤◌, ◌+◌, [], true, length, vec_capacity, IfOk};
-ghost use Rattle.rb_record.specs.Tapes.{last_line, entry_fits, with_entry};
+ghost use Rattle.rb_record.specs.Tapes.{last_line};
 
-use crate::entries::{Start, write_entry, write_options};
-use crate::happening::Happening;
+use crate::entries::{Start, options_line};
+use crate::happening::{Happening, event_line};
+use crate::line::{Line, push_bytes};
+use crate::printing::output_line;
 use crate::shown::Shown;
 use std::alloc::{AllocError, Global};
 use std::io;
@@ -13,57 +15,8 @@ use std::marker::Model;
 /// The last line of a record that reached its limit.
 const ENDING: &[u8] = b"# the limit of this record is reached: what follows is not in it\n";
 
-/// The room for one entry. The longest that the daemon makes is a datagram of 65,536 bytes with a reply of 9,000: two
-/// digits for each byte, and words.
-const LONGEST_ENTRY: usize = 160_000;
-
-/// An entry while it is written: bytes up to a number of them, for which there is room from the start.
-#[derive(Drop)]
-struct Draft {
-    text: Vec<u8>,
-    room: usize,
-    ghost has_room: { room ≤ vec_capacity text },
-}
-
-impl Draft {
-    ghost use Rattle.std.specs.Prelude.{◌≡◌, IfOk};
-
-    /// An empty one with this room.
-    fn new(alloc: Global, room: usize) -> Result<Draft, AllocError>
-        ensures { IfOk result (λ draft. draft.room ≡ room) }
-    {
-        let text = empty_text(alloc, room)?;
-        Ok(Draft { text, room })
-    }
-}
-
-/// `write` takes as many bytes as there is room for.
-impl Write for Draft {
-    ghost use Rattle.std.specs.Prelude.{◌≡◌, ◌-◌, min, length, Some, Ok, IsOk};
-    ghost use Rattle.std.specs.Io.KnownBytes.{WriteAppends, Keeps};
-    ghost use Rattle.std.specs.Io.{WritesAtMost};
-
-    ghost contents = { λ draft. Some draft.text.items };
-
-    fn write(&mut self, bytes: &[u8]) -> io::Result<usize>
-        ensures bound { WritesAtMost result bytes.now }
-        ensures bytes { WriteAppends
-            (Some self.old.text.items) (Some self.new.text.items) result bytes.now }
-        ensures count { result
-            ≡ Ok (min (length bytes.now) (self.old.room - length self.old.text.items)) }
-    {
-        let count = bytes.len().min(self.room.saturating_sub(self.text.len()));
-        self.text.extend_from_slice(&bytes[..count])?;
-        Ok(count)
-    }
-
-    fn flush(&mut self) -> io::Result<()>
-        ensures bytes { Keeps (Some self.old.text.items) (Some self.new.text.items) }
-        ensures ok { IsOk result }
-    {
-        Ok(())
-    }
-}
+/// What stands in front of the line of an output.
+const MARK: &[u8] = b"#> ";
 
 /// An empty text with room for so many bytes. It is written to, so that its memory is the process's from here on.
 fn empty_text(alloc: Global, room: usize) -> Result<Vec<u8>, AllocError>
@@ -89,20 +42,39 @@ struct Page {
 }
 
 impl Page {
-    ghost use Rattle.std.specs.Prelude.{◌≡◌, ◌++◌, true, false};
+    ghost use Rattle.std.specs.Prelude.{◌≡◌, ◌≤◌, ◌+◌, ◌++◌, nat_le, length, true, false};
+    ghost use Rattle.rb_record.specs.Lines.{line_text};
 
-    /// Adds an entry. Where it does not fit, that ends the record.
-    fn add(&mut self, entry: &[u8])
-        requires { self.old.is_on ≡ true }
-        ensures on { self.new.is_on ≡ entry_fits self.old.limit self.old.text.items entry.now }
-        ensures text { self.new.text.items
-            ≡ with_entry self.old.limit self.old.text.items entry.now }
+    /// Whether so many bytes fit, with the last line after them.
+    fn has_room(&self, count: u128) -> bool
+        requires { self.now.is_on ≡ true }
+        ensures { result
+            ≡ nat_le (length self.now.text.items + count + length last_line) self.now.limit }
+    {
+        count <= (self.limit - self.text.len() - ENDING.len()) as u128
+    }
+
+    /// Adds bytes that fit, with the last line after them.
+    fn push(&mut self, bytes: &[u8])
+        requires on { self.old.is_on ≡ true }
+        requires fits { length self.old.text.items + length bytes.now + length last_line ≤ self.old.limit }
+        ensures text { self.new.text.items ≡ self.old.text.items ++ bytes.now }
+        ensures on { self.new.is_on ≡ true }
         ensures limit { self.new.limit ≡ self.old.limit }
     {
-        let room = self.limit - self.text.len() - ENDING.len();
-        if entry.len() > room || self.text.extend_from_slice(entry).is_err() {
-            self.end();
-        }
+        push_bytes(&mut self.text, bytes);
+    }
+
+    /// Adds a line that fits, with the last line after it.
+    fn push_line(&mut self, line: &Line<'_>)
+        requires on { self.old.is_on ≡ true }
+        requires fits { length self.old.text.items + length (line_text line.now) + length last_line
+            ≤ self.old.limit }
+        ensures text { self.new.text.items ≡ self.old.text.items ++ line_text line.now }
+        ensures on { self.new.is_on ≡ true }
+        ensures limit { self.new.limit ≡ self.old.limit }
+    {
+        line.push_to(&mut self.text);
     }
 
     /// Ends the record with its last line.
@@ -113,7 +85,7 @@ impl Page {
         ensures limit { self.new.limit ≡ self.old.limit }
     {
         self.is_on = false;
-        let _ = self.text.extend_from_slice(ENDING);
+        push_bytes(&mut self.text, ENDING);
     }
 }
 
@@ -121,7 +93,6 @@ impl Page {
 #[derive(Drop)]
 pub struct Tape {
     page: Page,
-    draft: Draft,
     /// How many bytes of it were written out.
     written: usize,
 }
@@ -141,7 +112,7 @@ impl Tape {
     ghost use Rattle.rb_record.specs.Tapes.{Records, empty_tape, unwritten_text};
 
     /// An empty one that records up to `limit` bytes, its last line among them; with no room for more than that it
-    /// records nothing. An error where an allocation is refused.
+    /// records nothing. An error if an allocation is refused.
     pub fn new(alloc: Global, limit: usize) -> Result<Tape, AllocError>
         ensures { IfOk result (λ tape. tape ≡ empty_tape limit) }
     {
@@ -150,12 +121,7 @@ impl Tape {
             limit,
             is_on: limit > ENDING.len(),
         };
-        let draft = Draft::new(alloc, limit.min(LONGEST_ENTRY))?;
-        Ok(Tape {
-            page,
-            draft,
-            written: 0,
-        })
+        Ok(Tape { page, written: 0 })
     }
 
     /// Whether it goes on recording.
@@ -165,36 +131,45 @@ impl Tape {
         self.page.is_on
     }
 
-    /// Records, as the first line, the command that checks a record of a run that begins so.
+    /// Records, as the first line, the command that checks a record of a run that begins so. If that does not fit, the
+    /// record has its last line alone.
     pub fn begin(&mut self, start: &Start<'_>)
         ensures { Records (options_of start.now ∷ []) self.old self.new }
     {
         if !self.page.is_on {
             return;
         }
-        self.draft.text.clear();
-        match write_options(start, &mut self.draft) {
-            Ok(()) => self.page.add(self.draft.text.as_slice()),
-            Err(_) => self.page.end(),
+        let line = options_line(start);
+        if self.page.has_room(line.len()) {
+            self.page.push_line(&line);
+        } else {
+            self.page.end();
         }
     }
 
-    /// Records an event and what it gave. Where that passes the limit, the record ends in front of it, with a comment
-    /// line.
+    /// Records an event, and after `#> ` what it gave. If that does not fit, with the last line after it, the record
+    /// ends in front of it with that line.
     pub fn record(&mut self, event: &Happening<'_>, output: &Shown<'_>)
         ensures { Records (entry_of event.now output.now ∷ []) self.old self.new }
     {
         if !self.page.is_on {
             return;
         }
-        self.draft.text.clear();
-        match write_entry(event, output, &mut self.draft) {
-            Ok(()) => self.page.add(self.draft.text.as_slice()),
-            Err(_) => self.page.end(),
+        let event = event_line(event);
+        let output = output_line(output);
+        if self
+            .page
+            .has_room(event.len() + MARK.len() as u128 + output.len())
+        {
+            self.page.push_line(&event);
+            self.page.push(MARK);
+            self.page.push_line(&output);
+        } else {
+            self.page.end();
         }
     }
 
-    /// Writes what the writer has not got yet. Where it fails the recording ends, and how much of that the writer has
+    /// Writes what the writer has not got yet. If it fails the recording ends, and how much of that the writer has
     /// is not known.
     pub fn write_out<W: Write>(&mut self, writer: &mut W) -> io::Result<()>
         ensures written { OnOk result

@@ -1,6 +1,0 @@
-use Rattle.rb_address.specs.Peers.{peer_text}
-use Rattle.rb_record.proofs.Prints.{behind_two}
-use Rattle.rb_record.proofs.printing.write_to.Goals as goal
-
-pub returns : goal.returns
-returns g c = behind_two c.write_bytes.result _ _ _ c.args.word.now (peer_text c.args.to) _ c.in_ok-write.ensures.bytes c.write_bytes.ensures
