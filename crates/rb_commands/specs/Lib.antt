@@ -1,1 +1,4 @@
 pub mod Faults
+pub mod Settings
+pub mod Starts
+pub mod Wanted

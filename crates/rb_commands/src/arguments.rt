@@ -1,26 +1,18 @@
 //! The words of the command line: two commands and their options.
-ghost use Rattle.std.specs.Prelude.{◌≤◌, IfErr};
+ghost use Rattle.std.specs.Prelude.{◌≡◌, ◌≤◌, IfErr};
+ghost use Rattle.rb_commands.specs.Wanted.{is_the_record};
 
 use crate::options::command;
+use crate::wanted::{BadValue, option_name, wanted_text};
 use clap::error::ErrorKind;
 use clap::{ArgMatches, Error};
 use rb_lines::{
-    Beginning, Fault, MOST_HOSTS, MOST_NETWORKS, ReplayTexts, ServeFault, ServeTexts, Service,
-    Valued, explain, read_beginning, read_service,
+    Beginning, Fault, Keep, Record, ReplayTexts, ServeFault, ServeTexts, Service, Valued, explain,
+    read_beginning, read_service,
 };
 use std::alloc::Global;
 use std::convert::AsStr;
-use std::fmt;
-use std::fmt::{Display, Formatter};
 use std::io::Write;
-
-const NUMBER: &str = "a number of 64 bits";
-
-const ADDRESS: &str = "an address as 192.0.2.1 or 2001:db8::1";
-
-const NETWORK: &str = "a network as 192.0.2.0/24, with no bit set behind its length,";
-
-const WHOM: &str = "all or local";
 
 /// What a command line asks for.
 #[derive(Debug, Drop)]
@@ -33,14 +25,6 @@ pub enum Words<'a> {
     Check(Beginning),
 }
 
-/// An option whose value can't be read.
-#[derive(Clone, Copy, Debug, PartialEq, Eq)]
-struct BadValue<'a> {
-    option: &'static str,
-    value: &'a str,
-    wanted: &'static str,
-}
-
 /// Why words are not read.
 #[derive(Debug, Drop)]
 enum Unread<'a> {
@@ -51,20 +35,6 @@ enum Unread<'a> {
 impl<'a> From<BadValue<'a>> for Unread<'a> {
     fn from(bad: BadValue<'a>) -> Unread<'a> {
         Unread::BadValue(bad)
-    }
-}
-
-impl Display for BadValue<'_> {
-    fn fmt<W: fmt::Write>(&self, f: &mut Formatter<W>) -> fmt::Result {
-        let BadValue {
-            option,
-            value,
-            wanted,
-        } = self;
-        write!(
-            f,
-            "error: invalid value '{value}' for '--{option}': {wanted} is wanted"
-        )
     }
 }
 
@@ -180,8 +150,7 @@ fn service_of<'a>(alloc: Global, matches: &ArgMatches<'a>) -> Result<Service<'a>
 /// What is wrong where the rows are to be kept in the file of the record: a start would remove them.
 fn kept_in_the_record<'a>(service: &Service<'a>) -> Option<BadValue<'a>> {
     let keep = service.keep.as_ref()?;
-    let record = service.recorded.as_ref()?;
-    if keep.path != record.path {
+    if !is_the_record(keep, &service.recorded) {
         return None;
     }
     Some(BadValue {
@@ -189,6 +158,16 @@ fn kept_in_the_record<'a>(service: &Service<'a>) -> Option<BadValue<'a>> {
         value: keep.path,
         wanted: "another file than that of --record",
     })
+}
+
+/// Whether rows are kept in the file of the record.
+fn is_the_record(keep: &Keep<'_>, recorded: &Option<Record<'_>>) -> bool
+    ensures { result ≡ is_the_record keep.now recorded.now }
+{
+    match recorded {
+        Some(record) => keep.path == record.path,
+        None => false,
+    }
 }
 
 /// What a replay begins with.
@@ -214,77 +193,24 @@ fn beginning_of<'a>(matches: &ArgMatches<'a>) -> Result<Beginning, BadValue<'a>>
 
 /// What is wrong with the value of an option.
 fn bad_value<'a>(bad: Valued, matches: &ArgMatches<'a>) -> BadValue<'a> {
-    let (option, wanted) = match bad {
-        Valued::Announce(place) => return bad_announced(place, matches),
-        Valued::Bind(place) => return bad_host(place, matches),
-        Valued::From(place) => return bad_network(place, matches),
-        Valued::Local => (
-            "local",
-            "a path of at most 107 bytes, without quotes and control characters,",
-        ),
-        Valued::LocalMode => ("local-mode", "a mode from 0 to 777 in octal digits"),
-        Valued::Conns => ("conns", NUMBER),
-        Valued::Rows => ("rows", NUMBER),
-        Valued::Forwards => ("forwards", NUMBER),
-        Valued::UdpLists => ("udp-lists", WHOM),
-        Valued::ForwardFor => ("forward-for", WHOM),
-        Valued::ReplayForwardFor => ("forward-for", "any, all or local"),
-        Valued::UdpRate => ("udp-rate", "a number from 1 to 1000, or two as 20,5,"),
-        Valued::Port => ("port", "a port from 1 to 65535"),
-        Valued::Xid => ("xid", "a number from 0 to 4294967295"),
-        Valued::Now => ("now", NUMBER),
-        Valued::Turns => ("turns", NUMBER),
-        Valued::RecordLimit => ("record-limit", "a number from 1000 to 16777216"),
-        Valued::Keep => ("keep", "the path of a file"),
-        Valued::Log => ("log", "changes or all"),
+    let option = option_name(bad);
+    let value = match bad {
+        Valued::Announce(place) | Valued::Bind(place) | Valued::From(place) => {
+            value_at(matches, option, place)
+        }
+        _ => text_of(matches, option),
     };
     BadValue {
         option,
-        value: text_of(matches, option),
-        wanted,
+        value,
+        wanted: wanted_text(bad),
     }
 }
 
-/// What is wrong with the value of `--announce` at a place: it is no address, or the second of a family.
-fn bad_announced<'a>(place: usize, matches: &ArgMatches<'a>) -> BadValue<'a> {
-    let values = matches.get_strs("announce").unwrap_or(&[]);
-    BadValue {
-        option: "announce",
-        value: values.get(place).copied().unwrap_or(""),
-        wanted: if place == 0 {
-            ADDRESS
-        } else {
-            "no more than one address of each family"
-        },
-    }
-}
-
-/// What is wrong with the value of `--bind` at a place.
-fn bad_host<'a>(place: usize, matches: &ArgMatches<'a>) -> BadValue<'a> {
-    let values = matches.get_strs("bind").unwrap_or(&[]);
-    BadValue {
-        option: "bind",
-        value: values.get(place).copied().unwrap_or(""),
-        wanted: if place < MOST_HOSTS {
-            ADDRESS
-        } else {
-            "no more than 16 addresses"
-        },
-    }
-}
-
-/// What is wrong with the value of `--from` at a place.
-fn bad_network<'a>(place: usize, matches: &ArgMatches<'a>) -> BadValue<'a> {
-    let values = matches.get_strs("from").unwrap_or(&[]);
-    BadValue {
-        option: "from",
-        value: values.get(place).copied().unwrap_or(""),
-        wanted: if place < MOST_NETWORKS {
-            NETWORK
-        } else {
-            "no more than 16 networks"
-        },
-    }
+/// The value of an option at a place, of those that it is given.
+fn value_at<'a>(matches: &ArgMatches<'a>, option: &str, place: usize) -> &'a str {
+    let values = matches.get_strs(option).unwrap_or(&[]);
+    values.get(place).copied().unwrap_or("")
 }
 
 /// The text of an option's value. One without a value has the empty text, which no reader of a value takes.

@@ -6,9 +6,13 @@ mod arguments;
 mod keep;
 mod options;
 mod service;
+mod settings;
+mod start;
+mod wanted;
 mod words;
 
 pub use arguments::{Words, read_words};
 pub use keep::{read_keep, say_keep_fault, say_left_out};
-pub use service::{explain_fault, make_record, say_start, settings_of};
+pub use service::{explain_fault, make_record, say_start};
+pub use settings::settings_of;
 pub use words::command_words;

@@ -1,5 +1,7 @@
 //! The words that the program was called with.
-ghost use Rattle.std.specs.Prelude.{◌≤◌, IfErr};
+ghost use Rattle.std.specs.Prelude.{◌≡◌, ◌≤◌, IfErr};
+ghost use Rattle.std.specs.IoError.{error_kind};
+ghost use Rattle.rb_commands.specs.Faults.{words_fault};
 
 use rb_lines::{Fault, explain};
 use std::env::Env;
@@ -21,9 +23,16 @@ pub fn command_words<R: Env + AllocGlobal, E: Write>(
 {
     match words_of(rt) {
         Ok(words) => Ok(words),
-        Err(error) if error.kind() == ErrorKind::OutOfMemory => {
-            Err(explain(Fault::NoMemory, faults).status)
-        }
-        Err(_) => Err(explain(Fault::NotText, faults).status),
+        Err(error) => Err(explain(fault_of(&error), faults).status),
+    }
+}
+
+/// Why the words can't be had: memory was refused, or one of them is no text.
+fn fault_of(error: &io::Error) -> Fault
+    ensures { result ≡ words_fault (error_kind error.now) }
+{
+    match error.kind() {
+        ErrorKind::OutOfMemory => Fault::NoMemory,
+        _ => Fault::NotText,
     }
 }

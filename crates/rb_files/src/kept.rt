@@ -1,4 +1,6 @@
 //! A file that is replaced as a whole.
+ghost use Rattle.std.specs.Prelude.{◌≡◌, string_bytes, IfOk};
+
 use crate::new::new_file;
 use std::alloc::{AllocError, Global};
 use std::fs::{Files, OpenFile};
@@ -16,9 +18,15 @@ pub struct KeptFile {
 }
 
 impl KeptFile {
+    ghost use Rattle.std.specs.Prelude.{◌≡◌, ◌++◌, string_bytes, codes, IfOk};
+
     /// The file at the path, whose new text is written beside it, at the path with `.new` behind it. It takes the
     /// memory for both paths, and looks at no file. An error where the allocation is refused.
-    pub fn new(alloc: Global, path: &str) -> Result<KeptFile, AllocError> {
+    pub fn new(alloc: Global, path: &str) -> Result<KeptFile, AllocError>
+        ensures path { IfOk result (λ file. string_bytes file.path ≡ path.now) }
+        ensures beside { IfOk result (λ file. string_bytes file.beside
+            ≡ path.now ++ codes ".new") }
+    {
         let mut beside = text_of(alloc, path)?;
         beside.push_str(NEW)?;
         Ok(KeptFile {
@@ -28,7 +36,9 @@ impl KeptFile {
     }
 
     /// The path of the file.
-    pub fn path(&self) -> &str {
+    pub fn path(&self) -> &str
+        ensures { result.now ≡ string_bytes self.now.path }
+    {
         &self.path
     }
 
@@ -51,7 +61,9 @@ impl KeptFile {
     }
 }
 
-fn text_of(alloc: Global, text: &str) -> Result<String, AllocError> {
+fn text_of(alloc: Global, text: &str) -> Result<String, AllocError>
+    ensures { IfOk result (λ copy. string_bytes copy ≡ text.now) }
+{
     let mut copy = String::new(alloc);
     copy.push_str(text)?;
     Ok(copy)

@@ -1,6 +1,9 @@
 //! New files.
-use rb_policy::{RecordAction, RecordState, record_action};
-use std::fs::{Files, OpenOptions};
+ghost use Rattle.std.specs.Fs.{file_type};
+ghost use Rattle.rb_files.specs.Found.{IsRecordState};
+
+use rb_policy::{RecordAction, RecordState, is_nothing_there, record_action};
+use std::fs::{Files, Metadata, OpenOptions};
 use std::io::ErrorKind;
 use std::os::unix::fs::OpenOptionsExt;
 use std::{fs, io};
@@ -31,9 +34,19 @@ pub fn new_file<R: Files>(rt: &R, path: &str) -> io::Result<R::File> {
 /// What is at the path.
 fn file_state<R: Files>(rt: &R, path: &str) -> io::Result<RecordState> {
     match fs::symlink_metadata(rt, path) {
-        Ok(found) if found.is_file() => Ok(RecordState::Plain),
-        Ok(_) => Ok(RecordState::Other),
-        Err(error) if error.kind() == ErrorKind::NotFound => Ok(RecordState::Absent),
+        Ok(found) => Ok(state_of(&found)),
+        Err(error) if is_nothing_there(&error) => Ok(RecordState::Absent),
         Err(error) => Err(error),
+    }
+}
+
+/// What a file of this metadata is.
+fn state_of(found: &Metadata) -> RecordState
+    ensures { IsRecordState (file_type found.now) result }
+{
+    if found.is_file() {
+        RecordState::Plain
+    } else {
+        RecordState::Other
     }
 }

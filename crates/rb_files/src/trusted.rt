@@ -1,11 +1,13 @@
 //! A file that is believed only where nobody else may have written it.
 ghost use Rattle.std.specs.Prelude.{◌≤◌, length, IfOk, IfSome};
+ghost use Rattle.std.specs.Fs.{file_type, metadata_mode};
+ghost use Rattle.rb_files.specs.Found.{IsKeepState};
 
-use rb_policy::{Distrust, KeepAction, KeepState, Writers, keep_action};
+use rb_policy::{Distrust, KeepAction, KeepState, Writers, is_nothing_there, keep_action};
 use std::alloc::Global;
 use std::fmt::{Display, Formatter};
 use std::fs::{Files, Metadata, OpenFile};
-use std::io::{ErrorKind, Read};
+use std::io::Read;
 use std::os::unix::fs::MetadataExt;
 use std::{fmt, fs, io};
 
@@ -38,7 +40,7 @@ pub fn read_kept<R: Files>(
 {
     let found = match fs::symlink_metadata(rt, path) {
         Ok(found) => Some(found),
-        Err(error) if error.kind() == ErrorKind::NotFound => None,
+        Err(error) if is_nothing_there(&error) => None,
         Err(error) => return Err(KeptFileFault::Failed(error)),
     };
     let Some(seen) = found else {
@@ -77,17 +79,23 @@ fn read_seen<R: Files>(
     Ok(text)
 }
 
-/// An error where the file of this metadata is not believed.
-fn believe(found: &Metadata) -> Result<(), KeptFileFault> {
-    let state = if found.is_file() {
+/// What a file of this metadata is, and who may have written it.
+fn state_of(found: &Metadata) -> KeepState
+    ensures { IsKeepState (file_type found.now) (metadata_mode found.now) result }
+{
+    if found.is_file() {
         KeepState::Plain(Writers {
             owner: found.uid(),
             mode: found.mode() & PERMISSIONS,
         })
     } else {
         KeepState::Other
-    };
-    match keep_action(libc::geteuid(), state) {
+    }
+}
+
+/// An error where the file of this metadata is not believed.
+fn believe(found: &Metadata) -> Result<(), KeptFileFault> {
+    match keep_action(libc::geteuid(), state_of(found)) {
         KeepAction::Begin | KeepAction::Read => Ok(()),
         KeepAction::GiveUp(distrust) => Err(KeptFileFault::Distrusted(distrust)),
     }

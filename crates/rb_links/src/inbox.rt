@@ -27,6 +27,7 @@ impl Model for Inbox {
 
 impl Inbox {
     ghost use Rattle.std.specs.Prelude.{◌≡◌, ◌≤◌, ◌==◌, [], length, drop, IfOk, OnErr};
+    ghost use Rattle.rb_links.specs.Outgoing.{read_ahead};
 
     /// An empty one.
     pub(crate) fn new() -> Inbox
@@ -79,6 +80,7 @@ impl Inbox {
     /// Reads once, over what is left.
     pub(crate) fn read<R: Read>(&mut self, reader: &mut R) -> io::Result<usize>
         ensures read { IfOk result (λ n. length self.new ≡ n) }
+        ensures few { IfOk result (λ n. n ≤ read_ahead) }
         ensures none { OnErr result (self.new ≡ []) }
     {
         self.start = 0;

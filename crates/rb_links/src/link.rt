@@ -1,5 +1,6 @@
 //! The place of an accepted connection: what is known of it, and its socket calls.
-ghost use Rattle.std.specs.Prelude.{◌≤◌, length};
+ghost use Rattle.std.specs.Prelude.{◌≡◌, ◌≤◌, length, IfOk};
+ghost use Rattle.rb_links.specs.Outgoing.{nothing_in, own_room};
 
 use crate::inbox::{Inbox, READ_AHEAD};
 use crate::outbox::{OWN_ROOM, Outbox};
@@ -66,7 +67,9 @@ pub struct Link {
 
 impl Link {
     /// A place that no connection has.
-    pub(crate) fn new(alloc: Global) -> Result<Link, AllocError> {
+    pub(crate) fn new(alloc: Global) -> Result<Link, AllocError>
+        ensures { IfOk result (λ link. link.outbox ≡ nothing_in own_room) }
+    {
         Ok(Link {
             id: None,
             stream: None,

@@ -41,7 +41,7 @@ impl Model for Outbox {
 impl Outbox {
     ghost use Rattle.std.specs.Prelude.{◌≡◌, ◌==◌, nat_le, length, drop, IfOk, OnErr};
     ghost use Rattle.std.specs.Io.KnownBytes.{WriteAppends};
-    ghost use Rattle.rb_links.specs.Outgoing.{nothing_in};
+    ghost use Rattle.rb_links.specs.Outgoing.{nothing_in, longest_fragment};
 
     /// An empty one with this room. It is written to, so that its memory is the process's from here on.
     pub(crate) fn new(alloc: Global, room: usize) -> Result<Outbox, AllocError>
@@ -66,7 +66,7 @@ impl Outbox {
     /// Whether any fragment fits. Where one may not, nothing more is taken over until the socket has taken all, so
     /// that each fragment is taken over whole.
     pub fn has_room(&self) -> bool
-        ensures { result ≡ nat_le LONGEST_FRAGMENT self.now.free }
+        ensures { result ≡ nat_le longest_fragment self.now.free }
     {
         self.bytes.len() - self.end >= LONGEST_FRAGMENT
     }

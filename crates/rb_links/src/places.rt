@@ -1,5 +1,6 @@
 //! All places of connections: which of them are left for later, and who gets one.
 ghost use Rattle.std.specs.Prelude.{◌≡◌, vec_len, IfOk};
+ghost use Rattle.rb_links.specs.Outgoing.{nothing_in, long_room};
 
 use crate::link::{Link, Turn};
 use crate::outbox::{LONG_ROOM, Outbox};
@@ -45,7 +46,8 @@ fn free_places(alloc: Global, count: usize) -> Result<Vec<Link>, AllocError>
 impl Places {
     /// So many places, which no connections have. An error where an allocation is refused.
     pub fn new(alloc: Global, count: usize) -> Result<Places, AllocError>
-        ensures { IfOk result (λ places. vec_len places.links ≡ count) }
+        ensures count { IfOk result (λ places. vec_len places.links ≡ count) }
+        ensures long { IfOk result (λ places. places.long_outbox ≡ nothing_in long_room) }
     {
         let mut holders = Vec::with_capacity(alloc, count)?;
         holders.resize(count, None)?;

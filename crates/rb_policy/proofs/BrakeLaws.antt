@@ -13,8 +13,8 @@ use Rattle.rb_address.specs.declared.who.Source.TheVariants.{Inet}
 use Rattle.rb_address.specs.declared.who.Trust.TheVariants.{Local, Stranger}
 use Rattle.rb_address.specs.Hosts.{is_same_host, is_loopback}
 use Rattle.rb_address.specs.Networks.{octet_bits, bits_of, is_same_front}
-use Rattle.rb_policy.specs.declared.recent.TheConstants.{SECOND}
 use Rattle.rb_policy.specs.declared.brake.Rate.{Rate}
+use Rattle.rb_policy.specs.Recents.{one_second}
 use Rattle.rb_policy.specs.Brake.{Datagram, place_by, network_place, host_place, moment_of, served_within, has_room_at, admits, admit, host_counted}
 use Rattle.rb_policy.specs.BrakeLaws.{serve_after, serve, is_same_network, served_in_second, NeverMore, NeverHeldBack, HaveOnePlace, AreNetworks, StrangersCount}
 
@@ -50,30 +50,30 @@ module _ (place_of : Host → ℕ) (most : ℕ) where
   none place since = omega arith
 
   -- what was served in a second that has a moment was served within the second before that moment
-  within : (b : Bool) (since now moment : ℕ) → since ≤ now → now < since + SECOND
-      → cond (b && (nat_le since moment && nat_lt moment (since + SECOND))) 1 0 ≤ cond (b && nat_lt now (moment + SECOND)) 1 0
+  within : (b : Bool) (since now moment : ℕ) → since ≤ now → now < since + one_second
+      → cond (b && (nat_le since moment && nat_lt moment (since + one_second))) 1 0 ≤ cond (b && nat_lt now (moment + one_second)) 1 0
   within true since now moment low high = grind (arith, nat_tests, low, high)
   within false since now moment low high = omega arith
 
   more : (served : List Datagram) (x : Datagram) → served_within place_of (place_of x.host) x.moment served < most → IsBounded served → IsBounded (served ++ x ∷ [])
   unfolding IsBounded
   more served x few bounded place since =
-      let f : Datagram → ℕ = λ d. cond (eqb (place_of d.host) place && (nat_le since d.moment && nat_lt d.moment (since + SECOND))) 1 0 in
-      rw (sum_by_push f served x) (split (eqb (place_of x.host) place) (nat_le since x.moment) (nat_lt x.moment (since + SECOND)) refl refl refl)
+      let f : Datagram → ℕ = λ d. cond (eqb (place_of d.host) place && (nat_le since d.moment && nat_lt d.moment (since + one_second))) 1 0 in
+      rw (sum_by_push f served x) (split (eqb (place_of x.host) place) (nat_le since x.moment) (nat_lt x.moment (since + one_second)) refl refl refl)
     where
       count : ℕ
       count = served_in_second (λ host. eqb (place_of host) place) since served
 
-      split : (b l h : Bool) → eqb (place_of x.host) place ≡ b → nat_le since x.moment ≡ l → nat_lt x.moment (since + SECOND) ≡ h
+      split : (b l h : Bool) → eqb (place_of x.host) place ≡ b → nat_le since x.moment ≡ l → nat_lt x.moment (since + one_second) ≡ h
           → served_in_second (λ host. eqb (place_of host) place) since served + cond (b && (l && h)) 1 0 ≤ most
       split true true true same low high =
           let at : place_of x.host ≡ place = grind (arith, nat_tests, same) in
           let low : since ≤ x.moment = grind (arith, nat_tests, low) in
-          let high : x.moment < since + SECOND = grind (arith, nat_tests, high) in
+          let high : x.moment < since + one_second = grind (arith, nat_tests, high) in
           let less : served_in_second (λ host. eqb (place_of host) place) since served ≤ served_within place_of place x.moment served =
           sum_by-le-sum_by
-          (λ (d : Datagram). cond (eqb (place_of d.host) place && (nat_le since d.moment && nat_lt d.moment (since + SECOND))) 1 0)
-          (λ (d : Datagram). cond (eqb (place_of d.host) place && nat_lt x.moment (d.moment + SECOND)) 1 0)
+          (λ (d : Datagram). cond (eqb (place_of d.host) place && (nat_le since d.moment && nat_lt d.moment (since + one_second))) 1 0)
+          (λ (d : Datagram). cond (eqb (place_of d.host) place && nat_lt x.moment (d.moment + one_second)) 1 0)
           served (λ d. within (eqb (place_of d.host) place) since x.moment d.moment low high) in
           let few : served_within place_of place x.moment served < most = subst (λ (p : ℕ). served_within place_of p x.moment served < most) at few in
           omega (arith, less, few)
@@ -87,9 +87,9 @@ module _ (place_of : Host → ℕ) (most : ℕ) where
   at_most is_one place since served at bounded =
       let less : served_in_second is_one since served ≤ served_in_second (λ host. eqb (place_of host) place) since served =
       sum_by-le-sum_by
-      (λ (d : Datagram). cond (is_one d.host && (nat_le since d.moment && nat_lt d.moment (since + SECOND))) 1 0)
-      (λ (d : Datagram). cond (eqb (place_of d.host) place && (nat_le since d.moment && nat_lt d.moment (since + SECOND))) 1 0)
-      served (λ d. each (is_one d.host) (place_of d.host) (nat_le since d.moment && nat_lt d.moment (since + SECOND)) (at d.host)) in
+      (λ (d : Datagram). cond (is_one d.host && (nat_le since d.moment && nat_lt d.moment (since + one_second))) 1 0)
+      (λ (d : Datagram). cond (eqb (place_of d.host) place && (nat_le since d.moment && nat_lt d.moment (since + one_second))) 1 0)
+      served (λ d. each (is_one d.host) (place_of d.host) (nat_le since d.moment && nat_lt d.moment (since + one_second)) (at d.host)) in
       omega (arith, less, bounded place since)
     where
       each : (b : Bool) (p : ℕ) (t : Bool) → (b ≡ true → p ≡ place) → cond (b && t) 1 0 ≤ cond (eqb p place && t) 1 0

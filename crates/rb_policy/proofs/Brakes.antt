@@ -6,40 +6,39 @@ use Rattle.std.proofs.lemmas.List.{append-nil, map-append, length-append, length
 use Rattle.std.proofs.lemmas.List.Elements.{filter-append}
 use Rattle.std.proofs.lemmas.List.Sums.{sum_by-cons, count_by-le-length}
 use Rattle.rb_address.specs.declared.host.Host.{Host}
-use Rattle.rb_policy.specs.declared.recent.TheConstants.{SECOND, PLACES}
 use Rattle.rb_policy.specs.declared.brake.Rate.{Rate}
-use Rattle.rb_policy.specs.Recents.{RecentMoments, last_of, is_first_old, has_room, noted, nothing_of}
-use Rattle.rb_policy.specs.Brake.{Datagram, network_place, host_place, latest_of, moment_of, served_within, has_room_at, admits, admit, moments_at, IsTable, AreInOrder, BrakeTables, StandsForServed}
+use Rattle.rb_policy.specs.Recents.{RecentMoments, one_second, last_of, is_first_old, has_room, noted, nothing_of}
+use Rattle.rb_policy.specs.Brake.{Datagram, table_places, network_place, host_place, latest_of, moment_of, served_within, has_room_at, admits, admit, moments_at, IsTable, AreInOrder, BrakeTables, StandsForServed}
 
 -- ---- the last of many moments
 
 -- how many count at a moment
 abbrev count_at : ℕ → List ℕ → ℕ
-count_at now moments = count_by (λ m. nat_lt now (m + SECOND)) moments
+count_at now moments = count_by (λ m. nat_lt now (m + one_second)) moments
 
-count_cons : (now m : ℕ) (more : List ℕ) → count_at now (m ∷ more) ≡ cond (nat_lt now (m + SECOND)) 1 0 + count_at now more
-count_cons now m more = sum_by-cons (λ k. cond (nat_lt now (k + SECOND)) 1 0) m more
+count_cons : (now m : ℕ) (more : List ℕ) → count_at now (m ∷ more) ≡ cond (nat_lt now (m + one_second)) 1 0 + count_at now more
+count_cons now m more = sum_by-cons (λ k. cond (nat_lt now (k + one_second)) 1 0) m more
 
 count_le : (now : ℕ) (moments : List ℕ) → count_at now moments ≤ length moments
-count_le now moments = count_by-le-length (λ m. nat_lt now (m + SECOND)) moments
+count_le now moments = count_by-le-length (λ m. nat_lt now (m + one_second)) moments
 
 -- behind one that counts all count
-all_count : (now m : ℕ) (more : List ℕ) → AllByRecursion (λ later. m ≤ later) more → now < m + SECOND → count_at now more ≡ length more
+all_count : (now m : ℕ) (more : List ℕ) → AllByRecursion (λ later. m ≤ later) more → now < m + one_second → count_at now more ≡ length more
 all_count now m [] later counts = refl
 all_count now m (x ∷ more) later counts =
-    let within : now < x + SECOND = omega (arith, later.0, counts) in
-    count_cons now x more ∙ one (nat_lt now (x + SECOND)) (count_at now more) (length more) (grind (arith, nat_tests, within)) (all_count now m more later.1 counts)
+    let within : now < x + one_second = omega (arith, later.0, counts) in
+    count_cons now x more ∙ one (nat_lt now (x + one_second)) (count_at now more) (length more) (grind (arith, nat_tests, within)) (all_count now m more later.1 counts)
   where
     one : (b : Bool) (c n : ℕ) → b ≡ true → c ≡ n → cond b 1 0 + c ≡ suc n
     one true c n e same = omega (arith, same)
     one false c n e same = grind (arith, e)
 
 -- all are kept
-whole : (most n c now m : ℕ) → n < most → c ≤ n → (now < m + SECOND → c ≡ n) → (nat_lt (suc n) most || nat_le (m + SECOND) now) ≡ nat_lt (cond (nat_lt now (m + SECOND)) 1 0 + c) most
+whole : (most n c now m : ℕ) → n < most → c ≤ n → (now < m + one_second → c ≡ n) → (nat_lt (suc n) most || nat_le (m + one_second) now) ≡ nat_lt (cond (nat_lt now (m + one_second)) 1 0 + c) most
 whole most n c now m few within all = grind (arith, nat_tests, few, within, all)
 
 -- the first is not kept
-further : (most n c now m : ℕ) → most ≤ n → c ≤ n → (now < m + SECOND → c ≡ n) → nat_lt c most ≡ nat_lt (cond (nat_lt now (m + SECOND)) 1 0 + c) most
+further : (most n c now m : ℕ) → most ≤ n → c ≤ n → (now < m + one_second → c ≡ n) → nat_lt c most ≡ nat_lt (cond (nat_lt now (m + one_second)) 1 0 + c) most
 further most n c now m many within all = grind (arith, nat_tests, many, within, all)
 
 short : (most : ℕ) (moments : List ℕ) → length moments ≤ most → last_of most moments ≡ moments
@@ -54,7 +53,7 @@ held : (most now : ℕ) (moments : List ℕ) → AreInOrder moments → (nat_lt 
 held most now [] order = rw (short most [] (omega arith)) (or_false (nat_lt 0 most))
 held most now (m ∷ more) order = split (held most now more order.1) (nat_lt (length more) most) refl
   where
-    all : now < m + SECOND → count_at now more ≡ length more
+    all : now < m + one_second → count_at now more ≡ length more
     all = all_count now m more order.0
 
     split : (nat_lt (length (last_of most more)) most || is_first_old (last_of most more) now) ≡ nat_lt (count_at now more) most → (b : Bool) → nat_lt (length more) most ≡ b → (nat_lt (length (last_of most (m ∷ more))) most || is_first_old (last_of most (m ∷ more)) now) ≡ nat_lt (count_at now (m ∷ more)) most
@@ -136,11 +135,11 @@ module _ (place_of : Host → ℕ) (place : ℕ) where
   within_is : (now : ℕ) (served : List Datagram) → served_within place_of place now served ≡ count_at now (moments_at place_of place served)
   within_is now [] = refl
   within_is now (d ∷ more) =
-      sum_by-cons (λ (e : Datagram). cond (eqb (place_of e.host) place && nat_lt now (e.moment + SECOND)) 1 0) d more
+      sum_by-cons (λ (e : Datagram). cond (eqb (place_of e.host) place && nat_lt now (e.moment + one_second)) 1 0) d more
       ∙ split (within_is now more) (eqb (place_of d.host) place)
     where
-      split : served_within place_of place now more ≡ count_at now (moments_at place_of place more) → (b : Bool) → cond (b && nat_lt now (d.moment + SECOND)) 1 0 + served_within place_of place now more ≡ count_at now (moments_of (cond b (d ∷ filter (λ (e : Datagram). eqb (place_of e.host) place) more) (filter (λ (e : Datagram). eqb (place_of e.host) place) more)))
-      split rest true = ap (λ (n : ℕ). cond (nat_lt now (d.moment + SECOND)) 1 0 + n) rest ∙ sym (count_cons now d.moment (moments_at place_of place more))
+      split : served_within place_of place now more ≡ count_at now (moments_at place_of place more) → (b : Bool) → cond (b && nat_lt now (d.moment + one_second)) 1 0 + served_within place_of place now more ≡ count_at now (moments_of (cond b (d ∷ filter (λ (e : Datagram). eqb (place_of e.host) place) more) (filter (λ (e : Datagram). eqb (place_of e.host) place) more)))
+      split rest true = ap (λ (n : ℕ). cond (nat_lt now (d.moment + one_second)) 1 0 + n) rest ∙ sym (count_cons now d.moment (moments_at place_of place more))
       split rest false = omega (arith, rest)
 
   pushed : (d : Datagram) (served : List Datagram) (b : Bool) → eqb (place_of d.host) place ≡ b → moments_at place_of place (served ++ d ∷ []) ≡ moments_at place_of place served ++ moments_of (cond b (d ∷ []) [])
@@ -153,13 +152,13 @@ module _ (place_of : Host → ℕ) (place : ℕ) where
 -- ---- a table
 
 module _ (place_of : Host → ℕ) (most : ℕ) (table : List RecentMoments) (served : List Datagram) (is : IsTable place_of most table served) where
-  pub has_room_is : (now place : ℕ) (d : RecentMoments) → AreInOrder (moments_of served) → place < PLACES → has_room (get_or table place d) now ≡ nat_lt (served_within place_of place now served) most
+  pub has_room_is : (now place : ℕ) (d : RecentMoments) → AreInOrder (moments_of served) → place < table_places → has_room (get_or table place d) now ≡ nat_lt (served_within place_of place now served) most
   has_room_is now place d order lt =
       ap (λ (r : RecentMoments). has_room r now) (is.each place d lt)
       ∙ held most now (moments_at place_of place served) (order_filter (λ (e : Datagram). eqb (place_of e.host) place) served order)
       ∙ ap (λ (n : ℕ). nat_lt n most) (sym (within_is place_of place now served))
 
-  module _ (x : Datagram) (d : RecentMoments) (below : place_of x.host < PLACES) where
+  module _ (x : Datagram) (d : RecentMoments) (below : place_of x.host < table_places) where
     put : RecentMoments
     put = noted (get_or table (place_of x.host) d) x.moment
 
@@ -173,13 +172,13 @@ module _ (place_of : Host → ℕ) (most : ℕ) (table : List RecentMoments) (se
         ∙ ap (λ (p : ℕ). last_of most (moments_at place_of p served ++ x.moment ∷ [])) at
         ∙ ap (last_of most) (sym (pushed place_of place x served true same)))
 
-    stays : (place : ℕ) (e : RecentMoments) → place < PLACES → eqb (place_of x.host) place ≡ false → get_or table place e ≡ record { most = most; moments = last_of most (moments_at place_of place (served ++ x ∷ [])) }
+    stays : (place : ℕ) (e : RecentMoments) → place < table_places → eqb (place_of x.host) place ≡ false → get_or table place e ≡ record { most = most; moments = last_of most (moments_at place_of place (served ++ x ∷ [])) }
     stays place e lt other =
         is.each place e lt
         ∙ ap (λ (ms : List ℕ). let r : RecentMoments = record { most = most; moments = last_of most ms } in r)
         (sym (pushed place_of place x served false other ∙ append-nil (moments_at place_of place served)))
 
-    each : (place : ℕ) (e : RecentMoments) → place < PLACES → get_or (set table (place_of x.host) put) place e ≡ record { most = most; moments = last_of most (moments_at place_of place (served ++ x ∷ [])) }
+    each : (place : ℕ) (e : RecentMoments) → place < table_places → get_or (set table (place_of x.host) put) place e ≡ record { most = most; moments = last_of most (moments_at place_of place (served ++ x ∷ [])) }
     each place e lt = split (eqb (place_of x.host) place) refl
       where
         split : (b : Bool) → eqb (place_of x.host) place ≡ b → get_or (set table (place_of x.host) put) place e ≡ record { most = most; moments = last_of most (moments_at place_of place (served ++ x ∷ [])) }
@@ -205,7 +204,7 @@ nowhere : RecentMoments
 nowhere = record { most = 0; moments = [] }
 
 module _ (brake : BrakeTables) (served : List Datagram) (stands : StandsForServed brake served) (now : ℕ) (host : Host) where
-  module _ (moment network place : ℕ) (moment_is : moment ≡ max now brake.latest) (network_is : network ≡ network_place host) (place_is : place ≡ host_place host) (network_below : network < PLACES) (place_below : place < PLACES) where
+  module _ (moment network place : ℕ) (moment_is : moment ≡ max now brake.latest) (network_is : network ≡ network_place host) (place_is : place ≡ host_place host) (network_below : network < table_places) (place_below : place < table_places) where
     moment_same : moment ≡ moment_of served now
     moment_same = moment_is ∙ ap (max now) stands.latest
 
@@ -251,14 +250,14 @@ module _ (brake : BrakeTables) (served : List Datagram) (stands : StandsForServe
       networks_table =
           let at = ap (λ (p : ℕ). set brake.networks p (noted (get_or brake.networks p nowhere) moment)) network_is in
           subst (λ (t : List RecentMoments). IsTable network_place brake.rate.network t (served ++ x ∷ [])) (sym (networks_are nowhere ∙ at))
-          (is_noted network_place brake.rate.network brake.networks served stands.networks x nowhere (subst (λ (p : ℕ). p < PLACES) network_is network_below))
+          (is_noted network_place brake.rate.network brake.networks served stands.networks x nowhere (subst (λ (p : ℕ). p < table_places) network_is network_below))
 
       hosts_table : IsTable host_place brake.rate.host hosts (served ++ x ∷ [])
       unfolding x
       hosts_table =
           let at = ap (λ (p : ℕ). set brake.hosts p (noted (get_or brake.hosts p nowhere) moment)) place_is in
           subst (λ (t : List RecentMoments). IsTable host_place brake.rate.host t (served ++ x ∷ [])) (sym (hosts_are nowhere ∙ at))
-          (is_noted host_place brake.rate.host brake.hosts served stands.hosts x nowhere (subst (λ (p : ℕ). p < PLACES) place_is place_below))
+          (is_noted host_place brake.rate.host brake.hosts served stands.hosts x nowhere (subst (λ (p : ℕ). p < table_places) place_is place_below))
 
       stands_after : StandsForServed after (served ++ x ∷ [])
       unfolding x
@@ -276,15 +275,15 @@ module _ (brake : BrakeTables) (served : List Datagram) (stands : StandsForServe
           subst (λ (b : Bool). StandsForServed after (if b then served ++ (record { moment = moment_of served now; host = host } ∷ []) else served)) admitted
           (subst (λ (m : ℕ). let d : Datagram = record { moment = m; host = host } in StandsForServed after (served ++ (d ∷ []))) moment_same stands_after)
 
-new_is_table : (place_of : Host → ℕ) (most : ℕ) → IsTable place_of most (replicate PLACES (nothing_of most)) []
+new_is_table : (place_of : Host → ℕ) (most : ℕ) → IsTable place_of most (replicate table_places (nothing_of most)) []
 new_is_table place_of most = record {
-  count = length-replicate PLACES (nothing_of most);
+  count = length-replicate table_places (nothing_of most);
   each = λ place d lt.
-      get_or-replicate PLACES place (nothing_of most) d lt
+      get_or-replicate table_places place (nothing_of most) d lt
       ∙ ap (λ (ms : List ℕ). let r : RecentMoments = record { most = most; moments = ms } in r) (sym (short most [] (omega arith)));
 }
 
-pub new_stands : (rate : Rate) (networks hosts : List RecentMoments) → networks ≡ replicate PLACES (nothing_of rate.network) → hosts ≡ replicate PLACES (nothing_of rate.host) → StandsForServed (record { rate = rate; networks = networks; hosts = hosts; latest = 0 }) []
+pub new_stands : (rate : Rate) (networks hosts : List RecentMoments) → networks ≡ replicate table_places (nothing_of rate.network) → hosts ≡ replicate table_places (nothing_of rate.host) → StandsForServed (record { rate = rate; networks = networks; hosts = hosts; latest = 0 }) []
 new_stands rate networks hosts networks_are hosts_are = record {
   networks = subst (λ (t : List RecentMoments). IsTable network_place rate.network t []) (sym networks_are) (new_is_table network_place rate.network);
   hosts = subst (λ (t : List RecentMoments). IsTable host_place rate.host t []) (sym hosts_are) (new_is_table host_place rate.host);

@@ -4,9 +4,8 @@ use Rattle.std.specs.Prelude.{◌==◌}
 use Rattle.std.proofs.lemmas.Option.{none-some, same_Some}
 use Rattle.std.specs.List.{AllByRecursion}
 use Rattle.std.proofs.lemmas.Bool.Decides.{nat_tests}
-use Rattle.rb_policy.specs.declared.log_rate.TheConstants.{LINES}
 use Rattle.rb_policy.specs.declared.log_rate.LogRate.{LogRate}
-use Rattle.rb_policy.specs.LogRate.{second_of, new_rate, gets_line, rate_after}
+use Rattle.rb_policy.specs.LogRate.{lines_a_second, second_of, new_rate, gets_line, rate_after}
 use Rattle.rb_policy.specs.LogLaws.{rate_then, lines_got, FewOfASecond, NoneIsLost, TheyAreToldThen}
 
 -- ---- one line that is asked for
@@ -14,7 +13,7 @@ use Rattle.rb_policy.specs.LogLaws.{rate_then, lines_got, FewOfASecond, NoneIsLo
 second_after : (rate : LogRate) (now : ℕ) → (rate_after rate now).second ≡ second_of now
 second_after rate now = grind (arith, nat_tests)
 
-written_after : (rate : LogRate) (now : ℕ) → rate.written ≤ LINES → (rate_after rate now).written ≤ LINES
+written_after : (rate : LogRate) (now : ℕ) → rate.written ≤ lines_a_second → (rate_after rate now).written ≤ lines_a_second
 written_after rate now few = grind (arith, nat_tests, few)
 
 first_counts : (rate : LogRate) (now : ℕ) → cond (gets_line rate now) 1 0 ≤ (rate_after rate now).written
@@ -29,23 +28,23 @@ one_left rate now small = grind (arith, nat_tests, small)
 
 -- ---- all of them
 
-few_then : (before : List ℕ) (rate : LogRate) → rate.written ≤ LINES → (rate_then rate before).written ≤ LINES
+few_then : (before : List ℕ) (rate : LogRate) → rate.written ≤ lines_a_second → (rate_then rate before).written ≤ lines_a_second
 few_then [] rate few = few
 few_then (now ∷ more) rate few = few_then more (rate_after rate now) (written_after rate now few)
 
-few_more : (moments : List ℕ) (rate : LogRate) (second : ℕ) → rate.second ≡ second → rate.written ≤ LINES → AllByRecursion (λ now. second_of now ≡ second) moments
-    → rate.written + lines_got rate moments ≤ LINES
+few_more : (moments : List ℕ) (rate : LogRate) (second : ℕ) → rate.second ≡ second → rate.written ≤ lines_a_second → AllByRecursion (λ now. second_of now ≡ second) moments
+    → rate.written + lines_got rate moments ≤ lines_a_second
 few_more [] rate second at few all = omega (arith, few)
 few_more (now ∷ more) rate second at few all =
     let next : LogRate = rate_after rate now in
-    let rest : next.written + lines_got next more ≤ LINES = few_more more next second (second_after rate now ∙ all.0) (written_after rate now few) all.1 in
+    let rest : next.written + lines_got next more ≤ lines_a_second = few_more more next second (second_after rate now ∙ all.0) (written_after rate now few) all.1 in
     omega (arith, rest, one_more rate now (all.0 ∙ sym at))
 
-few : (moments : List ℕ) (rate : LogRate) (second : ℕ) → rate.written ≤ LINES → AllByRecursion (λ now. second_of now ≡ second) moments → lines_got rate moments ≤ LINES
+few : (moments : List ℕ) (rate : LogRate) (second : ℕ) → rate.written ≤ lines_a_second → AllByRecursion (λ now. second_of now ≡ second) moments → lines_got rate moments ≤ lines_a_second
 few [] rate second within all = omega arith
 few (now ∷ more) rate second within all =
     let next : LogRate = rate_after rate now in
-    let rest : next.written + lines_got next more ≤ LINES = few_more more next second (second_after rate now ∙ all.0) (written_after rate now within) all.1 in
+    let rest : next.written + lines_got next more ≤ lines_a_second = few_more more next second (second_after rate now ∙ all.0) (written_after rate now within) all.1 in
     omega (arith, rest, first_counts rate now)
 
 pub few_of_a_second : FewOfASecond

@@ -4,7 +4,18 @@ use Rattle.std.specs.List.{list_any}
 use Rattle.rb_address.specs.declared.host.Host.{Host}
 use Rattle.rb_address.specs.declared.host.Host.TheVariants.{V4, V6}
 use Rattle.rb_address.specs.Hosts.{is_any, is_same_host}
-use Rattle.rb_policy.specs.declared.addresses.TheConstants.{ANY, LOOPBACK6}
+
+-- 0.0.0.0, which is every host of IPv4
+abbrev pub every_inet : List ℕ
+every_inet = 0 ∷ 0 ∷ 0 ∷ 0 ∷ []
+
+-- 127.0.0.1
+abbrev pub loopback : List ℕ
+loopback = 127 ∷ 0 ∷ 0 ∷ 1 ∷ []
+
+-- ::1
+abbrev pub loopback6 : List ℕ
+loopback6 = 0 ∷ 0 ∷ 0 ∷ 0 ∷ 0 ∷ 0 ∷ 0 ∷ 0 ∷ 0 ∷ 0 ∷ 0 ∷ 0 ∷ 0 ∷ 0 ∷ 0 ∷ 1 ∷ []
 
 -- ---- which of them are bound
 
@@ -24,11 +35,11 @@ has_every_host hosts = list_any is_any6 hosts
 
 -- 0.0.0.0 is not bound by itself where :: is, which has it
 abbrev pub is_bound : List Host → Host → Bool
-is_bound hosts host = not (has_every_host hosts && is_same_host host (V4 ANY))
+is_bound hosts host = not (has_every_host hosts && is_same_host host (V4 every_inet))
 
 -- ::1 is bound besides, where that is wanted, it is none of them, and :: is none
 abbrev pub binds_loopback6 : List Host → Bool → Bool
-binds_loopback6 hosts wanted = wanted && not (has_every_host hosts) && not (has_host (V6 LOOPBACK6) hosts)
+binds_loopback6 hosts wanted = wanted && not (has_every_host hosts) && not (has_host (V6 loopback6) hosts)
 
 -- ---- the first of each family
 
@@ -50,11 +61,11 @@ or_else None false octets = None
 
 -- the first host of IPv4, or 0.0.0.0 where :: is bound
 abbrev pub served_inet : List Host → Option (List ℕ)
-served_inet hosts = or_else (first_inet hosts) (has_every_host hosts) ANY
+served_inet hosts = or_else (first_inet hosts) (has_every_host hosts) every_inet
 
 -- the first host of IPv6, or ::1 where that is wanted
 abbrev pub served_inet6 : List Host → Bool → Option (List ℕ)
-served_inet6 hosts loopback6 = or_else (first_inet6 hosts) loopback6 LOOPBACK6
+served_inet6 hosts wanted = or_else (first_inet6 hosts) wanted loopback6
 
 -- ---- what is announced, and forwarded from
 
@@ -68,11 +79,11 @@ abbrev pub announced_inet : Option (List ℕ) → List Host → Option (List ℕ
 announced_inet given hosts = announced_for (served_inet hosts) given
 
 abbrev pub announced_inet6 : Option (List ℕ) → List Host → Bool → Option (List ℕ)
-announced_inet6 given hosts loopback6 = announced_for (served_inet6 hosts loopback6) given
+announced_inet6 given hosts wanted = announced_for (served_inet6 hosts wanted) given
 
 abbrev pub inet_or_loopback : Option (List ℕ) → Host
 inet_or_loopback (Some octets) = V4 octets
-inet_or_loopback None = V4 (127 ∷ 0 ∷ 0 ∷ 1 ∷ [])
+inet_or_loopback None = V4 loopback
 
 abbrev pub forwards_inet : List Host → Host
 forwards_inet hosts = inet_or_loopback (served_inet hosts)
@@ -82,4 +93,4 @@ inet6_host (Some octets) = Some (V6 octets)
 inet6_host None = None
 
 abbrev pub forwards_inet6 : List Host → Bool → Option Host
-forwards_inet6 hosts loopback6 = inet6_host (served_inet6 hosts loopback6)
+forwards_inet6 hosts wanted = inet6_host (served_inet6 hosts wanted)

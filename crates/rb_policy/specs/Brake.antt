@@ -10,15 +10,18 @@ use Rattle.rb_address.specs.declared.who.Trust.TheVariants as Trusts
 use Rattle.rb_address.specs.declared.who.Trust.TheVariants.{Claims, Stranger}
 use Rattle.rb_address.specs.declared.who.Who.{Who}
 use Rattle.rb_address.specs.Hosts.{octets_of_host}
-use Rattle.rb_policy.specs.declared.recent.TheConstants.{SECOND, PLACES}
 use Rattle.rb_policy.specs.declared.brake.Rate.{Rate}
-use Rattle.rb_policy.specs.Recents.{RecentMoments, last_of}
+use Rattle.rb_policy.specs.Recents.{RecentMoments, one_second, last_of}
 
 -- ---- places
 
--- a place below 1,024 by some bytes
+-- how many places networks are told apart by, and how many hosts are
+abbrev pub table_places : ℕ
+table_places = 1024
+
+-- a place by some bytes
 abbrev pub place_by : List ℕ → ℕ
-place_by octets = fold (λ place octet. (place * 31 + octet) % PLACES) 0 octets
+place_by octets = fold (λ place octet. (place * 31 + octet) % table_places) 0 octets
 
 -- the bytes that hosts of one network begin with: IPv4 /24, IPv6 /56
 abbrev pub network_octets : Host → List ℕ
@@ -49,7 +52,7 @@ moment_of served now = max now (latest_of served)
 
 -- how many of one place were served within the second before a moment
 abbrev pub served_within : (Host → ℕ) → ℕ → ℕ → List Datagram → ℕ
-served_within place_of place now served = count_by (λ d. place_of d.host == place && nat_lt now (d.moment + SECOND)) served
+served_within place_of place now served = count_by (λ d. place_of d.host == place && nat_lt now (d.moment + one_second)) served
 
 abbrev pub has_room_at : (Host → ℕ) → ℕ → List Datagram → ℕ → Host → Bool
 has_room_at place_of most served now host = nat_lt (served_within place_of (place_of host) now served) most
@@ -99,8 +102,8 @@ moments_at place_of place served = map (λ d. d.moment) (filter (λ d. place_of 
 
 -- Each place has the moments of the last that were served of it.
 pub record IsTable (place_of : Host → ℕ) (most : ℕ) (table : List RecentMoments) (served : List Datagram) : Type 0 where
-  pub count : length table ≡ PLACES
-  pub each : (place : ℕ) (d : RecentMoments) → place < PLACES
+  pub count : length table ≡ table_places
+  pub each : (place : ℕ) (d : RecentMoments) → place < table_places
       → slice_index_or table place d ≡ record { most = most; moments = last_of most (moments_at place_of place served) }
 
 -- No moment is before an earlier one.

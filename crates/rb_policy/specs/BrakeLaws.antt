@@ -9,8 +9,8 @@ use Rattle.rb_address.specs.Hosts.{is_same_host, is_loopback, IsBytesOf}
 use Rattle.rb_address.specs.Networks.{has_front}
 use Rattle.rb_policy.specs.declared.trust.Entrance.TheVariants.{Udp}
 use Rattle.rb_policy.specs.Trusts.{trust_of}
-use Rattle.rb_policy.specs.declared.recent.TheConstants.{SECOND}
 use Rattle.rb_policy.specs.declared.brake.Rate.{Rate}
+use Rattle.rb_policy.specs.Recents.{one_second}
 use Rattle.rb_policy.specs.Brake.{Datagram, network_place, host_place, moment_of, served_within, admits, admit, host_counted}
 
 -- what is served of datagrams that came in this order, after some that were
@@ -31,7 +31,7 @@ is_same_network (V6 a) (V4 b) = false
 -- how many of some hosts' were served in the second that begins at a moment
 abbrev pub served_in_second : (Host → Bool) → ℕ → List Datagram → ℕ
 served_in_second is_one since served =
-    count_by (λ d. is_one d.host && (nat_le since d.moment && nat_lt d.moment (since + SECOND))) served
+    count_by (λ d. is_one d.host && (nat_le since d.moment && nat_lt d.moment (since + one_second))) served
 
 -- In no second are more served of one network, or of one host.
 pub record NeverMore : Type 0 where

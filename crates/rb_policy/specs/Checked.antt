@@ -1,15 +1,14 @@
 -- Which of the kept rows are asked whether somebody answers there, and at which host.
-use Rattle.std.specs.Prelude.{List, [], ◌∷◌, ◌||◌, if◌then◌else◌, Option, Some, None}
+use Rattle.std.specs.Prelude.{List, ◌||◌, if◌then◌else◌, Option, Some, None}
 use Rattle.rb_address.specs.declared.host.Host.{Host}
 use Rattle.rb_address.specs.declared.host.Host.TheVariants.{V4, V6}
 use Rattle.rb_address.specs.Hosts.{is_any, is_loopback}
-use Rattle.rb_policy.specs.declared.addresses.TheConstants.{LOOPBACK6}
-use Rattle.rb_policy.specs.Addresses.{has_host}
+use Rattle.rb_policy.specs.Addresses.{loopback, loopback6, has_host}
 
 -- 127.0.0.1 or ::1, by the family
 abbrev pub loopback_of : Host → Host
-loopback_of (V4 octets) = V4 (127 ∷ 0 ∷ 0 ∷ 1 ∷ [])
-loopback_of (V6 octets) = V6 LOOPBACK6
+loopback_of (V4 octets) = V4 loopback
+loopback_of (V6 octets) = V6 loopback6
 
 -- a row of every host is asked at the loopback, one of this machine at its own host, and no other one
 abbrev pub checked_at : List Host → List Host → Host → Option Host

@@ -1,15 +1,18 @@
 -- When what is due ends: not before all was read that came in time.
 use Rattle.std.specs.Prelude.{ℕ, ◌+◌, nat_lt, nat_le, Bool, not, ◌&&◌, ◌||◌, if◌then◌else◌}
-use Rattle.rb_policy.specs.declared.deadlines.TheConstants.{MOST_PUT_OFF}
 
 -- whether a turn may have left unread what came before its moment: it looked for events after it read that, or did not;
 -- its look showed so many sockets of so many that it can show; and something is left for the next turn, or is not
 abbrev pub is_behind : Bool → ℕ → ℕ → Bool → Bool
 is_behind fresh shown most left = not fresh || nat_le most shown || left
 
+-- how many turns in a row put off what is due, at most
+abbrev pub most_put_off : ℕ
+most_put_off = 64
+
 -- whether a turn puts off what is due, where so many in a row before it did
 abbrev pub puts_off : ℕ → Bool → Bool → Bool
-puts_off turns due behind = due && behind && nat_lt turns MOST_PUT_OFF
+puts_off turns due behind = due && behind && nat_lt turns most_put_off
 
 -- whether what is due ends in a turn
 abbrev pub ends : ℕ → Bool → Bool → Bool

@@ -16,7 +16,6 @@ use Rattle.rb_policy.specs.declared.door.Holder.{Holder}
 use Rattle.rb_policy.specs.declared.door.Candidate.{Candidate}
 use Rattle.rb_policy.specs.declared.door.Admission.{Admission}
 use Rattle.rb_policy.specs.declared.door.Admission.TheVariants.{Take, GiveUp, Close}
-use Rattle.rb_policy.specs.declared.door.TheConstants.{ACTIVE, OWED}
 
 -- of the places for connections, each is free or has a holder
 abbrev pub Places : Type 0
@@ -42,9 +41,13 @@ standing_outside Reading is_owed = if is_owed then Owing else Reading
 standing_outside Owing is_owed = Owing
 standing_outside Lost is_owed = if is_owed then Owing else Lost
 
+-- how long bytes that are owed may wait for the socket to take some, in milliseconds
+abbrev pub owed_for : ℕ
+owed_for = 30000
+
 -- the moment from which it is given up where its socket has taken nothing since another one
 abbrev pub stuck_at : ℕ → ℕ
-stuck_at since = later since OWED
+stuck_at since = later since owed_for
 
 -- ---- shares
 
@@ -79,12 +82,16 @@ rank Owing = 2
 rank Awaiting = 3
 rank Sends = 3
 
+-- for how long after its last progress a connection is active, in milliseconds
+abbrev pub active_for : ℕ
+active_for = 1000
+
 -- the holder of a place, as it stands at a moment
 abbrev pub candidate_of : Places → ℕ → ℕ → Holder → Candidate
 candidate_of places now place holder = record {
   is_within_share = is_within_share places holder.origin;
   is_local = holder.origin.is_local;
-  is_active = nat_lt (now - holder.since) ACTIVE;
+  is_active = nat_lt (now - holder.since) active_for;
   standing = holder.standing;
   since = holder.since;
   place = place;

@@ -8,7 +8,6 @@ use Rattle.rb_forward.specs.Forwards.{later}
 use Rattle.rb_evidence.specs.Table.{uid_of, uid_of_mapped}
 use Rattle.rb_policy.specs.declared.evidence.Evidence.{Evidence}
 use Rattle.rb_policy.specs.declared.evidence.Evidence.TheVariants.{Found, NotFound, Unread}
-use Rattle.rb_policy.specs.declared.evidence.TheConstants.{LONGEST_TABLE, BETWEEN_READINGS}
 
 -- of peers of this host alone, where what callers claim is not believed
 abbrev pub is_shown : Bool → Peer → Bool
@@ -40,14 +39,22 @@ evidence_of table None theirs ours = Unread
 
 -- ---- when they are read
 
+-- how long it is from one reading to the next, at least, in milliseconds
+abbrev pub between_readings : ℕ
+between_readings = 20
+
 -- the moment from which they may be read, where they were last read at another
 abbrev pub next_reading : Option ℕ → ℕ
-next_reading (Some last) = later last BETWEEN_READINGS
+next_reading (Some last) = later last between_readings
 next_reading None = 0
 
 abbrev pub may_read : ℕ → Option ℕ → Bool
 may_read now last = nat_le (next_reading last) now
 
+-- the most bytes of a table that is believed: 1 MiB
+abbrev pub longest_table : ℕ
+longest_table = 1048576
+
 -- the first bytes of the room, where they are no more than a table may have
 abbrev pub whole_text : List ℕ → ℕ → Option (List ℕ)
-whole_text room count = if nat_le count LONGEST_TABLE then Some (take count room) else None
+whole_text room count = if nat_le count longest_table then Some (take count room) else None

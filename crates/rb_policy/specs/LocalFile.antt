@@ -1,8 +1,30 @@
 -- What is done about a file at the path of the local socket, as the daemon starts.
+use Rattle.std.specs.Prelude.{ℕ, ◌==◌, Bool, true, false, ◌&&◌, if◌then◌else◌, List, [], codes, Option, Some, None}
+use Rattle.std.specs.declared.io.ErrorKind.{ErrorKind}
+use Rattle.std.specs.declared.io.ErrorKind.TheVariants as kinds
+use Rattle.rb_policy.specs.declared.trust.Entrance.{Entrance}
+use Rattle.rb_policy.specs.declared.trust.Entrance.TheVariants.{RootSocket, OpenSocket}
+use Rattle.rb_policy.specs.Trusts.{lets_in_root_alone}
 use Rattle.rb_policy.specs.declared.local_file.FileState.{FileState}
 use Rattle.rb_policy.specs.declared.local_file.FileState.TheVariants.{Absent, NotASocket, Refuses, Answers}
 use Rattle.rb_policy.specs.declared.local_file.FileAction.{FileAction}
 use Rattle.rb_policy.specs.declared.local_file.FileAction.TheVariants.{Bind, RemoveAndBind, GiveUp}
+
+-- ---- what is at the path
+
+-- ENOENT alone says that nothing is there
+abbrev pub is_nothing_there : ErrorKind → Bool
+is_nothing_there kinds.NotFound = true
+is_nothing_there _ = false
+
+-- what a try to connect says of a socket there: ECONNREFUSED that nobody listens, and EAGAIN that somebody does who has no
+-- room for one more (connect(2))
+abbrev pub state_by_connect : ErrorKind → Option FileState
+state_by_connect kinds.ConnectionRefused = Some Refuses
+state_by_connect kinds.WouldBlock = Some Answers
+state_by_connect _ = None
+
+-- ---- what is done about it
 
 -- a file is removed where it is a socket that nobody listens on any more, and in no other case
 abbrev pub file_action : FileState → FileAction
@@ -10,3 +32,25 @@ file_action Absent = Bind
 file_action NotASocket = GiveUp
 file_action Refuses = RemoveAndBind
 file_action Answers = GiveUp
+
+-- what is said if the file stays, so that the daemon does not start
+abbrev pub obstacle_text : FileState → List ℕ
+obstacle_text Absent = []
+obstacle_text NotASocket = codes "the file is no socket, and stays"
+obstacle_text Refuses = []
+obstacle_text Answers = codes "another program listens on it"
+
+-- ---- who comes in there
+
+-- whether a mode that may be known lets in root alone
+abbrev pub lets_in_root_by : Option ℕ → Bool
+lets_in_root_by None = false
+lets_in_root_by (Some mode) = lets_in_root_alone mode
+
+-- it is root's if the mode with which the file was made, and the one that it has, let in root alone
+abbrev pub entrance_of : Option ℕ → ℕ → Entrance
+entrance_of made mode = if lets_in_root_by made && lets_in_root_alone mode then RootSocket else OpenSocket
+
+-- the abstract name is taken on the port of the portmapper (RFC 1833 section 3.1)
+abbrev pub takes_abstract_name : ℕ → Bool
+takes_abstract_name port = port == 111

@@ -1,9 +1,8 @@
 -- What follows of how many lines of a kind a log gets in a second.
 use Rattle.std.specs.Prelude.{◌≡◌, ◌<◌, ◌≤◌, ◌+◌, ◌-◌, ◌^◌, ℕ, List, [], ◌∷◌, length, if◌then◌else◌, Some}
 use Rattle.std.specs.List.{AllByRecursion}
-use Rattle.rb_policy.specs.declared.log_rate.TheConstants.{LINES}
 use Rattle.rb_policy.specs.declared.log_rate.LogRate.{LogRate}
-use Rattle.rb_policy.specs.LogRate.{second_of, new_rate, gets_line, rate_after, tells, next_line}
+use Rattle.rb_policy.specs.LogRate.{lines_a_second, second_of, new_rate, gets_line, rate_after, tells, next_line}
 
 -- what is known after lines were asked for at these moments, one after another
 abbrev pub rate_then : LogRate → List ℕ → LogRate
@@ -19,7 +18,7 @@ lines_got rate (now ∷ more) = (if gets_line rate now then 1 else 0) + lines_go
 abbrev pub FewOfASecond : Type 0
 FewOfASecond =
     (before moments : List ℕ) (second : ℕ) → AllByRecursion (λ now. second_of now ≡ second) moments
-    → lines_got (rate_then new_rate before) moments ≤ LINES
+    → lines_got (rate_then new_rate before) moments ≤ lines_a_second
 
 -- Each line that the log does not get is counted.
 abbrev pub NoneIsLost : Type 0

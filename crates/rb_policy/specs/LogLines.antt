@@ -7,7 +7,6 @@ use Rattle.rb_address.specs.declared.who.Who.{Who}
 use Rattle.rb_address.specs.Callers.{owner_text as text_of_owner, source_text}
 use Rattle.rb_rpc.specs.declared.reply.ReplyStatus.{ReplyStatus}
 use Rattle.rb_rpc.specs.declared.reply.ReplyStatus.TheVariants.{Success, ProgUnavail, ProgMismatch, ProcUnavail, GarbageArgs, SystemErr, RpcMismatch, AuthError}
-use Rattle.rb_policy.specs.declared.log_lines.TheConstants.{MOST_SHOWN}
 use Rattle.rb_policy.specs.declared.log_lines.LogKind.{LogKind}
 use Rattle.rb_policy.specs.declared.log_lines.LogKind.TheVariants.{Accepted, Refused, Calls, GivenUp}
 use Rattle.rb_policy.specs.declared.log_lines.ChangeLine.{ChangeLine}
@@ -20,10 +19,14 @@ use Rattle.rb_policy.specs.declared.log_lines.LogLine.TheVariants as lines
 abbrev pub shown_byte : ℕ → ℕ
 shown_byte b = if nat_le 33 b && nat_le b 126 then b else 63
 
--- the first 128 bytes; an empty text is shown as `-`
+-- the most bytes of a text that are shown
+abbrev pub most_shown : ℕ
+most_shown = 128
+
+-- the first bytes of it; an empty text is shown as `-`
 abbrev pub shown_text : List ℕ → List ℕ
 shown_text [] = codes "-"
-shown_text (b ∷ text) = map shown_byte (take MOST_SHOWN (b ∷ text))
+shown_text (b ∷ text) = map shown_byte (take most_shown (b ∷ text))
 
 -- ---- words
 

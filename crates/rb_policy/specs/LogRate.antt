@@ -1,11 +1,14 @@
 -- How many lines of a kind a log gets in a second.
 use Rattle.std.specs.Prelude.{ℕ, ◌+◌, ◌-◌, ◌*◌, ◌^◌, ◌/◌, ◌==◌, nat_lt, min, Bool, if◌then◌else◌, Option, Some, None}
-use Rattle.rb_policy.specs.declared.recent.TheConstants.{SECOND}
-use Rattle.rb_policy.specs.declared.log_rate.TheConstants.{LINES}
 use Rattle.rb_policy.specs.declared.log_rate.LogRate.{LogRate}
+use Rattle.rb_policy.specs.Recents.{one_second}
+
+-- the most lines of a kind in a second
+abbrev pub lines_a_second : ℕ
+lines_a_second = 20
 
 abbrev pub second_of : ℕ → ℕ
-second_of now = now / SECOND
+second_of now = now / one_second
 
 abbrev pub new_rate : LogRate
 new_rate = record { second = 0; written = 0; left_out = 0 }
@@ -18,7 +21,7 @@ rate_at rate now =
 
 -- whether the log gets a line: so long as it has fewer than the most of this second
 abbrev pub gets_line : LogRate → ℕ → Bool
-gets_line rate now = nat_lt (rate_at rate now).written LINES
+gets_line rate now = nat_lt (rate_at rate now).written lines_a_second
 
 -- one more is written
 abbrev pub with_line : LogRate → LogRate
@@ -41,4 +44,4 @@ rate_told rate now = if second_of now == rate.second then rate else record rate 
 -- the moment from which they are told, where some were left out: the end of their second, or the greatest one
 abbrev pub next_line : LogRate → Option ℕ
 next_line rate =
-    if rate.left_out == 0 then None else Some (min ((rate.second + 1) * SECOND) (2 ^ 64 - 1))
+    if rate.left_out == 0 then None else Some (min ((rate.second + 1) * one_second) (2 ^ 64 - 1))

@@ -1,6 +1,9 @@
 -- The moments of what was served last, of one place and of all places of a table.
 use Rattle.std.specs.Prelude.{ℕ, ◌+◌, ◌-◌, ◌≤◌, nat_lt, nat_le, Bool, false, ◌||◌, List, [], ◌∷◌, ◌++◌, length, drop}
-use Rattle.rb_policy.specs.declared.recent.TheConstants.{SECOND}
+
+-- a second, in milliseconds
+abbrev pub one_second : ℕ
+one_second = 1000
 
 -- the moments of the last that were served of one place, in their order, at most so many
 pub record RecentMoments : Type 0 where
@@ -19,7 +22,7 @@ last_of most moments = drop (length moments - most) moments
 -- whether the first of these is a second old
 abbrev pub is_first_old : List ℕ → ℕ → Bool
 is_first_old [] now = false
-is_first_old (moment ∷ more) now = nat_le (moment + SECOND) now
+is_first_old (moment ∷ more) now = nat_le (moment + one_second) now
 
 -- whether one more may be served at a moment
 abbrev pub has_room : RecentMoments → ℕ → Bool

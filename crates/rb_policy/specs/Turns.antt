@@ -5,9 +5,20 @@ use Rattle.rb_model.specs.declared.types.Standing.{Standing}
 use Rattle.rb_model.specs.declared.types.Standing.TheVariants.{Owing}
 use Rattle.rb_policy.specs.declared.turns.Again.{Again}
 use Rattle.rb_policy.specs.declared.turns.Again.TheVariants.{AtOnce, AfterWait}
-use Rattle.rb_policy.specs.declared.turns.TheConstants.{SOCKET_CALLS, STEP, LAST_ROUND}
 use Rattle.rb_policy.specs.declared.turns.Round.{Round}
 use Rattle.rb_policy.specs.declared.turns.Round.TheVariants.{First, Last}
+
+-- the most socket calls for one socket in a turn, and the most connections that a turn accepts
+abbrev pub socket_calls : ℕ
+socket_calls = 64
+
+-- so many bytes that were written to a connection are enough for a turn
+abbrev pub enough_written : ℕ
+enough_written = 65536
+
+-- how many connections are served in the last round of a turn
+abbrev pub last_round : ℕ
+last_round = 8
 
 -- when a socket is served again on which all receives or accepts of a turn were made, where some of them got something
 abbrev pub after_all_calls : Bool → Again
@@ -26,7 +37,7 @@ wait_of false now due longest = sooner_of (time_until now due) longest
 
 -- how many connections a turn accepts, where so many of all places are free as its accepting begins
 abbrev pub accept_count : ℕ → ℕ → ℕ
-accept_count free all = if free == 0 then min (max (all / 2) 1) SOCKET_CALLS else min free SOCKET_CALLS
+accept_count free all = if free == 0 then min (max (all / 2) 1) socket_calls else min free socket_calls
 
 -- how many places there are, of so many that are asked for, where of so many descriptors so many are others': one more
 -- is kept for who comes where all places are taken
@@ -35,7 +46,7 @@ place_count asked descriptors others = max (min asked (descriptors - others - 1)
 
 -- whether a connection is left for the next turn, for which so many socket calls were made, and so many bytes written
 abbrev pub is_cut_off : ℕ → ℕ → Bool
-is_cut_off calls written = nat_le SOCKET_CALLS calls || nat_le STEP written
+is_cut_off calls written = nat_le socket_calls calls || nat_le enough_written written
 
 -- in which round a connection is served that was left by the last turn or was not, by where it stands
 abbrev pub round_of : Bool → Standing → Round
@@ -45,4 +56,4 @@ round_of false standing = First
 
 -- whether one more is served in the last round
 abbrev pub serves_another : ℕ → Bool
-serves_another served = nat_lt served LAST_ROUND
+serves_another served = nat_lt served last_round

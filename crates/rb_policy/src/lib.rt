@@ -40,7 +40,10 @@ pub use evidence::{
 };
 pub use keep_file::{Distrust, KeepAction, KeepState, Writers, keep_action};
 pub use laws::{brake_laws, door_laws, log_laws, network_laws, trust_laws, way_laws};
-pub use local_file::{FileAction, FileState, file_action};
+pub use local_file::{
+    FileAction, FileState, entrance_of, file_action, is_nothing_there, obstacle_text,
+    state_by_connect, takes_abstract_name,
+};
 pub use log_lines::{ChangeLine, LONGEST_LOG_LINE, LogKind, LogLine, MOST_SHOWN};
 pub use log_rate::{LINES, LogRate};
 pub use moments::Moments;

@@ -1,6 +1,11 @@
 //! What is done about a file at the path of the local socket, as the daemon starts.
 ghost use Rattle.std.specs.Prelude.{◌≡◌};
-ghost use Rattle.rb_policy.specs.LocalFile.{file_action};
+ghost use Rattle.std.specs.IoError.{error_kind};
+ghost use Rattle.rb_policy.specs.LocalFile.{is_nothing_there, state_by_connect, file_action, obstacle_text, lets_in_root_by, entrance_of, takes_abstract_name};
+
+use crate::trust::{Entrance, lets_in_root_alone};
+use std::io;
+use std::io::ErrorKind;
 
 /// What is at the path.
 #[derive(Clone, Copy, Debug, PartialEq, Eq)]
@@ -13,6 +18,28 @@ pub enum FileState {
     Refuses,
     /// A socket that takes a connection, or has no room for one more: another program listens on it.
     Answers,
+}
+
+/// Whether an error of a look at a path says that nothing is there. Any other one says nothing of what is.
+pub fn is_nothing_there(error: &io::Error) -> bool
+    ensures { result ≡ is_nothing_there (error_kind error.now) }
+{
+    match error.kind() {
+        ErrorKind::NotFound => true,
+        _ => false,
+    }
+}
+
+/// What is said of a socket at the path by the error of a try to connect to it: that it refuses, or that another program
+/// listens on it and has no room for one more. None where the error says neither.
+pub fn state_by_connect(error: &io::Error) -> Option<FileState>
+    ensures { result ≡ state_by_connect (error_kind error.now) }
+{
+    match error.kind() {
+        ErrorKind::ConnectionRefused => Some(FileState::Refuses),
+        ErrorKind::WouldBlock => Some(FileState::Answers),
+        _ => None,
+    }
 }
 
 /// What is done about it.
@@ -36,3 +63,46 @@ pub fn file_action(state: FileState) -> FileAction
         FileState::NotASocket | FileState::Answers => FileAction::GiveUp,
     }
 }
+
+/// Why a file at the path keeps the daemon from its local socket, if it does.
+pub fn obstacle_text(state: FileState) -> &'static str
+    ensures { result.now ≡ obstacle_text state }
+{
+    match state {
+        FileState::NotASocket => "the file is no socket, and stays",
+        FileState::Answers => "another program listens on it",
+        FileState::Absent | FileState::Refuses => "",
+    }
+}
+
+/// Where callers of the local socket come in, whose file the system made with the first mode, if that is known, and that has
+/// the second one now: it is root's if both let in root alone. Else somebody may have come in before it had its mode.
+pub fn entrance_of(made: Option<u32>, mode: u32) -> Entrance
+    ensures { result ≡ entrance_of made mode }
+{
+    if lets_in_root_by(made) && lets_in_root_alone(mode) {
+        Entrance::RootSocket
+    } else {
+        Entrance::OpenSocket
+    }
+}
+
+fn lets_in_root_by(made: Option<u32>) -> bool
+    ensures { result ≡ lets_in_root_by made }
+{
+    match made {
+        Some(mode) => lets_in_root_alone(mode),
+        None => false,
+    }
+}
+
+/// Whether a daemon on this port takes the abstract name of the local socket too: the port of the portmapper, which clients
+/// look for.
+pub fn takes_abstract_name(port: u16) -> bool
+    ensures { result ≡ takes_abstract_name port }
+{
+    port == PORTMAPPER
+}
+
+/// The port of the portmapper (RFC 1833 section 3.1).
+const PORTMAPPER: u16 = 111;

@@ -1,1 +1,3 @@
 pub mod Settings
+pub mod Events
+pub mod Faults

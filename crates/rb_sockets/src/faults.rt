@@ -67,6 +67,11 @@ impl Step {
 }
 
 impl Display for Step {
+    ghost use Rattle.std.specs.Prelude.{Some};
+    ghost use Rattle.rb_sockets.specs.Faults.{step_text};
+
+    ghost output = { λ step. Some (step_text step) };
+
     fn fmt<W: fmt::Write>(&self, f: &mut Formatter<W>) -> fmt::Result {
         match self {
             Step::BindTcp(address) => write!(f, "bind TCP {address}"),

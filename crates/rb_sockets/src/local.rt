@@ -1,7 +1,13 @@
 //! The start of the local socket.
+ghost use Rattle.std.specs.Prelude.{◌≡◌, IsTrue, IfOk};
+ghost use Rattle.rb_policy.specs.Trusts.{lets_in_root_alone};
+
 use crate::addresses::LocalSocket;
 use mio::net::{UnixListener, UnixStream};
-use rb_policy::{Entrance, FileAction, FileState, file_action, lets_in_root_alone};
+use rb_policy::{
+    Entrance, FileAction, FileState, entrance_of, file_action, is_nothing_there, obstacle_text,
+    state_by_connect,
+};
 use std::fs::{Files, Permissions};
 use std::io::ErrorKind;
 use std::net::{Net, Shutdown};
@@ -16,7 +22,10 @@ use std::{fs, io};
 pub fn listen<R: Files + Net>(
     rt: &R,
     local: &LocalSocket<'_>,
-) -> io::Result<(UnixListener, Entrance)> {
+) -> io::Result<(UnixListener, Entrance)>
+    ensures { IfOk result (λ r. r.1 ≡ Entrance.RootSocket
+        → IsTrue (lets_in_root_alone local.now.mode)) }
+{
     let LocalSocket { path, mode } = *local;
     let state = file_state(rt, path)?;
     match file_action(state) {
@@ -25,15 +34,17 @@ pub fn listen<R: Files + Net>(
         FileAction::GiveUp => return Err(in_the_way(state)),
     }
     let listener = UnixListener::bind(rt, path)?;
-    let was_root_alone = match fs::symlink_metadata(rt, path) {
-        Ok(made) => lets_in_root_alone(made.permissions().mode()),
-        Err(_) => false,
-    };
+    let made = mode_at(rt, path);
     fs::set_permissions(rt, path, Permissions::from_mode(mode))?;
-    if was_root_alone && lets_in_root_alone(mode) {
-        Ok((listener, Entrance::RootSocket))
-    } else {
-        Ok((listener, Entrance::OpenSocket))
+    let entrance = entrance_of(made, mode);
+    Ok((listener, entrance))
+}
+
+/// The mode of the file at the path, if the system tells it.
+fn mode_at<R: Files>(rt: &R, path: &str) -> Option<u32> {
+    match fs::symlink_metadata(rt, path) {
+        Ok(found) => Some(found.permissions().mode()),
+        Err(_) => None,
     }
 }
 
@@ -41,7 +52,7 @@ pub fn listen<R: Files + Net>(
 fn file_state<R: Files + Net>(rt: &R, path: &str) -> io::Result<FileState> {
     let found = match fs::symlink_metadata(rt, path) {
         Ok(found) => found,
-        Err(error) if error.kind() == ErrorKind::NotFound => return Ok(FileState::Absent),
+        Err(error) if is_nothing_there(&error) => return Ok(FileState::Absent),
         Err(error) => return Err(error),
     };
     if !found.file_type().is_socket() {
@@ -49,24 +60,17 @@ fn file_state<R: Files + Net>(rt: &R, path: &str) -> io::Result<FileState> {
     }
     match UnixStream::connect(rt, path) {
         Ok(_) => Ok(FileState::Answers),
-        Err(error) => match error.kind() {
-            ErrorKind::ConnectionRefused => Ok(FileState::Refuses),
-            ErrorKind::WouldBlock => Ok(FileState::Answers),
-            _ => Err(error),
-        },
+        Err(error) => state_by_connect(&error).ok_or(error),
     }
 }
 
 /// Why a file keeps the daemon from its local socket.
 fn in_the_way(state: FileState) -> io::Error {
-    match state {
-        FileState::NotASocket => {
-            io::Error::new(ErrorKind::AlreadyExists, "the file is no socket, and stays")
-        }
-        FileState::Absent | FileState::Refuses | FileState::Answers => {
-            io::Error::new(ErrorKind::AddrInUse, "another program listens on it")
-        }
-    }
+    let kind = match state {
+        FileState::NotASocket => ErrorKind::AlreadyExists,
+        FileState::Absent | FileState::Refuses | FileState::Answers => ErrorKind::AddrInUse,
+    };
+    io::Error::new(kind, obstacle_text(state))
 }
 
 /// The abstract name that newer clients try before the file. Nobody's mode keeps it, so nobody is answered there.

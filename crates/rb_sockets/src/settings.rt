@@ -49,7 +49,7 @@ pub struct Settings<'a> {
     /// The limit of open files.
     pub open_files: u64,
     /// The most bytes of a record of its events, its last line among them; 0 records nothing. It takes that much
-    /// memory, and up to 160,000 bytes more for the entry that is being written.
+    /// memory.
     pub record: usize,
     /// The path of the file in which the rows are kept that were set, if they are.
     pub keep: Option<&'a str>,

@@ -1,4 +1,7 @@
 //! The daemon's own sockets. Each kind is a type of its own, so that nothing goes out on the wrong one.
+ghost use Rattle.std.specs.Prelude.{◌≡◌};
+ghost use Rattle.rb_sockets.specs.Events.{shown_by, family_at, MayBeShown};
+
 use crate::addresses::{Addresses, LocalSocket};
 use crate::calls::{CallSocket, CallSockets, ForwardSocket, ForwardSockets};
 use crate::faults::{BindFault, Step};
@@ -10,7 +13,7 @@ use mio::{Registry, Token};
 use rb_address::{Family, Host, Network};
 use rb_policy::{
     ANY, LOOPBACK6, WaysBack, binds_loopback6, forwards_inet, forwards_inet6, has_every_host,
-    is_bound, trust_of,
+    is_bound, takes_abstract_name, trust_of,
 };
 use std::alloc::{AllocError, Global};
 use std::fs::Files;
@@ -88,7 +91,7 @@ impl Sockets {
         let mut abstract_name = None;
         if let Some(local) = &addresses.local {
             put(&mut listeners, bind_local(rt, local, are_claims_believed)?)?;
-            if port == WELL_KNOWN {
+            if takes_abstract_name(port) {
                 abstract_name = local::hold_abstract_name(rt);
             }
         }
@@ -135,35 +138,36 @@ impl Sockets {
     /// Their events are shown from here on.
     pub fn register(&mut self, registry: &Registry) -> io::Result<()> {
         let ForwardSockets { inet, inet6 } = &mut self.forwards;
-        inet.socket.register(registry, Token(FORWARDS))?;
+        let inet_token = token_of(Shown::Forwards(Family::Inet));
+        inet.socket.register(registry, inet_token)?;
         if let Some(inet6) = inet6 {
-            inet6.socket.register(registry, Token(FORWARDS6))?;
+            let inet6_token = token_of(Shown::Forwards(Family::Inet6));
+            inet6.socket.register(registry, inet6_token)?;
         }
         for (i, calls) in self.calls.all.iter_mut().enumerate() {
-            calls
-                .socket
-                .register(registry, Token(CALLS.saturating_add(i)))?;
+            calls.socket.register(registry, token_of(Shown::Calls(i)))?;
         }
         for (i, listener) in self.listeners.iter_mut().enumerate() {
             listener
                 .socket
-                .register(registry, Token(LISTENERS.saturating_add(i)))?;
+                .register(registry, token_of(Shown::Listener(i)))?;
         }
         Ok(())
     }
 
     /// What an event with this token shows.
-    pub fn shown_by(Token(key): Token) -> Shown {
+    pub fn shown_by(token: Token) -> Shown
+        ensures { result ≡ shown_by token.0 }
+    {
+        let key = token.0;
         if key < FORWARDS {
-            return Shown::Connection(key);
-        }
-        if let Some(i) = key.checked_sub(LISTENERS) {
-            return Shown::Listener(i);
-        }
-        match key.checked_sub(CALLS) {
-            Some(i) => Shown::Calls(i),
-            None if key == FORWARDS6 => Shown::Forwards(Family::Inet6),
-            None => Shown::Forwards(Family::Inet),
+            Shown::Connection(key)
+        } else if key < CALLS {
+            Shown::Forwards(family_at(key))
+        } else if key < LISTENERS {
+            Shown::Calls(key - CALLS)
+        } else {
+            Shown::Listener(key - LISTENERS)
         }
     }
 
@@ -219,8 +223,29 @@ impl Sockets {
     }
 }
 
-/// The port of the portmapper.
-const WELL_KNOWN: u16 = 111;
+/// The token under which events of this are shown.
+fn token_of(shown: Shown) -> Token
+    ensures { MayBeShown shown → shown_by result.0 ≡ shown }
+{
+    match shown {
+        Shown::Connection(place) => Token(place),
+        Shown::Forwards(Family::Inet) => Token(FORWARDS),
+        Shown::Forwards(Family::Inet6) => Token(FORWARDS6),
+        Shown::Calls(i) => Token(CALLS.saturating_add(i)),
+        Shown::Listener(i) => Token(LISTENERS.saturating_add(i)),
+    }
+}
+
+/// The family of the targets of the socket for forwarded calls that has this key.
+fn family_at(key: usize) -> Family
+    ensures { result ≡ family_at key }
+{
+    if key == FORWARDS6 {
+        Family::Inet6
+    } else {
+        Family::Inet
+    }
+}
 
 /// The sockets of TCP and UDP, as they are bound: of each host one of TCP and one of UDP.
 #[derive(Drop)]

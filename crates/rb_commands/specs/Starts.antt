@@ -1,0 +1,44 @@
+-- What a start says.
+use Rattle.std.specs.Prelude.{ℕ, Bool, true, false, List, [], ◌++◌, codes, decimal, Option, Some, None}
+use Rattle.std.specs.List.{flat_map}
+use Rattle.rb_address.specs.declared.host.Host.{Host}
+use Rattle.rb_address.specs.Peers.{bare_host_text}
+use Rattle.rb_policy.specs.Addresses.{binds_loopback6}
+use Rattle.rb_sockets.specs.declared.addresses.LocalSocket.{LocalSocket}
+use Rattle.rb_sockets.specs.declared.descriptors.Shortage.{Shortage}
+use Rattle.rb_sockets.specs.declared.settings.Settings.{Settings}
+
+-- ---- on standard output: where it listens
+
+abbrev pub host_line : ℕ → Host → List ℕ
+host_line port host =
+    codes "rpcbind: listening on " ++ bare_host_text host ++ codes " port " ++ decimal port ++ codes "\n"
+
+-- of ::1, if that is bound besides
+abbrev pub loopback6_line : Bool → ℕ → List ℕ
+loopback6_line true port = codes "rpcbind: listening on ::1 port " ++ decimal port ++ codes "\n"
+loopback6_line false port = []
+
+-- of the local socket, if there is one
+abbrev pub local_line : Option LocalSocket → List ℕ
+local_line None = []
+local_line (Some local) = codes "rpcbind: listening on " ++ local.path.now ++ codes "\n"
+
+-- the lines of the hosts, in their order, of ::1 and of the local socket
+abbrev pub start_text : Settings → List ℕ
+start_text s =
+    flat_map (host_line s.port) s.hosts.now
+    ++ loopback6_line (binds_loopback6 s.hosts.now s.loopback6) s.port
+    ++ local_line s.local
+
+-- ---- before it, on standard error
+
+-- if clients over UDP will be told a host of which they can make nothing
+abbrev pub unannounced_line : Host → List ℕ
+unannounced_line host = codes "rpcbind: no --announce: clients over UDP will be told " ++ bare_host_text host
+
+-- if the limit of open files leaves fewer places than are asked for
+abbrev pub shortage_line : Shortage → List ℕ
+shortage_line short =
+    codes "rpcbind: the limit of open files is " ++ decimal short.limit ++ codes ", --conns " ++ decimal short.asked
+    ++ codes " needs " ++ decimal short.needed ++ codes ": " ++ decimal short.places ++ codes " connections at a time"
