@@ -5,7 +5,7 @@ use Rattle.rb_address.specs.declared.host.Host.TheVariants as hosts
 use Rattle.rb_address.specs.declared.netid.Netid.{Netid}
 use Rattle.rb_address.specs.declared.netid.Transport.{Transport}
 use Rattle.rb_address.specs.declared.netid.Transport.TheVariants as transports
-use Rattle.rb_address.specs.Hosts.{is_any, is_loopback}
+use Rattle.rb_address.specs.Hosts.{is_any, is_loopback, plain_host}
 use Rattle.rb_address.specs.Netids.{protocol_of, transport_of as transport_of_netid}
 use Rattle.rb_uaddr.specs.declared.address.Uaddr.{Uaddr}
 use Rattle.rb_uaddr.specs.declared.address.Uaddr.TheVariants as uaddrs
@@ -123,8 +123,12 @@ host_in (uaddrs.V4 octets port) = hosts.V4 octets
 host_in (uaddrs.V6 octets port) = hosts.V6 octets
 
 -- 0.0.0.0 and :: stand for every host of the one that tells them, and 127.0.0.0/8 and ::1 for that host itself
+abbrev pub means_teller : Host → Bool
+means_teller host = is_any host || is_loopback host
+
+-- so it is of IPv4 in IPv6's form, as ::ffff:127.0.0.1
 abbrev pub is_of_teller : Uaddr → Bool
-is_of_teller address = is_any (host_in address) || is_loopback (host_in address)
+is_of_teller address = means_teller (plain_host (host_in address))
 
 -- such an address is a port of the host whose portmapper told it
 abbrev pub after_address : Course → Aim → Uaddr → Step

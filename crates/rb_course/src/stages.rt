@@ -199,11 +199,11 @@ fn host_in(address: Uaddr) -> Host
     }
 }
 
-/// Whether an address means the host that tells it: every one of its hosts, or itself.
+/// Whether an address means the host that tells it: every one of its hosts, or itself. It may be of IPv4 in IPv6's form.
 fn is_of_teller(address: Uaddr) -> bool
     ensures { result ≡ is_of_teller address }
 {
-    let host = host_in(address);
+    let host = host_in(address).plain();
     host.is_any() || host.is_loopback()
 }
 

@@ -5,6 +5,8 @@ pub mod Plans
 pub mod Waits
 pub mod Addresses
 pub mod AddressLaws
+pub mod CourseLaws
+pub mod Errors
 pub mod Ending
 pub mod Words
 pub mod Told

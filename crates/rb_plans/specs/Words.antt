@@ -1,5 +1,5 @@
 -- The words of a command line: what they name, and what their shape says.
-use Rattle.std.specs.Prelude.{◌≡◌, ℕ, List, Option, Some, None, option_map, Result, Ok, Err}
+use Rattle.std.specs.Prelude.{◌≡◌, ◌≢◌, ℕ, Bool, true, false, List, [], Option, Some, None, option_map, slice_get, Result, Ok, Err}
 use Rattle.std.specs.Borrow.{Bor}
 use Rattle.std.specs.declared.net.ipv4_addr.Ipv4Addr.{Ipv4Addr}
 use Rattle.std.specs.Net.Grammar.{IsIpv4Text}
@@ -9,8 +9,12 @@ use Rattle.rb_names.specs.declared.services.Service.{Service}
 use Rattle.rb_words.specs.declared.plan.Layout.{Layout}
 use Rattle.rb_words.specs.declared.plan.Layout.TheVariants as layouts
 use Rattle.rb_words.specs.declared.plan.Listing.TheVariants as listings
+use Rattle.rb_words.specs.declared.plan.Means.{Means}
+use Rattle.rb_words.specs.declared.plan.Means.TheVariants as means
 use Rattle.rb_words.specs.declared.plan.Plan.{Plan}
-use Rattle.rb_words.specs.declared.plan.Plan.TheVariants.{Show}
+use Rattle.rb_words.specs.declared.plan.Plan.TheVariants.{Show, Entries, Ping, Delete, Broadcast}
+use Rattle.rb_words.specs.declared.plan.Source.{Source}
+use Rattle.rb_words.specs.declared.plan.Source.TheVariants.{Here, Input, Named}
 use Rattle.rb_words.specs.declared.plan.Request.{Request}
 use Rattle.rb_words.specs.declared.shape.Shape.{Shape}
 use Rattle.rb_words.specs.declared.refusal.Refusal.{Refusal}
@@ -53,15 +57,46 @@ IsNetworkOf None network = network ≡ None
 IsNetworkOf (Some text) None = ⊥
 IsNetworkOf (Some text) (Some address) = IsIpv4Text text.now address
 
+-- ---- the host
+
+-- the first word that belongs to no option, or nothing
+abbrev pub text_of : Option (Bor (List ℕ)) → List ℕ
+text_of None = []
+text_of (Some text) = text.now
+
+abbrev pub first_word : Shape → List ℕ
+first_word shape = text_of (slice_get shape.words.now 0)
+
+-- it names the host that is asked
+abbrev pub is_named : Source → Bool
+is_named Named = true
+is_named Here = false
+is_named Input = false
+
+abbrev pub is_at_host : Means → Bool
+is_at_host (means.Mapped transport) = true
+is_at_host (means.Port transport port) = true
+is_at_host (means.Netid netid) = true
+is_at_host (means.Address netid) = false
+
+abbrev pub names_host : Plan → Bool
+names_host (Show listing source) = is_named source
+names_host (Entries source prog vers) = is_named source
+names_host (Ping means prog vers) = is_at_host means
+names_host (Delete netid prog vers) = false
+names_host (Broadcast prog vers) = false
+
 -- The shape of the words is read as what they ask for, or what can't be read is named.
 abbrev pub ReadsShape : {E : Type 0} → (E → Option (List ℕ)) → Shape → E → E → Result Request Ending → Type 0
 ReadsShape contents shape faults faults' (Ok request) = request_of shape ≡ Ok request
 ReadsShape contents shape faults faults' (Err ending) =
     (refusal : Refusal) × ((request_of shape ≡ Err refusal) × Says contents faults faults' ending (refusal_lines shape refusal))
 
--- The words are what their shape says; of the host nothing is said.
+-- The words are what their shape says; a host that is asked has a name.
 pub record AreOf (shape : Shape) (words : Words) : Type 0 where
   pub request : request_of shape ≡ Ok words.request
+  pub host : words.host.now ≡ first_word shape
+  pub named : names_host words.request.plan ≡ true → words.host.now ≢ []
   pub address : address_of shape.address ≡ Some words.address
   pub network : IsNetworkOf shape.broadcast words.network
   pub local : words.local ≡ shape.local

@@ -1,5 +1,6 @@
 //! What holds of the definitions.
 ghost use Rattle.rb_plans.specs.AddressLaws.{AskedUpToAnAnswer, AllAreAsked};
+ghost use Rattle.rb_plans.specs.CourseLaws.{SeveralStay, FaultsAreLast, EndsAreLast};
 ghost use Rattle.rb_plans.specs.InputLaws.{HexTextsGiveBytes, OnlyHexTextsDo, OthersAreUnreadable, DigitsGiveTheirBytes, LongTextsAreNotRead, TheRestIsRead};
 ghost use Rattle.rb_plans.specs.ObjectLaws.{ObjectsAreAskedFor, VersionTwoHasObjects, TextsAreShownAsObjects};
 
@@ -18,6 +19,15 @@ pub fn texts_are_hexadecimal()
 pub fn addresses_are_asked_in_order()
     ensures first { AskedUpToAnAnswer }
     ensures none { AllAreAsked }
+{}
+
+/// Once the versions of a program are known, each reply, or the want of one, is followed by a call of several or by the
+/// end, and no end has the host's next address asked. Versions 0 and 4294967295, by which they are learnt, may be called
+/// at several addresses.
+pub fn versions_are_asked_once()
+    ensures stay { SeveralStay }
+    ensures faults { FaultsAreLast }
+    ensures ends { EndsAreLast }
 {}
 
 /// Words that want objects ask only for what is shown as objects, in version 2 too where it is asked in place of

@@ -2,7 +2,9 @@
 #![tactic(auto)]
 
 mod addresses;
+mod calls;
 mod ending;
+mod errors;
 mod fault;
 mod input;
 mod laws;
@@ -12,10 +14,14 @@ mod waits;
 mod words;
 
 pub use addresses::{falls_back, is_asked, is_unanswered, none_asked, notices_at};
+pub use calls::call_of;
 pub use ending::{Ending, FAILED, Notices, UNREADABLE, conclude, explain, refuse_text};
+pub use errors::{host_fault, look_up_fault, reply_fault, socket_fault};
 pub use fault::Fault;
 pub use input::{FIRST_XID, show_input};
-pub use laws::{addresses_are_asked_in_order, objects_are_shown, texts_are_hexadecimal};
+pub use laws::{
+    addresses_are_asked_in_order, objects_are_shown, texts_are_hexadecimal, versions_are_asked_once,
+};
 pub use plans::{aim_of, course_end, follow, plan_question, way_of};
 pub use told::{ask_input, flushed};
 pub use waits::{WAITS, Waits, wait_left};

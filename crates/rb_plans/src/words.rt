@@ -1,16 +1,17 @@
 //! The words of a command line, read.
-ghost use Rattle.std.specs.Prelude.{◌≡◌, IfErr, IfOk, OnOk};
+ghost use Rattle.std.specs.Prelude.{◌≡◌, ◌≢◌, true, [], IfErr, IfOk, OnOk};
 ghost use Rattle.std.specs.Result.{result_ok};
 ghost use Rattle.rb_words.specs.Refusals.{refusal_lines};
 ghost use Rattle.rb_plans.specs.Ending.{Says};
-ghost use Rattle.rb_plans.specs.Words.{address_of, ask_of, form_of, AreOf, IsNetworkOf, ReadsShape};
+ghost use Rattle.rb_plans.specs.Words.{address_of, ask_of, first_word, form_of, is_at_host, is_named, names_host, AreOf, IsNetworkOf, ReadsShape};
 
 use crate::ending::{Ending, UNREADABLE};
 use rb_names::Service;
 use rb_show::{Ask, Form, Question};
 use rb_uaddr::Uaddr;
 use rb_words::{
-    Layout, Listing, Plan, Refusal, Request, Shape, Spot, Wanted, read_words, write_refusal,
+    Layout, Listing, Means, Plan, Refusal, Request, Shape, Source, Spot, Wanted, read_words,
+    write_refusal,
 };
 use std::io::Write;
 use std::net::Ipv4Addr;
@@ -127,6 +128,59 @@ fn read_network<E: Write>(
     }
 }
 
+/// Whether replies come from the host that the first word names.
+fn is_named(source: Source) -> bool
+    ensures { result ≡ is_named source }
+{
+    match source {
+        Source::Named => true,
+        Source::Here | Source::Input => false,
+    }
+}
+
+/// Whether a program is called at that host.
+fn is_at_host(means: Means) -> bool
+    ensures { result ≡ is_at_host means }
+{
+    match means {
+        Means::Mapped(_) | Means::Port(..) | Means::Netid(_) => true,
+        Means::Address(_) => false,
+    }
+}
+
+/// Whether the host that the first word names is asked.
+fn names_host(plan: Plan) -> bool
+    ensures { result ≡ names_host plan }
+{
+    match plan {
+        Plan::Show(_, source) | Plan::Entries(source, _, _) => is_named(source),
+        Plan::Ping(means, _, _) => is_at_host(means),
+        Plan::Delete(..) | Plan::Broadcast(..) => false,
+    }
+}
+
+/// The first word, which names the host that is asked: it may be empty only where none is.
+fn read_host<'a, E: Write>(
+    shape: &Shape<'_, 'a, '_>,
+    plan: Plan,
+    faults: &mut E,
+) -> Result<&'a str, Ending>
+    ensures value { IfOk result (λ host. host.now ≡ first_word shape.now) }
+    ensures named { IfOk result (λ host. names_host plan ≡ true → host.now ≢ []) }
+    ensures read { OnOk result (faults.new ≡ faults.old) }
+    ensures refused { IfErr result (λ ending. ending.status ≡ 2) }
+{
+    let host = shape.words.first().copied().unwrap_or("");
+    if names_host(plan) && host.is_empty() {
+        let refusal = Refusal {
+            at: Spot::Word(0),
+            wanted: Wanted::Host,
+        };
+        return Err(refuse(shape, refusal, faults));
+    }
+    Ok(host)
+}
+
 /// The words of a command line by their shape. What can't be read is named, and then the `Err` says how the command ended.
 pub fn words_of<'a, 'n, E: Write>(
     shape: &Shape<'_, 'a, 'n>,
@@ -137,11 +191,12 @@ pub fn words_of<'a, 'n, E: Write>(
     ensures refused { IfErr result (λ ending. ending.status ≡ 2) }
 {
     let request = read_shape(shape, faults)?;
+    let host = read_host(shape, request.plan, faults)?;
     let address = read_address(shape, faults)?;
     let network = read_network(shape, faults)?;
     Ok(Words {
         request,
-        host: shape.words.first().copied().unwrap_or(""),
+        host,
         address,
         local: shape.local,
         network,

@@ -1,7 +1,7 @@
 //! Calls that the portmappers of networks are asked to make.
-use crate::net::{HEADER, LONGEST_DATAGRAM, call_of, marked};
+use crate::net::{HEADER, LONGEST_DATAGRAM, marked};
 use crate::networks::networks_of;
-use rb_plans::{FIRST_XID, Fault, WAITS, Words, wait_left};
+use rb_plans::{FIRST_XID, Fault, WAITS, Words, call_of, wait_left};
 use rb_show::{Form, HeldBytes, InfoFault, Question, Shown, show_reply};
 use std::alloc::Global;
 use std::io;
@@ -80,7 +80,8 @@ fn show_responder<O: Write>(host: IpAddr, port: u32, output: &mut O) -> Result<(
     Ok(())
 }
 
-/// Shows where the program answered, each host once, until the time for answers is over. Returns how many hosts.
+/// Shows where the program answered, each host once, until the time for answers is over, which counts from the moment at
+/// which all calls were out. Returns how many hosts.
 fn show_answers<C: Clock, O: Write>(
     alloc: Global,
     clock: &C,
@@ -128,11 +129,11 @@ pub fn broadcast<N: Net + Clock + Files, O: Write>(
     let question = Question::Callit(prog, vers);
     let call = call_of(alloc, &words.ask(question), FIRST_XID)?;
     let networks = networks_of(alloc, net, words.network)?;
-    let Ok(begun) = Instant::now(net) else {
-        return Err(Fault::NoConnection);
-    };
     let call = call.get(HEADER..).unwrap_or(&[]);
     let Some(socket) = call_all(net, &networks, words.request.port, call) else {
+        return Err(Fault::NoConnection);
+    };
+    let Ok(begun) = Instant::now(net) else {
         return Err(Fault::NoConnection);
     };
     show_answers(alloc, net, words, question, &socket, begun, output)

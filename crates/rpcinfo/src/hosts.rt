@@ -1,5 +1,5 @@
 //! The addresses of hosts.
-use rb_plans::Fault;
+use rb_plans::{Fault, look_up_fault};
 use rb_show::InfoFault;
 use std::alloc::Global;
 use std::net::{IpAddr, Ipv4Addr, Net, SocketAddr, ToSocketAddrs};
@@ -11,8 +11,9 @@ pub fn addresses_of<N: Net>(
     host: &str,
     port: u16,
 ) -> Result<Vec<SocketAddr>, Fault> {
-    let Ok(found) = (host, port).to_socket_addrs(net) else {
-        return Err(Fault::NoHost);
+    let found = match (host, port).to_socket_addrs(net) {
+        Ok(found) => found,
+        Err(error) => return Err(look_up_fault(error.kind())),
     };
     match found.collect(alloc) {
         Ok(addresses) => Ok(addresses),

@@ -1,7 +1,7 @@
 //! Calls over TCP, UDP and sockets of this machine.
 use crate::patient::{Patient, Stream};
-use rb_plans::{Fault, WAITS, wait_left};
-use rb_show::{Ask, Form, HeldBytes, InfoFault, ReadBytes, Shown, show_reply, write_call};
+use rb_plans::{Fault, WAITS, call_of, host_fault, reply_fault, socket_fault, wait_left};
+use rb_show::{Ask, Form, HeldBytes, InfoFault, ReadBytes, Shown, show_reply};
 use std::alloc::{AllocError, Global};
 use std::io;
 use std::io::{BufRead, BufReader, ErrorKind, Read, Write};
@@ -41,20 +41,11 @@ fn connect<N: Net>(net: &N, peer: Peer<'_>) -> io::Result<Stream<N::Stream>> {
     }
 }
 
-/// The marked call that asks.
-pub fn call_of(alloc: Global, ask: &Ask, xid: u32) -> Result<Vec<u8>, Fault> {
-    let mut call = Vec::new(alloc);
-    match write_call(alloc, ask, xid, &mut call) {
-        Ok(()) => Ok(call),
-        Err(fault) => Err(Fault::Info(fault)),
-    }
-}
-
 /// Why there is no connection.
 fn connect_fault(peer: Peer<'_>, error: io::Error) -> Fault {
-    match (peer, error.kind()) {
-        (Peer::Here(_), ErrorKind::NotFound | ErrorKind::ConnectionRefused) => Fault::NoSocket,
-        (Peer::Here(_) | Peer::Host(_), _) => Fault::NoConnection,
+    match peer {
+        Peer::Host(_) => host_fault(error.kind()),
+        Peer::Here(_) => socket_fault(error.kind()),
     }
 }
 
@@ -76,7 +67,7 @@ fn open<'a, N: Net + Clock>(
 fn send<S: Write>(call: &[u8], stream: &mut S) -> Result<(), Fault> {
     match stream.write_all(call) {
         Ok(()) => Ok(()),
-        Err(_) => Err(Fault::NoReply),
+        Err(error) => Err(reply_fault(error.kind())),
     }
 }
 
@@ -84,7 +75,8 @@ fn send<S: Write>(call: &[u8], stream: &mut S) -> Result<(), Fault> {
 fn await_reply<S: BufRead>(reader: &mut S) -> Result<(), Fault> {
     match reader.fill_buf() {
         Ok(bytes) if !bytes.is_empty() => Ok(()),
-        Ok(_) | Err(_) => Err(Fault::NoReply),
+        Ok(_) => Err(Fault::NoReply),
+        Err(error) => Err(reply_fault(error.kind())),
     }
 }
 
@@ -160,15 +152,6 @@ fn receive<C: Clock>(clock: &C, socket: &UdpSocket, datagram: &mut [u8]) -> io::
     Err(io::Error::from(ErrorKind::TimedOut))
 }
 
-/// Why no datagram was received: nobody listens there, or none came.
-fn receive_fault(error: io::Error) -> Fault {
-    if error.kind() == ErrorKind::ConnectionRefused {
-        Fault::NoConnection
-    } else {
-        Fault::NoReply
-    }
-}
-
 /// The datagram that answers a call.
 fn exchange<C: Clock>(
     alloc: Global,
@@ -188,7 +171,7 @@ fn exchange<C: Clock>(
             datagram.truncate(len);
             Ok(datagram)
         }
-        Err(error) => Err(receive_fault(error)),
+        Err(error) => Err(reply_fault(error.kind())),
     }
 }
 
