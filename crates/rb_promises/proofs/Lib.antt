@@ -28,3 +28,11 @@ pub mod OptionValues
 pub mod ReadBeginnings
 pub mod ServeValues
 pub mod ReadServices
+pub mod JsonSteps
+pub mod JsonRuns
+pub mod ReadTexts
+pub mod PlainStrings
+pub mod Utf8Texts
+pub mod WorkedJson
+pub mod LineTellers
+pub mod ShownMembers

@@ -20,3 +20,5 @@ pub mod WordForms
 pub mod OptionTexts
 pub mod ReplayOptions
 pub mod ServeOptions
+pub mod JsonMembers
+pub mod JsonExamples

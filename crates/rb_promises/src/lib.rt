@@ -7,6 +7,7 @@ mod connections;
 mod contents;
 mod entries;
 mod forwards;
+mod json_objects;
 mod listed_rows;
 mod live_rows;
 mod look_ups;
@@ -27,6 +28,7 @@ pub use connections::{
 pub use contents::contents_fault_exactly;
 pub use entries::numbers_go_up;
 pub use forwards::calls_are_forwarded_exactly;
+pub use json_objects::{objects_have_their_members, texts_are_utf8, worked_texts};
 pub use listed_rows::lists_are_of_rows;
 pub use live_rows::live_rows_are_shown;
 pub use look_ups::{getaddr_answers, getport_answers, getversaddr_answers};
