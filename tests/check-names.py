@@ -5,10 +5,11 @@ In docs/RULES.md a name has to stand where its column says, in the crate of its 
 it. In the other documents a name in backquotes that looks like one of this repository (it has an underscore, a `::`, a
 slash, a capital letter inside, or ends as a file) has to be one of it, or stand in tests/names-of-others. In
 docs/CLAIMS.md a name behind 'By CRATE:' has to stand in that crate. Code that a README shows of an example has to
-stand there. Prints a line for each name that is nowhere; the last line is 'N passed, N failed', and the status 1 where
-one failed.
+stand there. The picture of the crates has to be that of crates.txt (tests/draw-crates.py). Prints a line for each name
+that is nowhere; the last line is 'N passed, N failed', and the status 1 where one failed.
 """
 import re
+import subprocess
 import sys
 from collections import defaultdict
 from itertools import chain
@@ -76,8 +77,8 @@ def source_names(text):
 
 
 CRATE = {name: Crate(name) for name in CRATES}
-ROWS = {f.stem for f in ROOT.glob("tests/rows*/*.*")} | set(
-    re.findall(r"[a-z]\w+", (ROOT / "tests" / "run-rows.sh").read_text())) | {
+ROWS = {f.stem for f in ROOT.glob("tests/rows*/*.*")} | {
+    name for f in ROOT.glob("tests/*.sh") for name in re.findall(r"^(\w+)\(\) \{", f.read_text(), re.MULTILINE)} | {
     name for f in ROOT.glob("tests/hostile/*.py") for name in re.findall(r"^def (\w+)", f.read_text(), re.MULTILINE)}
 TESTS = {n for c in CRATES for n in CRATE[c].functions}
 ALL_FUNCTIONS = {n for c in CRATES for n in CRATE[c].functions}
@@ -215,6 +216,10 @@ def main():
             failed += not holds
             if not holds:
                 print(f"{document.relative_to(ROOT)}: its code is not that of {source.relative_to(ROOT)}")
+    drawn = subprocess.run([sys.executable, "-B", ROOT / "tests" / "draw-crates.py", "--check"], stderr=subprocess.PIPE, text=True)
+    passed += drawn.returncode == 0
+    failed += drawn.returncode != 0
+    print(drawn.stderr, end="")
     print(f"{passed} passed, {failed} failed")
     return 1 if failed else 0
 
