@@ -1,10 +1,10 @@
 #!/usr/bin/env python3
-"""Asks a portmapper what no rpcinfo asks so, and prints what it tells; for tests/two-hosts.sh and tests/keep.sh. It is that
-at port 111, or at PORT of the environment.
+"""Asks a portmapper what no rpcinfo asks so, and prints what it tells; for tests/two-hosts.sh, tests/keep.sh and
+tests/serving.sh. It is that at port 111, or at PORT of the environment.
 
 Each line of standard input is a question, NETID HOST WORDS: it goes to this host over tcp, udp, tcp6 or udp6, and its
-words are a call as tests/row.py has it. SOURCE>HOST in place of HOST says from which address it goes. It is printed
-again, with the answer behind it:
+words are a call as tests/row.py has it. SOURCE>HOST in place of HOST says from which address it goes; with local a path
+stands there. It is printed again, with the answer behind it:
 
     udp 192.0.2.2>192.0.2.1 4 getaddr 200001 1: 192.0.2.1.8.1
     tcp6 2001:db8:1::1 uid=1000 4 set 200001 1 tcp6 ::.8.1: 0
@@ -80,15 +80,15 @@ def read_all(connection, length):
 
 def reply_over(netid, source, host, call):
     """The reply to a call, or no bytes. Over UDP one from another address than the one that is asked is not seen."""
-    family = socket.AF_INET6 if netid.endswith("6") else socket.AF_INET
-    is_tcp = netid.startswith("tcp")
-    with socket.socket(family, socket.SOCK_STREAM if is_tcp else socket.SOCK_DGRAM) as asker:
+    family = {"6": socket.AF_INET6, "l": socket.AF_UNIX}.get(netid[-1], socket.AF_INET)
+    is_stream = not netid.startswith("udp")
+    with socket.socket(family, socket.SOCK_STREAM if is_stream else socket.SOCK_DGRAM) as asker:
         asker.settimeout(PATIENCE)
         if source:
             asker.bind((source, 0))
         try:
-            asker.connect((host, PORT))
-            if not is_tcp:
+            asker.connect(host if netid == "local" else (host, PORT))
+            if not is_stream:
                 asker.send(call)
                 return asker.recv(65536)
             asker.sendall(struct.pack(">I", 1 << 31 | len(call)) + call)

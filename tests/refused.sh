@@ -2,8 +2,7 @@
 # the first in the first run, the second in the next, and so on until a run asks for no more. Sourced by tests/run-rows.sh.
 #
 # A run that is refused memory does all that it does else, or ends with status 1 and the one line that says so; what it has
-# written then is a front of what it writes else. Where rpcinfo is refused memory while it writes, it says that the write
-# failed.
+# written then is a front of what it writes else.
 
 # Runs a command over a file, and refuses it the allocation of this number.
 run_refused() {
@@ -15,13 +14,11 @@ run_refused() {
 
 # Whether the last run did all, which is to write what $1 has, or was refused memory and says so.
 is_right() {
-    local said='no memory'
     if [ "$got" -eq 0 ]; then
         as_wanted "$1" /dev/null 0
     else
         head -c "$(stat -c %s "$work/stdout")" "$1" > "$work/front"
-        grep -qx 'rpcinfo: write failed' "$work/stderr" && said='write failed'
-        echo "$(basename "$2"): $said" > "$work/line"
+        echo "$(basename "$2"): no memory" > "$work/line"
         as_wanted "$work/front" "$work/line" 1
     fi
 }
@@ -42,8 +39,9 @@ refuse_in_turn() {
 
 # `replay` reads lines, makes a core and runs their events.
 refuse_replay() {
-    local row=tests/rows/forward_by_callit
-    refuse_in_turn 'a replay' "$row.expected" "$row.events" "$program" replay --conns 3
+    local row=tests/rows/forward_by_callit.events
+    outputs_of "$row" > "$work/outputs"
+    refuse_in_turn 'a replay' "$work/outputs" "$row" "$program" replay --conns 3
 }
 
 # `serve` makes a core and the places of its connections, and listens.
@@ -60,16 +58,18 @@ refuse_reply() {
     refuse_in_turn 'a reply' "$row.expected" "$row.input" "$rpcinfo" "${words[@]}"
 }
 
-# rpcinfo writes a call to a daemon, which has its memory, and shows the reply.
-refuse_call() {
-    local daemon
+# rpcinfo writes calls to a daemon, which has its memory, and shows the replies.
+refuse_calls() {
+    local daemon words
     "$program" serve --port 20114 > "$work/served" 2>&1 &
     daemon=$!
     until grep -qs listening "$work/served" || ! kill -0 "$daemon" 2> /dev/null; do
         sleep 0.1
     done
-    "$rpcinfo" --port 20114 -p 127.0.0.1 > "$work/rows" 2>&1
-    refuse_in_turn 'a call over TCP' "$work/rows" /dev/null "$rpcinfo" --port 20114 -p 127.0.0.1
+    for words in '-p 127.0.0.1' '-u 127.0.0.1 100000' '-T udp 127.0.0.1 100000 4'; do
+        "$rpcinfo" --port 20114 $words > "$work/rows" 2>&1
+        refuse_in_turn "rpcinfo $words" "$work/rows" /dev/null "$rpcinfo" --port 20114 $words
+    done
     kill "$daemon"
     wait "$daemon" 2> /dev/null
 }
@@ -82,5 +82,5 @@ run_refused_memory() {
     refuse_replay
     refuse_serve
     refuse_reply
-    refuse_call
+    refuse_calls
 }

@@ -15,6 +15,9 @@ const READS: u32 = 4096;
 /// The most bytes that a client keeps.
 const ROOM: usize = 4096;
 
+/// The most bytes of a datagram that comes: as many as a reply has over UDP, or a forwarded call.
+const LONGEST: usize = 9_000;
+
 /// A connection to one of the daemon's listeners.
 #[derive(Drop)]
 enum Stream {
@@ -68,6 +71,14 @@ impl Client {
         }
     }
 
+    /// Its own end of a connection over TCP.
+    pub(crate) fn own_end(&self) -> Option<SocketAddr> {
+        match &self.stream {
+            Stream::Tcp(stream) => stream.local_addr().ok(),
+            Stream::Local(_) => None,
+        }
+    }
+
     /// Ends what it sends, and goes on to read. Whether that was done.
     pub(crate) fn end(&self) -> bool {
         match &self.stream {
@@ -84,15 +95,16 @@ impl Client {
         }
     }
 
-    /// Takes turns until so many bytes came, or the daemon closed the connection.
-    pub(crate) fn receive(&mut self, host: &mut Host<'_>, want: usize) {
-        for _ in 0..TURNS {
+    /// Takes turns until so many bytes came, or the daemon closed the connection, and says how many turns.
+    pub(crate) fn receive(&mut self, host: &mut Host<'_>, want: usize) -> u32 {
+        for turns in 1..=TURNS {
             host.turn();
             self.read();
             if self.len >= want || self.is_closed {
-                break;
+                return turns;
             }
         }
+        TURNS
     }
 
     /// Takes turns until so many bytes came, or the daemon closed the connection, and says how many came. It keeps none
@@ -128,11 +140,12 @@ impl Client {
         count
     }
 
-    /// Takes a turn, after which nothing has come.
+    /// Takes a turn, after which nothing more has come.
     pub(crate) fn receive_nothing(&mut self, host: &mut Host<'_>) -> bool {
+        let before = self.len;
         host.turn();
         self.read();
-        self.len == 0 && !self.is_closed
+        self.len == before && !self.is_closed
     }
 
     fn read(&mut self) {
@@ -162,7 +175,7 @@ impl Client {
 #[derive(Drop)]
 pub(crate) struct Caller {
     socket: UdpSocket,
-    got: [u8; ROOM],
+    got: [u8; LONGEST],
     len: usize,
     from: SocketAddr,
 }
@@ -175,7 +188,7 @@ impl Caller {
         socket.set_nonblocking(true).ok()?;
         Some(Caller {
             socket,
-            got: [0; ROOM],
+            got: [0; LONGEST],
             len: 0,
             from: own,
         })
@@ -191,7 +204,7 @@ impl Caller {
         socket.set_nonblocking(true).ok()?;
         Some(Caller {
             socket,
-            got: [0; ROOM],
+            got: [0; LONGEST],
             len: 0,
             from: own,
         })
@@ -214,13 +227,30 @@ impl Caller {
 
     /// Takes turns until a datagram has come.
     pub(crate) fn receive(&mut self, host: &mut Host<'_>) {
-        self.len = 0;
         for _ in 0..TURNS {
-            host.turn();
-            if let Ok((len, from)) = self.socket.recv_from(&mut self.got) {
+            if !self.receive_nothing(host) {
+                break;
+            }
+        }
+    }
+
+    /// Takes a turn, after which no datagram has come.
+    pub(crate) fn receive_nothing(&mut self, host: &mut Host<'_>) -> bool {
+        host.turn();
+        !self.receive_next()
+    }
+
+    /// Whether a datagram has come, without a turn.
+    pub(crate) fn receive_next(&mut self) -> bool {
+        match self.socket.recv_from(&mut self.got) {
+            Ok((len, from)) => {
                 self.len = len;
                 self.from = from;
-                break;
+                true
+            }
+            Err(_) => {
+                self.len = 0;
+                false
             }
         }
     }

@@ -1,7 +1,9 @@
 //! Calls over UDP.
 use crate::client::Caller;
 use crate::messages::{bytes_of, null_call, null_reply};
-use crate::turns::{Host, Stopped};
+use crate::turns::{Host, PORT, Stopped, address, plain};
+use rb_address::Host as Address;
+use std::net::{Ipv4Addr, SocketAddr};
 use std::test::Fail;
 
 /// A datagram with the words of the call is answered with those of the reply.
@@ -50,27 +52,69 @@ fn datagrams_are_answered(rt: HostRuntime) -> Result<(), Fail> {
     Ok(())
 }
 
-/// More datagrams than a turn serves of one socket: each is answered, in the order in which they came.
-fn answers_many(rt: &HostRuntime, host: &mut Host<'_>) -> Option<bool> {
+/// More datagrams than two turns serve of one socket: each is answered, in the order in which they came, from the address
+/// that was asked, and no turn waits while some are left.
+fn answers_many(
+    rt: &HostRuntime,
+    host: &mut Host<'_>,
+    clock: &Stopped,
+    asked: SocketAddr,
+) -> Option<bool> {
     let mut caller = Caller::new(rt, 0)?;
     for xid in 0..70 {
-        if !caller.send(&bytes_of(rt.alloc(), &null_call(xid)).ok()?) {
+        if !caller.send_to(&bytes_of(rt.alloc(), &null_call(xid)).ok()?, asked) {
             return None;
         }
     }
+    let before = clock.slept();
+    for _ in 0..3 {
+        host.turn();
+    }
+    let waits = clock.slept() > before;
     for xid in 0..70 {
-        caller.receive(host);
-        if !caller.got_just(&bytes_of(rt.alloc(), &null_reply(xid)).ok()?) {
+        let reply = bytes_of(rt.alloc(), &null_reply(xid)).ok()?;
+        if !caller.receive_next() || !caller.got_just(&reply) || !caller.came_from(asked) {
             return None;
         }
     }
-    Some(host.is_well())
+    Some(!waits && host.is_well())
 }
 
 #[test]
 fn many_datagrams(rt: HostRuntime) -> Result<(), Fail> {
     let clock = Stopped::new(&rt);
     let mut host = Host::new(&clock, 1).ok_or("no daemon")?;
-    assert_eq!(rt; answers_many(&rt, &mut host), Some(true));
+    assert_eq!(rt; answers_many(&rt, &mut host, &clock, address()), Some(true));
+    Ok(())
+}
+
+#[test]
+fn many_datagrams_to_the_second_address(rt: HostRuntime) -> Result<(), Fail> {
+    let clock = Stopped::new(&rt);
+    let hosts = [Address::V4([127, 0, 0, 1]), Address::V4([127, 0, 0, 2])];
+    let mut host = Host::with(&clock, &plain(&hosts, 1)).map_err(|_| "no daemon")?;
+    let asked = SocketAddr::from((Ipv4Addr::new(127, 0, 0, 2), PORT));
+    assert_eq!(rt; answers_many(&rt, &mut host, &clock, asked), Some(true));
+    Ok(())
+}
+
+/// The longest datagram of IPv4: bytes behind the arguments are ignored.
+const LONGEST: usize = 65_507;
+
+fn answers_the_longest(rt: &HostRuntime, host: &mut Host<'_>) -> Option<bool> {
+    let mut call = bytes_of(rt.alloc(), &null_call(6)).ok()?;
+    call.resize(LONGEST, 0).ok()?;
+    let mut caller = Caller::new(rt, 0)?;
+    let is_sent = caller.send(&call);
+    caller.receive(host);
+    let is_answered = caller.got_just(&bytes_of(rt.alloc(), &null_reply(6)).ok()?);
+    Some(is_sent && is_answered && host.is_well())
+}
+
+#[test]
+fn longest_datagram_is_answered(rt: HostRuntime) -> Result<(), Fail> {
+    let clock = Stopped::new(&rt);
+    let mut host = Host::new(&clock, 1).ok_or("no daemon")?;
+    assert_eq!(rt; answers_the_longest(&rt, &mut host), Some(true));
     Ok(())
 }

@@ -27,6 +27,9 @@ pub(crate) fn sets_target(
     answers(rt, host, caller, &set, &[1, 1, 0, 0, 0, 0, 1])
 }
 
+/// An INDIRECT of that program's procedure 0, over UDP.
+pub(crate) const INDIRECT: [u32; 14] = [15, 0, 2, 100_000, 4, 10, 0, 0, 0, 0, 200_001, 1, 0, 0];
+
 /// The target answers the call of 40 bytes with a reply without results.
 fn target_answers(rt: &HostRuntime, host: &mut Host<'_>, target: &mut Caller) -> Option<bool> {
     target.receive(host);
@@ -44,9 +47,8 @@ fn forwards_a_call(
 ) -> Option<bool> {
     let mut caller = Caller::new(rt, 0)?;
     let mut target = Caller::new(rt, TARGET)?;
-    let indirect = [15, 0, 2, 100_000, 4, 10, 0, 0, 0, 0, 200_001, 1, 0, 0];
     let is_set = sets_target(rt, host, &mut caller)?;
-    let is_sent = caller.send_to(&bytes_of(rt.alloc(), &indirect).ok()?, asked);
+    let is_sent = caller.send_to(&bytes_of(rt.alloc(), &INDIRECT).ok()?, asked);
     let is_answered = target_answers(rt, host, &mut target)?;
     caller.receive(host);
     let is_passed = caller.got_just(&bytes_of(rt.alloc(), &passed_reply(told)).ok()?);
@@ -154,5 +156,111 @@ fn client_ends_behind_indirect(rt: HostRuntime) -> Result<(), Fail> {
     let clock = Stopped::new(&rt);
     let mut host = Host::new(&clock, 1).ok_or("no daemon")?;
     assert_eq!(rt; forwards_over_tcp(&rt, &mut host, true), Some(true));
+    Ok(())
+}
+
+/// For so many milliseconds a forwarded call waits for its target.
+const FORWARDED: u64 = 5_000;
+
+/// Three INDIRECTs wait for a target that does not answer: of a datagram to the second address, and of two connections. The
+/// client of one has ended what it sends. All end at one moment, and not a millisecond before.
+fn ends_all(
+    rt: &HostRuntime,
+    host: &mut Host<'_>,
+    clock: &Stopped,
+    asked: SocketAddr,
+) -> Option<bool> {
+    let call = bytes_of(rt.alloc(), TWO_CALLS.get(..15)?).ok()?;
+    let mut caller = Caller::new(rt, 0)?;
+    let mut target = Caller::new(rt, TARGET)?;
+    let mut ended = Client::new(rt)?;
+    let mut open = Client::new(rt)?;
+    let is_set = sets_target(rt, host, &mut caller)?;
+    let are_sent = caller.send_to(&bytes_of(rt.alloc(), &INDIRECT).ok()?, asked)
+        && ended.send(&call)
+        && ended.end()
+        && open.send(&call);
+    for _ in 0..3 {
+        target.receive(host);
+        target.first_word_of(40)?;
+    }
+    clock.advance(FORWARDED - 1);
+    let do_wait = caller.receive_nothing(host)
+        && ended.receive_nothing(host)
+        && open.receive_nothing(host);
+    clock.advance(1);
+    let are_told = are_told_failures(rt, host, &mut caller, &mut ended, &mut open)?;
+    Some(is_set && are_sent && do_wait && are_told && caller.came_from(asked) && host.is_well())
+}
+
+/// Each gets SYSTEM_ERR, and the connection whose client has ended what it sends is closed behind it.
+fn are_told_failures(
+    rt: &HostRuntime,
+    host: &mut Host<'_>,
+    caller: &mut Caller,
+    ended: &mut Client,
+    open: &mut Client,
+) -> Option<bool> {
+    let reply = bytes_of(rt.alloc(), &[MARK_24, 15, 1, 0, 0, 0, 5]).ok()?;
+    caller.receive(host);
+    ended.receive(host, 29);
+    open.receive(host, 28);
+    let is_ended = ended.got_just(&reply) && ended.is_closed();
+    let is_open = open.got_just(&reply) && !open.is_closed();
+    Some(caller.got_just(reply.get(4..)?) && is_ended && is_open)
+}
+
+#[test]
+fn forwarded_calls_end_together(rt: HostRuntime) -> Result<(), Fail> {
+    let clock = Stopped::at(&rt, 1_000_500, 5_500);
+    let hosts = [Address::V4([127, 0, 0, 1]), Address::V4([127, 0, 0, 2])];
+    let mut host = Host::with(&clock, &plain(&hosts, 2)).map_err(|_| "no daemon")?;
+    let asked = SocketAddr::from((Ipv4Addr::new(127, 0, 0, 2), PORT));
+    assert_eq!(rt; ends_all(&rt, &mut host, &clock, asked), Some(true));
+    Ok(())
+}
+
+/// The greatest arguments and results of a forwarded call, in bytes, and in words.
+const GREATEST: u32 = 8_800;
+
+const GREATEST_WORDS: u32 = GREATEST / 4;
+
+/// These words, and behind them the greatest opaque data, of zeros.
+fn with_greatest(rt: &HostRuntime, words: &[u32]) -> Option<Vec<u8>> {
+    let mut all = Vec::new(rt.alloc());
+    all.extend_from_slice(words).ok()?;
+    for _ in 0..GREATEST_WORDS {
+        all.push(0).ok()?;
+    }
+    bytes_of(rt.alloc(), &all).ok()
+}
+
+/// The target gets the arguments as they came, and what it answers is passed back.
+fn forwards_the_greatest(rt: &HostRuntime, host: &mut Host<'_>) -> Option<bool> {
+    let mut caller = Caller::new(rt, 0)?;
+    let mut target = Caller::new(rt, TARGET)?;
+    let [call @ .., _] = INDIRECT;
+    let mut call_words = Vec::new(rt.alloc());
+    call_words.extend_from_slice(&call).ok()?;
+    call_words.push(GREATEST).ok()?;
+    let is_set = sets_target(rt, host, &mut caller)?;
+    let is_sent = caller.send(&with_greatest(rt, &call_words)?);
+    target.receive(host);
+    let xid = target.first_word_of(40 + GREATEST as usize)?;
+    let is_answered = target.answer(&with_greatest(rt, &null_reply(xid))?);
+    caller.receive(host);
+    let [head @ .., _] = passed_reply(AT_TARGET);
+    let mut reply_words = Vec::new(rt.alloc());
+    reply_words.extend_from_slice(&head).ok()?;
+    reply_words.push(GREATEST).ok()?;
+    let is_passed = caller.got_just(&with_greatest(rt, &reply_words)?);
+    Some(is_set && is_sent && is_answered && is_passed && host.is_well())
+}
+
+#[test]
+fn greatest_forwarded_call_is_passed_back(rt: HostRuntime) -> Result<(), Fail> {
+    let clock = Stopped::new(&rt);
+    let mut host = Host::new(&clock, 1).ok_or("no daemon")?;
+    assert_eq!(rt; forwards_the_greatest(&rt, &mut host), Some(true));
     Ok(())
 }

@@ -9,14 +9,14 @@ use std::alloc::Global;
 use std::test::Fail;
 
 /// How many rows are set: with the six own ones as many as there may be.
-const ROWS: u32 = 294;
+pub(crate) const ROWS: u32 = 294;
 
 /// How many lists are asked for: more than the sockets keep.
 const LISTS: u32 = 400;
 
 /// The length of a list of version 4 as a record. Its head has 24 bytes; an own row, of the address 0.0.0.0.78.143,
 /// 56; a row that is set by nobody at 0.0.0.0.8.1 48; the end 4: 14,476 in all, in 15 fragments.
-const LIST: usize = 24 + 6 * 56 + 294 * 48 + 4 + 15 * 4;
+pub(crate) const LIST: usize = 24 + 6 * 56 + 294 * 48 + 4 + 15 * 4;
 
 /// Records that list all rows, which is answered with some hundred bytes each.
 pub(crate) fn dumps(alloc: Global, count: u32) -> Option<Vec<u8>> {

@@ -24,6 +24,8 @@ mod messages;
 #[cfg(test)]
 mod pauses;
 #[cfg(test)]
+mod readers;
+#[cfg(test)]
 mod records;
 #[cfg(test)]
 mod refused;

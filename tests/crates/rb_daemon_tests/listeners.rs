@@ -2,21 +2,27 @@
 use crate::client::{Caller, Client};
 use crate::datagrams::answers;
 use crate::messages::{bytes_of, null_record, null_reply_record};
-use crate::turns::{HERE, Host, LOCAL, PORT, Stopped, address6, everywhere};
-use rb_daemon::{DaemonFault, Settings, Step};
+use crate::turns::{HERE, Host, LOCAL, PORT, Stopped, address, address6, everywhere, plain};
+use rb_address::Host as Address;
+use rb_daemon::{DaemonFault, Logged, Settings, Step};
 use std::fs;
+use std::net::{Ipv4Addr, SocketAddr};
 use std::os::unix::fs::{FileTypeExt, PermissionsExt};
 use std::os::unix::net::UnixListener;
 use std::test::Fail;
 
 /// A daemon on all listeners, in a new file of the local socket.
-fn new_host<'a>(
+pub(crate) fn new_host<'a>(
     rt: &HostRuntime,
     clock: &'a Stopped,
     conns: usize,
 ) -> Result<Host<'a>, &'static str> {
     let _ = fs::remove_file(rt, LOCAL);
-    Host::with(clock, &everywhere(&HERE, conns)).map_err(|_| "no daemon")
+    let settings = Settings {
+        log: Logged::All,
+        ..everywhere(&HERE, conns)
+    };
+    Host::with(clock, &settings).map_err(|_| "no daemon")
 }
 
 /// A SET of version 2 in a record of 56 bytes: the program 200001 version 1 on TCP, at port 2049.
@@ -89,6 +95,68 @@ fn listeners_share_the_places(rt: HostRuntime) -> Result<(), Fail> {
     let clock = Stopped::new(&rt);
     let mut host = new_host(&rt, &clock, 2)?;
     assert_eq!(rt; shares_places(&rt, &mut host), Some(true));
+    Ok(())
+}
+
+/// So many clients in a queue are more than a turn accepts.
+const QUEUE: usize = 100;
+
+/// Clients whose calls came before the daemon has accepted one of them.
+fn in_the_queue(rt: &HostRuntime, at: SocketAddr) -> Option<Vec<Client>> {
+    let call = null_record(rt.alloc(), 1).ok()?;
+    let mut clients = Vec::new(rt.alloc());
+    for _ in 0..QUEUE {
+        let mut client = Client::at(rt, at)?;
+        if !client.send(&call) {
+            return None;
+        }
+        clients.push(client).ok()?;
+    }
+    Some(clients)
+}
+
+/// All clients of a queue on the second address are served.
+fn serves_a_queue(rt: &HostRuntime, host: &mut Host<'_>) -> Option<bool> {
+    let at = SocketAddr::from((Ipv4Addr::new(127, 0, 0, 2), PORT));
+    let reply = null_reply_record(rt.alloc(), 1).ok()?;
+    let mut clients = in_the_queue(rt, at)?;
+    for client in &mut clients {
+        client.receive(host, 28);
+        if !client.got_just(&reply) || client.is_closed() {
+            return Some(false);
+        }
+    }
+    Some(host.is_well())
+}
+
+#[test]
+fn queue_of_the_second_address_is_served(rt: HostRuntime) -> Result<(), Fail> {
+    let clock = Stopped::new(&rt);
+    let hosts = [Address::V4([127, 0, 0, 1]), Address::V4([127, 0, 0, 2])];
+    let mut host = Host::with(&clock, &plain(&hosts, QUEUE)).map_err(|_| "no daemon")?;
+    assert_eq!(rt; serves_a_queue(&rt, &mut host), Some(true));
+    Ok(())
+}
+
+/// Of three listeners each is the first to accept in one of three turns, and who was accepted is served in the next turn.
+const TURNS: u32 = 5;
+
+/// Beside a queue over TCP, where one connection changes hands in a turn, who comes on the local socket is served soon.
+fn serves_beside_a_queue(rt: &HostRuntime, host: &mut Host<'_>) -> Option<bool> {
+    let clients = in_the_queue(rt, address())?;
+    host.turn();
+    let mut local = Client::local(rt)?;
+    let is_sent = local.send(&null_record(rt.alloc(), 2).ok()?);
+    let turns = local.receive(host, 28);
+    let is_served = local.got_just(&null_reply_record(rt.alloc(), 2).ok()?);
+    Some(clients.len() == QUEUE && is_sent && is_served && turns <= TURNS && host.is_well())
+}
+
+#[test]
+fn local_socket_is_served_beside_a_queue(rt: HostRuntime) -> Result<(), Fail> {
+    let clock = Stopped::new(&rt);
+    let mut host = new_host(&rt, &clock, 2)?;
+    assert_eq!(rt; serves_beside_a_queue(&rt, &mut host), Some(true));
     Ok(())
 }
 

@@ -1,6 +1,7 @@
-//! The process stands still, and clients have sent on meanwhile.
-use crate::client::Client;
-use crate::messages::{null_record, null_reply_record};
+//! The process stands still, and clients have sent on meanwhile. How long a turn waits.
+use crate::client::{Caller, Client};
+use crate::listeners::new_host;
+use crate::messages::{bytes_of, null_record, null_reply_record};
 use crate::turns::{Host, Stopped, WAIT};
 use std::test::Fail;
 
@@ -75,5 +76,79 @@ fn interrupted_wait_is_slept(rt: HostRuntime) -> Result<(), Fail> {
     let clock = Stopped::new(&rt);
     let mut host = Host::new(&clock, 1).ok_or("no daemon")?;
     assert_eq!(rt; sleeps(&rt, &mut host, &clock), Some((WAIT, WAIT)));
+    Ok(())
+}
+
+/// What comes next is due in so many milliseconds, which is sooner than the end of a wait.
+pub(crate) const SOON: u64 = 5;
+
+/// How long a turn waits in which nothing is shown, in milliseconds, after one that showed its moment.
+pub(crate) fn wait_of_a_turn(host: &mut Host<'_>, clock: &Stopped) -> u64 {
+    host.turn();
+    let before = clock.slept();
+    host.turn();
+    clock.slept().saturating_sub(before)
+}
+
+/// An idle connection is closed after so many milliseconds.
+const IDLE: u64 = 300_000;
+
+fn waits_for_a_deadline(rt: &HostRuntime, host: &mut Host<'_>, clock: &Stopped) -> Option<u64> {
+    let mut client = Client::new(rt)?;
+    let is_open = client.receive_nothing(host) && client.receive_nothing(host);
+    clock.advance(IDLE - SOON);
+    let wait = wait_of_a_turn(host, clock);
+    if is_open && client.receive_nothing(host) {
+        Some(wait)
+    } else {
+        None
+    }
+}
+
+#[test]
+fn turn_waits_until_a_deadline(rt: HostRuntime) -> Result<(), Fail> {
+    let clock = Stopped::new(&rt);
+    let mut host = Host::new(&clock, 1).ok_or("no daemon")?;
+    assert_eq!(rt; waits_for_a_deadline(&rt, &mut host, &clock), Some(SOON));
+    Ok(())
+}
+
+/// More refused calls than the log has lines in a second, which is 20.
+const REFUSED: u32 = 25;
+
+/// What the log tells of those that were left out, behind their second.
+const LEFT_OUT: &[u8] = b"rpcbind: 5 more refused calls\n";
+
+/// How long a turn waits for that line, and whether it comes.
+fn waits_for_a_line(
+    rt: &HostRuntime,
+    host: &mut Host<'_>,
+    clock: &Stopped,
+) -> Option<(u64, bool, bool)> {
+    let mut caller = Caller::new(rt, 0)?;
+    for xid in 0..REFUSED {
+        let call = bytes_of(rt.alloc(), &[xid, 0, 2, 100_000, 9, 0, 0, 0, 0, 0]).ok()?;
+        if !caller.send(&call) {
+            return None;
+        }
+        caller.receive(host);
+    }
+    host.take_log()?;
+    clock.advance(1_000 - SOON);
+    let wait = wait_of_a_turn(host, clock);
+    let is_early = !host.take_log()?.is_empty();
+    clock.advance(SOON);
+    host.turn();
+    Some((wait, is_early, host.take_log()?.as_slice() == LEFT_OUT))
+}
+
+#[test]
+fn turn_waits_until_a_line(rt: HostRuntime) -> Result<(), Fail> {
+    let clock = Stopped::new(&rt);
+    let mut host = new_host(&rt, &clock, 1)?;
+    assert_eq!(rt;
+        waits_for_a_line(&rt, &mut host, &clock),
+        Some((SOON, false, true))
+    );
     Ok(())
 }

@@ -85,3 +85,22 @@ fn record_that_is_no_call(rt: HostRuntime) -> Result<(), Fail> {
     assert_eq!(rt; closes_no_call(&rt, &mut host), Some(true));
     Ok(())
 }
+
+/// A call, and behind it in the same piece a record that is no call: the reply comes before the connection is closed.
+fn answers_before_the_end(rt: &HostRuntime, host: &mut Host<'_>) -> Option<bool> {
+    let mut records = null_record(rt.alloc(), 10).ok()?;
+    records.extend_from_slice(&[0x80, 0, 0, 1, 0]).ok()?;
+    let reply = null_reply_record(rt.alloc(), 10).ok()?;
+    let mut client = Client::new(rt)?;
+    let is_sent = client.send(&records);
+    client.receive(host, 29);
+    Some(is_sent && client.got_just(&reply) && client.is_closed() && host.is_well())
+}
+
+#[test]
+fn reply_comes_before_the_end(rt: HostRuntime) -> Result<(), Fail> {
+    let clock = Stopped::new(&rt);
+    let mut host = Host::new(&clock, 1).ok_or("no daemon")?;
+    assert_eq!(rt; answers_before_the_end(&rt, &mut host), Some(true));
+    Ok(())
+}

@@ -35,10 +35,15 @@ pub(crate) struct Stopped {
 
 impl Stopped {
     pub(crate) fn new(rt: &HostRuntime) -> Stopped {
+        Stopped::at(rt, 1_000_000, 5_000)
+    }
+
+    /// At these moments, in milliseconds.
+    pub(crate) fn at(rt: &HostRuntime, wall: u64, monotonic: u64) -> Stopped {
         Stopped {
             rt: *rt,
-            wall: Cell::new(1_000_000),
-            monotonic: Cell::new(5_000),
+            wall: Cell::new(wall),
+            monotonic: Cell::new(monotonic),
             slept: Cell::new(0),
         }
     }
@@ -163,6 +168,13 @@ impl<'a> Host<'a> {
 
     pub(crate) fn take_fault(&mut self) -> Option<SocketFault> {
         self.daemon.take_fault()
+    }
+
+    /// The lines of the log that were not taken yet.
+    pub(crate) fn take_log(&mut self) -> Option<Vec<u8>> {
+        let mut lines = Vec::new(self.rt.alloc());
+        self.daemon.write_log(&mut lines).ok()?;
+        Some(lines)
     }
 
     pub(crate) fn turn(&mut self) {

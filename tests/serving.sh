@@ -1,0 +1,158 @@
+# Sourced by run-rows.sh: what a running daemon does where a machine is short of something, and who may call it: on the
+# local socket, and from which networks. tests/crowd.py holds connections, and tests/ask.py asks what rpcinfo does not.
+
+# Waits until a file has a line for this pattern, so many times, or more.
+await_line() {
+    for _ in $(seq 100); do
+        [ "$(grep -cE "$2" "$1")" -lt "${3:-1}" ] || return 0
+        sleep 0.1
+    done
+    echo "no line '$2' in $1"
+    return 1
+}
+
+# Asks the daemon on port 20112 the lines of standard input by tests/ask.py, each of which has its answer behind `: `.
+asked_are() {
+    cat > "$work/wanted-answers"
+    sed 's/: .*//' "$work/wanted-answers" | PORT=20112 timeout 60 python3 -B tests/ask.py > "$work/answers"
+    same "$work/wanted-answers" "$work/answers" answers
+}
+
+# Where no descriptor is left for a client that comes, it waits until there is one, though nothing else comes; calls over UDP
+# are answered meanwhile, and the fault is said once.
+run_without_descriptors() {
+    local daemon client free=0 bad=0
+    if ! command -v prlimit > /dev/null; then
+        echo "descriptors that are used up are not tried: that wants prlimit"
+        return
+    fi
+    start_daemon "$work/listening" --port 20112 || { judge 1 "a daemon whose descriptors are used up"; return; }
+    while [ -e "/proc/$daemon/fd/$free" ]; do free=$((free + 1)); done
+    prlimit --pid "$daemon" --nofile=$free:1024
+    python3 -B tests/crowd.py 127.0.0.1 20112 <<< 'open a 127.0.0.1' > "$work/answered" &
+    client=$!
+    await_line "$work/listening" '^rpcbind: accept a connection: Too many open files \(os error 24\); it is tried again$' || bad=1
+    "$rpcinfo" -n 20112 -u 127.0.0.1 100000 4 > /dev/null || bad=1
+    [ ! -s "$work/answered" ] || bad=1
+    prlimit --pid "$daemon" --nofile=1024
+    await_line "$work/answered" '^a answered$' || bad=1
+    [ "$(grep -c 'accept a connection' "$work/listening")" -eq 1 ] || bad=1
+    judge $bad "a client waits until there is a descriptor"
+    kill "$daemon"
+    wait "$client" "$daemon" 2> /dev/null
+}
+
+# Connections from this host that come at once wait for a reading of the system's tables, each 20 milliseconds after the one
+# before, though nothing else comes.
+run_connections_at_once() {
+    local daemon
+    start_daemon "$work/listening" --port 20112
+    printf '%s answered\n' a b c d a > "$work/wanted"
+    python3 -B tests/crowd.py 127.0.0.1 20112 > "$work/stdout" << 'END'
+open a 127.0.0.1
+open b 127.0.0.2
+open c 127.0.0.1
+open d 127.0.0.1
+call a
+END
+    same "$work/wanted" "$work/stdout" "what became of connections"
+    judge $? "connections that come at once"
+    kill "$daemon"
+    wait "$daemon" 2> /dev/null
+}
+
+# A socket at the path of the local one whose queue is full answers: it stays, and the daemon does not start.
+run_full_queue_in_the_way() {
+    local path=$work/full.sock listener before
+    python3 -c '
+import signal, socket, sys
+listener = socket.socket(socket.AF_UNIX)
+listener.bind(sys.argv[1])
+listener.listen(0)
+waiting = []
+try:
+    while True:
+        waiting.append(socket.socket(socket.AF_UNIX))
+        waiting[-1].setblocking(False)
+        waiting[-1].connect(sys.argv[1])
+except BlockingIOError:
+    print("listening", flush=True)
+signal.pause()
+' "$path" > "$work/listening" &
+    listener=$!
+    await_line "$work/listening" listening
+    before=$(stat -c %i "$path")
+    printf 'rpcbind: %s\n' "bind $path: another program listens on it" 'socket failed' > "$work/wanted"
+    run /dev/null serve --port 20112 --turns 1 --local "$path"
+    as_wanted /dev/null "$work/wanted" 1 && [ "$(stat -c %i "$path")" = "$before" ]
+    judge $? "a socket whose queue is full in the way of the local socket"
+    kill "$listener"
+    wait "$listener" 2> /dev/null
+}
+
+# Who comes by the local socket is root, unless others could before its file had its mode; of 0.0.0.0 it is told the address
+# that is announced.
+run_local_socket() {
+    local path=$work/known.sock daemon mask owner listed
+    for mask in 022 000; do
+        owner=superuser
+        [ $mask = 022 ] || owner=unknown
+        umask $mask
+        start_daemon "$work/listening" --port 20112 --bind 127.0.0.1 --bind 127.0.0.2 --announce 127.0.0.2 --local "$path"
+        umask 022
+        asked_are << END
+local $path 4 set 200001 1 tcp 0.0.0.0.8.1: 1
+local $path 4 getaddrlist 200001 1: tcp 127.0.0.2.8.1
+tcp 127.0.0.1 4 getaddrlist 200001 1: tcp 127.0.0.1.8.1
+END
+        listed=$?
+        [ $listed -eq 0 ] && "$rpcinfo" --port 20112 127.0.0.1 | grep -qx "200001 1 tcp 0.0.0.0.8.1 $owner"
+        judge $? "who comes by the local socket, with umask $mask"
+        kill "$daemon"
+        wait "$daemon" 2> /dev/null
+    done
+}
+
+# Whether a call over TCP (t) or UDP (u) to this address of the machine, and so from it, is answered.
+is_answered() {
+    timeout 2 "$rpcinfo" --port 20112 "-$1" "$2" 100000 2 > /dev/null 2>&1
+}
+
+# In a network namespace whose machine has an address in a network that is served and another one, which is announced. The
+# other is not served: over TCP it is told so at once, by a connection that is closed.
+callers_of_networks() {
+    local bad=0 host transport status
+    ip link set lo up && ip address add 192.0.2.1/32 dev lo && ip address add 198.51.100.1/32 dev lo || return 1
+    start_daemon "$work/listening" --port 20112 --bind 0.0.0.0 --announce 198.51.100.1 --from 192.0.2.0/24 || return 1
+    for host in 127.0.0.1 192.0.2.1; do
+        for transport in t u; do
+            is_answered $transport $host || { echo "$host -$transport: not answered"; bad=1; }
+        done
+    done
+    is_answered t 198.51.100.1
+    status=$?
+    [ $status -eq 1 ] || { echo "198.51.100.1 -t: status $status"; bad=1; }
+    ! is_answered u 198.51.100.1 || { echo "198.51.100.1 -u: answered"; bad=1; }
+    is_answered u 192.0.2.1 || { echo "192.0.2.1 -u: not answered at the end"; bad=1; }
+    kill "$daemon"
+    return $bad
+}
+
+run_callers_of_networks() {
+    if [ "$(id -u)" -ne 0 ] || ! unshare --net true 2> /dev/null || ! command -v ip > /dev/null; then
+        echo "callers of other networks are not tried: that wants root, unshare and ip"
+        return
+    fi
+    export program rpcinfo work
+    export -f is_answered callers_of_networks start_daemon
+    unshare --net "$BASH" -c callers_of_networks
+    judge $? "callers of other networks"
+}
+
+run_serving() {
+    run_without_descriptors
+    run_connections_at_once
+    run_full_queue_in_the_way
+    run_local_socket
+    run_callers_of_networks
+}
