@@ -26,7 +26,7 @@ lines_for() {
     awk '{
         uid = $5 == "unknown" ? "" : " uid=" ($5 == "superuser" ? 0 : $5)
         print "datagram 0 127.0.0.1:0 (xid=0" uid " 4 set", $1, $2, $3, $4 ")"
-    }' "$1" | tests/row.py
+    }' "$1" | tests/row.py --bare
 }
 
 # Whether the file keeps these rows, in their order, and nothing else. The moments are the daemon's own.
@@ -127,6 +127,11 @@ begins_with_rows() {
     same "$work/wanted" "$work/begin" "the beginning of a record"
 }
 
+# Whether it answers, in a turn after those before, at whose ends it keeps what changed.
+is_asked() {
+    "$rpcinfo" --port 20112 -p 127.0.0.1 > /dev/null && "$rpcinfo" --port 20112 -p 127.0.0.1 > /dev/null
+}
+
 # Nothing is written where no change was accepted: by calls that only ask, by SETs and UNSETs that are refused, in empty
 # turns, and by a start.
 run_keep_writes_changes_alone() {
@@ -148,12 +153,10 @@ udp 127.0.0.1 4 unset 100000 4: 0
 udp 127.0.0.1 2 getport 200001 1 tcp: 2049
 END
     judge $? "calls that change nothing"
-    sleep 0.3
-    [ "$(stamp_of)" = "$before" ]
+    is_asked && [ "$(stamp_of)" = "$before" ]
     judge $? "a file of kept rows stays where nothing changed"
     stop_daemon
-    start_keeper && sleep 0.3
-    [ "$(stamp_of)" = "$before" ]
+    start_keeper && is_asked && [ "$(stamp_of)" = "$before" ]
     judge $? "a file of kept rows stays at a start"
     answers_are <<< 'udp 127.0.0.1 4 unset 200002 1: 1' && [ "$(stamp_of)" != "$before" ]
     judge $? "a file of kept rows is another one after a change"
@@ -287,7 +290,7 @@ refuses() {
 # A kept row, and then a line of these words, as tests/row.py has them. The start ends with the number of this line.
 refuses_line() {
     local fault=$1
-    { echo '# one row'; lines_for <(echo 200001 1 tcp 127.0.0.1.8.1 superuser); tests/row.py <<< "$2"; } > "$file"
+    { echo '# one row'; lines_for <(echo 200001 1 tcp 127.0.0.1.8.1 superuser); tests/row.py --bare <<< "$2"; } > "$file"
     refuses "$2" "line 3: $fault"
 }
 

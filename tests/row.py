@@ -1,13 +1,19 @@
 #!/usr/bin/env python3
-"""Makes event lines from words: `tests/row.py < WORDS > tests/rows/NAME.events`.
+"""Makes a row from words: `tests/row.py < WORDS > tests/rows/NAME.events`.
 
 A line is an event line (docs/EVENTS.md) in which bytes may stand as words in parentheses; all else is passed on as it
-is. It decides no output: what is expected of a row is written by hand from the standards.
+is, comments and the `#> ` line below each event among it. No output is decided here: what is expected of a row is
+written by hand from the standards.
 
     datagram 0 127.0.0.1:900 (2 set 200001 1 tcp 2049)
     datagram 0 127.0.0.1:900 (uid=1000 4 set 200001 1 tcp 192.0.2.1.8.1)
     bytes 0 1 (record 3 dump)
     forward 0 127.0.0.1:2049 (reply xid=1000 00000001)
+
+Above an event whose bytes were made so stands a comment with their words, and the number of the call among them: the
+first of these lines has `# (xid=1 2 set 200001 1 tcp 2049)`. Where the comment would have more than 120 characters it is
+left out. With --bare there are no such comments. With --compare FILE.. nothing is made: each event of these files below a
+comment of words has to have the bytes that they make; what has others is printed, and the status is 1.
 
 Words in parentheses, in this order:
 
@@ -24,9 +30,11 @@ Arguments: of version 2 `PROG VERS tcp|udp|N [PORT]`; of versions 3 and 4 `PROG 
 is the empty text; of callit, bcast and indirect `PROG VERS PROC HEX`; of uaddr2taddr a text, of taddr2uaddr bytes in
 hexadecimal; of a procedure by its number bytes in hexadecimal.
 """
+import argparse
 import re
 import struct
 import sys
+from itertools import takewhile
 
 OF_VERSION_2 = ["null", "set", "unset", "getport", "dump", "callit"]
 OF_VERSION_3 = ["null", "set", "unset", "getaddr", "dump", "callit", "gettime", "uaddr2taddr", "taddr2uaddr"]
@@ -34,6 +42,7 @@ OF_VERSION_4 = OF_VERSION_3[:5] + ["bcast"] + OF_VERSION_3[6:] + ["getversaddr",
 PROCEDURES = {2: OF_VERSION_2, 3: OF_VERSION_3, 4: OF_VERSION_4}
 WITHOUT_ARGUMENTS = {"null", "dump", "gettime", "getstat"}
 PROTOCOLS = {"tcp": 6, "udp": 17}
+LONGEST_COMMENT = 120
 
 
 def number(word):
@@ -121,7 +130,17 @@ class Encoder:
     def __init__(self):
         self.calls = 0
 
+    def numbered(self, words):
+        """The words with the number of the call among them: the next one where they have none."""
+        front = sum(word == "reply" or word.split("=")[0] == "record" for word in words[:2])
+        options = list(takewhile(lambda word: "=" in word, words[front:]))
+        if any(word.startswith("xid=") for word in options):
+            return list(words)
+        self.calls += 1
+        return [*words[:front], f"xid={self.calls}", *words[front:]]
+
     def bytes_of(self, words):
+        words = self.numbered(words)
         lengths = None
         if words[0].split("=")[0] == "record":
             mark = words.pop(0).partition("=")[2]
@@ -133,27 +152,62 @@ class Encoder:
         while words and "=" in words[0]:
             name, _, value = words.pop(0).partition("=")
             options[name] = value
-        if "xid" not in options:
-            self.calls += 1
-        xid = options.get("xid", self.calls)
+        xid = options["xid"]
         message = reply(xid, *words) if is_reply else call(options, xid, *words)
         message = message[:int(options.get("cut", len(message)))]
         return marked(message, lengths) if lengths else message
 
-    def line_of(self, line):
-        if line.startswith("#"):
-            return line
-        return re.sub(r"\(([^()]*)\)", lambda found: self.bytes_of(found[1].split()).hex() or "-", line)
+    def lines_of(self, line):
+        """The lines that one line of words becomes: its event, below its words."""
+        found = None if line.startswith("#") else re.search(r"\(([^()]*)\)", line)
+        if not found:
+            return [line]
+        words = self.numbered(found[1].split())
+        comment = f"# ({' '.join(words)})"
+        event = line[:found.start()] + (self.bytes_of(words).hex() or "-") + line[found.end():]
+        return [comment, event] if len(comment) <= LONGEST_COMMENT else [event]
 
 
-def main():
+def print_row(is_bare):
     encoder = Encoder()
     for number_of_line, line in enumerate(sys.stdin, 1):
         try:
-            print(encoder.line_of(line.rstrip("\n")))
+            lines = encoder.lines_of(line.rstrip("\n"))
         except (ValueError, TypeError, IndexError, struct.error) as fault:
             sys.exit(f"line {number_of_line}: {fault}")
+        print("\n".join(lines[-1:] if is_bare else lines))
+
+
+def compare(files):
+    """Whether all words of these files make the bytes of the events below them. Prints where they do not."""
+    agree = True
+    for name in files:
+        with open(name) as file:
+            lines = file.read().splitlines()
+        for number_of_line, (words, event) in enumerate(zip(lines, lines[1:] + [""]), 1):
+            if re.fullmatch(r"# \(.*\)", words) and not makes(words[3:-1].split(), event):
+                print(f"{name}:{number_of_line}: the words do not make the bytes below them")
+                agree = False
+    return agree
+
+
+def makes(words, event):
+    try:
+        return event.split(" ")[-1].lower() == (Encoder().bytes_of(words).hex() or "-")
+    except (ValueError, TypeError, IndexError, struct.error):
+        return False
+
+
+def main():
+    parser = argparse.ArgumentParser()
+    parser.add_argument("--bare", action="store_true")
+    parser.add_argument("--compare", nargs="+")
+    options = parser.parse_args()
+    if options.compare:
+        return 0 if compare(options.compare) else 1
+    print_row(options.bare)
+    return 0
 
 
 if __name__ == "__main__":
-    main()
+    sys.exit(main())

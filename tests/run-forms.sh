@@ -17,7 +17,8 @@ if [ "${1:-}" != --inside ]; then
     [ -x "$program" ] && [ -x "$ours" ] || { echo "no programs: run 'make' first"; exit 1; }
     [ -x "$theirs" ] || { echo "skipped: Debian's rpcbind is not installed"; exit 0; }
     for daemon in ours theirs; do
-        unshare --net --mount --propagation private --pid --fork --kill-child --mount-proc "$0" --inside $daemon
+        unshare --net --mount --propagation private --pid --fork --kill-child --mount-proc \
+            "$here/tests/run-forms.sh" --inside $daemon
     done
     exit
 fi

@@ -21,7 +21,8 @@ if [ "${1:-}" != --inside ]; then
         command -v "$tool" > /dev/null || { echo "skipped: there is no $tool"; exit 0; }
     done
     [ "$(id -u)" -eq 0 ] || { echo "skipped: a namespace of its own wants root"; exit 0; }
-    exec unshare --net --mount --propagation private --pid --fork --kill-child --mount-proc "$0" --inside "$program"
+    exec unshare --net --mount --propagation private --pid --fork --kill-child --mount-proc \
+        "$here/tests/run-peers.sh" --inside "$program"
 fi
 
 program=$2
@@ -162,6 +163,15 @@ await() {
     return 1
 }
 
+# Waits until the program is registered on a netid.
+await_netid() {
+    for _ in $(seq 100); do
+        ! registered "$1" | awk -v netid="$2" '$3 == netid { found = 1 } END { exit !found }' || return 0
+        sleep 0.1
+    done
+    return 1
+}
+
 # Ends the service of this name. Its process has another number than the one that started where it goes into the background.
 end_service() {
     local number
@@ -187,13 +197,12 @@ run_service() {
     "$@" > "$work/service" 2>&1 < /dev/null &
     await yes "$program_number"
     judge $? "$name registers"
-    sleep 0.5
-    registered "$program_number" | sed 's/^/    /'
     for netid in $netids; do
         has_netid "$netid" || continue
-        registered "$program_number" | awk -v netid="$netid" '$3 == netid { found = 1 } END { exit !found }'
+        await_netid "$program_number" "$netid"
         judge $? "$name is registered on $netid"
     done
+    registered "$program_number" | sed 's/^/    /'
     [ "$(registered "$program_number" | awk '{ print $NF }' | sort -u)" = "$(owner_of "$name")" ]
     judge $? "$name is registered as its own user"
     [ -z "$client" ] || "$client"

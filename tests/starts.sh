@@ -1,0 +1,199 @@
+# Sourced by run-rows.sh: starts of the built daemon, with what it says of them: its listeners, words that it takes and
+# refuses, limits, what is in its way, and the help of rpcbind.
+
+# The daemon says where it listens, and ends after its turns.
+run_three_turns() {
+    echo 'rpcbind: listening on 127.0.0.1 port 20112' > "$work/wanted"
+    run /dev/null serve --port 20112 --turns 3
+    as_wanted "$work/wanted" /dev/null 0
+    judge $? "three turns of the daemon"
+}
+
+# It says so of each address, of [::1] and of the local socket, whose file has the mode that is given. The second start
+# finds the file of the first, which nobody listens on any more.
+run_all_listeners() {
+    local local_socket=$work/local.sock bad=0
+    printf 'rpcbind: listening on %s\n' '127.0.0.1 port 20112' '127.0.0.2 port 20112' '::1 port 20112' "$local_socket" \
+        > "$work/wanted"
+    for _ in 1 2; do
+        run /dev/null serve --port 20112 --bind 127.0.0.1 --bind 127.0.0.2 --loopback6 --local "$local_socket" \
+            --local-mode 620 --turns 1
+        as_wanted "$work/wanted" /dev/null 0 || bad=1
+    done
+    [ "$(stat -c %a "$local_socket")" = 620 ] || bad=1
+    judge $bad "a daemon on all listeners, twice"
+}
+
+# Where the limit of open files is less than the connections want, there are fewer of them, and that is said.
+run_few_descriptors() {
+    local needed places
+    echo 'rpcbind: listening on 127.0.0.1 port 20112' > "$work/wanted"
+    (ulimit -n 24; run /dev/null serve --port 20112 --turns 1 && exit "$got")
+    got=$?
+    read -r needed places < <(sed -nE 's/^rpcbind: the limit of open files is 24, --conns 64 needs ([0-9]+): ([0-9]+) connections at a time$/\1 \2/p' "$work/stderr")
+    [ "$got" -eq 0 ] && same "$work/wanted" "$work/stdout" "standard output" \
+        && [ "$(wc -l < "$work/stderr")" -eq 1 ] && [ $((64 - ${places:-0})) -eq $((${needed:-0} - 24)) ]
+    judge $? "a daemon with few descriptors"
+}
+
+# A file that is no socket stays.
+run_file_in_the_way() {
+    local file=$work/in-the-way
+    echo kept > "$file"
+    printf 'rpcbind: %s\n' "bind $file: the file is no socket, and stays" 'socket failed' > "$work/wanted"
+    run /dev/null serve --port 20112 --turns 1 --local "$file"
+    as_wanted /dev/null "$work/wanted" 1 && [ "$(cat "$file")" = kept ]
+    judge $? "a file in the way of the local socket"
+}
+
+# Which limit is out of its range, and what is wanted.
+run_daemon_with_bad_limits() {
+    local option value wanted
+    while read -r option value wanted; do
+        printf 'rpcbind: %s\n' "--$option $value: $wanted is wanted" 'bad limits' > "$work/wanted"
+        run /dev/null serve --port 20112 --turns 1 "--$option" "$value"
+        as_wanted /dev/null "$work/wanted" 1
+        judge $? "a daemon with --$option $value"
+    done << 'END'
+conns 0 1 to 256
+rows 4097 8 to 4096
+forwards 65 0 to 64
+END
+}
+
+# 192.0.2.1 is no address of this machine.
+run_daemon_elsewhere() {
+    printf 'rpcbind: %s\n' 'bind TCP 192.0.2.1:20112: Cannot assign requested address (os error 99)' 'socket failed' \
+        > "$work/wanted"
+    run /dev/null serve --bind 192.0.2.1 --port 20112 --turns 1
+    as_wanted /dev/null "$work/wanted" 1
+    judge $? "a daemon at an address that is not there"
+}
+
+# Clients from elsewhere can make nothing of 0.0.0.0.
+run_daemon_without_announce() {
+    echo 'rpcbind: listening on 0.0.0.0 port 20112' > "$work/wanted"
+    echo 'rpcbind: no --announce: clients over UDP will be told 0.0.0.0' > "$work/wanted-stderr"
+    run /dev/null serve --bind 0.0.0.0 --port 20112 --turns 1
+    as_wanted "$work/wanted" "$work/wanted-stderr" 0
+    judge $? "a daemon at 0.0.0.0 that announces nothing else"
+    echo 'rpcbind: listening on :: port 20112' > "$work/wanted"
+    printf 'rpcbind: no --announce: clients over UDP will be told %s\n' 0.0.0.0 :: > "$work/wanted-stderr"
+    run /dev/null serve --bind :: --port 20112 --turns 1
+    as_wanted "$work/wanted" "$work/wanted-stderr" 0
+    judge $? "a daemon at :: that announces nothing else"
+}
+
+# Words of `serve` that can't be read: the value, the option, and what is wanted.
+run_bad_words_of_serve() {
+    local option value wanted words
+    while IFS=: read -r option value wanted; do
+        echo "error: invalid value '$value' for '--$option': $wanted is wanted" > "$work/wanted"
+        run /dev/null serve "--$option" "$value"
+        as_wanted /dev/null "$work/wanted" 2
+        judge $? "--$option '$value' can't be read"
+    done << 'END'
+local-mode:8:a mode from 0 to 777 in octal digits
+local-mode:1000:a mode from 0 to 777 in octal digits
+local-mode:+6:a mode from 0 to 777 in octal digits
+udp-lists:any:all or local
+forward-for:any:all or local
+udp-rate:0:a number from 1 to 1000, or two as 20,5,
+udp-rate:1001:a number from 1 to 1000, or two as 20,5,
+udp-rate:20,:a number from 1 to 1000, or two as 20,5,
+udp-rate:20,5,1:a number from 1 to 1000, or two as 20,5,
+record-limit:999:a number from 1000 to 16777216
+record-limit:16777217:a number from 1000 to 16777216
+keep::the path of a file
+log:none:changes or all
+log:change:changes or all
+bind:localhost:an address as 192.0.2.1 or 2001:db8::1
+from:localhost:a network as 192.0.2.0/24, with no bit set behind its length,
+from:192.0.2.0/33:a network as 192.0.2.0/24, with no bit set behind its length,
+from:192.0.2.1/24:a network as 192.0.2.0/24, with no bit set behind its length,
+from:192.0.2.0/255.255.255.0:a network as 192.0.2.0/24, with no bit set behind its length,
+END
+    echo "error: invalid value 'fe80::1%lo' for '--bind': an address as 192.0.2.1 or 2001:db8::1 is wanted" > "$work/wanted"
+    run /dev/null serve --bind 127.0.0.1 --bind fe80::1%lo
+    as_wanted /dev/null "$work/wanted" 2
+    judge $? "--bind 'fe80::1%lo' can't be read"
+    echo "error: invalid value '2001:db8::1/32' for '--from': a network as 192.0.2.0/24, with no bit set behind its length, is wanted" > "$work/wanted"
+    run /dev/null serve --from 2001:db8::/32 --from 2001:db8::1/32
+    as_wanted /dev/null "$work/wanted" 2
+    judge $? "--from '2001:db8::1/32' can't be read"
+    echo "error: invalid value '192.0.2.17' for '--from': no more than 16 networks is wanted" > "$work/wanted"
+    mapfile -t words < <(printf -- '--from=192.0.2.%s\n' $(seq 17))
+    run /dev/null serve "${words[@]}"
+    as_wanted /dev/null "$work/wanted" 2
+    judge $? "--from is given 17 times"
+    cat > "$work/wanted" << 'END'
+error: the following required arguments were not provided:
+  --keep <FILE>
+
+Usage: rpcbind serve --keep <FILE> --keep-check
+
+For more information, try '--help'.
+END
+    run /dev/null serve --keep-check
+    as_wanted /dev/null "$work/wanted" 2
+    judge $? "--keep-check is given without --keep"
+    echo "error: invalid value '$work/both' for '--keep': another file than that of --record is wanted" > "$work/wanted"
+    echo kept > "$work/both"
+    run /dev/null serve --keep "$work/both" --record "$work/both"
+    as_wanted /dev/null "$work/wanted" 2 && [ "$(cat "$work/both")" = kept ]
+    judge $? "the rows are to be kept in the file of the record"
+}
+
+# Sixteen networks, of both families, with a host alone among them.
+run_daemon_of_networks() {
+    local words
+    echo 'rpcbind: listening on 127.0.0.1 port 20112' > "$work/wanted"
+    mapfile -t words < <(printf -- '--from=192.0.2.%s\n' $(seq 13))
+    run /dev/null serve --port 20112 --turns 1 --from 0.0.0.0/0 --from 198.51.100.0/24 --from 2001:DB8::/32 "${words[@]}"
+    as_wanted "$work/wanted" /dev/null 0
+    judge $? "a daemon that serves sixteen networks"
+}
+
+# Help is printed with status 0, and names each of these options.
+run_help_of() {
+    local command=$1 option bad=0
+    shift
+    run /dev/null $command --help
+    [ "$got" -eq 0 ] && [ ! -s "$work/stderr" ] || bad=1
+    for option in "$@"; do
+        grep -q -e "--$option\b" "$work/stdout" || { echo "no --$option in the help of '$command'"; bad=1; }
+    done
+    judge $bad "the help of '$command'"
+}
+
+# The version of the program, which each command says with its own name.
+run_version_of() {
+    local command=$1 name=$2
+    echo "$name 0.1.0" > "$work/wanted"
+    run /dev/null $command --version
+    as_wanted "$work/wanted" /dev/null 0
+    judge $? "the version by '$command'"
+}
+
+run_helps() {
+    run_help_of '' help version
+    run_help_of serve bind from announce local local-mode loopback6 port conns rows forwards udp-lists forward-for \
+        udp-rate turns record record-limit keep keep-check log help version
+    run_help_of replay announce port conns rows forwards udp-lists forward-for check steps xid now help version
+    run_version_of '' rpcbind
+    run_version_of serve rpcbind-serve
+    run_version_of replay rpcbind-replay
+}
+
+run_starts() {
+    run_three_turns
+    run_all_listeners
+    run_few_descriptors
+    run_file_in_the_way
+    run_daemon_with_bad_limits
+    run_daemon_elsewhere
+    run_daemon_without_announce
+    run_bad_words_of_serve
+    run_daemon_of_networks
+    run_helps
+}
