@@ -527,8 +527,9 @@ run_keep_on_full_device() {
 # answers anything stays, and so does who is not asked. The ports are 78 times 256 and 60 to 67.
 run_keep_check() {
     local file=$work/rows-checked answers begin
+    : > "$work/listening"
     python3 -B tests/answers.py tcp-garbage:20028 tcp-null:20029 tcp-silent:20030 udp-garbage:20031 udp-null:20032 \
-        udp-silent:20033 tcp6-null:20034 udp6-null:20035 > "$work/listening" 2>&1 &
+        udp-silent:20033 tcp6-null:20034 udp6-null:20035 >> "$work/listening" 2>&1 &
     answers=$!
     until grep -qs listening "$work/listening" || ! kill -0 "$answers" 2> /dev/null; do sleep 0.1; done
     cat > "$work/rows-all" << 'END'

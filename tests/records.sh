@@ -6,7 +6,8 @@
 # Starts the daemon with these words, asks it over TCP and UDP, and waits for its end.
 serve_and_ask() {
     local daemon
-    "$program" serve --port 20112 "$@" > "$work/stdout" 2> "$work/stderr" &
+    : > "$work/stdout" # what a daemon before wrote there is not to be taken for its own
+    "$program" serve --port 20112 "$@" >> "$work/stdout" 2> "$work/stderr" &
     daemon=$!
     until grep -q listening "$work/stdout" || ! kill -0 "$daemon" 2> /dev/null; do
         sleep 0.1

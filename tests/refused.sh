@@ -61,9 +61,10 @@ refuse_reply() {
 # rpcinfo writes calls to a daemon, which has its memory, and shows the replies.
 refuse_calls() {
     local daemon words
-    "$program" serve --port 20114 > "$work/served" 2>&1 &
+    : > "$work/told"
+    "$program" serve --port 20114 >> "$work/told" 2>&1 &
     daemon=$!
-    until grep -qs listening "$work/served" || ! kill -0 "$daemon" 2> /dev/null; do
+    until grep -qs listening "$work/told" || ! kill -0 "$daemon" 2> /dev/null; do
         sleep 0.1
     done
     for words in '-p 127.0.0.1' '-u 127.0.0.1 100000' '-T udp 127.0.0.1 100000 4'; do
