@@ -210,6 +210,7 @@ uid=1000 4 unset 200001 1
 END
     await_lines "$work/log" 7 || bad=1
     kill "$daemon"
+    wait "$daemon" 2> /dev/null
     same "$work/wanted" "$work/log" "the log" || bad=1
     judge $bad "a log of changes"
 }
@@ -228,6 +229,7 @@ run_log_of_all() {
         sleep 0.1
     done
     kill "$daemon"
+    wait "$daemon" 2> /dev/null
     [ $((told + more)) -eq 100 ] && [ "$told" -ge 20 ] && [ "$told" -le $((20 * seconds)) ] || bad=1
     judge $bad "a log of all"
 }
@@ -240,6 +242,7 @@ run_log_of_given_up() {
     python3 -B tests/crowd.py 127.0.0.1 20112 <<< $'open a 127.0.0.1\nopen b 127.0.0.1\ncall a' > "$work/stdout"
     same "$work/wanted" "$work/stdout" "what became of connections" && await_line "$work/log" "$line" || bad=1
     kill "$daemon"
+    wait "$daemon" 2> /dev/null
     [ "$(grep -cE "$line" "$work/log")" -eq 1 ] || bad=1
     judge $bad "a log of a connection that is given up"
 }

@@ -135,6 +135,7 @@ callers_of_networks() {
     ! is_answered u 198.51.100.1 || { echo "198.51.100.1 -u: answered"; bad=1; }
     is_answered u 192.0.2.1 || { echo "192.0.2.1 -u: not answered at the end"; bad=1; }
     kill "$daemon"
+    wait "$daemon" 2> /dev/null
     return $bad
 }
 
