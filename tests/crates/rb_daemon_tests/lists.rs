@@ -111,3 +111,49 @@ fn set_evicts_a_reader(rt: HostRuntime) -> Result<(), Fail> {
     assert_eq!(rt; evicts_the_reader(&rt, &mut host), Some(true));
     Ok(())
 }
+
+/// The program of this number is set at 127.0.0.1.8.1 on tcp, by version 4.
+fn sets_an_address(
+    rt: &HostRuntime,
+    host: &mut Host<'_>,
+    caller: &mut Caller,
+    prog: u32,
+) -> Option<bool> {
+    let [tcp, octets, dots, port, last] = [
+        0x7463_7000,
+        0x3132_372e,
+        0x302e_302e,
+        0x312e_382e,
+        0x3100_0000,
+    ];
+    let set = [
+        prog, 0, 2, 100_000, 4, 1, 0, 0, 0, 0, prog, 1, 3, tcp, 13, octets, dots, port, last, 0,
+    ];
+    answers(rt, host, caller, &set, &[prog, 1, 0, 0, 0, 0, 1])
+}
+
+/// The list has 24 bytes of head, 56 of each of the daemon's own six rows, 48 of each row of version 2, 52 of each of version
+/// 4, and 4 of its end: 9,000, which goes out as one datagram. With one more row it is too long for one.
+fn gives_the_longest_list(rt: &HostRuntime, host: &mut Host<'_>) -> Option<bool> {
+    let mut caller = Caller::new(rt, 0)?;
+    let mut are_set = sets_rows(rt, host, 168)?;
+    for prog in 400_000..400_011 {
+        are_set = are_set && sets_an_address(rt, host, &mut caller, prog)?;
+    }
+    let dump = bytes_of(rt.alloc(), &[7, 0, 2, 100_000, 3, 4, 0, 0, 0, 0]).ok()?;
+    let is_sent = caller.send(&dump);
+    caller.receive(host);
+    let is_whole = caller.first_word_of(9_000) == Some(7);
+    let is_one_more_set = sets_an_address(rt, host, &mut caller, 400_011)?;
+    let dump = [8, 0, 2, 100_000, 3, 4, 0, 0, 0, 0];
+    let is_refused = answers(rt, host, &mut caller, &dump, &[8, 1, 0, 0, 0, 5])?;
+    Some(are_set && is_sent && is_whole && is_one_more_set && is_refused)
+}
+
+#[test]
+fn list_of_9000_bytes_is_a_datagram(rt: HostRuntime) -> Result<(), Fail> {
+    let clock = Stopped::new(&rt);
+    let mut host = Host::new(&clock, 1).ok_or("no daemon")?;
+    assert_eq!(rt; gives_the_longest_list(&rt, &mut host), Some(true));
+    Ok(())
+}
