@@ -8,6 +8,7 @@ UNITS = $(PREFIX)/lib/systemd/system
 SYSUSERS = $(PREFIX)/lib/sysusers.d
 SBINDIR = $(DESTDIR)$(PREFIX)/sbin
 MANDIR = $(DESTDIR)$(PREFIX)/share/man/man8
+COMPLETIONS = $(DESTDIR)$(PREFIX)/share/bash-completion/completions
 DOCDIR = $(DESTDIR)$(PREFIX)/share/doc/rpcbind-proved
 # The programs are installed as rpcbind-proved and rpcinfo-proved, beside those of others; `make install NAMES=plain` gives
 # them their own names.
@@ -74,24 +75,28 @@ bench:
 measure:
 	tests/measure-gate.py > timings.new && mv timings.new docs/TIMINGS.md
 
-# The built programs, their man pages, and the units of systemd, with PREFIX and the programs' names in them; the line
-# for systemd-sysusers that makes their user, and beside the documents a file of options and two drop-ins.
+# The built programs, their man pages, completion of bash, and the units of systemd, with PREFIX and the programs' names in
+# them; the line for systemd-sysusers that makes their user, and beside the documents a file of options and two drop-ins.
 install:
-	install -d $(SBINDIR) $(MANDIR) $(DOCDIR) $(DESTDIR)$(UNITS) $(DESTDIR)$(SYSUSERS)
-	install -m 644 LICENSE CHANGELOG packaging/rpcbind-proved.default packaging/*.conf $(DOCDIR)
+	install -d $(SBINDIR) $(MANDIR) $(DOCDIR) $(COMPLETIONS) $(DESTDIR)$(UNITS) $(DESTDIR)$(SYSUSERS)
+	install -m 644 LICENSE CHANGELOG SECURITY.md packaging/rpcbind-proved.default packaging/*.conf $(DOCDIR)
 	install -m 644 packaging/rpcbind-proved.sysusers $(DESTDIR)$(SYSUSERS)/rpcbind-proved.conf
 	install -m 755 crates/rpcbind/out/rpcbind $(SBINDIR)/rpcbind$(SUFFIX)
 	install -m 755 crates/rpcinfo/out/rpcinfo $(SBINDIR)/rpcinfo$(SUFFIX)
 	install -m 644 man/rpcbind.8 $(MANDIR)/rpcbind$(SUFFIX).8
+	install -m 644 man/rpcbind-replay.8 $(MANDIR)/rpcbind$(SUFFIX)-replay.8
 	install -m 644 man/rpcinfo.8 $(MANDIR)/rpcinfo$(SUFFIX).8
 	$(PLACED) packaging/rpcbind-proved.service > $(DESTDIR)$(UNITS)/rpcbind-proved.service
 	$(PLACED) packaging/rpcbind-proved.socket > $(DESTDIR)$(UNITS)/rpcbind-proved.socket
 	chmod 644 $(DESTDIR)$(UNITS)/rpcbind-proved.service $(DESTDIR)$(UNITS)/rpcbind-proved.socket
+	$(PLACED) packaging/rpcbind-proved.bash-completion > $(COMPLETIONS)/rpcbind$(SUFFIX)
+	ln -sf rpcbind$(SUFFIX) $(COMPLETIONS)/rpcinfo$(SUFFIX)
 
 # NAMES as it was at the install.
 uninstall:
 	rm -f $(SBINDIR)/rpcbind$(SUFFIX) $(SBINDIR)/rpcinfo$(SUFFIX)
-	rm -f $(MANDIR)/rpcbind$(SUFFIX).8 $(MANDIR)/rpcinfo$(SUFFIX).8
+	rm -f $(MANDIR)/rpcbind$(SUFFIX).8 $(MANDIR)/rpcbind$(SUFFIX)-replay.8 $(MANDIR)/rpcinfo$(SUFFIX).8
+	rm -f $(COMPLETIONS)/rpcbind$(SUFFIX) $(COMPLETIONS)/rpcinfo$(SUFFIX)
 	rm -f $(DESTDIR)$(UNITS)/rpcbind-proved.service $(DESTDIR)$(UNITS)/rpcbind-proved.socket
 	rm -f $(DESTDIR)$(SYSUSERS)/rpcbind-proved.conf
 	rm -rf $(DOCDIR)

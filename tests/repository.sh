@@ -47,8 +47,34 @@ check_crates_are_named() {
     judge $? "README.md does not name:$unnamed"
 }
 
+# The options that a help shows, one a line: what stands before two spaces in a line that begins with one.
+list_options() {
+    sed -nE 's/^ +(-.*)/\1/p' | sed -E 's/  .*//' | tr ', ' '\n\n' | grep -oE '^--?[A-Za-z0-9][a-z0-9-]*' | LC_ALL=C sort -u
+}
+
+# What bash completes after these words, one a line.
+complete_words() {
+    bash -c '. packaging/rpcbind-proved.bash-completion; COMP_WORDS=("$@"); COMP_CWORD=$(($# - 1)); function=_${1}_proved
+        "$function"; printf "%s\n" "${COMPREPLY[@]}"' bash "$@" | LC_ALL=C sort -u
+}
+
+# Bash completes just the options that each help shows, except that -h and -V of rpcbind have their long names alone.
+check_completion() {
+    local bad=0 command
+    for command in serve replay; do
+        "$program" "$command" --help | list_options | grep -e -- > "$work/wanted"
+        complete_words rpcbind "$command" -- > "$work/completed"
+        same "$work/wanted" "$work/completed" "completion of rpcbind $command" || bad=1
+    done
+    "$rpcinfo" --help | list_options > "$work/wanted"
+    complete_words rpcinfo - > "$work/completed"
+    same "$work/wanted" "$work/completed" "completion of rpcinfo" || bad=1
+    judge $bad "the options that bash completes are not those of --help"
+}
+
 check_repository() {
     check_version
+    check_completion
     check_proofs_by_hand
     check_crates_are_named
     check_names
