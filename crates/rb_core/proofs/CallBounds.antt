@@ -18,7 +18,9 @@ use Rattle.rb_model.specs.declared.types.CoreFault.{CoreFault}
 use Rattle.rb_model.specs.Connections.{on_live, give, live_connection, Taking, fed_in, taking_of, taking_behind}
 use Rattle.rb_model.specs.Connections.Taking.{TakesNone, GoesOn, Ends}
 use Rattle.rb_model.specs.Step.{datagram, bytes, bytes_to, when_taken, gave, unless_refused, show_taken, step, IsReached}
+use Rattle.rb_model.specs.declared.types.Standing.{Standing}
 use Rattle.rb_model.specs.declared.types.Taken.{Taken}
+use Rattle.rb_model.specs.Standings.{without_standing}
 use Rattle.rb_model.specs.Step.Event.{Bytes, Datagram}
 use Rattle.rb_model.specs.Costs.{Sizes, asks_for_rows, sizes_for, find_cost, pending_cost, take_cost, recount_cost, gave_cost, close_cost, ended_cost, datagram_cost, bytes_cost, count_taken, record_cost}
 use Rattle.rb_model.specs.Laws.{NoRecordEnds}
@@ -33,6 +35,7 @@ use Rattle.rb_connections.specs.Costs.{look_cost, slot_count}
 use Rattle.rb_core.specs.StandsFor.{Held, StandsFor}
 use Rattle.rb_model.specs.Exchanges.{without_front, exchange}
 use Rattle.rb_core.specs.CallCosts.{announced_in, may_register_in, sizes_of, PaysForBytes, PaysForDatagram, PaysToGive}
+use Rattle.rb_core.specs.Core.{TakesBytes}
 use Rattle.rb_core.specs.Events.{StaysCheapIfQuiet, StaysWithinSteps, length_taken}
 use Rattle.rb_core.proofs.Outputs.{datagram_shown, same_state}
 use Rattle.rb_core.proofs.Spending.{at_most, connections_held, rows_held}
@@ -177,12 +180,12 @@ module _ (core : Held) (a b : Meter) where
         by_there s h reached (Some c) there paid = by_taking s h reached (may_register_in core c.who) (taking_of c.phase piece) (counts s c result there (ap (λ (x : Result Taken CoreFault × List ℕ). x.0) (acts.gives s h))) paid
 
     -- where no record ends, a piece costs a step for each byte that is taken, two for each connection, and 9
-    pub cheap_within : (new : Held) (result : Result Taken CoreFault) → Acts StandsFor (λ s. bytes s now id piece) core new result → PaysForBytes core new id piece a b → StaysCheapIfQuiet core id piece result a b
+    pub cheap_within : (new : Held) (result : Result (Taken × Standing) CoreFault) → TakesBytes now id piece core new result → PaysForBytes core new id piece a b → StaysCheapIfQuiet core id piece result a b
     cheap_within new result acts pays = λ s h reached none. by_there s h reached none (live_connection id s.connections.all) refl (pays s h)
       where
         by_there : (s : State) → StandsFor core s → IsReached s → NoRecordEnds s id piece → (m : Option Connection) → live_connection id s.connections.all ≡ m → PaysAtMost a b (bytes_cost (announced_in core) (sizes_of core new) piece m)
-            → PaysAtMost a b (8 * length_taken result + 64 * core.setting.limits.conns + 64)
+            → PaysAtMost a b (8 * length_taken (without_standing result) + 64 * core.setting.limits.conns + 64)
         by_there s h reached none None there paid = at_most a b (find_cost (length core.connections.slots)) _ (omega (arith, few_connections s h reached)) paid
         by_there s h reached none (Some c) there paid =
             let quiet : record_cost (may_register_in core c.who) (sizes_of core new) (taking_of c.phase piece) ≡ 0 = no_record (may_register_in core c.who) (sizes_of core new) c piece (rw there at none) in
-            at_most a b (bytes_cost (announced_in core) (sizes_of core new) piece (Some c)) _ (omega (arith, few_connections s h reached, quiet, counts s c result there (acts.gives s h))) paid
+            at_most a b (bytes_cost (announced_in core) (sizes_of core new) piece (Some c)) _ (omega (arith, few_connections s h reached, quiet, counts s c (without_standing result) there (acts.gives s h))) paid

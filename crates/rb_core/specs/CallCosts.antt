@@ -6,6 +6,7 @@ use Rattle.rb_xdr.specs.Meter.{Meter, PaysAtMost}
 use Rattle.rb_xdr.specs.Ordered.{looks}
 use Rattle.rb_rpc.specs.declared.call.Verdict.{Verdict}
 use Rattle.rb_forward.specs.Costs.{unsent_cost}
+use Rattle.rb_forward.specs.Deadlines.{soonest_cost}
 use Rattle.rb_address.specs.declared.who.Who.{Who}
 use Rattle.rb_proto.specs.declared.books.Books.{Books}
 use Rattle.rb_proto.specs.declared.context.Context.{Context}
@@ -19,7 +20,7 @@ use Rattle.rb_model.specs.declared.types.Given.{Given}
 use Rattle.rb_model.specs.Gives.{give_into_cost, given_in}
 use Rattle.rb_model.specs.declared.message.Message.{Message}
 use Rattle.rb_model.specs.Calls.{message_with, message_of, kept_of}
-use Rattle.rb_model.specs.Costs.{Sizes, sizes_for, asks_for_rows, room_cost, message_cost, answer_cost, datagram_cost, bytes_cost, gave_cost, plain_cost, plain_record_cost}
+use Rattle.rb_model.specs.Costs.{Sizes, sizes_for, asks_for_rows, room_cost, message_cost, answer_cost, datagram_cost, bytes_cost, gave_cost, pending_cost, plain_cost, plain_record_cost}
 use Rattle.rb_model.specs.Connections.{taking_of, live_connection}
 use Rattle.rb_model.specs.Connections.Taking.{Ends}
 use Rattle.rb_model.specs.State.{State, Connection}
@@ -144,6 +145,14 @@ PaysForPlainRecord old id piece more before now =
 abbrev pub PaysForPlainExchange : Held → ℕ → List ℕ → List ℕ → Result Exchanged CoreFault → Meter → Meter → Type 0
 PaysForPlainExchange old id piece room result before now =
     PaysForPlainRecord old id piece (whole_cost (length room) (count_given result)) before now
+
+-- what it costs to find the next deadline
+abbrev pub deadline_cost : Held → ℕ
+deadline_cost held = soonest_cost (slot_count held.connections) + soonest_cost held.books.forwards.cap
+
+-- what it costs to lend what is pending on a connection
+abbrev pub lend_pending_cost : Held → ℕ
+lend_pending_cost held = look_cost held.connections + pending_cost
 
 -- what it costs to lend a forwarded call of so many bytes
 abbrev pub lending_cost : Held → ℕ → ℕ

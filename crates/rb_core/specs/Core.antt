@@ -12,9 +12,12 @@ use Rattle.rb_model.specs.declared.types.CoreFault.{CoreFault}
 use Rattle.rb_model.specs.State.{Setting, State}
 use Rattle.rb_model.specs.Calls.{message_with, Outcome, longest_reply}
 use Rattle.rb_model.specs.Connections.{on_live}
+use Rattle.rb_model.specs.declared.types.Standing.{Standing}
+use Rattle.rb_model.specs.declared.types.Taken.{Taken}
 use Rattle.rb_model.specs.declared.types.Told.{Told}
 use Rattle.rb_model.specs.Ending.{outcome_at_end, tell}
-use Rattle.rb_model.specs.Step.{serve_message, settle_on}
+use Rattle.rb_model.specs.Standings.{without_standing}
+use Rattle.rb_model.specs.Step.{serve_message, settle_on, bytes}
 use Rattle.rb_model.specs.declared.served.Outcome as outcome
 use Rattle.rb_connections.specs.declared.slot.EndedRecord.{EndedRecord}
 use Rattle.rb_connections.specs.declared.slot.Received.{Received}
@@ -96,6 +99,10 @@ without_arguments held = record held { arguments = [] }
 -- The caller of a forwarded call that ended is told how; `message` is the datagram that ended it.
 abbrev pub TellsCaller : List ℕ → Ended → Held → Held → Told → Type 0
 TellsCaller message ended old new given = Acts StandsFor (tell ended.id ended.forward.caller (outcome_at_end message ended)) old new given
+
+-- The bytes of a piece arrive on the connection of the number; the result also says where that stands then.
+abbrev pub TakesBytes : ℕ → ℕ → List ℕ → Held → Held → Result (Taken × Standing) CoreFault → Type 0
+TakesBytes now id piece old new result = Acts StandsFor (λ s. bytes s now id piece) old new (without_standing result)
 
 -- An act that answers something, with the reply that is held after it.
 abbrev pub ActsWithReply : (State → Outcome × State) → Held → Held → outcome.Outcome → Type 0

@@ -4,14 +4,16 @@ use Rattle.std.specs.Borrow.{Fml, Bor, MutBor}
 use Rattle.std.specs.Io.BufRead.{Rests}
 use Rattle.rb_xdr.specs.Meter.{Meter, PaysAtMost}
 use Rattle.rb_model.specs.declared.types.CoreFault.{CoreFault}
+use Rattle.rb_model.specs.declared.types.Standing.{Standing}
 use Rattle.rb_model.specs.declared.types.Taken.{Taken}
 use Rattle.rb_model.specs.State.{State}
 use Rattle.rb_model.specs.Step.{IsReached}
 use Rattle.rb_model.specs.Connections.{longest_fragment}
 use Rattle.rb_model.specs.Bounds.{steps_bound}
 use Rattle.rb_model.specs.Laws.{NoRecordEnds}
+use Rattle.rb_model.specs.Standings.{as_done, without_standing}
 use Rattle.rb_core.specs.StandsFor.{Held, StandsFor}
-use Rattle.rb_core.specs.contracts.events.Core.{the_row}
+use Rattle.rb_core.specs.contracts.holding.Core.{the_row}
 use Rattle.rb_model.specs.declared.types.Exchanged.{Exchanged}
 use Rattle.rb_model.specs.Exchanges.{taken_in, count_given}
 
@@ -66,6 +68,14 @@ pub record StaysWithinSteps (core : Held) (taken given : ℕ) (before now : Mete
   pub within : (s : State) → StandsFor core s → IsReached s
       → PaysAtMost before now (steps_bound core.setting.limits taken given)
 
+-- the same of a call of `bytes`, which takes what its result says
+abbrev pub TakesWithinSteps : Held → Result (Taken × Standing) CoreFault → Meter → Meter → Type 0
+TakesWithinSteps core result before now = StaysWithinSteps core (length_taken (without_standing result)) 0 before now
+
+-- the same of a call of `gave`, which reports n bytes as given
+abbrev pub GaveWithinSteps : Held → ℕ → Result Standing CoreFault → Meter → Meter → Type 0
+GaveWithinSteps core n result before now = StaysWithinSteps core 0 (length_given (as_done result) n) before now
+
 -- the same of a call of `exchange`
 abbrev pub ExchangesWithinSteps : Held → Result Exchanged CoreFault → Meter → Meter → Type 0
 ExchangesWithinSteps core result before now =
@@ -73,10 +83,10 @@ ExchangesWithinSteps core result before now =
 
 -- From each state that a run reaches and that the core stood for: where no record ends in a piece on a connection, no more
 -- is paid than 8 steps for each byte that is taken, 64 for each connection that there may be, and 64.
-abbrev pub StaysCheapIfQuiet : Held → ℕ → List ℕ → Result Taken CoreFault → Meter → Meter → Type 0
+abbrev pub StaysCheapIfQuiet : Held → ℕ → List ℕ → Result (Taken × Standing) CoreFault → Meter → Meter → Type 0
 StaysCheapIfQuiet core id piece result before now =
     (s : State) → StandsFor core s → IsReached s → NoRecordEnds s id piece
-    → PaysAtMost before now (8 * length_taken result + 64 * core.setting.limits.conns + 64)
+    → PaysAtMost before now (8 * length_taken (without_standing result) + 64 * core.setting.limits.conns + 64)
 
 -- A call that gives n bytes into a room pays no more than the bound of a `gave` of 1,028 bytes, for each 1,028 bytes of them
 -- and once more.

@@ -1,5 +1,6 @@
 -- The walk over the live rows of a core, as the looks at them make it: over those of its registry, as they are now.
-use Rattle.std.specs.Prelude.{◌≡◌, ℕ, List, length, Option}
+use Rattle.std.specs.Prelude.{◌≡◌, ℕ, List, length, Option, IfSome}
+use Rattle.std.specs.Borrow.{Bor}
 use Rattle.rb_xdr.specs.Meter.{Meter}
 use Rattle.rb_registry.specs.declared.row.Row.{Row}
 use Rattle.rb_registry.specs.Registry.{Registry, rows_of, slots_of, rows_passed}
@@ -46,3 +47,7 @@ slots_behind core cursor = cursors.slots_left (rows_held core) cursor
 -- from one place to the next, 2 steps were paid at most for each row that was passed, retained ones among them
 abbrev pub PaysForRow : Held → Option ℕ → Option ℕ → Meter → Meter → Type 0
 PaysForRow core place next old new = PaysFor (rows_held core).entries place next old new
+
+-- the same of a row that was lent, if one was
+abbrev pub PaysIfLent : Held → Option ℕ → Option ℕ → Option (Bor Row) → Meter → Meter → Type 0
+PaysIfLent core place next lent old new = IfSome lent (λ row. PaysForRow core place next old new)

@@ -1,7 +1,16 @@
 -- How much memory a core has.
-use Rattle.std.specs.Prelude.{◌≡◌}
+use Rattle.std.specs.Prelude.{◌≡◌, IsTrue}
 use Rattle.rb_proto.specs.Books.{SameMemory}
+use Rattle.rb_proto.specs.declared.listener.Listener.{Listener}
+use Rattle.rb_model.specs.declared.types.CoreFault.{CoreFault}
+use Rattle.rb_model.specs.declared.types.CoreFault.TheVariants.{NoMemory}
+use Rattle.rb_model.specs.declared.types.Limits.{Limits}
+use Rattle.rb_model.specs.State.{are_good}
 use Rattle.rb_core.specs.StandsFor.{Held}
+
+-- With good limits the fault is that an allocation was refused.
+abbrev pub LacksMemory : Limits → Listener → CoreFault → Type 0
+LacksMemory limits listener fault = IsTrue (are_good limits listener) → fault ≡ NoMemory
 
 -- The connections and the books have as much memory as before.
 pub record KeepsMemory (old new : Held) : Type 0 where

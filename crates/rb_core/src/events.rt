@@ -1,171 +1,22 @@
-//! The core: what it holds, and its calls.
-ghost use Rattle.std.specs.Prelude.{◌≡◌, ◌≤◌, length, IsTrue};
-ghost use Rattle.rb_proto.specs.Callers.{own_rows};
-ghost use Rattle.rb_model.specs.State.{are_good};
-ghost use Rattle.rb_model.specs.Bounds.{bytes_bound};
-
+//! The calls of a core: each is one event, or says how one went.
 use crate::calls::{
     Piece, give_at_once, lend_arguments, serve_verdict, standing_behind, take_piece,
 };
+use crate::holding::Core;
 use crate::seen::{Seen, forget};
 use rb_address::{Peer, Who};
-use rb_connections::{BUFFER_SIZE, CONNECTION_CHARGE, Connections, EndedRecord, Received};
-use rb_forward::{ENTRY_CHARGE, Ended, FwdId, LONGEST_FORWARDED_CALL, Unsent, sooner};
-use rb_model::{
-    CoreFault, Exchanged, Expired, LONGEST_REPLY, Limits, Outcome, Served, Standing, Taken, Told,
-};
-use rb_proto::{Books, Context, Listener, own_row_count};
-use rb_rpc::{Caller, LONGEST_FRAGMENT, read_call};
+use rb_connections::{EndedRecord, Received};
+use rb_forward::{Ended, FwdId, Unsent, sooner};
+use rb_model::{CoreFault, Exchanged, Expired, Outcome, Served, Standing, Taken, Told};
+use rb_proto::Context;
+use rb_rpc::{Caller, read_call};
 use rb_serving::{arguments_behind, longest_to, put_end};
-use rb_xdr::{Kept, Meter};
-use std::alloc::Global;
-use std::marker::Model;
-
-/// The longest call that is served: a head of 840 bytes, and arguments.
-const LONGEST_SERVED_CALL: u64 = 9_656;
-
-/// The longest address text of a row.
-const LONGEST_ADDRESS: u64 = 128;
-
-/// How many keys the statistics may have.
-pub const MOST_KEYS: u64 = 192;
-
-/// The daemon's logic, over the pools and buffers that `new` makes.
-pub struct Core {
-    limits: Limits,
-    listener: Listener,
-    first_xid: u32,
-    pub(crate) clock: u64,
-    pub(crate) connections: Connections,
-    pub(crate) books: Books,
-    /// The last reply over UDP, and how many bytes it has.
-    pub(crate) reply: Kept,
-    reply_len: u64,
-    /// Where the reply on a connection is written; empty between two events. The connection swaps its own buffer for
-    /// it.
-    pub(crate) draft: Kept,
-    /// The arguments of a record that ended; empty between two events. The connection swaps its own buffer, with the
-    /// arguments, for it.
-    arguments: Kept,
-    /// What the meter showed as the last event began.
-    pub(crate) steps_before: u128,
-    /// What is to be told of the last whole call, if anything is. No answer depends on it.
-    seen: Option<Seen>,
-}
-
-/// Names each field, so that a further one does not compile until it stands here. It belongs in the table of
-/// charges of docs/RULES.md first.
-fn layout(core: &Core) {
-    let Core {
-        limits,
-        listener,
-        first_xid,
-        clock,
-        connections,
-        books,
-        reply,
-        reply_len,
-        draft,
-        arguments,
-        steps_before,
-        seen,
-    } = core;
-    let _: Limits = *limits;
-    let _: (u32, u64, u64, u128) = (*first_xid, *clock, *reply_len, *steps_before);
-    let _: &Listener = listener;
-    let _: &Connections = connections;
-    let _: &Books = books;
-    let _: &Kept = reply;
-    let _: &Kept = draft;
-    let _: &Kept = arguments;
-    let _: &Option<Seen> = seen;
-}
-
-impl Model for Core {
-    ghost use Rattle.rb_core.specs.StandsFor.{Held};
-    ghost use Rattle.rb_core.specs.Core.{IsCore};
-
-    ghost Value = { Held };
-
-    ghost view = { λ c. record {
-      setting = record { limits = c.limits; listener = c.listener; first_xid = c.first_xid };
-      clock = c.clock;
-      connections = c.connections;
-      books = c.books;
-      reply = c.reply.bytes;
-      arguments = c.arguments.bytes;
-      steps_before = c.steps_before;
-      tie = c.reply.tie;
-    } };
-
-    ghost invariant = { λ c. IsCore (record { limits = c.limits; listener = c.listener; first_xid = c.first_xid })
-        c.connections c.books c.reply c.draft c.arguments c.reply_len };
-}
-
-// Written out, so that each place that drops a core, as each `?` behind one does, calls this once, in place of code
-// that frees it part by part.
-impl Drop for Core {
-    fn drop(self) {
-        let Core {
-            limits: _,
-            listener,
-            first_xid: _,
-            clock: _,
-            connections,
-            books,
-            reply,
-            reply_len: _,
-            draft,
-            arguments,
-            steps_before: _,
-            seen,
-        } = self;
-        drop(listener);
-        drop(connections);
-        drop(books);
-        drop(reply);
-        drop(draft);
-        drop(arguments);
-        drop(seen);
-    }
-}
-
-/// How many bytes a core of these limits may hold: for each connection its fixed part, a whole call and a whole
-/// fragment; for each row its fixed part and an address text of 128 bytes; for each forwarded call its fixed part and
-/// the call; the keys of the statistics; and a reply.
-#[tactic(auto, unfolding(rb_model::specs::Calls::longest_reply, rb_model::specs::Connections::longest_fragment, rb_rpc::specs::Forwarded::longest_forwarded))]
-fn bytes_bound(limits: &Limits) -> u64
-    requires conns { limits.now.conns ≤ 256 }
-    requires rows { limits.now.rows ≤ 4096 }
-    requires forwards { limits.now.forwards ≤ 64 }
-    ensures { result ≡ bytes_bound limits.now }
-{
-    let conns = limits.conns as u64
-        * (CONNECTION_CHARGE + LONGEST_SERVED_CALL + LONGEST_FRAGMENT as u64);
-    let rows = limits.rows as u64 * (32 + LONGEST_ADDRESS);
-    let forwards = limits.forwards as u64 * (ENTRY_CHARGE + LONGEST_FORWARDED_CALL as u64);
-    conns + rows + forwards + MOST_KEYS * 48 + LONGEST_REPLY as u64
-}
-
-fn are_good(limits: &Limits, listener: &Listener) -> bool
-    ensures value { result ≡ are_good limits.now listener.now }
-    ensures conns { IsTrue result → limits.now.conns ≤ 256 }
-    ensures rows { IsTrue result → length (own_rows listener.now) ≤ limits.now.rows }
-    ensures few_rows { IsTrue result → limits.now.rows ≤ 4096 }
-    ensures forwards { IsTrue result → limits.now.forwards ≤ 64 }
-{
-    1 <= limits.conns
-        && limits.conns <= 256
-        && own_row_count(listener) + 2 <= limits.rows
-        && limits.rows <= 4096
-        && limits.forwards <= 64
-}
+use rb_xdr::Meter;
 
 impl Core {
-    ghost use Rattle.std.specs.Prelude.{◌≡◌, ◌+◌, ◌*◌, ◌≤◌, ◌↔◌, [], true, false, length, take, IsTrue, IfOk, IfErr, IfSome, IsErrOf, OnErr, not};
+    ghost use Rattle.std.specs.Prelude.{◌≡◌, ◌+◌, ◌≤◌, [], false, length, IfOk, IfSome, OnErr};
     ghost use Rattle.std.specs.Borrow.{sem};
     ghost use Rattle.rb_xdr.specs.Meter.{Pays, PaysAtMost};
-    ghost use Rattle.rb_model.specs.State.{are_good, opening};
     ghost use Rattle.rb_model.specs.Calls.{longest_reply};
     ghost use Rattle.rb_forward.specs.Costs.{sent_cost};
     ghost use Rattle.rb_forward.specs.Outcomes.{PassesWithin};
@@ -174,77 +25,19 @@ impl Core {
     ghost use Rattle.rb_model.specs.Step.{datagram, open_connection, bytes, gave, close_connection, next_lost, unsent_call, sent_call};
     ghost use Rattle.rb_model.specs.Ending.{forward_reply, expire_connection, expire};
     ghost use Rattle.rb_connections.specs.Awaits.{IsIdleSince};
-    ghost use Rattle.rb_core.specs.HeldBytes.{held, NeverPasses};
-    ghost use Rattle.rb_model.specs.Bounds.{bytes_bound};
-    ghost use Rattle.rb_core.specs.Events.{count_shown, OnlyBegins, BeginsAt, LendsFrom, TellsSteps, length_taken, length_given, StaysWithinSteps, ExchangesWithinSteps, StaysCheapIfQuiet};
+    ghost use Rattle.rb_core.specs.HeldBytes.{NeverPasses};
+    ghost use Rattle.rb_core.specs.Events.{count_shown, OnlyBegins, BeginsAt, LendsFrom, TellsSteps, StaysWithinSteps, TakesWithinSteps, ExchangesWithinSteps, GaveWithinSteps, StaysCheapIfQuiet};
     ghost use Rattle.rb_connections.specs.Slots.{Acts, Shows};
     ghost use Rattle.rb_core.specs.StandsFor.{StandsFor};
-    ghost use Rattle.rb_core.specs.Core.{ActsWithReply, TellsCaller, context_of};
+    ghost use Rattle.rb_core.specs.Core.{ActsWithReply, TakesBytes, TellsCaller, context_of};
     ghost use Rattle.rb_core.specs.Memory.{KeepsMemory};
     ghost use Rattle.rb_model.specs.Exchanges.{count_given};
-    ghost use Rattle.rb_model.specs.Standings.{as_done, without_standing};
+    ghost use Rattle.rb_model.specs.Standings.{as_done};
     ghost use Rattle.rb_core.specs.Standings.{StandsThen, StandsBehind};
     ghost use Rattle.rb_core.specs.AtOnce.{AnswersGiving, CountsGiven, Exchanges, GivesAtOnce};
-    ghost use Rattle.rb_core.specs.CallCosts.{making_cost, sizes_of, PaysForBytes, PaysForDatagram, PaysForExchange, PaysForPlainDatagram, PaysForPlainExchange, PaysForPlainRecord, PaysToAnswer, PaysToGive, lending_cost};
+    ghost use Rattle.rb_core.specs.CallCosts.{sizes_of, PaysForBytes, PaysForDatagram, PaysForExchange, PaysForPlainDatagram, PaysForPlainExchange, PaysForPlainRecord, PaysToAnswer, PaysToGive, lending_cost};
     ghost use Rattle.rb_connections.specs.Costs.{look_cost, slot_count};
     ghost use Rattle.rb_model.specs.Costs.{close_cost, ended_cost, tell_cost};
-
-    /// Makes a core with the daemon's own rows alone, at the moment `now` (milliseconds since the start of 1970). It
-    /// takes all its memory here. `first_xid` is the xid of the first call that it forwards. `BadLimits` where a limit is
-    /// out of its range, or the rows have no room for the own ones and two more; else `NoMemory` where an allocation is
-    /// refused.
-    #[tactic(auto, unfolding(rb_model::specs::Calls::longest_reply, rb_model::specs::Calls::longest_kept, rb_connections::specs::StandsFor::buffer_size))]
-    pub fn new(
-        alloc: Global,
-        limits: Limits,
-        listener: Listener,
-        first_xid: u32,
-        now: u64,
-        meter: &mut Meter,
-    ) -> Result<Core, CoreFault>
-        ensures made { IfOk result
-            (λ core. StandsFor core (opening limits listener first_xid now)) }
-        ensures tie { IfOk result (λ core. core.tie ≡ meter.old.tie) }
-        ensures begun { IfOk result (λ core. core.steps_before ≡ count_shown meter.new) }
-        ensures bad { IsErrOf result CoreFault.BadLimits ↔ IsTrue (not (are_good limits listener)) }
-        ensures memory { IfErr result
-            (λ fault. IsTrue (are_good limits listener) → fault ≡ CoreFault.NoMemory) }
-        ensures cost { PaysAtMost meter.old meter.new (making_cost limits listener) }
-    {
-        if !are_good(&limits, &listener) {
-            return Err(CoreFault::BadLimits);
-        }
-        let forwards = limits.forwards as u32;
-        let Ok(books) = Books::new(alloc, limits.rows, forwards, first_xid, &listener, meter) else {
-            return Err(CoreFault::NoMemory);
-        };
-        let Ok(connections) = Connections::new(alloc, limits.conns, meter) else {
-            return Err(CoreFault::NoMemory);
-        };
-        let Ok(reply) = Kept::new(alloc, LONGEST_REPLY, meter) else {
-            return Err(CoreFault::NoMemory);
-        };
-        let Ok(draft) = Kept::new(alloc, BUFFER_SIZE, meter) else {
-            return Err(CoreFault::NoMemory);
-        };
-        let Ok(arguments) = Kept::new(alloc, BUFFER_SIZE, meter) else {
-            return Err(CoreFault::NoMemory);
-        };
-        Ok(Core {
-            limits,
-            listener,
-            first_xid,
-            clock: now,
-            connections,
-            books,
-            reply,
-            reply_len: 0,
-            draft,
-            arguments,
-            steps_before: meter.count(),
-            seen: None,
-        })
-    }
 
     /// What the answer to a call of this caller depends on beside the books.
     fn context(&self, caller: Caller) -> Context
@@ -321,8 +114,7 @@ impl Core {
     #[tactic(auto, using(crate::proofs::HeldBytes::never_passes, crate::proofs::CallBounds::open_within))]
     pub fn open(&mut self, now: u64, who: Who, meter: &mut Meter) -> Result<u64, CoreFault>
         requires { meter.old.tie ≡ self.old.tie }
-        ensures acts { Acts StandsFor (λ s. open_connection s now who)
-            self.old self.new result }
+        ensures acts { Acts StandsFor (λ s. open_connection s now who) self.old self.new result }
         ensures refused { OnErr result (OnlyBegins self.old self.new) }
         ensures tie { self.new.tie ≡ self.old.tie }
         ensures memory { KeepsMemory self.old self.new }
@@ -350,8 +142,7 @@ impl Core {
         meter: &mut Meter,
     ) -> Result<(Taken, Standing), CoreFault>
         requires { meter.old.tie ≡ self.old.tie }
-        ensures acts { Acts StandsFor (λ s. bytes s now id piece.now) self.old self.new
-            (without_standing result) }
+        ensures acts { TakesBytes now id piece.now self.old self.new result }
         ensures stands { IfOk result (λ done. StandsBehind id done.0.count self.new done.1) }
         ensures within { IfOk result (λ done. done.0.count ≤ length piece.now) }
         ensures refused { OnErr result (OnlyBegins self.old self.new) }
@@ -362,10 +153,8 @@ impl Core {
         ensures same_meter { meter.new.tie ≡ meter.old.tie }
         ensures cost { PaysForBytes self.old self.new id piece.now meter.old meter.new }
         ensures plain { PaysForPlainRecord self.old id piece.now 0 meter.old meter.new }
-        ensures bound { StaysWithinSteps self.old
-            (length_taken (without_standing result)) 0 meter.old meter.new }
-        ensures quiet { StaysCheapIfQuiet self.old id piece.now
-            (without_standing result) meter.old meter.new }
+        ensures bound { TakesWithinSteps self.old result meter.old meter.new }
+        ensures quiet { StaysCheapIfQuiet self.old id piece.now result meter.old meter.new }
     {
         let Exchanged {
             taken,
@@ -433,34 +222,34 @@ impl Core {
         })
     }
 
-    /// Answers the record that ended on a connection, and lets the connection go on. Its arguments lie in the piece, or
-    /// else in the core's buffer, which is empty after it. Returns whether the connection is Lost now, and how many bytes
+    /// Answers the record that ended on a connection, and lets the connection go on. Its arguments are `lent` where they
+    /// lie in the piece, and else in the core's buffer, which is empty after it. Returns whether the connection is Lost now, and how many bytes
     /// of the reply were given at once.
     #[tactic(auto, unfolding(rb_model::specs::Calls::longest_reply, rb_model::specs::Calls::longest_kept, rb_connections::specs::StandsFor::buffer_size))]
     fn answer(
         &mut self,
         id: u64,
         ended: EndedRecord,
-        arguments: Option<&[u8]>,
+        lent: Option<&[u8]>,
         room: &mut [u8],
         meter: &mut Meter,
     ) -> (bool, usize, Standing)
         requires tie { meter.old.tie ≡ self.old.tie }
         requires idle { IsIdleSince id self.old.clock self.old.connections }
         requires caller { is_waiting id (slots_of self.old.books.forwards) ≡ false }
-        ensures acts { AnswersGiving id ended arguments.entry self.old self.new
-            (result.0, result.1) room.new }
+        ensures acts { AnswersGiving id ended lent.entry
+            self.old self.new (result.0, result.1) room.new }
         ensures stands { StandsThen id self.new result.2 }
         ensures within { result.1 ≤ length room.new }
-        ensures count { GivesAtOnce room.old id ended arguments.entry self.old result.1 }
+        ensures count { GivesAtOnce room.old id ended lent.entry self.old result.1 }
         ensures tie { self.new.tie ≡ self.old.tie }
         ensures memory { KeepsMemory self.old self.new }
         ensures begun { self.new.steps_before ≡ self.old.steps_before }
         ensures cost { PaysToAnswer ended
-            self.old self.new arguments.entry room.old result.1 meter.old meter.new }
+            self.old self.new lent.entry room.old result.1 meter.old meter.new }
     {
         let context = self.context(Caller::Tcp(id, ended.who));
-        let arguments = lend_arguments(arguments, &self.arguments, meter);
+        let arguments = lend_arguments(lent, &self.arguments, meter);
         let served = serve_verdict(
             &mut self.connections,
             &mut self.books,
@@ -509,8 +298,7 @@ impl Core {
         ensures held { NeverPasses self.new }
         ensures same_meter { meter.new.tie ≡ meter.old.tie }
         ensures cost { PaysToGive self.old id meter.old meter.new }
-        ensures bound { StaysWithinSteps self.old 0
-            (length_given (as_done result) n) meter.old meter.new }
+        ensures bound { GaveWithinSteps self.old n result meter.old meter.new }
         ensures few { StaysWithinSteps self.old 0 0 meter.old meter.new }
     {
         self.steps_before = meter.count();
@@ -662,19 +450,6 @@ impl Core {
         }
     }
 
-    /// How many bytes are held: 128 for each connection, Lost ones too, with those of its buffers; 32 for each row, with
-    /// those of its address text; 48 for each key of the statistics; 128 for each forwarded call, with those that are
-    /// still to be sent; and those of the last reply over UDP.
-    pub fn held(&self) -> u64
-        ensures { result ≡ held self.now }
-    {
-        self.connections.held()
-            + self.books.registry.held()
-            + self.books.stats.held()
-            + self.books.forwards.held()
-            + self.reply_len
-    }
-
     /// How many steps the meter counted since the last call with `&mut self` began, one that was refused too. It is right
     /// while the count of the meter is below 2^128 - 1.
     pub fn steps(&self, meter: &Meter) -> u128
@@ -682,13 +457,6 @@ impl Core {
         ensures { TellsSteps self.now meter.now result }
     {
         meter.count().saturating_sub(self.steps_before)
-    }
-
-    /// The bound that `held` never passes, in bytes, by the limits alone.
-    pub fn bytes_bound(&self) -> u64
-        ensures { result ≡ bytes_bound self.now.setting.limits }
-    {
-        bytes_bound(&self.limits)
     }
 
     /// Tells the caller of a forwarded call how it ended; `message` is the datagram that ended it.
@@ -733,12 +501,11 @@ impl Core {
 }
 
 impl Core {
-    ghost use Rattle.std.specs.Prelude.{◌≡◌, ◌+◌};
+    ghost use Rattle.std.specs.Prelude.{◌≡◌};
     ghost use Rattle.rb_xdr.specs.Meter.{PaysAtMost};
-    ghost use Rattle.rb_forward.specs.Deadlines.{soonest_cost};
     ghost use Rattle.rb_model.specs.NextDeadlines.{next_deadline};
-    ghost use Rattle.rb_connections.specs.Costs.{slot_count};
     ghost use Rattle.rb_connections.specs.Slots.{Acts, Shows};
+    ghost use Rattle.rb_core.specs.CallCosts.{deadline_cost};
     ghost use Rattle.rb_core.specs.StandsFor.{StandsFor};
     ghost use Rattle.rb_proto.specs.Costs.{zero_cost};
     ghost use Rattle.rb_model.specs.Step.{zero_stats};
@@ -770,8 +537,7 @@ impl Core {
         requires { meter.old.tie ≡ self.old.tie }
         ensures begun { BeginsAt meter.old self.old self.new }
         ensures soonest { Shows StandsFor next_deadline self.old result }
-        ensures cost { PaysAtMost meter.old meter.new
-            (soonest_cost (slot_count self.old.connections) + soonest_cost self.old.books.forwards.cap) }
+        ensures cost { PaysAtMost meter.old meter.new (deadline_cost self.old) }
         ensures bound { StaysWithinSteps self.old 0 0 meter.old meter.new }
     {
         self.steps_before = meter.count();

@@ -8,7 +8,7 @@ ghost use Rattle.rb_core.specs.Memory.{KeepsMemory};
 ghost use Rattle.rb_core.specs.CallCosts.{PaysToGiveInto};
 ghost use Rattle.rb_core.specs.Standings.{StandsThen};
 
-use crate::events::Core;
+use crate::holding::Core;
 use rb_model::{CoreFault, Given};
 use rb_xdr::Meter;
 

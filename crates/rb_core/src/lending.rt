@@ -5,16 +5,15 @@ ghost use Rattle.rb_xdr.specs.Meter.{Pays, PaysAtMost};
 ghost use Rattle.rb_forward.specs.StandsFor.{longest_forwarded_call};
 ghost use Rattle.rb_forward.specs.Table.{plain_unsent, count_lent};
 ghost use Rattle.rb_model.specs.Connections.{longest_fragment};
-ghost use Rattle.rb_model.specs.Costs.{pending_cost};
 ghost use Rattle.rb_model.specs.Step.{pending, unsent_call};
 ghost use Rattle.rb_connections.specs.Costs.{look_cost};
 ghost use Rattle.rb_connections.specs.Giving.{pending_count};
 ghost use Rattle.rb_connections.specs.Slots.{Shows, Lends};
 ghost use Rattle.rb_core.specs.StandsFor.{StandsFor};
-ghost use Rattle.rb_core.specs.CallCosts.{lending_cost};
+ghost use Rattle.rb_core.specs.CallCosts.{lend_pending_cost, lending_cost};
 ghost use Rattle.rb_core.specs.Events.{BeginsAt, LendsFrom, StaysWithinSteps, length_lent};
 
-use crate::events::Core;
+use crate::holding::Core;
 use rb_forward::Unsent;
 use rb_model::CoreFault;
 use rb_xdr::Meter;
@@ -43,7 +42,7 @@ impl Core {
         requires { meter.old.tie ≡ self.now.tie }
         ensures lent { Lends StandsFor (λ s. pending s id) self.now result }
         ensures few { IfOk result (λ bytes. length bytes.now ≤ longest_fragment) }
-        ensures cost { PaysAtMost meter.old meter.new (look_cost self.now.connections + pending_cost) }
+        ensures cost { PaysAtMost meter.old meter.new (lend_pending_cost self.now) }
     {
         self.connections.pending(id, meter)
     }
@@ -67,7 +66,7 @@ impl Core {
         ensures* begun { sem 𝓛 (LendsFrom self.entry meter.old) }
         ensures lent { Lends StandsFor (λ s. pending s id) self.old result }
         ensures few { IfOk result (λ bytes. length bytes.now ≤ longest_fragment) }
-        ensures cost { PaysAtMost meter.old meter.new (look_cost self.old.connections + pending_cost) }
+        ensures cost { PaysAtMost meter.old meter.new (lend_pending_cost self.old) }
         ensures bound { StaysWithinSteps self.old 0 (length_lent result) meter.old meter.new }
     {
         self.begin(meter);

@@ -8,13 +8,14 @@ mod calls;
 mod events;
 mod eviction;
 mod giving;
+mod holding;
 mod laws;
 mod lending;
 mod looks;
 mod metered;
 mod seen;
 
-pub use events::{Core, MOST_KEYS};
+pub use holding::{Core, MOST_KEYS};
 pub use laws::{held_bytes_are_bounded, worked_held};
 pub use metered::Metered;
 pub use rb_address::{Peer, Who};

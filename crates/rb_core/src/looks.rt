@@ -4,9 +4,9 @@ ghost use Rattle.rb_xdr.specs.Meter.{PaysAtMost};
 ghost use Rattle.rb_proto.specs.Ledger.{rows_in};
 ghost use Rattle.rb_connections.specs.Slots.{Shows};
 ghost use Rattle.rb_core.specs.StandsFor.{StandsFor};
-ghost use Rattle.rb_core.specs.Looks.{rows_shown, StandsAmong, IsAtStart, row_behind, PassesOne, IsAtEnd, slot_count, slots_behind, PaysForRow};
+ghost use Rattle.rb_core.specs.Looks.{rows_shown, StandsAmong, IsAtStart, row_behind, PassesOne, IsAtEnd, slot_count, slots_behind, PaysForRow, PaysIfLent};
 
-use crate::events::Core;
+use crate::holding::Core;
 use rb_registry::{Cursor, Row};
 use rb_xdr::Meter;
 
@@ -67,8 +67,8 @@ impl Core {
         ensures stays { IfNone result (cursor.new ≡ cursor.old) }
         ensures rows { Shows StandsFor (λ s. rows_in s.ledger) self.now (rows_shown self.now) }
         ensures cost { PaysAtMost meter.old meter.new (2 * slots_behind self.now cursor.old + 1) }
-        ensures cost_row { IfSome result
-            (λ row. PaysForRow self.now cursor.old cursor.new meter.old meter.new) }
+        ensures cost_row { PaysIfLent
+            self.now cursor.old cursor.new result meter.old meter.new }
     {
         match self.next_row(*cursor, meter) {
             Some((next, row)) => {

@@ -1,5 +1,5 @@
 //! A core with the meter that counts its steps.
-use crate::events::Core;
+use crate::holding::Core;
 use crate::seen::Seen;
 use rb_address::{Peer, Who};
 use rb_forward::{FwdId, Unsent};
@@ -37,9 +37,8 @@ impl Metered {
     ghost use Rattle.rb_proto.specs.Costs.{zero_cost};
     ghost use Rattle.rb_proto.specs.Ledger.{rows_in};
     ghost use Rattle.rb_forward.specs.Costs.{sent_cost};
-    ghost use Rattle.rb_forward.specs.Deadlines.{soonest_cost};
     ghost use Rattle.rb_forward.specs.StandsFor.{longest_forwarded_call};
-    ghost use Rattle.rb_forward.specs.Table.{plain_unsent, count_lent};
+    ghost use Rattle.rb_forward.specs.Table.{plain_unsent};
     ghost use Rattle.rb_model.specs.State.{are_good, opening};
     ghost use Rattle.rb_model.specs.Calls.{longest_reply};
     ghost use Rattle.rb_model.specs.Connections.{longest_fragment};
@@ -48,23 +47,24 @@ impl Metered {
     ghost use Rattle.rb_model.specs.NextDeadlines.{next_deadline};
     ghost use Rattle.rb_model.specs.Exchanges.{count_given};
     ghost use Rattle.rb_model.specs.Gives.{given_in};
-    ghost use Rattle.rb_model.specs.Standings.{as_done, without_standing};
+    ghost use Rattle.rb_model.specs.Standings.{as_done};
     ghost use Rattle.rb_model.specs.Bounds.{bytes_bound};
-    ghost use Rattle.rb_model.specs.Costs.{close_cost, ended_cost, pending_cost};
-    ghost use Rattle.rb_connections.specs.Slots.{Acts, Shows, Lends};
+    ghost use Rattle.rb_model.specs.Costs.{close_cost, ended_cost};
+    ghost use Rattle.rb_connections.specs.Slots.{Shows, Lends};
     ghost use Rattle.rb_connections.specs.Giving.{pending_count};
-    ghost use Rattle.rb_connections.specs.Costs.{look_cost, slot_count as connection_count};
+    ghost use Rattle.rb_connections.specs.Costs.{look_cost};
     ghost use Rattle.rb_core.specs.StandsFor.{StandsFor};
     ghost use Rattle.rb_core.specs.HeldBytes.{held, NeverPasses};
-    ghost use Rattle.rb_core.specs.Memory.{KeepsMemory};
-    ghost use Rattle.rb_core.specs.Events.{count_shown, OnlyBegins, BeginsAt, GivesWithinSteps, TellsSteps, length_taken, length_lent, length_given, StaysWithinSteps, ExchangesWithinSteps, StaysCheapIfQuiet};
-    ghost use Rattle.rb_core.specs.Core.{ActsWithReply};
+    ghost use Rattle.rb_core.specs.Memory.{KeepsMemory, LacksMemory};
+    ghost use Rattle.rb_core.specs.Events.{count_shown, OnlyBegins, BeginsAt, GivesWithinSteps, TellsSteps, ExchangesWithinSteps, StaysCheapIfQuiet, TakesWithinSteps, GaveWithinSteps};
+    ghost use Rattle.rb_core.specs.Core.{TakesBytes};
     ghost use Rattle.rb_core.specs.Standings.{StandsThen, StandsBehind};
     ghost use Rattle.rb_core.specs.AtOnce.{CountsGiven, Exchanges};
     ghost use Rattle.rb_core.specs.Gives.{GivesInto};
-    ghost use Rattle.rb_core.specs.CallCosts.{making_cost, sizes_of, PaysForBytes, PaysForDatagram, PaysForExchange, PaysForPlainDatagram, PaysForPlainExchange, PaysForPlainRecord, PaysToGive, PaysToGiveInto, lending_cost};
+    ghost use Rattle.rb_core.specs.CallCosts.{deadline_cost, making_cost, sizes_of, PaysForBytes, PaysForPlainRecord, PaysToGive, PaysToGiveInto};
     ghost use Rattle.rb_core.specs.Looks.{rows_shown, StandsAmong, IsAtStart, row_behind, PassesOne, IsAtEnd, slot_count, slots_behind};
-    ghost use Rattle.rb_core.specs.Lending.{LendsWithin, LendsRow};
+    ghost use Rattle.rb_core.specs.Lending.{LendsReply, LendsPending, LendsUnsent, LendsRow};
+    ghost use Rattle.rb_core.specs.Metered.{Does, DoesWithReply, StepsAtMost, StepsWithin, StepsForDatagram, StepsForPlainDatagram, StepsForExchange, StepsForPlainExchange};
 
     /// Makes a core, as `Core::new`, and a meter for it that begins at 0. `BadLimits` where a limit is out of its range,
     /// or the rows have no room for the own ones and two more; else `NoMemory` where an allocation is refused.
@@ -79,8 +79,7 @@ impl Metered {
             (λ made. StandsFor made.core (opening limits listener first_xid now)) }
         ensures begun { IfOk result (λ made. made.core.steps_before ≡ count_shown made.meter) }
         ensures bad { IsErrOf result CoreFault.BadLimits ↔ IsTrue (not (are_good limits listener)) }
-        ensures memory { IfErr result
-            (λ fault. IsTrue (are_good limits listener) → fault ≡ CoreFault.NoMemory) }
+        ensures memory { IfErr result (LacksMemory limits listener) }
         ensures cost { IfOk result (λ made. made.meter.steps ≤ making_cost limits listener) }
     {
         Metered::counted_by(Meter::new(), alloc, limits, listener, first_xid, now)
@@ -99,8 +98,7 @@ impl Metered {
             (λ made. StandsFor made.core (opening limits listener first_xid now)) }
         ensures begun { IfOk result (λ made. made.core.steps_before ≡ count_shown made.meter) }
         ensures bad { IsErrOf result CoreFault.BadLimits ↔ IsTrue (not (are_good limits listener)) }
-        ensures memory { IfErr result
-            (λ fault. IsTrue (are_good limits listener) → fault ≡ CoreFault.NoMemory) }
+        ensures memory { IfErr result (LacksMemory limits listener) }
         ensures cost { IfOk result
             (λ made. PaysAtMost meter made.meter (making_cost limits listener)) }
     {
@@ -120,18 +118,14 @@ impl Metered {
     /// `udp_reply`. At `Forwarded` the call is forwarded, and its reply comes with `forward_reply` or `expire`. At
     /// `NoCall` and `Silent` there is none.
     pub fn datagram(&mut self, now: u64, who: Who, content: &[u8]) -> Outcome
-        ensures acts { ActsWithReply (λ s. datagram s now who content.now)
-            self.old.core self.new.core result }
+        ensures acts { DoesWithReply (λ s. datagram s now who content.now) self.old self.new result }
         ensures begun { self.new.core.steps_before ≡ count_shown self.old.meter }
         ensures memory { KeepsMemory self.old.core self.new.core }
         ensures held { NeverPasses self.new.core }
         ensures short { length self.new.core.reply ≤ longest_reply }
-        ensures cost { PaysForDatagram self.old.core self.new.core
-            who content.now self.old.meter self.new.meter }
-        ensures plain { PaysForPlainDatagram self.old.core self.new.core
-            who content.now self.old.meter self.new.meter }
-        ensures bound { StaysWithinSteps self.old.core
-            (length content.now) 0 self.old.meter self.new.meter }
+        ensures cost { StepsForDatagram who content.now self.old self.new }
+        ensures plain { StepsForPlainDatagram who content.now self.old self.new }
+        ensures bound { StepsWithin (length content.now) 0 self.old self.new }
     {
         self.core.datagram(now, who, content, &mut self.meter)
     }
@@ -139,8 +133,7 @@ impl Metered {
     /// The reply over UDP of the last `datagram`, `forward_reply` or `expire`, of at most 9,000 bytes; empty where it had
     /// none.
     pub fn udp_reply(&mut self) -> &[u8]
-        ensures* begun { sem 𝓛 (LendsWithin self.entry
-            (1 + length self.old.core.reply) (length result.now)) }
+        ensures* begun { sem 𝓛 (LendsReply self.entry result.now) }
         ensures held { result.now ≡ self.old.core.reply }
         ensures reply { Shows StandsFor (λ s. s.reply) self.old.core result.now }
     {
@@ -151,14 +144,13 @@ impl Metered {
     /// Opens a connection from `who` at the moment `now`, as `Core::open`, and returns its number. `Full` where there are
     /// as many connections as there may be, Lost ones among them, else `Spent` where no number is left.
     pub fn open(&mut self, now: u64, who: Who) -> Result<u64, CoreFault>
-        ensures acts { Acts StandsFor (λ s. open_connection s now who)
-            self.old.core self.new.core result }
+        ensures acts { Does (λ s. open_connection s now who) self.old self.new result }
         ensures refused { OnErr result (OnlyBegins self.old.core self.new.core) }
         ensures begun { self.new.core.steps_before ≡ count_shown self.old.meter }
         ensures memory { KeepsMemory self.old.core self.new.core }
         ensures held { NeverPasses self.new.core }
-        ensures cost { PaysAtMost self.old.meter self.new.meter 4 }
-        ensures bound { StaysWithinSteps self.old.core 0 0 self.old.meter self.new.meter }
+        ensures cost { StepsAtMost 4 self.old self.new }
+        ensures bound { StepsWithin 0 0 self.old self.new }
     {
         self.core.open(now, who, &mut self.meter)
     }
@@ -167,8 +159,7 @@ impl Metered {
     /// which is answered. Returns how many were taken and where the connection stands then. `Gone` where there is no such
     /// connection, or it is Lost.
     pub fn bytes(&mut self, now: u64, id: u64, piece: &[u8]) -> Result<(Taken, Standing), CoreFault>
-        ensures acts { Acts StandsFor (λ s. bytes s now id piece.now)
-            self.old.core self.new.core (without_standing result) }
+        ensures acts { TakesBytes now id piece.now self.old.core self.new.core result }
         ensures stands { IfOk result (λ done. StandsBehind id done.0.count self.new.core done.1) }
         ensures within { IfOk result (λ done. done.0.count ≤ length piece.now) }
         ensures refused { OnErr result (OnlyBegins self.old.core self.new.core) }
@@ -179,10 +170,9 @@ impl Metered {
             id piece.now self.old.meter self.new.meter }
         ensures plain { PaysForPlainRecord self.old.core
             id piece.now 0 self.old.meter self.new.meter }
-        ensures bound { StaysWithinSteps self.old.core
-            (length_taken (without_standing result)) 0 self.old.meter self.new.meter }
-        ensures quiet { StaysCheapIfQuiet self.old.core id piece.now
-            (without_standing result) self.old.meter self.new.meter }
+        ensures bound { TakesWithinSteps self.old.core result self.old.meter self.new.meter }
+        ensures quiet { StaysCheapIfQuiet
+            self.old.core id piece.now result self.old.meter self.new.meter }
     {
         self.core.bytes(now, id, piece, &mut self.meter)
     }
@@ -206,10 +196,8 @@ impl Metered {
         ensures begun { self.new.core.steps_before ≡ count_shown self.old.meter }
         ensures memory { KeepsMemory self.old.core self.new.core }
         ensures held { NeverPasses self.new.core }
-        ensures cost { PaysForExchange self.old.core self.new.core
-            id piece.now room.old result self.old.meter self.new.meter }
-        ensures plain { PaysForPlainExchange self.old.core
-            id piece.now room.old result self.old.meter self.new.meter }
+        ensures cost { StepsForExchange id piece.now room.old self.old self.new result }
+        ensures plain { StepsForPlainExchange id piece.now room.old self.old self.new result }
         ensures bound { ExchangesWithinSteps self.old.core
             result self.old.meter self.new.meter }
     {
@@ -220,9 +208,8 @@ impl Metered {
     pub fn pending_len(&mut self, id: u64) -> Result<usize, CoreFault>
         ensures len { Shows StandsFor (λ s. pending_count (pending s id)) self.old.core result }
         ensures stays { self.new.core ≡ self.old.core }
-        ensures cost { PaysAtMost self.old.meter self.new.meter
-            (look_cost self.old.core.connections + 1) }
-        ensures bound { StaysWithinSteps self.old.core 0 0 self.old.meter self.new.meter }
+        ensures cost { StepsAtMost (look_cost self.old.core.connections + 1) self.old self.new }
+        ensures bound { StepsWithin 0 0 self.old self.new }
     {
         self.core.pending_len(id, &mut self.meter)
     }
@@ -230,8 +217,7 @@ impl Metered {
     /// The rest of the current fragment of the reply that a connection owes (RFC 5531 section 11), at most 1,028 bytes;
     /// empty where it owes none. `Gone` where there is no such connection, or it is Lost.
     pub fn pending(&mut self, id: u64) -> Result<&[u8], CoreFault>
-        ensures* begun { sem 𝓛 (LendsWithin self.entry
-            (look_cost self.old.core.connections + pending_cost) (length_lent result)) }
+        ensures* begun { sem 𝓛 (LendsPending self.entry result) }
         ensures lent { Lends StandsFor (λ s. pending s id) self.old.core result }
         ensures few { IfOk result (λ bytes. length bytes.now ≤ longest_fragment) }
     {
@@ -242,17 +228,15 @@ impl Metered {
     /// Records that `n` pending bytes were given at the moment `now`, or all if fewer are pending, as `Core::gave`, and
     /// returns where the connection stands then. `Gone` where there is no such connection, or it is Lost.
     pub fn gave(&mut self, now: u64, id: u64, n: usize) -> Result<Standing, CoreFault>
-        ensures acts { Acts StandsFor (λ s. gave s now id n)
-            self.old.core self.new.core (as_done result) }
+        ensures acts { Does (λ s. gave s now id n) self.old self.new (as_done result) }
         ensures stands { IfOk result (StandsThen id self.new.core) }
         ensures refused { OnErr result (OnlyBegins self.old.core self.new.core) }
         ensures begun { self.new.core.steps_before ≡ count_shown self.old.meter }
         ensures memory { KeepsMemory self.old.core self.new.core }
         ensures held { NeverPasses self.new.core }
         ensures cost { PaysToGive self.old.core id self.old.meter self.new.meter }
-        ensures bound { StaysWithinSteps self.old.core 0
-            (length_given (as_done result) n) self.old.meter self.new.meter }
-        ensures few { StaysWithinSteps self.old.core 0 0 self.old.meter self.new.meter }
+        ensures bound { GaveWithinSteps self.old.core n result self.old.meter self.new.meter }
+        ensures few { StepsWithin 0 0 self.old self.new }
     {
         self.core.gave(now, id, n, &mut self.meter)
     }
@@ -279,15 +263,13 @@ impl Metered {
     /// Removes a connection that was closed, live or Lost, and drops its forwarded call. `Gone` where there is none of
     /// that number.
     pub fn closed(&mut self, id: u64) -> Result<(), CoreFault>
-        ensures acts { Acts StandsFor (λ s. close_connection s id)
-            self.old.core self.new.core result }
+        ensures acts { Does (λ s. close_connection s id) self.old self.new result }
         ensures refused { OnErr result (OnlyBegins self.old.core self.new.core) }
         ensures begun { self.new.core.steps_before ≡ count_shown self.old.meter }
         ensures memory { KeepsMemory self.old.core self.new.core }
         ensures held { NeverPasses self.new.core }
-        ensures cost { PaysAtMost self.old.meter self.new.meter
-            (close_cost (sizes_of self.old.core self.new.core)) }
-        ensures bound { StaysWithinSteps self.old.core 0 0 self.old.meter self.new.meter }
+        ensures cost { StepsAtMost (close_cost (sizes_of self.old.core self.new.core)) self.old self.new }
+        ensures bound { StepsWithin 0 0 self.old self.new }
     {
         self.core.closed(id, &mut self.meter)
     }
@@ -296,9 +278,8 @@ impl Metered {
     pub fn next_lost(&mut self) -> Option<u64>
         ensures begun { BeginsAt self.old.meter self.old.core self.new.core }
         ensures lost { Shows StandsFor next_lost self.old.core result }
-        ensures cost { PaysAtMost self.old.meter self.new.meter
-            (look_cost self.old.core.connections) }
-        ensures bound { StaysWithinSteps self.old.core 0 0 self.old.meter self.new.meter }
+        ensures cost { StepsAtMost (look_cost self.old.core.connections) self.old self.new }
+        ensures bound { StepsWithin 0 0 self.old self.new }
     {
         self.core.next_lost(&mut self.meter)
     }
@@ -306,8 +287,7 @@ impl Metered {
     /// The forwarded call to be sent next, as `Core::unsent`: the unsent one of least number, with at most 8,840 bytes.
     /// `None` where all are sent.
     pub fn unsent(&mut self) -> Option<Unsent<'_>>
-        ensures* begun { sem 𝓛 (LendsWithin self.entry
-            (lending_cost self.old.core (count_lent result)) (count_lent result)) }
+        ensures* begun { sem 𝓛 (LendsUnsent self.entry result) }
         ensures unsent { Shows StandsFor unsent_call self.old.core (plain_unsent result) }
         ensures few { IfSome result (λ lent. length lent.call.now ≤ longest_forwarded_call) }
     {
@@ -318,15 +298,13 @@ impl Metered {
     /// Records that the forwarded call of this number was sent: from now on a reply to it counts. `Gone` where there is
     /// no such call, or it was sent before.
     pub fn sent(&mut self, id: FwdId) -> Result<(), CoreFault>
-        ensures acts { Acts StandsFor (λ s. sent_call s id.number)
-            self.old.core self.new.core result }
+        ensures acts { Does (λ s. sent_call s id.number) self.old self.new result }
         ensures refused { OnErr result (OnlyBegins self.old.core self.new.core) }
         ensures begun { self.new.core.steps_before ≡ count_shown self.old.meter }
         ensures memory { KeepsMemory self.old.core self.new.core }
         ensures held { NeverPasses self.new.core }
-        ensures cost { PaysAtMost self.old.meter self.new.meter
-            (sent_cost self.old.core.books.forwards.cap) }
-        ensures bound { StaysWithinSteps self.old.core 0 0 self.old.meter self.new.meter }
+        ensures cost { StepsAtMost (sent_cost self.old.core.books.forwards.cap) self.old self.new }
+        ensures bound { StepsWithin 0 0 self.old self.new }
     {
         self.core.sent(id, &mut self.meter)
     }
@@ -335,16 +313,13 @@ impl Metered {
     /// `Core::forward_reply`. `None` where it is no reply to a call that was sent there and whose deadline is later than
     /// `now`; it is ignored.
     pub fn forward_reply(&mut self, now: u64, from: Peer, bytes: &[u8]) -> Option<Told>
-        ensures acts { Acts StandsFor (λ s. forward_reply s now from bytes.now)
-            self.old.core self.new.core result }
+        ensures acts { Does (λ s. forward_reply s now from bytes.now) self.old self.new result }
         ensures begun { self.new.core.steps_before ≡ count_shown self.old.meter }
         ensures memory { KeepsMemory self.old.core self.new.core }
         ensures held { NeverPasses self.new.core }
         ensures short { length self.new.core.reply ≤ longest_reply }
-        ensures cost { PaysAtMost self.old.meter self.new.meter
-            (ended_cost (sizes_of self.old.core self.new.core)) }
-        ensures bound { StaysWithinSteps self.old.core
-            (length bytes.now) 0 self.old.meter self.new.meter }
+        ensures cost { StepsAtMost (ended_cost (sizes_of self.old.core self.new.core)) self.old self.new }
+        ensures bound { StepsWithin (length bytes.now) 0 self.old self.new }
     {
         self.core.forward_reply(now, from, bytes, &mut self.meter)
     }
@@ -352,14 +327,13 @@ impl Metered {
     /// Does one thing that is due at the moment `now`, as `Core::expire`. `Nothing` where nothing is due. Call it until it
     /// answers `Nothing`.
     pub fn expire(&mut self, now: u64) -> Expired
-        ensures acts { Acts StandsFor (λ s. expire s now) self.old.core self.new.core result }
+        ensures acts { Does (λ s. expire s now) self.old self.new result }
         ensures begun { self.new.core.steps_before ≡ count_shown self.old.meter }
         ensures memory { KeepsMemory self.old.core self.new.core }
         ensures held { NeverPasses self.new.core }
         ensures short { length self.new.core.reply ≤ longest_reply }
-        ensures cost { PaysAtMost self.old.meter self.new.meter
-            (ended_cost (sizes_of self.old.core self.new.core)) }
-        ensures bound { StaysWithinSteps self.old.core 0 0 self.old.meter self.new.meter }
+        ensures cost { StepsAtMost (ended_cost (sizes_of self.old.core self.new.core)) self.old self.new }
+        ensures bound { StepsWithin 0 0 self.old self.new }
     {
         self.core.expire(now, &mut self.meter)
     }
@@ -369,9 +343,8 @@ impl Metered {
     pub fn next_deadline(&mut self) -> Option<u64>
         ensures begun { BeginsAt self.old.meter self.old.core self.new.core }
         ensures soonest { Shows StandsFor next_deadline self.old.core result }
-        ensures cost { PaysAtMost self.old.meter self.new.meter
-            (soonest_cost (connection_count self.old.core.connections) + soonest_cost self.old.core.books.forwards.cap) }
-        ensures bound { StaysWithinSteps self.old.core 0 0 self.old.meter self.new.meter }
+        ensures cost { StepsAtMost (deadline_cost self.old.core) self.old self.new }
+        ensures bound { StepsWithin 0 0 self.old self.new }
     {
         self.core.next_deadline(&mut self.meter)
     }
@@ -379,13 +352,12 @@ impl Metered {
     /// Statistics begin anew: nothing was called. Nothing else changes. It costs at most 2 steps for each of 192 keys,
     /// and 1.
     pub fn zero_stats(&mut self)
-        ensures acts { Acts StandsFor (λ s. (tt {0}, zero_stats s))
-            self.old.core self.new.core (tt {0}) }
+        ensures acts { Does (λ s. (tt {0}, zero_stats s)) self.old self.new (tt {0}) }
         ensures begun { self.new.core.steps_before ≡ count_shown self.old.meter }
         ensures memory { KeepsMemory self.old.core self.new.core }
         ensures held { NeverPasses self.new.core }
-        ensures cost { PaysAtMost self.old.meter self.new.meter zero_cost }
-        ensures bound { StaysWithinSteps self.old.core 0 0 self.old.meter self.new.meter }
+        ensures cost { StepsAtMost zero_cost self.old self.new }
+        ensures bound { StepsWithin 0 0 self.old self.new }
     {
         self.core.zero_stats(&mut self.meter);
     }
