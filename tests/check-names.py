@@ -1,12 +1,14 @@
 #!/usr/bin/env python3
 """Resolves the names that documents give: files, definitions, functions, rows, edits and tests.
 
-In docs/RULES.md a name has to stand where its column says, in the crate of its table or in the one that is named with
-it. In the other documents a name in backquotes that looks like one of this repository (it has an underscore, a `::`, a
-slash, a capital letter inside, or ends as a file) has to be one of it, or stand in tests/names-of-others. In
-docs/CLAIMS.md a name behind 'By CRATE:' has to stand in that crate. Code that a README shows of an example has to
-stand there. The picture of the crates has to be that of crates.txt (tests/draw-crates.py). Prints a line for each name
-that is nowhere; the last line is 'N passed, N failed', and the status 1 where one failed.
+In docs/RULES.md a name has to stand where its column says, once, in the crate of its table or in the one that is named
+with it. Each rule there has a tag of its own, which stands above its definitions and begins the comments of its rows, and a
+row, a test or an edit; a `-` in place of the definition, or of all of these, has a reason after it. Specs and rows have no
+other tags. The tables stand in the order of crates.txt. In the other documents a name in backquotes that looks like one of
+this repository (it has an underscore, a `::`, a slash, a capital letter inside, or ends as a file) has to be one of it, or
+stand in tests/names-of-others. In docs/CLAIMS.md a name behind 'By CRATE:' has to stand in that crate. Code that a README
+shows of an example has to stand there. The picture of the crates has to be that of crates.txt (tests/draw-crates.py).
+Prints a line for each name or tag that is nowhere; the last line is 'N passed, N failed', and the status 1 where one failed.
 """
 import re
 import subprocess
@@ -24,6 +26,10 @@ OTHERS = set((ROOT / "tests" / "names-of-others").read_text().split())
 
 TICKED = re.compile(r"`([^`\n]+)`(?: \(([^)`]*)\))?(?: of `?(rb_\w+|rpcinfo|rpcbind)`?)?")
 IDENTIFIER = r"[A-Za-z_][\w]*"
+# A rule's tag; the comment of tags above a definition; the tags that begin the comment of a row.
+TAG = r"[A-Z][A-Z0-9]*-[0-9]+"
+TAGS_ABOVE = re.compile(rf"\s*-- ({TAG}(?: {TAG})*)")
+TAGS_OF_ROW = re.compile(rf"# ({TAG}(?:, {TAG})*): ")
 
 
 class Crate:
@@ -32,11 +38,26 @@ class Crate:
     def __init__(self, name):
         folder = ROOT / "crates" / name
         self.definitions = {f.stem: spec_names(f.read_text()) for f in folder.glob("specs/**/*.antt")}
+        # Of each `File.name`, for each place where it stands, the tags above it; of each function and type its files.
+        self.tags, self.files = defaultdict(list), defaultdict(list)
+        for file in folder.glob("specs/**/*.antt"):
+            for definition, tags in tags_above(file.read_text()):
+                self.tags[f"{file.stem}.{definition or '(no definition)'}"].append(tags)
         self.functions = set()
         for file in chain(folder.glob("src/**/*.rt"), (ROOT / "tests" / "crates" / name).glob("*.rs")):
             self.functions |= source_names(file.read_text())
             self.functions |= {f"{file.stem}::{n}" for n in source_names(file.read_text())}
+            for function in function_names(file.read_text()):
+                self.files[function].append(file.name)
         self.edits = {f.stem for f in folder.glob("must-fail/*.edit")}
+
+
+def defined_in(line):
+    """The name that a line of specs defines, or `None`."""
+    if line.startswith(("use ", "pub use ")):
+        return None
+    found = re.match(r"(?:[a-z]+ )*pub (?:record |data )?([^\s:({]+)", line)
+    return found[1] if found else None
 
 
 def spec_names(text):
@@ -45,23 +66,48 @@ def spec_names(text):
     for line in text.splitlines():
         if line.startswith("use "):
             continue
-        if found := re.match(r"(?:[a-z]+ )*pub (?:record |data )?([^\s:({]+)", line):
-            names.add(found[1])
+        if name := defined_in(line):
+            names.add(name)
         names |= set(re.findall(r"^\s+(?:pub )?([^\W\d]\w*)(?: [^\W\d]\w*)* :(?!:)", line))
     return names
+
+
+def tags_above(text):
+    """The definitions of one file of specs, each with the tags above it; tags that stand above none have `None`."""
+    tags = []
+    for line in text.splitlines():
+        name = defined_in(line)
+        if name or tags:
+            yield name, tags
+        found = TAGS_ABOVE.fullmatch(line)
+        tags = found[1].split() if found else []
+    if tags:
+        yield None, tags
+
+
+def owner_of(line):
+    """The type of the impl, or the trait, that a line of source begins; `None` if it begins none."""
+    found = re.match(r"(?:pub(?:\([a-z]+\))? )?(?:unsafe )?(?:impl|trait)\b(.*)", line)
+    words = re.sub(r"^\s*<[^>]*>+", "", found[1]).split(" for ")[-1] if found else ""
+    found = re.match(rf"\s*(?:\w+::)*({IDENTIFIER})", words)
+    return found[1] if found else None
+
+
+def function_names(text):
+    """Functions and types of one source file: what an impl or a trait has as `Type::name`, and all else by its name."""
+    owner = None
+    for line in text.splitlines():
+        owner = owner_of(line) or (None if line.startswith("}") else owner)
+        found = re.match(rf"(\s*)(?:pub(?:\([a-z]+\))? )?(?:final |const )?(?:fn|struct|enum|trait|type) ({IDENTIFIER})", line)
+        if found:
+            yield f"{owner}::{found[2]}" if owner and found[1] else found[2]
 
 
 def source_names(text):
     """Names that one source file defines; what an impl or a trait has is also `Type::name`."""
     names, owner = set(), None
     for line in text.splitlines():
-        if found := re.match(rf"(?:pub(?:\([a-z]+\))? )?(?:unsafe )?(?:impl|trait)\b(.*)\{{?", line):
-            words = re.sub(r"^\s*<[^>]*>+", "", found[1])
-            words = words.split(" for ")[-1]
-            owner = re.match(rf"\s*(?:\w+::)*({IDENTIFIER})", words)
-            owner = owner[1] if owner else None
-        elif line.startswith("}"):
-            owner = None
+        owner = owner_of(line) or (None if line.startswith("}") else owner)
         if found := re.search(rf"\b(?:fn|struct|enum|trait|type|const|static|mod|macro_rules!) ({IDENTIFIER})", line):
             names.add(found[1])
             if owner:
@@ -76,7 +122,16 @@ def source_names(text):
     return names
 
 
+def tags_of_row(text):
+    """The tags that begin the first comment of a row."""
+    comment = re.search(r"^# [^(].*", text, re.MULTILINE)
+    found = TAGS_OF_ROW.match(comment[0]) if comment else None
+    return set(found[1].split(", ")) if found else set()
+
+
 CRATE = {name: Crate(name) for name in CRATES}
+ROW_FILES = [*ROOT.glob("tests/rows/*.events"), *ROOT.glob("tests/rows-rpcinfo/*.args")]
+TAGS_OF_ROWS = {f.stem: tags_of_row(f.read_text()) for f in ROW_FILES}
 ROWS = {f.stem for f in ROOT.glob("tests/rows*/*.*")} | {
     name for f in ROOT.glob("tests/*.sh") for name in re.findall(r"^(\w+)\(\) \{", f.read_text(), re.MULTILINE)} | {
     name for f in ROOT.glob("tests/hostile/*.py") for name in re.findall(r"^def (\w+)", f.read_text(), re.MULTILINE)}
@@ -100,41 +155,111 @@ def is_file(name):
                for f in FILES)
 
 
-def in_definitions(name, crates):
-    file, _, definition = name.partition(".")
-    return any(definition in CRATE[c].definitions.get(file, ()) for c in crates)
+class Rule:
+    """A line of a table of docs/RULES.md."""
+
+    def __init__(self, number, crate, cells):
+        self.number, self.crate, self.cells = number, crate, cells
+        self.tag = cells["tag"]
+
+    def names(self, column):
+        """The names of a cell: (name, file that is named with it, the crate in which it has to stand)."""
+        for found in TICKED.finditer(self.cells[column]):
+            yield found[1], found[2], found[3] or self.crate
+
+    def rows(self):
+        """The rows whose comments begin with the tag: those before `also`."""
+        before = re.split(r"\balso\b", self.cells["row or test"])[0]
+        return {name for name in re.findall(r"`([^`]+)`", before) if name in TAGS_OF_ROWS}
 
 
-def in_column(column, name, crates):
-    if column in ("definition", "stated in"):
-        return in_definitions(name, crates)
-    if column in ("function", "proved by"):
-        return any(name in CRATE[c].functions for c in crates)
+def rules_of(text):
+    """The rules of docs/RULES.md, in their order."""
+    crate, columns = None, None
+    for number, line in enumerate(text.splitlines(), 1):
+        cells = [cell.strip() for cell in line.strip().strip("|").split(" | ")]
+        if line.startswith("#"):
+            found = re.match(r"### (\w+)", line)
+            crate, columns = found[1] if found else crate, None
+        elif line.startswith("| tag |"):
+            columns = cells
+        elif line.startswith("| ") and columns:
+            yield Rule(number, crate, dict(zip(columns, cells)))
+
+
+def stands_once(column, name, file, crate):
+    """Whether a name of a rule stands where its column says, in the crate, and in the file if one is named with it."""
+    if crate not in CRATE:
+        return False
+    if column == "definition":
+        return len(CRATE[crate].tags.get(name, ())) == 1
+    if column == "function":
+        files = CRATE[crate].files.get(name, [])
+        return len([f for f in files if f == file or not (file or "").endswith(".rt")]) == 1
     if column == "edit":
-        return any(name in CRATE[c].edits for c in crates)
+        return name in CRATE[crate].edits
     return name in ROWS or name in TESTS or is_file(name)
 
 
 def check_rules(text):
-    """The tables of docs/RULES.md: (line, name, whether it resolves)."""
-    crates, columns = CRATES, None
-    for number, line in enumerate(text.splitlines(), 1):
-        if line.startswith("## "):
-            crates = re.findall(r"\b(?:rb_\w+|rpcbind|rpcinfo)\b", line) or CRATES
-            columns = None
-        elif line.startswith("| rule "):
-            columns = [c.strip() for c in line.strip("|").split("|")]
-        elif line.startswith("| ") and columns:
-            for column, cell in zip(columns[1:], line.strip("|").split(" | ")[1:]):
-                named = None
-                for found in TICKED.finditer(cell):
-                    name = found[1]
-                    if name in CRATES:
-                        named = name
-                        continue
-                    where = [c for c in (found[2] or "").split() if c in CRATES]
-                    owner = [found[3]] if found[3] else where or ([named] if named else crates)
-                    yield number, name, in_column(column.strip(), name, owner)
+    """The tables of docs/RULES.md: (line, name, whether it stands there once)."""
+    for rule in rules_of(text):
+        for column in ("definition", "function", "row or test", "edit"):
+            clauses = set(re.findall(r"\(`(\w+)`\)", rule.cells[column]))
+            for name, file, crate in rule.names(column):
+                if name in CRATES:
+                    continue
+                is_clause = name in clauses and name in ALL_FUNCTIONS
+                said = f"{name}` once in `{crate}" if column in ("definition", "function") else name
+                yield rule.number, said, is_clause or stands_once(column, name, file, crate)
+
+
+def is_shown(rule):
+    """Whether a rule has an edit, a row whose comment begins with its tag, a test, or a reason why it has none of them."""
+    row = rule.cells["row or test"]
+    if "`" in rule.cells["edit"]:
+        return True
+    if row.startswith("-"):
+        return bool(re.fullmatch(r"- \(.+\)", row))
+    return bool(rule.rows()) or any(name not in TAGS_OF_ROWS for name, _, _ in rule.names("row or test"))
+
+
+def check_tags(text):
+    """The tags of rules, definitions and rows: (where, what is wrong there or would be, whether it holds)."""
+    rules = list(rules_of(text))
+    defined, shown, seen = defaultdict(set), defaultdict(set), set()
+    for rule in rules:
+        where = f"docs/RULES.md:{rule.number}"
+        yield where, f"`{rule.tag}` is no tag", re.fullmatch(TAG, rule.tag)
+        yield where, f"`{rule.tag}` is the tag of another rule too", rule.tag not in seen
+        seen.add(rule.tag)
+        cell = rule.cells["definition"]
+        yield where, f"`{rule.tag}` has no definition, and no reason why", "`" in cell or re.match(r"- \(.+\)", cell)
+        for name, _, crate in rule.names("definition"):
+            if "." in name and crate in CRATE:
+                defined[crate, name].add(rule.tag)
+        for row in rule.rows():
+            shown[row].add(rule.tag)
+        yield where, f"`{rule.tag}` has no row that begins with it, no test and no edit", is_shown(rule)
+    for crate, name in sorted({(c, n) for c in CRATES for n in CRATE[c].tags} | set(defined)):
+        found = {tag for tags in CRATE[crate].tags.get(name, []) for tag in tags}
+        yield from compare_tags(f"{crate}: `{name}`", found, defined[crate, name])
+    for row, found in sorted(TAGS_OF_ROWS.items()):
+        yield from compare_tags(f"row `{row}`", found, shown[row])
+    words = {tag.split("-")[0] for tag in seen}
+    for document in DOCUMENTS:
+        for tag in set(re.findall(rf"\b{TAG}\b", document.read_text())):
+            yield document.relative_to(ROOT), f"there is no rule `{tag}`", tag in seen or tag.split("-")[0] not in words
+    tables = list(dict.fromkeys(rule.crate for rule in rules))
+    plan = re.findall(r"^(\w+):", (ROOT / "crates.txt").read_text(), re.MULTILINE)
+    yield "docs/RULES.md", "the tables are not in the order of crates.txt", tables == [c for c in plan if c in tables]
+
+
+def compare_tags(where, found, named):
+    """The tags that stand at a place, and those of the rules that name it."""
+    for tag in sorted(found | named):
+        yield where, f"`{tag}` stands there, but not in that line of RULES", tag in named
+        yield where, f"the comment there lacks `{tag}` of RULES", tag in found
 
 
 def looks_like_ours(name):
@@ -209,6 +334,12 @@ def main():
             failed += not holds
             if not holds:
                 print(f"{document.relative_to(ROOT)}:{line}: there is no `{name}`")
+        if document.name == "RULES.md":
+            for where, wrong, holds in check_tags(text):
+                passed += bool(holds)
+                failed += not holds
+                if not holds:
+                    print(f"{where}: {wrong}")
     for document, source in SHOWN.items():
         for shown in re.findall(r"^```rust\n(.*?)^```", document.read_text(), re.MULTILINE | re.DOTALL):
             holds = shown in source.read_text()

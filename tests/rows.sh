@@ -2,14 +2,15 @@
 # tests/rows-rpcinfo, and inputs that are made here since no file can hold them.
 #
 # A row of rpcbind is a dialogue, NAME.events: each event, and in the line below it what it gives, behind `#> `, with
-# the rule that the row shows in a comment. Where they differ from the word `replay`, from 0 and from nothing, NAME.args
-# has the program's words, one a line, NAME.status the exit status and NAME.stderr the standard error. A row that hands
-# lines behind `#> ` to `--check` has its standard output in NAME.expected. What is wanted is taken out of a row by
-# `sed`; `replay --check` must agree with it besides. A row with bytes of connections is run again with them cut into
-# pieces of 1, of 7 and of 1,000 bytes: all its outputs stay, with the sums of what the pieces took.
+# the rule that the row shows, and its tag, in a first comment. Where they differ from the word `replay`, from 0 and
+# from nothing, NAME.args has the program's words, one a line, NAME.status the exit status and NAME.stderr the standard
+# error. A row that hands lines behind `#> ` to `--check` has its standard output in NAME.expected. What is wanted is
+# taken out of a row by `sed`; `replay --check` must agree with it besides. A row with bytes of connections is run
+# again with them cut into pieces of 1, of 7 and of 1,000 bytes: all its outputs stay, with the sums of what the pieces
+# took.
 #
-# A row of rpcinfo is NAME.input, NAME.args, whose comment is the rule, and NAME.expected, with the same NAME.status and
-# NAME.stderr.
+# A row of rpcinfo is NAME.input, NAME.args, whose comment is the rule with its tag, and NAME.expected, with the same
+# NAME.status and NAME.stderr.
 
 # ---- rows of replay
 
