@@ -34,5 +34,4 @@ pub mod ReadTexts
 pub mod PlainStrings
 pub mod Utf8Texts
 pub mod WorkedJson
-pub mod LineTellers
 pub mod ShownMembers

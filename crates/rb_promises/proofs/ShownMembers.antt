@@ -1,42 +1,29 @@
 -- The objects that are shown have their members.
-use Rattle.std.proofs.Common.{◌≡◌, ◌<◌, ◌^◌, ◌/◌, ◌%◌, ◌≢◌, ℕ, suc, Bool, true, false, List, [], ◌∷◌, ◌++◌, Option, Some, None, map, refl, sym, ap, ◌∙◌, append_assoc, arith}
+use Rattle.std.proofs.Common.{◌≡◌, ◌≢◌, ℕ, Bool, true, false, List, [], ◌∷◌, ◌++◌, map, refl, sym, ap, ◌∙◌, append_assoc, arith}
 use Rattle.std.specs.Prelude.{ℤ, codes, ◌&&◌, not}
 use Rattle.std.specs.Fmt.{decimal, signed_decimal}
 use Rattle.std.specs.List.{AllByRecursion, list_all}
 use Rattle.std.specs.Str.{bytes_eq}
 use Rattle.std.proofs.lemmas.Bool.{and_parts}
 use Rattle.std.proofs.lemmas.Bool.Decides.{not_from_Decides}
-use Rattle.std.proofs.lemmas.List.Folds.{list_all-append}
 use Rattle.std.proofs.lemmas.Slice.Eq.{bytes_eq-Decides}
-use Rattle.rb_xdr.specs.Xdr.{AreBytes, IsNumber, IsContent}
-use Rattle.rb_xdr.specs.XdrLaws.{anything}
-use Rattle.rb_address.specs.declared.netid.Transport.{Transport}
-use Rattle.rb_address.specs.declared.netid.Transport.TheVariants.{Tcp, Udp}
-use Rattle.rb_address.specs.Netids.{transport_of_protocol}
+use Rattle.rb_xdr.specs.Xdr.{IsNumber, IsContent}
 use Rattle.rb_arguments.specs.declared.mapping.Mapping.{Mapping}
 use Rattle.rb_arguments.specs.declared.rpcb.Rpcb.{Rpcb}
 use Rattle.rb_arguments.specs.declared.entry.Entry.{Entry}
-use Rattle.rb_arguments.specs.Types.{IsMapping, mapping_spelling, read_mapping, IsRpcb, rpcb_spelling, read_rpcb, IsEntry, entry_spelling, read_entry}
-use Rattle.rb_arguments.proofs.Readings.{mapping_sound, rpcb_sound, entry_sound}
-use Rattle.rb_show.specs.declared.ask.Question.{Question}
-use Rattle.rb_show.specs.declared.ask.Question.TheVariants.{Rows, Short, OldRows, OldShort, Summary, OldSummary, Pmap, Entries, Stats, Port, Address, Null, Probe, Callit, Unset}
-use Rattle.rb_show.specs.declared.form.Form.TheVariants.{Json}
+use Rattle.rb_arguments.specs.Types.{IsMapping, IsRpcb, IsEntry}
 use Rattle.rb_show.specs.Json.{json_text}
-use Rattle.rb_show.specs.JsonLaws.{is_printable}
-use Rattle.rb_show.specs.JsonGrammar.{IsMark, IsValue, AreValues, IsObject, AreMembers, IsMember}
+use Rattle.rb_show.specs.JsonGrammar.{IsMark, IsValue, IsObject, AreMembers, IsMember}
 use Rattle.rb_show.specs.JsonGrammar.IsObject.{Members}
 use Rattle.rb_show.specs.JsonGrammar.AreMembers.{OneMember, MoreMembers}
 use Rattle.rb_show.specs.JsonGrammar.IsMember.{Member}
-use Rattle.rb_show.specs.Lines.{mapping_line, row_line, old_row_line, entry_line}
-use Rattle.rb_show.specs.ObjectLaws.{has_objects}
-use Rattle.rb_show.specs.Objects.{row_object, old_address, old_row_object, mapping_object, entry_object, info_items, four_items, numbers_object, look_ups_object, forwards_object}
-use Rattle.rb_show.specs.Replies.{tell_results}
-use Rattle.rb_show.specs.Statistics.{Four, Numbers, LookUps, Forwards}
-use Rattle.rb_show.specs.Texts.{prot_text, transport_text}
-use Rattle.rb_show.proofs.JsonGrammar.{Printed, number, signed_number, string, one_value, values_joined, array, printable_small}
+use Rattle.rb_show.specs.Objects.{row_object, mapping_object, entry_object, info_items, numbers_object, look_ups_object, forwards_object}
+use Rattle.rb_show.specs.Statistics.{Numbers, LookUps, Forwards}
+use Rattle.rb_show.proofs.JsonGrammar.{signed_number, array}
 use Rattle.rb_promises.specs.JsonMembers.{member_names, row_names, mapping_names, entry_names, numbers_names, look_ups_names, forwards_names, HasMembers, IsLineOf, EachHasItsMembers, AreDistinct, NoNameIsTwice}
 use Rattle.rb_promises.specs.JsonMembers.AreNamesOf.{OfRow, OfOldRow, OfMapping, OfEntry, OfNumbers, OfLookUps, OfForwards}
-use Rattle.rb_promises.proofs.LineTellers.{IsInt, IsFour, AreNumbers, AreLookUps, AreForwards, IsGood, StatisticsLines, tells_list, tells_statistics, each_line}
+use Rattle.rb_show.proofs.ObjectLines.{content, field, IsInt, AreNumbers, AreLookUps, AreForwards, info_are}
+use Rattle.rb_show.proofs.LineTellers.{ObjectsAre, each_line}
 use Rattle.rb_promises.proofs.PlainStrings.{is_plain, quoted, plain_string}
 use Rattle.rb_promises.proofs.ReadTexts.{names_in_one_way}
 
@@ -99,40 +86,14 @@ has_members pair more line is are e =
 
 -- ---- values
 
-by_recursion : (bytes : List ℕ) → AreBytes bytes → AllByRecursion (λ b. b < 256) bytes
-by_recursion [] are = tt
-by_recursion (b ∷ bytes) are = (are 0, by_recursion bytes (λ i. are (suc i)))
+text : (limit : ℕ) (bytes : List ℕ) → IsContent limit bytes → IsValue (json_text bytes)
+text limit bytes fits = (content limit bytes fits).is
 
-content : (limit : ℕ) (text : List ℕ) → IsContent limit text → IsValue (json_text text)
-content limit text fits = (string text (by_recursion text fits.2)).is
-
-field : (n : ℕ) → IsNumber n → IsValue (decimal n)
-field n small = (number n (omega (arith, small))).is
+count : (n : ℕ) → IsNumber n → IsValue (decimal n)
+count n small = (field n small).is
 
 int : (z : ℤ) → IsInt z → IsValue (signed_decimal z)
 int z fits = (signed_number z fits).is
-
-printed : (text : List ℕ) → list_all is_printable text ≡ true → IsValue (json_text text)
-printed text printable = (string text (printable_small text printable)).is
-
-digits_printed : (n : ℕ) → n < 2 ^ 64 → list_all is_printable (decimal n) ≡ true
-digits_printed n small = (number n small).printable
-
-transport_printed : (prot : ℕ) (transport : Option Transport) → IsNumber prot → list_all is_printable (transport_text prot transport) ≡ true
-transport_printed prot (Some Tcp) fits = refl
-transport_printed prot (Some Udp) fits = refl
-transport_printed prot None fits = digits_printed prot (omega (arith, fits))
-
-protocol : (prot : ℕ) → IsNumber prot → IsValue (json_text (prot_text prot))
-protocol prot fits = printed (prot_text prot) (transport_printed prot (transport_of_protocol prot) fits)
-
-address_printed : (high low : List ℕ) → list_all is_printable high ≡ true → list_all is_printable low ≡ true → list_all is_printable (codes "0.0.0.0." ++ (high ++ (codes "." ++ low))) ≡ true
-address_printed high low h l = rw (list_all-append is_printable high (46 ∷ low), h, l) refl
-
-address : (port : ℕ) → IsNumber port → IsValue (json_text (old_address port))
-address port fits =
-    printed (old_address port)
-    (address_printed (decimal (port / 256)) (decimal (port % 256)) (digits_printed (port / 256) (omega (arith, fits))) (digits_printed (port % 256) (omega arith)))
 
 -- ---- lists
 
@@ -152,17 +113,9 @@ row_has : (r : Rpcb) → IsRpcb r → HasMembers row_names (row_object r)
 row_has r fits =
     has_members (codes "program", decimal r.prog)
     ((codes "version", decimal r.vers) ∷ (codes "netid", json_text r.netid) ∷ (codes "address", json_text r.addr) ∷ (codes "owner", json_text r.owner) ∷ []) (row_object r)
-    (refl, field r.prog fits.prog)
-    ((refl, field r.vers fits.vers), ((refl, content 32 r.netid fits.netid), ((refl, content 128 r.addr fits.addr), ((refl, content 128 r.owner fits.owner), tt))))
+    (refl, count r.prog fits.prog)
+    ((refl, count r.vers fits.vers), ((refl, text 32 r.netid fits.netid), ((refl, text 128 r.addr fits.addr), ((refl, text 128 r.owner fits.owner), tt))))
     (row_flat (decimal r.prog) (decimal r.vers) (json_text r.netid) (json_text r.addr) (json_text r.owner))
-
-old_row_has : (m : Mapping) → IsMapping m → HasMembers row_names (old_row_object m)
-old_row_has m fits =
-    has_members (codes "program", decimal m.prog)
-    ((codes "version", decimal m.vers) ∷ (codes "netid", json_text (prot_text m.prot)) ∷ (codes "address", json_text (old_address m.port)) ∷ (codes "owner", json_text (codes "unknown")) ∷ []) (old_row_object m)
-    (refl, field m.prog fits.prog)
-    ((refl, field m.vers fits.vers), ((refl, protocol m.prot fits.prot), ((refl, address m.port fits.port), ((refl, printed (codes "unknown") refl), tt))))
-    (row_flat (decimal m.prog) (decimal m.vers) (json_text (prot_text m.prot)) (json_text (old_address m.port)) (json_text (codes "unknown")))
 
 mapping_text : (begin l1 program l2 version l3 prot l4 port end : List ℕ)
     → begin ++ ((l1 ++ (program ++ (l2 ++ version))) ++ (l3 ++ (prot ++ (l4 ++ (port ++ end)))))
@@ -172,8 +125,8 @@ mapping_text begin l1 program l2 version l3 prot l4 port end = simp append_assoc
 mapping_has : (m : Mapping) → IsMapping m → HasMembers mapping_names (mapping_object m)
 mapping_has m fits =
     has_members (codes "program", decimal m.prog) ((codes "version", decimal m.vers) ∷ (codes "protocol", decimal m.prot) ∷ (codes "port", decimal m.port) ∷ []) (mapping_object m)
-    (refl, field m.prog fits.prog)
-    ((refl, field m.vers fits.vers), ((refl, field m.prot fits.prot), ((refl, field m.port fits.port), tt)))
+    (refl, count m.prog fits.prog)
+    ((refl, count m.vers fits.vers), ((refl, count m.prot fits.prot), ((refl, count m.port fits.port), tt)))
     (mapping_text (codes "{") (codes "\"program\":") (decimal m.prog) (codes ",\"version\":") (decimal m.vers) (codes ",\"protocol\":") (decimal m.prot) (codes ",\"port\":") (decimal m.port) (codes "}\n"))
 
 entry_text : (begin l1 netid l2 place l3 semantics comma l4 family l5 proto end : List ℕ)
@@ -185,22 +138,11 @@ entry_has : (e : Entry) → IsEntry e → HasMembers entry_names (entry_object e
 entry_has e fits =
     has_members (codes "netid", json_text e.netid)
     ((codes "address", json_text e.maddr) ∷ (codes "semantics", decimal e.semantics) ∷ (codes "family", json_text e.protofmly) ∷ (codes "protocol", json_text e.proto) ∷ []) (entry_object e)
-    (refl, content 32 e.netid fits.netid)
-    ((refl, content 128 e.maddr fits.maddr), ((refl, field e.semantics fits.semantics), ((refl, content 32 e.protofmly fits.protofmly), ((refl, content 32 e.proto fits.proto), tt))))
+    (refl, text 32 e.netid fits.netid)
+    ((refl, text 128 e.maddr fits.maddr), ((refl, count e.semantics fits.semantics), ((refl, text 32 e.protofmly fits.protofmly), ((refl, text 32 e.proto fits.proto), tt))))
     (entry_text (codes "{") (codes "\"netid\":") (json_text e.netid) (codes ",\"address\":") (json_text e.maddr) (codes ",\"semantics\":") (decimal e.semantics) (codes ",") (codes "\"family\":") (json_text e.protofmly) (codes ",\"protocol\":") (json_text e.proto) (codes "}\n"))
 
 -- ---- statistics
-
-item : (z : ℤ) → IsInt z → Printed AreValues (signed_decimal z)
-item z fits = one_value (signed_number z fits)
-
-four_are : (f : Four) → IsFour f → Printed AreValues (four_items f)
-four_are f fits =
-    values_joined (item f.0.0 fits.0.0) (values_joined (item f.0.1 fits.0.1) (values_joined (item f.1.0 fits.1.0) (item f.1.1 fits.1.1)))
-
-info : (n : Numbers) → AreNumbers n → IsValue (91 ∷ (info_items n ++ 93 ∷ []))
-info n fits =
-    (array (values_joined (four_are n.0.0 fits.0.0) (values_joined (four_are n.0.1 fits.0.1) (values_joined (four_are n.1.0 fits.1.0) (item n.1.1.0 fits.1.1.0))))).is
 
 numbers_text : (l1 rpcbind l2 items bracket more : List ℕ)
     → l1 ++ (rpcbind ++ (l2 ++ (items ++ (bracket ++ more)))) ≡ l1 ++ (rpcbind ++ (l2 ++ ((items ++ bracket) ++ more)))
@@ -210,8 +152,8 @@ numbers_have : (vers : ℕ) (n : Numbers) → IsNumber vers → AreNumbers n →
 numbers_have vers n small fits =
     has_members (codes "rpcbind", decimal vers)
     ((codes "info", 91 ∷ (info_items n ++ 93 ∷ [])) ∷ (codes "set", signed_decimal n.1.1.1.0) ∷ (codes "unset", signed_decimal n.1.1.1.1) ∷ []) (numbers_object vers n)
-    (refl, field vers small)
-    ((refl, info n fits), ((refl, int n.1.1.1.0 fits.1.1.1.0), ((refl, int n.1.1.1.1 fits.1.1.1.1), tt)))
+    (refl, count vers small)
+    ((refl, (array (info_are n fits)).is), ((refl, int n.1.1.1.0 fits.1.1.1.0), ((refl, int n.1.1.1.1 fits.1.1.1.1), tt)))
     (numbers_text (codes "{\"rpcbind\":") (decimal vers) (codes ",\"info\":[") (info_items n) (codes "]") (codes ",\"set\":" ++ (signed_decimal n.1.1.1.0 ++ (codes ",\"unset\":" ++ (signed_decimal n.1.1.1.1 ++ codes "}\n")))))
 
 look_ups_text : (l1 rpcbind comma l2 program l3 version l4 netid l5 success l6 failure end : List ℕ)
@@ -223,8 +165,8 @@ look_ups_have : (vers : ℕ) (l : LookUps) → IsNumber vers → AreLookUps l �
 look_ups_have vers l small fits =
     has_members (codes "rpcbind", decimal vers)
     ((codes "program", decimal l.0.0) ∷ (codes "version", decimal l.0.1) ∷ (codes "netid", json_text l.1.1) ∷ (codes "success", signed_decimal l.1.0.0) ∷ (codes "failure", signed_decimal l.1.0.1) ∷ []) (look_ups_object vers l)
-    (refl, field vers small)
-    ((refl, field l.0.0 fits.0.0), ((refl, field l.0.1 fits.0.1), ((refl, content 32 l.1.1 fits.1.1), ((refl, int l.1.0.0 fits.1.0.0), ((refl, int l.1.0.1 fits.1.0.1), tt)))))
+    (refl, count vers small)
+    ((refl, count l.0.0 fits.0.0), ((refl, count l.0.1 fits.0.1), ((refl, text 32 l.1.1 fits.1.1), ((refl, int l.1.0.0 fits.1.0.0), ((refl, int l.1.0.1 fits.1.0.1), tt)))))
     (look_ups_text (codes "{\"rpcbind\":") (decimal vers) (codes ",") (codes "\"program\":") (decimal l.0.0) (codes ",\"version\":") (decimal l.0.1) (codes ",\"netid\":") (json_text l.1.1) (codes "\"success\":") (signed_decimal l.1.0.0) (codes ",\"failure\":") (signed_decimal l.1.0.1) (codes "}\n"))
 
 forwards_text : (l1 rpcbind comma l2 program l3 version l4 procedure l5 netid l6 success l7 failure l8 indirect end : List ℕ)
@@ -236,38 +178,27 @@ forwards_have : (vers : ℕ) (f : Forwards) → IsNumber vers → AreForwards f 
 forwards_have vers f small fits =
     has_members (codes "rpcbind", decimal vers)
     ((codes "program", decimal f.0.0) ∷ (codes "version", decimal f.0.1.0) ∷ (codes "procedure", decimal f.0.1.1) ∷ (codes "netid", json_text f.1.1) ∷ (codes "success", signed_decimal f.1.0.0) ∷ (codes "failure", signed_decimal f.1.0.1.0) ∷ (codes "indirect", signed_decimal f.1.0.1.1) ∷ []) (forwards_object vers f)
-    (refl, field vers small)
-    ((refl, field f.0.0 fits.0.0), ((refl, field f.0.1.0 fits.0.1.0), ((refl, field f.0.1.1 fits.0.1.1), ((refl, content 32 f.1.1 fits.1.1), ((refl, int f.1.0.0 fits.1.0.0), ((refl, int f.1.0.1.0 fits.1.0.1.0), ((refl, int f.1.0.1.1 fits.1.0.1.1), tt)))))))
+    (refl, count vers small)
+    ((refl, count f.0.0 fits.0.0), ((refl, count f.0.1.0 fits.0.1.0), ((refl, count f.0.1.1 fits.0.1.1), ((refl, text 32 f.1.1 fits.1.1), ((refl, int f.1.0.0 fits.1.0.0), ((refl, int f.1.0.1.0 fits.1.0.1.0), ((refl, int f.1.0.1.1 fits.1.0.1.1), tt)))))))
     (forwards_text (codes "{\"rpcbind\":") (decimal vers) (codes ",") (codes "\"program\":") (decimal f.0.0) (codes ",\"version\":") (decimal f.0.1.0) (codes ",\"procedure\":") (decimal f.0.1.1) (codes ",\"netid\":") (json_text f.1.1) (codes "\"success\":") (signed_decimal f.1.0.0) (codes ",\"failure\":") (signed_decimal f.1.0.1.0) (codes ",\"indirect\":") (signed_decimal f.1.0.1.1) (codes "}\n"))
 
 -- ---- replies
 
-statistics_lines : StatisticsLines (IsLineOf Stats)
-statistics_lines = record {
-  numbers = λ vers n small fits. (numbers_names, OfNumbers, numbers_have vers n small fits);
-  look_ups = λ vers l small fits. (look_ups_names, OfLookUps, look_ups_have vers l small fits);
-  forwards = λ vers f small fits. (forwards_names, OfForwards, forwards_have vers f small fits);
+objects_have : ObjectsAre IsLineOf
+objects_have = record {
+  row = λ r fits. (row_names, OfRow, row_has r fits);
+  old_row = λ r fits. (row_names, OfOldRow, row_has r fits);
+  mapping = λ m fits. (mapping_names, OfMapping, mapping_has m fits);
+  entry = λ prog vers e fits. (entry_names, OfEntry, entry_has e fits);
+  statistics = record {
+    numbers = λ vers n small fits. (numbers_names, OfNumbers, numbers_have vers n small fits);
+    look_ups = λ vers l small fits. (look_ups_names, OfLookUps, look_ups_have vers l small fits);
+    forwards = λ vers f small fits. (forwards_names, OfForwards, forwards_have vers f small fits);
+  };
 }
 
-results : (question : Question) → has_objects question ≡ true → IsGood (IsLineOf question) anything (tell_results Json question)
-results Rows has = tells_list (IsLineOf Rows) IsRpcb rpcb_spelling read_rpcb (row_line Json) rpcb_sound (λ r fits. (row_names, OfRow, row_has r fits))
-results OldRows has = tells_list (IsLineOf OldRows) IsMapping mapping_spelling read_mapping (old_row_line Json) mapping_sound (λ m fits. (row_names, OfOldRow, old_row_has m fits))
-results Pmap has = tells_list (IsLineOf Pmap) IsMapping mapping_spelling read_mapping (mapping_line Json) mapping_sound (λ m fits. (mapping_names, OfMapping, mapping_has m fits))
-results (Entries prog vers) has = tells_list (IsLineOf (Entries prog vers)) IsEntry entry_spelling read_entry (entry_line Json prog) entry_sound (λ e fits. (entry_names, OfEntry, entry_has e fits))
-results Stats has = tells_statistics (IsLineOf Stats) statistics_lines
-results Short has = absurd cc
-results OldShort has = absurd cc
-results Summary has = absurd cc
-results OldSummary has = absurd cc
-results (Port prot prog vers) has = absurd cc
-results (Address netid prog vers) has = absurd cc
-results (Null prog vers) has = absurd cc
-results (Probe prog vers) has = absurd cc
-results (Callit prog vers) has = absurd cc
-results (Unset netid prog vers) has = absurd cc
-
 pub each_has_its_members : EachHasItsMembers
-each_has_its_members ask xid bytes has are = each_line (IsLineOf ask.question) ask xid bytes (results ask.question has) are
+each_has_its_members = each_line IsLineOf objects_have
 
 -- ---- no name is twice
 

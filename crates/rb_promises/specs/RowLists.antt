@@ -19,8 +19,9 @@ use Rattle.rb_show.specs.declared.ask.Question.{Question}
 use Rattle.rb_show.specs.declared.ask.Question.TheVariants as questions
 use Rattle.rb_show.specs.declared.form.Form.{Form}
 use Rattle.rb_show.specs.declared.show.Shown.TheVariants as shown
-use Rattle.rb_show.specs.Summary.{ShownRow, row_of, old_row_of, items_summary}
-use Rattle.rb_show.specs.Lines.{is_json, heading, mapping_line, row_line, short_line, old_row_line, old_short_line, entry_line}
+use Rattle.rb_show.specs.Rows.{mapping_row}
+use Rattle.rb_show.specs.Summary.{as_shown, summary_text}
+use Rattle.rb_show.specs.Lines.{is_json, heading, mapping_line, row_line, short_line, entry_line}
 use Rattle.rb_show.specs.Replies.{tell_reply}
 
 -- the reply by this xid that lists rows, before these bytes
@@ -40,10 +41,10 @@ abbrev pub ShowsEach : {A : Type 0} → Form → Question → List ℕ → (A �
 ShowsEach form question bytes line items =
     ShowsLines form question bytes (length items) (map line items)
 
--- All of them are summed up.
-abbrev pub ShowsSum : {A : Type 0} → Form → Question → List ℕ → (A → ShownRow) → List A → Type 0
-ShowsSum form question bytes row items =
-    ShowsLines form question bytes (length items) (items_summary form row items ∷ [])
+-- All rows are summed up.
+abbrev pub ShowsSum : Form → Question → List ℕ → List Rpcb → Type 0
+ShowsSum form question bytes rows =
+    ShowsLines form question bytes (length rows) (summary_text form (map as_shown rows) ∷ [])
 
 -- ---- DUMP of versions 3 and 4
 
@@ -58,7 +59,7 @@ dump rows = list_bytes rows Rpcbs
 pub record ShowsDump (form : Form) (rows : List Row) : Type 0 where
   pub each : ShowsEach form questions.Rows (dump rows) (row_line form) (rpcbs rows)
   pub short : ShowsEach form questions.Short (dump rows) (short_line form) (rpcbs rows)
-  pub summary : ShowsSum form questions.Summary (dump rows) row_of (rpcbs rows)
+  pub summary : ShowsSum form questions.Summary (dump rows) (rpcbs rows)
 
 abbrev pub DumpsAreShown : Type 0
 DumpsAreShown =
@@ -74,6 +75,10 @@ mappings rows = map mapping_of (filter is_inet rows)
 abbrev pub pmap_dump : List Row → List ℕ
 pmap_dump rows = list_bytes rows Mappings
 
+-- the rows of version 3 that they stand for
+abbrev pub mapping_rows : List Row → List Rpcb
+mapping_rows rows = map mapping_row (mappings rows)
+
 -- the lines of the table of mappings: objects have no heading
 abbrev pub table_lines : Form → List Mapping → List (List ℕ)
 table_lines form all =
@@ -84,13 +89,14 @@ table_lines form all =
 abbrev pub ShowsTable : Form → List ℕ → List Mapping → Type 0
 ShowsTable form bytes all = ShowsLines form questions.Pmap bytes (length all) (table_lines form all)
 
--- Each of them has its line, long, short or in a table; or all of them are summed up.
+-- Each of these rows has its line, long or short; or all of them are summed up. In the table the
+-- mappings have theirs.
 pub record ShowsMappings (form : Form) (rows : List Row) : Type 0 where
-  pub each : ShowsEach form questions.OldRows (pmap_dump rows) (old_row_line form) (mappings rows)
+  pub each : ShowsEach form questions.OldRows (pmap_dump rows) (row_line form) (mapping_rows rows)
   pub short :
-      ShowsEach form questions.OldShort (pmap_dump rows) (old_short_line form) (mappings rows)
+      ShowsEach form questions.OldShort (pmap_dump rows) (short_line form) (mapping_rows rows)
+  pub summary : ShowsSum form questions.OldSummary (pmap_dump rows) (mapping_rows rows)
   pub table : ShowsTable form (pmap_dump rows) (mappings rows)
-  pub summary : ShowsSum form questions.OldSummary (pmap_dump rows) old_row_of (mappings rows)
 
 abbrev pub MappingsAreShown : Type 0
 MappingsAreShown =

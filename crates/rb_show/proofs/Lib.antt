@@ -6,6 +6,8 @@ pub mod Requests
 pub mod JsonTexts
 pub mod JsonGrammar
 pub mod ObjectLines
+pub mod LineTellers
 pub mod ObjectTellers
 pub mod WorkedTexts
 pub mod SummaryRows
+pub mod RowTexts

@@ -1,27 +1,21 @@
 -- The objects that are shown are lines of JSON.
-use Rattle.std.proofs.Common.{◌≡◌, ◌<◌, ◌^◌, ◌/◌, ◌%◌, ◌++◌, ◌∷◌, [], ℕ, suc, List, Option, Some, None, refl, append_assoc, arith, true}
+use Rattle.std.proofs.Common.{◌≡◌, ◌<◌, ◌++◌, ◌∷◌, [], ℕ, suc, List, refl, append_assoc, arith}
 use Rattle.std.specs.Prelude.{codes, FitsSigned, ℤ}
 use Rattle.std.specs.Fmt.{decimal, signed_decimal}
 use Rattle.std.specs.Int.{w32}
-use Rattle.std.specs.List.{AllByRecursion, list_all}
-use Rattle.std.proofs.lemmas.List.Folds.{list_all-append}
+use Rattle.std.specs.List.{AllByRecursion}
 use Rattle.rb_xdr.specs.Xdr.{AreBytes, IsNumber, IsContent}
 use Rattle.rb_xdr.specs.XdrLaws.{both}
-use Rattle.rb_address.specs.declared.netid.Transport.{Transport}
-use Rattle.rb_address.specs.declared.netid.Transport.TheVariants.{Tcp, Udp}
-use Rattle.rb_address.specs.Netids.{transport_of_protocol}
 use Rattle.rb_arguments.specs.declared.mapping.Mapping.{Mapping}
 use Rattle.rb_arguments.specs.declared.rpcb.Rpcb.{Rpcb}
 use Rattle.rb_arguments.specs.declared.entry.Entry.{Entry}
 use Rattle.rb_arguments.specs.Types.{IsMapping, IsRpcb, IsEntry}
 use Rattle.rb_show.specs.Json.{json_text}
-use Rattle.rb_show.specs.JsonLaws.{is_printable}
 use Rattle.rb_show.specs.JsonGrammar.{IsValue, AreValues, AreMembers}
-use Rattle.rb_show.specs.Objects.{program_members, place_members, row_members, row_object, old_address, old_row_object, mapping_object, family_members, entry_object, four_items, info_items, numbers_object, found_members, look_ups_object, procedure_members, outcomes_members, forwards_object}
+use Rattle.rb_show.specs.Objects.{program_members, place_members, row_members, row_object, mapping_object, family_members, entry_object, four_items, info_items, numbers_object, found_members, look_ups_object, procedure_members, outcomes_members, forwards_object}
 use Rattle.rb_show.specs.ObjectLaws.{IsObjectLine}
 use Rattle.rb_show.specs.Statistics.{Four, Numbers, LookUps, Forwards}
-use Rattle.rb_show.specs.Texts.{prot_text, transport_text}
-use Rattle.rb_show.proofs.JsonGrammar.{Printed, number, signed_number, string, member, members_joined, one_value, values_joined, array, object_line, printable_small}
+use Rattle.rb_show.proofs.JsonGrammar.{Printed, number, signed_number, string, member, members_joined, one_value, values_joined, array, object_line}
 
 -- ---- fields of a reply
 
@@ -29,10 +23,10 @@ by_recursion : (bytes : List ℕ) → AreBytes bytes → AllByRecursion (λ b. b
 by_recursion [] are = tt
 by_recursion (b ∷ bytes) are = (are 0, by_recursion bytes (λ i. are (suc i)))
 
-content : (limit : ℕ) (text : List ℕ) → IsContent limit text → Printed IsValue (json_text text)
+pub content : (limit : ℕ) (text : List ℕ) → IsContent limit text → Printed IsValue (json_text text)
 content limit text fits = string text (by_recursion text fits.2)
 
-field : (n : ℕ) → IsNumber n → Printed IsValue (decimal n)
+pub field : (n : ℕ) → IsNumber n → Printed IsValue (decimal n)
 field n small = number n (omega (arith, small))
 
 -- ---- lists
@@ -53,34 +47,6 @@ row_is r fits =
     object_line (row_members r.prog r.vers r.netid r.addr ++ (codes ",\"owner\":" ++ json_text r.owner)) (row_object r)
     (members_joined row (member (codes "owner") refl (content 128 r.owner fits.owner)))
     (row_text (row_members r.prog r.vers r.netid r.addr) (json_text r.owner))
-
--- decimal digits as a text, and the address that they make
-digits_text : (n : ℕ) → n < 2 ^ 64 → list_all is_printable (decimal n) ≡ true
-digits_text n small = (number n small).printable
-
-transport_printable : (prot : ℕ) (transport : Option Transport) → IsNumber prot → list_all is_printable (transport_text prot transport) ≡ true
-transport_printable prot (Some Tcp) fits = refl
-transport_printable prot (Some Udp) fits = refl
-transport_printable prot None fits = digits_text prot (omega (arith, fits))
-
-prot_string : (prot : ℕ) → IsNumber prot → Printed IsValue (json_text (prot_text prot))
-prot_string prot fits = string (prot_text prot) (printable_small (prot_text prot) (transport_printable prot (transport_of_protocol prot) fits))
-
-address_printable : (high low : List ℕ) → list_all is_printable high ≡ true → list_all is_printable low ≡ true → list_all is_printable (codes "0.0.0.0." ++ (high ++ (codes "." ++ low))) ≡ true
-address_printable high low h l = rw (list_all-append is_printable high (46 ∷ low), h, l) refl
-
-address_string : (port : ℕ) → IsNumber port → Printed IsValue (json_text (old_address port))
-address_string port fits =
-    string (old_address port) (printable_small (old_address port)
-    (address_printable (decimal (port / 256)) (decimal (port % 256)) (digits_text (port / 256) (omega (arith, fits))) (digits_text (port % 256) (omega arith))))
-
-pub old_row_is : (m : Mapping) → IsMapping m → IsObjectLine (old_row_object m)
-old_row_is m fits =
-    let row : Printed AreMembers (row_members m.prog m.vers (prot_text m.prot) (old_address m.port)) =
-    members_joined (program_are m.prog m.vers fits.prog fits.vers) (place_are (prot_text m.prot) (old_address m.port) (prot_string m.prot fits.prot) (address_string m.port fits.port)) in
-    object_line (row_members m.prog m.vers (prot_text m.prot) (old_address m.port) ++ codes ",\"owner\":\"unknown\"") (old_row_object m)
-    (members_joined row (member (codes "owner") refl (string (codes "unknown") (printable_small (codes "unknown") refl))))
-    (row_text (row_members m.prog m.vers (prot_text m.prot) (old_address m.port)) (codes "\"unknown\""))
 
 mapping_text : (program prot port : List ℕ) → codes "{" ++ (program ++ (codes ",\"protocol\":" ++ (prot ++ (codes ",\"port\":" ++ (port ++ codes "}\n"))))) ≡ codes "{" ++ ((program ++ (codes ",\"protocol\":" ++ (prot ++ (codes ",\"port\":" ++ port)))) ++ codes "}\n")
 mapping_text program prot port = simp append_assoc
@@ -128,7 +94,7 @@ four_are : (f : Four) → IsFour f → Printed AreValues (four_items f)
 four_are f fits =
     values_joined (int_value f.0.0 fits.0.0) (values_joined (int_value f.0.1 fits.0.1) (values_joined (int_value f.1.0 fits.1.0) (int_value f.1.1 fits.1.1)))
 
-info_are : (n : Numbers) → AreNumbers n → Printed AreValues (info_items n)
+pub info_are : (n : Numbers) → AreNumbers n → Printed AreValues (info_items n)
 info_are n fits =
     values_joined (four_are n.0.0 fits.0.0) (values_joined (four_are n.0.1 fits.0.1) (values_joined (four_are n.1.0 fits.1.0) (int_value n.1.1.0 fits.1.1.0)))
 

@@ -10,5 +10,6 @@ pub mod JsonLaws
 pub mod JsonGrammar
 pub mod ObjectLaws
 pub mod Objects
+pub mod Rows
 pub mod Statistics
 pub mod Summary

@@ -1,5 +1,5 @@
 -- The lines that are printed.
-use Rattle.std.specs.Prelude.{ℕ, ◌/◌, ◌%◌, Bool, true, false, if◌then◌else◌, List, [], ◌++◌, codes, Option, Some, None}
+use Rattle.std.specs.Prelude.{ℕ, Bool, true, false, if◌then◌else◌, List, [], ◌++◌, codes, Option, Some, None}
 use Rattle.std.specs.Fmt.{decimal}
 use Rattle.rb_names.specs.Services.{name_of}
 use Rattle.rb_arguments.specs.declared.mapping.Mapping.{Mapping}
@@ -8,7 +8,7 @@ use Rattle.rb_arguments.specs.declared.entry.Entry.{Entry}
 use Rattle.rb_show.specs.declared.form.Form.{Form}
 use Rattle.rb_show.specs.declared.form.Form.TheVariants.{Plain, Named, Json}
 use Rattle.rb_show.specs.Texts.{shown_text, at_left, at_right, prot_text}
-use Rattle.rb_show.specs.Objects.{row_object, old_row_object, mapping_object, entry_object}
+use Rattle.rb_show.specs.Objects.{row_object, mapping_object, entry_object}
 
 -- ---- lines
 
@@ -50,17 +50,6 @@ row_line form r = if is_json form then row_object r else row_columns form r
 
 abbrev pub short_line : Form → Rpcb → List ℕ
 short_line form r = decimal r.prog ++ (codes " " ++ (decimal r.vers ++ (codes " " ++ (shown_text r.netid ++ line_end form r.prog))))
-
--- A mapping of version 2 as the row of version 3 that it stands for: it has a port on every host, and no owner is known.
-abbrev pub old_row_columns : Form → Mapping → List ℕ
-old_row_columns form m = decimal m.prog ++ (codes " " ++ (decimal m.vers ++ (codes " " ++ (prot_text m.prot ++ (codes " 0.0.0.0."
-    ++ (decimal (m.port / 256) ++ (codes "." ++ (decimal (m.port % 256) ++ (codes " unknown" ++ line_end form m.prog)))))))))
-
-abbrev pub old_row_line : Form → Mapping → List ℕ
-old_row_line form m = if is_json form then old_row_object m else old_row_columns form m
-
-abbrev pub old_short_line : Form → Mapping → List ℕ
-old_short_line form m = decimal m.prog ++ (codes " " ++ (decimal m.vers ++ (codes " " ++ (prot_text m.prot ++ line_end form m.prog))))
 
 -- netid, address, semantics, family and protocol of an address of this program
 abbrev pub entry_columns : Form → ℕ → Entry → List ℕ

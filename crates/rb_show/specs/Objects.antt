@@ -1,12 +1,11 @@
 -- Objects of JSON (RFC 8259), one on each line.
-use Rattle.std.specs.Prelude.{ℕ, ◌/◌, ◌%◌, ℤ, List, ◌++◌, codes}
+use Rattle.std.specs.Prelude.{ℕ, ℤ, List, ◌++◌, codes}
 use Rattle.std.specs.Fmt.{decimal, signed_decimal}
 use Rattle.rb_arguments.specs.declared.mapping.Mapping.{Mapping}
 use Rattle.rb_arguments.specs.declared.rpcb.Rpcb.{Rpcb}
 use Rattle.rb_arguments.specs.declared.entry.Entry.{Entry}
 use Rattle.rb_show.specs.Statistics.{Four, Numbers, LookUps, Forwards}
 use Rattle.rb_show.specs.Json.{json_text}
-use Rattle.rb_show.specs.Texts.{prot_text}
 
 -- ---- lists
 
@@ -21,14 +20,6 @@ row_members prog vers netid addr = program_members prog vers ++ (codes "," ++ pl
 
 abbrev pub row_object : Rpcb → List ℕ
 row_object r = codes "{" ++ (row_members r.prog r.vers r.netid r.addr ++ (codes ",\"owner\":" ++ (json_text r.owner ++ codes "}\n")))
-
--- the address of a port on every host
-abbrev pub old_address : ℕ → List ℕ
-old_address port = codes "0.0.0.0." ++ (decimal (port / 256) ++ (codes "." ++ decimal (port % 256)))
-
--- a mapping of version 2 as the row of version 3 that it stands for
-abbrev pub old_row_object : Mapping → List ℕ
-old_row_object m = codes "{" ++ (row_members m.prog m.vers (prot_text m.prot) (old_address m.port) ++ codes ",\"owner\":\"unknown\"}\n")
 
 abbrev pub mapping_object : Mapping → List ℕ
 mapping_object m = codes "{" ++ (program_members m.prog m.vers ++ (codes ",\"protocol\":" ++ (decimal m.prot ++ (codes ",\"port\":" ++ (decimal m.port ++ codes "}\n")))))

@@ -7,6 +7,7 @@ use Rattle.rb_uaddr.specs.Uaddr.{parse}
 use Rattle.rb_rpc.specs.declared.reply.ReplyHead.{ReplyHead}
 use Rattle.rb_rpc.specs.declared.reply.ReplyStatus.{ReplyStatus}
 use Rattle.rb_rpc.specs.declared.reply.ReplyStatus.TheVariants as statuses
+use Rattle.rb_arguments.specs.declared.rpcb.Rpcb.{Rpcb}
 use Rattle.rb_arguments.specs.Types.{read_mapping, read_rpcb, read_entry}
 use Rattle.rb_rpc.specs.Records.{data_of}
 use Rattle.rb_ask.specs.declared.record.Record.{Record}
@@ -25,20 +26,26 @@ use Rattle.rb_show.specs.declared.form.Form.{Form}
 use Rattle.rb_show.specs.declared.show.Shown.{Shown}
 use Rattle.rb_show.specs.declared.show.Shown.TheVariants as shown
 use Rattle.rb_show.specs.Counts.{tell_statistics}
-use Rattle.rb_show.specs.Summary.{ShownRow, row_of, old_row_of, items_summary}
-use Rattle.rb_show.specs.Lines.{is_json, heading, mapping_line, row_line, short_line, old_row_line, old_short_line, entry_line}
+use Rattle.rb_show.specs.Summary.{items_summary}
+use Rattle.rb_show.specs.Rows.{itself, mapping_row}
+use Rattle.rb_show.specs.Lines.{is_json, heading, mapping_line, row_line, short_line, entry_line}
 
 -- the items of a list, a line each
 unfoldable pub tell_list : {A : Type 0} → Reader A → (A → List ℕ) → Teller Shown
 tell_list reads line = tell_items reads line greatest_list 0 >>= λ n. give (shown.Rows n)
 
+-- the rows that the items of a list stand for, a line each
+abbrev pub tell_rows : {A : Type 0} → Reader A → (A → Rpcb) → (Rpcb → List ℕ) → Teller Shown
+tell_rows reads stands_for line = tell_list reads (λ item. line (stands_for item))
+
 -- the summary of items
-abbrev pub tell_items_summary : {A : Type 0} → Form → (A → ShownRow) → List A → Teller (Unit {0})
-tell_items_summary form row items = tell (items_summary form row items ∷ [])
+abbrev pub tell_items_summary : {A : Type 0} → Form → (A → Rpcb) → List A → Teller (Unit {0})
+tell_items_summary form stands_for items = tell (items_summary form stands_for items ∷ [])
 
 -- the items of a list, summed up once all of them were read
-unfoldable pub tell_summary : {A : Type 0} → Form → Reader A → (A → ShownRow) → Teller Shown
-tell_summary form reads row = take_items reads greatest_list [] >>= λ items. tell_items_summary form row items >>= λ _. give (shown.Rows (length items))
+unfoldable pub tell_summary : {A : Type 0} → Form → Reader A → (A → Rpcb) → Teller Shown
+tell_summary form reads stands_for =
+    take_items reads greatest_list [] >>= λ items. tell_items_summary form stands_for items >>= λ _. give (shown.Rows (length items))
 
 -- the same behind its heading
 unfoldable pub tell_columns : Form → Teller Shown
@@ -79,12 +86,12 @@ unfoldable pub tell_unset : Teller Shown
 tell_unset = take_one read_bool >>= tell_removed
 
 abbrev pub tell_results : Form → Question → Teller Shown
-tell_results form Rows = tell_list read_rpcb (row_line form)
-tell_results form Short = tell_list read_rpcb (short_line form)
-tell_results form OldRows = tell_list read_mapping (old_row_line form)
-tell_results form OldShort = tell_list read_mapping (old_short_line form)
-tell_results form Summary = tell_summary form read_rpcb row_of
-tell_results form OldSummary = tell_summary form read_mapping old_row_of
+tell_results form Rows = tell_rows read_rpcb itself (row_line form)
+tell_results form Short = tell_rows read_rpcb itself (short_line form)
+tell_results form OldRows = tell_rows read_mapping mapping_row (row_line form)
+tell_results form OldShort = tell_rows read_mapping mapping_row (short_line form)
+tell_results form Summary = tell_summary form read_rpcb itself
+tell_results form OldSummary = tell_summary form read_mapping mapping_row
 tell_results form Pmap = tell_table form
 tell_results form (Entries prog vers) = tell_list read_entry (entry_line form prog)
 tell_results form Stats = tell_statistics form

@@ -6,12 +6,11 @@ use Rattle.std.specs.Borrow.{Bor}
 use Rattle.std.specs.Str.{bytes_eq}
 use Rattle.std.specs.String.{string_bytes}
 use Rattle.rb_names.specs.Services.{name_of}
-use Rattle.rb_arguments.specs.declared.mapping.Mapping.{Mapping}
 use Rattle.rb_arguments.specs.declared.rpcb.Rpcb.{Rpcb}
 use Rattle.rb_show.specs.declared.form.Form.{Form}
 use Rattle.rb_show.specs.declared.form.Form.TheVariants.{Plain, Named, Json}
 use Rattle.rb_show.specs.declared.summary.Row.{Row}
-use Rattle.rb_show.specs.Texts.{shown_text, prot_text, at_left, at_right}
+use Rattle.rb_show.specs.Texts.{shown_text, at_left, at_right}
 use Rattle.rb_show.specs.Lines.{name_text}
 
 -- ---- rows
@@ -29,12 +28,8 @@ shown_row row = record { prog = row.prog; vers = row.vers; netid = string_bytes 
 abbrev pub shown_rows : List Row → List ShownRow
 shown_rows rows = map shown_row rows
 
-abbrev pub row_of : Rpcb → ShownRow
-row_of r = record { prog = r.prog; vers = r.vers; netid = shown_text r.netid; owner = shown_text r.owner }
-
--- a mapping of version 2 as the row of version 3 that it stands for
-abbrev pub old_row_of : Mapping → ShownRow
-old_row_of m = record { prog = m.prog; vers = m.vers; netid = prot_text m.prot; owner = codes "unknown" }
+abbrev pub as_shown : Rpcb → ShownRow
+as_shown r = record { prog = r.prog; vers = r.vers; netid = shown_text r.netid; owner = shown_text r.owner }
 
 -- the texts behind their borrows
 abbrev pub borrowed_texts : List (Bor (List ℕ)) → List (List ℕ)
@@ -109,6 +104,6 @@ summary_line form rows prog = at_right 10 (decimal prog) ++ (codes "  " ++ (vers
 abbrev pub summary_text : Form → List ShownRow → List ℕ
 summary_text form rows = summary_heading ++ flat_map (summary_line form rows) (programs_of rows)
 
--- the same of items that are rows
-abbrev pub items_summary : {A : Type 0} → Form → (A → ShownRow) → List A → List ℕ
-items_summary form row items = summary_text form (map row items)
+-- the same of the rows that items stand for
+abbrev pub items_summary : {A : Type 0} → Form → (A → Rpcb) → List A → List ℕ
+items_summary form stands_for items = summary_text form (map (λ item. as_shown (stands_for item)) items)

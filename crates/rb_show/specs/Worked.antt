@@ -6,7 +6,7 @@ use Rattle.rb_ask.specs.declared.fault.InfoFault.TheVariants.{Unreadable, CutOff
 use Rattle.rb_ask.specs.Telling.Told.{Done, Stop}
 use Rattle.rb_show.specs.declared.ask.Ask.{Ask}
 use Rattle.rb_show.specs.declared.ask.Question.{Question}
-use Rattle.rb_show.specs.declared.ask.Question.TheVariants.{Pmap, Rows}
+use Rattle.rb_show.specs.declared.ask.Question.TheVariants.{Pmap, Rows, OldRows}
 use Rattle.rb_show.specs.declared.form.Form.TheVariants.{Plain, Json}
 use Rattle.rb_show.specs.declared.show.Shown.TheVariants as shown
 use Rattle.rb_show.specs.Asks.{marked_call}
@@ -31,6 +31,13 @@ one_row = words (1 ∷ 7 ∷ 3 ∷ []) ++ opaque (codes "udp") ++ opaque [] ++ o
 
 abbrev pub RowIsTold : Type 0
 RowIsTold = tell_reply (of_nobody Rows) Plain 1 CutOff (accepted 1 0 ++ one_row) ≡ Done (codes "7 3 udp - a?b\n" ∷ []) (shown.Rows 1) (9 ∷ [])
+
+-- a mapping is told as the row that it stands for
+abbrev pub one_mapping : List ℕ
+one_mapping = words (1 ∷ 7 ∷ 3 ∷ 17 ∷ 777 ∷ 0 ∷ [])
+
+abbrev pub MappingIsToldAsARow : Type 0
+MappingIsToldAsARow = tell_reply (of_nobody OldRows) Plain 1 CutOff (accepted 1 0 ++ one_mapping) ≡ Done (codes "7 3 udp 0.0.0.0.3.9 unknown\n" ∷ []) (shown.Rows 1) []
 
 abbrev pub RefusalIsTold : Type 0
 RefusalIsTold = tell_reply (of_nobody Pmap) Plain 1 CutOff (accepted 1 3) ≡ Stop [] (Refused (record { xid = 1; status = ProcUnavail }))

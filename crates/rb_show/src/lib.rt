@@ -7,6 +7,7 @@ mod json;
 mod laws;
 mod lines;
 mod objects;
+mod rows;
 mod show;
 mod statistics;
 mod summary;

@@ -1,10 +1,11 @@
 //! The lines of lists.
 ghost use Rattle.std.specs.Prelude.{◌≡◌, IfOk};
 ghost use Rattle.std.specs.String.{string_bytes};
-ghost use Rattle.rb_show.specs.Lines.{mapping_columns, mapping_line, row_columns, row_line, short_line, old_row_columns, old_row_line, old_short_line, entry_columns, entry_line};
+ghost use Rattle.rb_show.specs.Lines.{mapping_columns, mapping_line, row_columns, row_line, short_line, entry_columns, entry_line};
 
 use crate::form::{Form, line_end};
-use crate::objects::{entry_object, mapping_object, old_row_object, row_object};
+use crate::objects::{entry_object, mapping_object, row_object};
+use crate::rows::AsRow;
 use crate::texts::{at_left, prot_text, shown_text};
 use rb_arguments::{Entry, Mapping, Rpcb};
 use rb_ask::Style;
@@ -41,13 +42,13 @@ impl Style<Mapping> for Table<'_> {
 }
 
 /// The columns of a row.
-fn row_columns(alloc: Global, form: Form<'_>, item: &Rpcb) -> Result<String, AllocError>
-    ensures { IfOk result (λ columns. string_bytes columns ≡ row_columns form.entry item.now) }
+fn row_columns(alloc: Global, form: Form<'_>, row: &Rpcb) -> Result<String, AllocError>
+    ensures { IfOk result (λ columns. string_bytes columns ≡ row_columns form.entry row.now) }
 {
-    let netid = shown_text(alloc, item.netid.as_slice())?;
-    let addr = shown_text(alloc, item.addr.as_slice())?;
-    let owner = shown_text(alloc, item.owner.as_slice())?;
-    let (prog, vers) = (item.prog, item.vers);
+    let netid = shown_text(alloc, row.netid.as_slice())?;
+    let addr = shown_text(alloc, row.addr.as_slice())?;
+    let owner = shown_text(alloc, row.owner.as_slice())?;
+    let (prog, vers) = (row.prog, row.vers);
     let end = line_end(alloc, form, prog)?;
     format!(in alloc; "{prog} {vers} {netid} {addr} {owner}{end}")
 }
@@ -58,16 +59,27 @@ pub struct RowLines<'a> {
     pub form: Form<'a>,
 }
 
-impl Style<Rpcb> for RowLines<'_> {
-    ghost text = { λ style. row_line style.form };
+impl<T: AsRow> Style<T> for RowLines<'_> {
+    ghost text = { λ style item. row_line style.form (T.stands_for item) };
 
-    fn line(&self, alloc: Global, item: &Rpcb) -> Result<String, AllocError> {
+    fn line(&self, alloc: Global, item: &T) -> Result<String, AllocError> {
+        let row = item.as_row(alloc)?;
         if self.form.is_json() {
-            row_object(alloc, item)
+            row_object(alloc, &row)
         } else {
-            row_columns(alloc, self.form, item)
+            row_columns(alloc, self.form, &row)
         }
     }
+}
+
+/// The line of a row without its address and owner.
+fn short_line(alloc: Global, form: Form<'_>, row: &Rpcb) -> Result<String, AllocError>
+    ensures { IfOk result (λ line. string_bytes line ≡ short_line form.entry row.now) }
+{
+    let netid = shown_text(alloc, row.netid.as_slice())?;
+    let (prog, vers) = (row.prog, row.vers);
+    let end = line_end(alloc, form, prog)?;
+    format!(in alloc; "{prog} {vers} {netid}{end}")
 }
 
 /// Rows without them.
@@ -76,61 +88,12 @@ pub struct ShortLines<'a> {
     pub form: Form<'a>,
 }
 
-impl Style<Rpcb> for ShortLines<'_> {
-    ghost text = { λ style. short_line style.form };
+impl<T: AsRow> Style<T> for ShortLines<'_> {
+    ghost text = { λ style item. short_line style.form (T.stands_for item) };
 
-    fn line(&self, alloc: Global, item: &Rpcb) -> Result<String, AllocError> {
-        let netid = shown_text(alloc, item.netid.as_slice())?;
-        let (prog, vers) = (item.prog, item.vers);
-        let end = line_end(alloc, self.form, prog)?;
-        format!(in alloc; "{prog} {vers} {netid}{end}")
-    }
-}
-
-/// The columns of a mapping as the row that it stands for.
-fn old_row_columns(alloc: Global, form: Form<'_>, item: &Mapping) -> Result<String, AllocError>
-    ensures { IfOk result
-        (λ columns. string_bytes columns ≡ old_row_columns form.entry item.now) }
-{
-    let netid = prot_text(alloc, item.prot)?;
-    let (prog, vers) = (item.prog, item.vers);
-    let (high, low) = (item.port / 256, item.port % 256);
-    let end = line_end(alloc, form, prog)?;
-    format!(in alloc; "{prog} {vers} {netid} 0.0.0.0.{high}.{low} unknown{end}")
-}
-
-/// Mappings of version 2 as the rows of version 3 that they stand for.
-#[derive(Drop)]
-pub struct OldRowLines<'a> {
-    pub form: Form<'a>,
-}
-
-impl Style<Mapping> for OldRowLines<'_> {
-    ghost text = { λ style. old_row_line style.form };
-
-    fn line(&self, alloc: Global, item: &Mapping) -> Result<String, AllocError> {
-        if self.form.is_json() {
-            old_row_object(alloc, item)
-        } else {
-            old_row_columns(alloc, self.form, item)
-        }
-    }
-}
-
-/// The same without addresses and owners.
-#[derive(Drop)]
-pub struct OldShortLines<'a> {
-    pub form: Form<'a>,
-}
-
-impl Style<Mapping> for OldShortLines<'_> {
-    ghost text = { λ style. old_short_line style.form };
-
-    fn line(&self, alloc: Global, item: &Mapping) -> Result<String, AllocError> {
-        let netid = prot_text(alloc, item.prot)?;
-        let (prog, vers) = (item.prog, item.vers);
-        let end = line_end(alloc, self.form, prog)?;
-        format!(in alloc; "{prog} {vers} {netid}{end}")
+    fn line(&self, alloc: Global, item: &T) -> Result<String, AllocError> {
+        let row = item.as_row(alloc)?;
+        short_line(alloc, self.form, &row)
     }
 }
 

@@ -1,11 +1,10 @@
 //! Objects of JSON, one on each line.
 ghost use Rattle.std.specs.Prelude.{◌≡◌, IfOk};
 ghost use Rattle.std.specs.String.{string_bytes};
-ghost use Rattle.rb_show.specs.Objects.{program_members, place_members, row_members, row_object, old_address, old_row_object, mapping_object, family_members, entry_object, four_items, info_items, numbers_object, found_members, look_ups_object, procedure_members, outcomes_members, forwards_object};
+ghost use Rattle.rb_show.specs.Objects.{program_members, place_members, row_members, row_object, mapping_object, family_members, entry_object, four_items, info_items, numbers_object, found_members, look_ups_object, procedure_members, outcomes_members, forwards_object};
 
 use crate::json::json_text;
 use crate::statistics::{Forwards, Four, LookUps, Numbers};
-use crate::texts::prot_text;
 use rb_arguments::{Entry, Mapping, Rpcb};
 use std::alloc::{AllocError, Global};
 
@@ -39,32 +38,13 @@ fn row_members(
 }
 
 /// A row of version 3.
-pub(crate) fn row_object(alloc: Global, item: &Rpcb) -> Result<String, AllocError>
-    ensures { IfOk result (λ object. string_bytes object ≡ row_object item.now) }
+pub(crate) fn row_object(alloc: Global, row: &Rpcb) -> Result<String, AllocError>
+    ensures { IfOk result (λ object. string_bytes object ≡ row_object row.now) }
 {
-    let (netid, addr) = (item.netid.as_slice(), item.addr.as_slice());
-    let row = row_members(alloc, item.prog, item.vers, netid, addr)?;
-    let owner = json_text(alloc, item.owner.as_slice())?;
-    format!(in alloc; "{{{row},\"owner\":{owner}}}\n")
-}
-
-/// The address of a port on every host.
-fn old_address(alloc: Global, port: u32) -> Result<String, AllocError>
-    ensures { IfOk result (λ text. string_bytes text ≡ old_address port) }
-{
-    let (high, low) = (port / 256, port % 256);
-    format!(in alloc; "0.0.0.0.{high}.{low}")
-}
-
-/// A mapping of version 2 as the row of version 3 that it stands for.
-pub(crate) fn old_row_object(alloc: Global, item: &Mapping) -> Result<String, AllocError>
-    ensures { IfOk result (λ object. string_bytes object ≡ old_row_object item.now) }
-{
-    let netid = prot_text(alloc, item.prot)?;
-    let addr = old_address(alloc, item.port)?;
-    let (netid, addr) = (netid.as_bytes(), addr.as_bytes());
-    let row = row_members(alloc, item.prog, item.vers, netid, addr)?;
-    format!(in alloc; "{{{row},\"owner\":\"unknown\"}}\n")
+    let (netid, addr) = (row.netid.as_slice(), row.addr.as_slice());
+    let members = row_members(alloc, row.prog, row.vers, netid, addr)?;
+    let owner = json_text(alloc, row.owner.as_slice())?;
+    format!(in alloc; "{{{members},\"owner\":{owner}}}\n")
 }
 
 /// A mapping of version 2.

@@ -4,11 +4,12 @@ ghost use Rattle.std.specs.Fmt.{decimal};
 ghost use Rattle.std.specs.List.{list_any};
 ghost use Rattle.std.specs.Str.{bytes_eq};
 ghost use Rattle.std.specs.String.{string_bytes};
-ghost use Rattle.rb_show.specs.Summary.{ShownRow, shown_row, shown_rows, row_of, old_row_of, add_program, programs_of, AddsVersion, versions_of, borrowed_texts, AddsNetid, netids_of, owner_of, comma_list, service_text, versions_text, netids_text, summary_line, summary_text, items_summary};
+ghost use Rattle.rb_show.specs.Summary.{shown_row, shown_rows, as_shown, add_program, programs_of, AddsVersion, versions_of, borrowed_texts, AddsNetid, netids_of, owner_of, comma_list, service_text, versions_text, netids_text, summary_line, summary_text, items_summary};
 
 use crate::form::{Form, program_name};
-use crate::texts::{at_left, prot_text, shown_text};
-use rb_arguments::{Mapping, Rpcb};
+use crate::rows::AsRow;
+use crate::texts::{at_left, shown_text};
+use rb_arguments::Rpcb;
 use std::alloc::{AllocError, Global};
 
 const HEADING: &str = "   program version(s) netid(s)                         service     owner\n";
@@ -22,52 +23,29 @@ pub struct Row {
     owner: String,
 }
 
-/// What is a row of a summary.
-pub trait AsRow {
-    /// The row that it is.
-    ghost as_shown: { Self → ShownRow };
-
-    fn as_row(&self, alloc: Global) -> Result<Row, AllocError>
-        ensures { IfOk result (λ shown. shown_row shown ≡ as_shown self.now) };
+/// The row with its texts as they are shown.
+fn as_shown(alloc: Global, row: &Rpcb) -> Result<Row, AllocError>
+    ensures { IfOk result (λ shown. shown_row shown ≡ as_shown row.now) }
+{
+    let netid = shown_text(alloc, row.netid.as_slice())?;
+    let owner = shown_text(alloc, row.owner.as_slice())?;
+    Ok(Row {
+        prog: row.prog,
+        vers: row.vers,
+        netid,
+        owner,
+    })
 }
 
-impl AsRow for Rpcb {
-    ghost as_shown = { row_of };
-
-    fn as_row(&self, alloc: Global) -> Result<Row, AllocError> {
-        let netid = shown_text(alloc, self.netid.as_slice())?;
-        let owner = shown_text(alloc, self.owner.as_slice())?;
-        Ok(Row {
-            prog: self.prog,
-            vers: self.vers,
-            netid,
-            owner,
-        })
-    }
-}
-
-impl AsRow for Mapping {
-    ghost as_shown = { old_row_of };
-
-    fn as_row(&self, alloc: Global) -> Result<Row, AllocError> {
-        let netid = prot_text(alloc, self.prot)?;
-        let owner = String::from_str(alloc, "unknown")?;
-        Ok(Row {
-            prog: self.prog,
-            vers: self.vers,
-            netid,
-            owner,
-        })
-    }
-}
-
-/// The rows that items are.
+/// The rows that items stand for.
 fn rows_of<T: AsRow>(alloc: Global, items: &[T]) -> Result<Vec<Row>, AllocError>
-    ensures { IfOk result (λ rows. shown_rows rows.items ≡ map T.as_shown items.now) }
+    ensures { IfOk result
+        (λ rows. shown_rows rows.items ≡ map (λ item. as_shown (T.stands_for item)) items.now) }
 {
     let mut rows = Vec::new(alloc);
     for item in items {
-        rows.push(item.as_row(alloc)?)?;
+        let row = item.as_row(alloc)?;
+        rows.push(as_shown(alloc, &row)?)?;
     }
     Ok(rows)
 }
@@ -246,14 +224,14 @@ fn summary_text(alloc: Global, form: Form<'_>, rows: &[Row]) -> Result<String, A
     Ok(text)
 }
 
-/// The summary of items that are rows.
+/// The summary of the rows that items stand for.
 pub(crate) fn items_summary<T: AsRow>(
     alloc: Global,
     form: Form<'_>,
     items: &[T],
 ) -> Result<String, AllocError>
     ensures { IfOk result
-        (λ text. string_bytes text ≡ items_summary form.entry T.as_shown items.now) }
+        (λ text. string_bytes text ≡ items_summary form.entry T.stands_for items.now) }
 {
     let rows = rows_of(alloc, items)?;
     summary_text(alloc, form, &rows)

@@ -4,8 +4,9 @@ use Rattle.rb_xdr.specs.Xdr.{number, number_at, opaque, read_number, read_bool, 
 use Rattle.rb_xdr.specs.XdrTypes.{read_pair, read_optional}
 use Rattle.rb_rpc.specs.CallBytes.{call_bytes}
 use Rattle.rb_rpc.specs.Records.{fragment_header}
+use Rattle.rb_address.specs.Netids.{transport_of_protocol}
 use Rattle.rb_arguments.specs.Numbers.{is_void, is_procedure, number_of}
-use Rattle.rb_arguments.specs.Types.{read_rpcb}
+use Rattle.rb_arguments.specs.Types.{read_mapping, read_rpcb}
 use Rattle.rb_ask.specs.Telling.{◌>>=◌, take_one}
 use Rattle.rb_ask.specs.Heads.{take_accepted, take_head}
 use Rattle.rb_ask.specs.Lists.{tell_items}
@@ -21,6 +22,10 @@ returns-clause-call c = refl
 pub returns-clause-row : goal.returns-clause-row
 unfolding number number_at opaque read_number read_bool read_content read_opaque read_pair read_optional read_rpcb ◌>>=◌ take_one take_accepted take_head tell_items tell_list by_head tell_reply digits
 returns-clause-row c = refl
+
+pub returns-clause-mapping : goal.returns-clause-mapping
+unfolding number number_at read_number read_bool read_content read_opaque read_pair read_optional read_mapping transport_of_protocol ◌>>=◌ take_one take_accepted take_head tell_items tell_list by_head tell_reply digits
+returns-clause-mapping c = refl
 
 pub returns-clause-refusal : goal.returns-clause-refusal
 unfolding number number_at read_number read_content read_opaque read_pair ◌>>=◌ take_one take_accepted take_head by_head tell_reply

@@ -1,7 +1,6 @@
 -- What is so of each line of an item is so of each line that a reply tells.
 use Rattle.std.proofs.Common.{◌≡◌, ◌+◌, ℕ, zero, suc, Bool, true, false, List, [], ◌∷◌, ◌++◌, take, drop, Option, Some, None, Ok, Err, refl, sym, subst, arith, inl, inr}
-use Rattle.std.specs.Prelude.{ℤ, slice_range, nat_eq, FitsSigned}
-use Rattle.std.specs.Int.{w32}
+use Rattle.std.specs.Prelude.{ℤ, slice_range, nat_eq}
 use Rattle.std.specs.List.{AllByRecursion}
 use Rattle.std.proofs.lemmas.Bool.{cases_Bool}
 use Rattle.rb_xdr.specs.Xdr.{AreBytes, Reader, Reading, IsNumber, IsContent, number, boolean, opaque, read_number, read_bool, read_opaque}
@@ -15,6 +14,11 @@ use Rattle.rb_rpc.specs.Records.{is_last, fragment_end, data_in, data_of}
 use Rattle.rb_rpc.specs.ReadReplies.{Read, read_reply}
 use Rattle.rb_rpc.specs.declared.reply.ReplyHead.{ReplyHead}
 use Rattle.rb_rpc.proofs.Calls.{AreBytes-append}
+use Rattle.rb_arguments.specs.declared.mapping.Mapping.{Mapping}
+use Rattle.rb_arguments.specs.declared.rpcb.Rpcb.{Rpcb}
+use Rattle.rb_arguments.specs.declared.entry.Entry.{Entry}
+use Rattle.rb_arguments.specs.Types.{IsMapping, mapping_spelling, read_mapping, IsRpcb, rpcb_spelling, read_rpcb, IsEntry, entry_spelling, read_entry}
+use Rattle.rb_arguments.proofs.Readings.{mapping_sound, rpcb_sound, entry_sound}
 use Rattle.rb_ask.specs.declared.fault.InfoFault.{InfoFault}
 use Rattle.rb_ask.specs.declared.fault.InfoFault.TheVariants.{Unreadable, Refused, TooMany}
 use Rattle.rb_ask.specs.Data.{longest_record, front_of, end_of}
@@ -26,30 +30,21 @@ use Rattle.rb_ask.specs.Telling.{Told, Teller, add_lines, tell_on, ◌>>=◌, gi
 use Rattle.rb_ask.specs.Telling.Told.{Done, Stop}
 use Rattle.rb_show.specs.declared.ask.Ask.{Ask}
 use Rattle.rb_show.specs.declared.ask.Question.{Question}
+use Rattle.rb_show.specs.declared.ask.Question.TheVariants.{Rows, Short, OldRows, OldShort, Summary, OldSummary, Pmap, Entries, Stats, Port, Address, Null, Probe, Callit, Unset}
 use Rattle.rb_show.specs.declared.form.Form.TheVariants.{Json}
 use Rattle.rb_show.specs.declared.show.Shown.{Shown}
 use Rattle.rb_show.specs.declared.show.Shown.TheVariants as shown
 use Rattle.rb_show.specs.Counts.{total, addr_line, call_line, tell_lists, tell_version, tell_statistics}
 use Rattle.rb_show.specs.Statistics.{Four, Numbers, LookUps, Forwards, read_four, read_numbers, read_look_ups, read_forwards}
-use Rattle.rb_show.specs.Objects.{numbers_object, look_ups_object, forwards_object}
+use Rattle.rb_show.specs.Lines.{row_line, mapping_line, entry_line}
+use Rattle.rb_show.specs.Objects.{row_object, mapping_object, entry_object, numbers_object, look_ups_object, forwards_object}
+use Rattle.rb_show.specs.ObjectLaws.{has_objects}
+use Rattle.rb_show.specs.Rows.{mapping_row}
 use Rattle.rb_show.specs.Replies.{tell_list, tell_results, is_success, by_status, by_head, tell_reply, tell_bytes}
+use Rattle.rb_show.proofs.RowTexts.{mapping_row_fits}
+use Rattle.rb_show.proofs.ObjectLines.{IsInt, IsFour, AreNumbers, AreLookUps, AreForwards}
 
 -- ---- statistics of a version
-
-abbrev pub IsInt : ℤ → Type 0
-IsInt z = FitsSigned w32 z
-
-abbrev pub IsFour : Four → Type 0
-IsFour = both (both IsInt IsInt) (both IsInt IsInt)
-
-abbrev pub AreNumbers : Numbers → Type 0
-AreNumbers = both (both IsFour IsFour) (both IsFour (both IsInt (both IsInt IsInt)))
-
-abbrev pub AreLookUps : LookUps → Type 0
-AreLookUps = both (both IsNumber IsNumber) (both (both IsInt IsInt) (IsContent 32))
-
-abbrev pub AreForwards : Forwards → Type 0
-AreForwards = both (both IsNumber (both IsNumber IsNumber)) (both (both IsInt (both IsInt IsInt)) (IsContent 32))
 
 ints_sound : IsSound (both IsInt IsInt) (pair signed signed) (read_pair read_signed read_signed)
 ints_sound = pair_sound IsInt signed read_signed IsInt signed read_signed signed_sound signed_sound
@@ -112,12 +107,12 @@ module _ (IsLine : List ℕ → Type 0) where
   -- ---- tellers
 
   -- such lines, and then a value that is so with bytes behind it, or a stop
-  abbrev pub Good : {A : Type 0} → (A → Type 0) → Told A → Type 0
+  abbrev Good : {A : Type 0} → (A → Type 0) → Told A → Type 0
   Good Is (Done lines x left) = AllByRecursion IsLine lines × Is x × AreBytes left
   Good Is (Stop lines fault) = AllByRecursion IsLine lines
 
   -- of all bytes
-  abbrev pub IsGood : {A : Type 0} → (A → Type 0) → Teller A → Type 0
+  abbrev IsGood : {A : Type 0} → (A → Type 0) → Teller A → Type 0
   IsGood Is teller = (end : InfoFault) (content : List ℕ) → AreBytes content → Good Is (teller end content)
 
   all_lines : (a b : List (List ℕ)) → AllByRecursion IsLine a → AllByRecursion IsLine b → AllByRecursion IsLine (a ++ b)
@@ -181,7 +176,7 @@ module _ (IsLine : List ℕ → Type 0) where
       (takes (if_there Is) (optional spelling) (read_optional reads) (optional_sound Is spelling reads sound))
       (λ item is. tells_item Is line shown (tell_items reads line k (shown + 1)) item lines more is)
 
-  pub tells_list : {A : Type 0} (Is : A → Type 0) (spelling : A → List ℕ) (reads : Reader A) (line : A → List ℕ) → IsSound Is spelling reads → ((x : A) → Is x → IsLine (line x))
+  tells_list : {A : Type 0} (Is : A → Type 0) (spelling : A → List ℕ) (reads : Reader A) (line : A → List ℕ) → IsSound Is spelling reads → ((x : A) → Is x → IsLine (line x))
       → IsGood anything (tell_list reads line)
   unfolding tell_list
   tells_list Is spelling reads line sound lines =
@@ -210,7 +205,7 @@ module _ (IsLine : List ℕ → Type 0) where
       onward AreNumbers anything (take_one read_numbers) _ (takes AreNumbers _ read_numbers numbers_sound)
       (λ n is. onward anything anything (tell (numbers_object vers n ∷ [])) _ (tells_line (numbers_object vers n) (lines.numbers vers n small is)) (λ _ _. tells_lists lines vers small))
 
-  pub tells_statistics : StatisticsLines → IsGood anything (tell_statistics Json)
+  tells_statistics : StatisticsLines → IsGood anything (tell_statistics Json)
   unfolding tell_statistics
   tells_statistics lines =
       onward anything anything (tell_version Json 2) _ (tells_version lines 2 (omega arith))
@@ -251,5 +246,36 @@ module _ (IsLine : List ℕ → Type 0) where
   good_lines Is (Stop lines fault) good = good
 
   -- where the results of a question tell such lines, whole replies do
-  pub each_line : (ask : Ask) (xid : ℕ) (bytes : List ℕ) → IsGood anything (tell_results Json ask.question) → AreBytes bytes → AllByRecursion IsLine (told_lines (tell_bytes ask Json xid bytes))
-  each_line ask xid bytes results are = good_lines anything (tell_bytes ask Json xid bytes) (tells_reply ask xid results (end_of bytes) (data_of (front_of bytes)) (front_bytes bytes are))
+  reply_lines : (ask : Ask) (xid : ℕ) (bytes : List ℕ) → IsGood anything (tell_results Json ask.question) → AreBytes bytes → AllByRecursion IsLine (told_lines (tell_bytes ask Json xid bytes))
+  reply_lines ask xid bytes results are = good_lines anything (tell_bytes ask Json xid bytes) (tells_reply ask xid results (end_of bytes) (data_of (front_of bytes)) (front_bytes bytes are))
+
+-- ---- objects
+
+-- what is so of the objects of each question's reply
+pub record ObjectsAre (IsLine : Question → List ℕ → Type 0) : Type 0 where
+  pub row : (r : Rpcb) → IsRpcb r → IsLine Rows (row_object r)
+  pub old_row : (r : Rpcb) → IsRpcb r → IsLine OldRows (row_object r)
+  pub mapping : (m : Mapping) → IsMapping m → IsLine Pmap (mapping_object m)
+  pub entry : (prog vers : ℕ) (e : Entry) → IsEntry e → IsLine (Entries prog vers) (entry_object e)
+  pub statistics : StatisticsLines (IsLine Stats)
+
+module _ (IsLine : Question → List ℕ → Type 0) (objects : ObjectsAre IsLine) where
+  results : (question : Question) → has_objects question ≡ true → IsGood (IsLine question) anything (tell_results Json question)
+  results Rows has = tells_list (IsLine Rows) IsRpcb rpcb_spelling read_rpcb (row_line Json) rpcb_sound objects.row
+  results OldRows has = tells_list (IsLine OldRows) IsMapping mapping_spelling read_mapping (λ m. row_line Json (mapping_row m)) mapping_sound (λ m fits. objects.old_row (mapping_row m) (mapping_row_fits m fits))
+  results Pmap has = tells_list (IsLine Pmap) IsMapping mapping_spelling read_mapping (mapping_line Json) mapping_sound objects.mapping
+  results (Entries prog vers) has = tells_list (IsLine (Entries prog vers)) IsEntry entry_spelling read_entry (entry_line Json prog) entry_sound (objects.entry prog vers)
+  results Stats has = tells_statistics (IsLine Stats) objects.statistics
+  results Short has = absurd cc
+  results OldShort has = absurd cc
+  results Summary has = absurd cc
+  results OldSummary has = absurd cc
+  results (Port prot prog vers) has = absurd cc
+  results (Address netid prog vers) has = absurd cc
+  results (Null prog vers) has = absurd cc
+  results (Probe prog vers) has = absurd cc
+  results (Callit prog vers) has = absurd cc
+  results (Unset netid prog vers) has = absurd cc
+
+  pub each_line : (ask : Ask) (xid : ℕ) (bytes : List ℕ) → has_objects ask.question ≡ true → AreBytes bytes → AllByRecursion (IsLine ask.question) (told_lines (tell_bytes ask Json xid bytes))
+  each_line ask xid bytes has are = reply_lines (IsLine ask.question) ask xid bytes (results ask.question has) are
