@@ -3,16 +3,15 @@ use Rattle.std.specs.Prelude.{IfSome}
 use Rattle.std.proofs.Common.{◌≡◌, ◌≤◌, ◌<◌, ℕ, zero, suc, ◌+◌, ◌-◌, Bool, true, false, List, [], ◌∷◌, Option, Some, None, refl, ap, sym, ◌∙◌, arith, add-one}
 use Rattle.std.proofs.lemmas.Bool.{lt-ltb, le-ltb, lt-leb}
 use Rattle.rb_course.specs.declared.course.Course.{Course}
-use Rattle.rb_course.specs.declared.course.Way.TheVariants as ways
 use Rattle.rb_course.specs.declared.course.Place.{Place}
 use Rattle.rb_course.specs.declared.course.Aim.TheVariants as aims
 use Rattle.rb_course.specs.declared.course.Answer.{Answer}
 use Rattle.rb_course.specs.declared.course.Answer.TheVariants as answers
 use Rattle.rb_course.specs.declared.course.Stage.TheVariants.{Call}
-use Rattle.rb_course.specs.Next.{next_stage, step_to_versions, most_versions}
+use Rattle.rb_course.specs.Next.{place_of, next_stage, step_to_versions, most_versions}
 use Rattle.rb_course.specs.Laws.{IsOfCall, follow, versions_called_from, upwards, EachVersionIsCalled}
 
-module _ (course : Course) (place : Place) (answer : ℕ → Option Answer) (known : course.way ≡ ways.Known place) (of_call : (vers : ℕ) → IfSome (answer vers) IsOfCall) where
+module _ (course : Course) (place : Place) (answer : ℕ → Option Answer) (known : place_of course.way ≡ Some place) (of_call : (vers : ℕ) → IfSome (answer vers) IsOfCall) where
   -- whatever is answered, the version behind it follows
   follows : (vers high : ℕ) (lacks : Bool) (a : Option Answer) → IfSome a IsOfCall → (after : Bool) × ((follow course (Call (aims.Each vers high lacks) place) a).stage ≡ next_stage course vers high after)
   follows vers high lacks (Some answers.Ready) of = (lacks, refl)

@@ -1,7 +1,6 @@
 -- Of the versions that a program has, each is called once, from the least to the greatest, whatever is answered, or not.
 use Rattle.std.specs.Prelude.{◌≡◌, ◌<◌, ℕ, zero, suc, ◌+◌, ⊤, List, [], ◌∷◌, Option, Some, None, IfSome, unwrap_or}
 use Rattle.rb_course.specs.declared.course.Course.{Course}
-use Rattle.rb_course.specs.declared.course.Way.TheVariants as ways
 use Rattle.rb_course.specs.declared.course.Place.{Place}
 use Rattle.rb_course.specs.declared.course.Aim.TheVariants as aims
 use Rattle.rb_course.specs.declared.course.Answer.{Answer}
@@ -9,7 +8,7 @@ use Rattle.rb_course.specs.declared.course.Answer.TheVariants as answers
 use Rattle.rb_course.specs.declared.course.Stage.{Stage}
 use Rattle.rb_course.specs.declared.course.Stage.TheVariants.{Call}
 use Rattle.rb_course.specs.declared.course.Step.{Step}
-use Rattle.rb_course.specs.Next.{most_versions, step_to, step_to_versions, next, unanswered}
+use Rattle.rb_course.specs.Next.{most_versions, place_of, step_to, step_to_versions, next, unanswered}
 
 -- what a call of procedure 0 is answered with
 abbrev pub IsOfCall : Answer → Type 0
@@ -36,5 +35,5 @@ upwards (suc n) least = least ∷ upwards n (least + 1)
 
 abbrev pub EachVersionIsCalled : Type 0
 EachVersionIsCalled =
-    (course : Course) (place : Place) (low more : ℕ) (answer : ℕ → Option Answer) → course.way ≡ ways.Known place → more < most_versions → ((vers : ℕ) → IfSome (answer vers) IsOfCall)
+    (course : Course) (place : Place) (low more : ℕ) (answer : ℕ → Option Answer) → place_of course.way ≡ Some place → more < most_versions → ((vers : ℕ) → IfSome (answer vers) IsOfCall)
     → versions_called_from most_versions course answer (step_to_versions course low (low + more)).stage ≡ upwards (more + 1) low

@@ -16,8 +16,8 @@ use Rattle.rb_show.specs.declared.ask.Ask.{Ask}
 use Rattle.rb_show.specs.declared.ask.Question.{Question}
 use Rattle.rb_show.specs.declared.ask.Question.TheVariants as questions
 use Rattle.rb_course.specs.declared.course.Course.{Course}
-use Rattle.rb_course.specs.declared.course.Way.{Way}
-use Rattle.rb_course.specs.declared.course.Way.TheVariants as ways
+use Rattle.rb_words.specs.declared.plan.Way.{Way}
+use Rattle.rb_words.specs.declared.plan.Way.TheVariants as ways
 use Rattle.rb_course.specs.declared.course.Place.{Place}
 use Rattle.rb_course.specs.declared.course.Place.TheVariants as places
 use Rattle.rb_course.specs.declared.course.Aim.{Aim}
@@ -48,11 +48,19 @@ call_question prog (aims.Each vers high lacks) = questions.Null prog vers
 call_question prog aims.Least = questions.Probe prog 0
 call_question prog aims.Greatest = questions.Probe prog 4294967295
 
+-- the place of a program, where nothing is asked for it
+abbrev pub place_of : Way → Option Place
+place_of (ways.Getport transport) = None
+place_of (ways.Getaddr netid) = None
+place_of (ways.Port transport port) = Some (places.Port transport port)
+place_of (ways.Address netid address) = Some (places.Address (transport_of netid) address)
+
 -- GETPORT with the protocol of the transport, or GETADDR of the netid, over its own transport
 abbrev pub find_by : Way → ℕ → Aim → Place × Question
-find_by (ways.Port transport) prog aim = (places.Portmapper transports.Tcp, questions.Port (protocol_of transport) prog (version_of aim))
-find_by (ways.Address netid) prog aim = (places.Portmapper (transport_of netid), questions.Address netid prog (version_of aim))
-find_by (ways.Known place) prog aim = (place, call_question prog aim)
+find_by (ways.Getport transport) prog aim = (places.Portmapper transports.Tcp, questions.Port (protocol_of transport) prog (version_of aim))
+find_by (ways.Getaddr netid) prog aim = (places.Portmapper (transport_of netid), questions.Address netid prog (version_of aim))
+find_by (ways.Port transport port) prog aim = (places.Port transport port, call_question prog aim)
+find_by (ways.Address netid address) prog aim = (places.Address (transport_of netid) address, call_question prog aim)
 
 abbrev pub find_of : Course → Aim → Place × Question
 find_of course aim = find_by course.way course.prog aim
@@ -72,14 +80,13 @@ ask_at course stage = option_map (by_user course.uid) (question_at course stage)
 
 -- ---- what follows
 
-abbrev pub begin_by : Way → Aim → Stage
-begin_by (ways.Port transport) aim = Find aim
-begin_by (ways.Address netid) aim = Find aim
-begin_by (ways.Known place) aim = Call aim place
+abbrev pub begin_at : Option Place → Aim → Stage
+begin_at (Some place) aim = Call aim place
+begin_at None aim = Find aim
 
 -- a version is called where its place is known, and found else
 abbrev pub begin : Course → Aim → Stage
-begin course aim = begin_by course.way aim
+begin course aim = begin_at (place_of course.way) aim
 
 abbrev pub step_to : Stage → Step
 step_to stage = record { lacks = None; stage = stage }
@@ -108,9 +115,10 @@ after_lack course aims.Greatest why = step_to (End (ends.NoProgram why))
 after_lack course (aims.Each vers high lacks) why = record { lacks = Some vers; stage = next_stage course vers high true }
 
 abbrev pub transport_at : Way → Transport
-transport_at (ways.Port transport) = transport
-transport_at (ways.Address netid) = transport_of netid
-transport_at (ways.Known place) = transports.Tcp
+transport_at (ways.Getport transport) = transport
+transport_at (ways.Getaddr netid) = transport_of netid
+transport_at (ways.Port transport port) = transport
+transport_at (ways.Address netid address) = transport_of netid
 
 -- 0, and a number that no port has, say that there is none
 abbrev pub after_port : Course → Aim → ℕ → Step
@@ -143,7 +151,7 @@ refused_find course aim status = step_to (End (ends.Refused status))
 
 -- a portmapper without GETADDR is asked by GETPORT
 abbrev pub after_find_refusal_by : Way → Course → Aim → ReplyStatus → Step
-after_find_refusal_by (ways.Address netid) course aim (statuses.ProgMismatch low high) = step_to (FindOld aim (transport_of netid))
+after_find_refusal_by (ways.Getaddr netid) course aim (statuses.ProgMismatch low high) = step_to (FindOld aim (transport_of netid))
 after_find_refusal_by way course aim status = refused_find course aim status
 
 abbrev pub after_find_refusal : Course → Aim → ReplyStatus → Step

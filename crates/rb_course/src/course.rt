@@ -1,7 +1,8 @@
 //! Where a course of questions stands.
-use rb_address::{Netid, Transport};
+use rb_address::Transport;
 use rb_rpc::ReplyStatus;
 use rb_uaddr::Uaddr;
+use rb_words::Way;
 
 /// Where a question goes.
 #[derive(Clone, Copy, Debug, PartialEq, Eq)]
@@ -12,17 +13,6 @@ pub enum Place {
     Port(Transport, u16),
     /// An address.
     Address(Transport, Uaddr),
-}
-
-/// How the place of a program is found.
-#[derive(Clone, Copy, Debug, PartialEq, Eq)]
-pub enum Way {
-    /// By GETPORT of version 2.
-    Port(Transport),
-    /// By GETADDR of version 3, over the transport of this netid.
-    Address(Netid),
-    /// By nothing, since it is known.
-    Known(Place),
 }
 
 /// A course of questions that ends with calls of procedure 0 of a program.

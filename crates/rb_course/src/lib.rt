@@ -9,7 +9,7 @@ mod networks;
 mod places;
 mod stages;
 
-pub use course::{Aim, Answer, Course, End, Place, Stage, Step, Way};
+pub use course::{Aim, Answer, Course, End, Place, Stage, Step};
 pub use fall_back::fallback;
 pub use lack::show_lack;
 pub use laws::courses_are_whole;

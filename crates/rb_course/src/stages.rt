@@ -1,12 +1,13 @@
 //! What is asked, and what follows of each answer.
 ghost use Rattle.std.specs.Prelude.{◌≡◌};
-ghost use Rattle.rb_course.specs.Next.{transport_of, version_of, call_question, find_of, question_at, ask_at, begin, step_to, next_stage, step_to_versions, after_lack, transport_at, after_port, host_in, is_of_teller, after_address, refused_find, after_find_refusal, after_find, after_find_old, after_ready, after_refusal, after_call, next, lack_of_several, unanswered};
+ghost use Rattle.rb_course.specs.Next.{transport_of, version_of, call_question, place_of, find_of, question_at, ask_at, begin, step_to, next_stage, step_to_versions, after_lack, transport_at, after_port, host_in, is_of_teller, after_address, refused_find, after_find_refusal, after_find, after_find_old, after_ready, after_refusal, after_call, next, lack_of_several, unanswered};
 
-use crate::course::{Aim, Answer, Course, End, Place, Stage, Step, Way};
+use crate::course::{Aim, Answer, Course, End, Place, Stage, Step};
 use rb_address::{Host, Netid, Transport};
 use rb_rpc::ReplyStatus;
 use rb_show::{Ask, Question};
 use rb_uaddr::Uaddr;
+use rb_words::Way;
 
 /// At most so many versions of a program are called.
 const MOST_VERSIONS: u32 = 256;
@@ -39,21 +40,36 @@ fn call_question(prog: u32, aim: Aim) -> Question
     }
 }
 
+/// The place of a program, where nothing is asked for it.
+fn place_of(way: Way) -> Option<Place>
+    ensures { result ≡ place_of way }
+{
+    match way {
+        Way::Getport(_) | Way::Getaddr(_) => None,
+        Way::Port(transport, port) => Some(Place::Port(transport, port)),
+        Way::Address(netid, address) => Some(Place::Address(transport_of(netid), address)),
+    }
+}
+
 /// The question that finds where a version is.
 fn find_of(course: &Course, aim: Aim) -> (Place, Question)
     ensures { result ≡ find_of course.now aim }
 {
     let (prog, vers) = (course.prog, version_of(aim));
     match course.way {
-        Way::Port(transport) => (
+        Way::Getport(transport) => (
             Place::Portmapper(Transport::Tcp),
             Question::Port(transport.protocol(), prog, vers),
         ),
-        Way::Address(netid) => (
+        Way::Getaddr(netid) => (
             Place::Portmapper(transport_of(netid)),
             Question::Address(netid, prog, vers),
         ),
-        Way::Known(place) => (place, call_question(prog, aim)),
+        Way::Port(transport, port) => (Place::Port(transport, port), call_question(prog, aim)),
+        Way::Address(netid, address) => (
+            Place::Address(transport_of(netid), address),
+            call_question(prog, aim),
+        ),
     }
 }
 
@@ -92,9 +108,9 @@ pub fn asked(course: &Course, stage: Stage) -> Option<(Place, Ask)>
 pub fn begin(course: &Course, aim: Aim) -> Stage
     ensures { result ≡ begin course.now aim }
 {
-    match course.way {
-        Way::Port(_) | Way::Address(_) => Stage::Find(aim),
-        Way::Known(place) => Stage::Call(aim, place),
+    match place_of(course.way) {
+        None => Stage::Find(aim),
+        Some(place) => Stage::Call(aim, place),
     }
 }
 
@@ -169,14 +185,13 @@ fn after_lack(course: &Course, aim: Aim, why: Option<ReplyStatus>) -> Step
     }
 }
 
-/// The transport over which a program is called that was found.
+/// The transport over which a program is called.
 fn transport_at(way: Way) -> Transport
     ensures { result ≡ transport_at way }
 {
     match way {
-        Way::Port(transport) => transport,
-        Way::Address(netid) => transport_of(netid),
-        Way::Known(_) => Transport::Tcp,
+        Way::Getport(transport) | Way::Port(transport, _) => transport,
+        Way::Getaddr(netid) | Way::Address(netid, _) => transport_of(netid),
     }
 }
 
@@ -233,7 +248,7 @@ fn after_find_refusal(course: &Course, aim: Aim, status: ReplyStatus) -> Step
     ensures { result ≡ after_find_refusal course.now aim status }
 {
     match (course.way, status) {
-        (Way::Address(netid), ReplyStatus::ProgMismatch(_, _)) => step_to(Stage::FindOld(
+        (Way::Getaddr(netid), ReplyStatus::ProgMismatch(_, _)) => step_to(Stage::FindOld(
             aim,
             transport_of(netid),
         )),

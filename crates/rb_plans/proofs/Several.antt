@@ -1,6 +1,6 @@
 -- Courses of several versions.
 use Rattle.std.specs.Prelude.{IfOk, IfErr}
-use Rattle.std.proofs.Common.{◌≡◌, ℕ, ◌+◌, ◌==◌, ◌||◌, nat_lt, nat_le, Bool, true, false, if◌then◌else◌, Some, None, Result, Ok, Err, refl}
+use Rattle.std.proofs.Common.{◌≡◌, ℕ, ◌+◌, ◌==◌, ◌||◌, nat_lt, nat_le, Bool, true, false, if◌then◌else◌, Option, Some, None, Result, Ok, Err, refl}
 use Rattle.rb_uaddr.specs.declared.address.Uaddr.{Uaddr}
 use Rattle.rb_uaddr.specs.Uaddr.{port_of}
 use Rattle.rb_rpc.specs.declared.reply.ReplyStatus.{ReplyStatus}
@@ -11,13 +11,14 @@ use Rattle.rb_course.specs.declared.course.Answer.{Answer}
 use Rattle.rb_course.specs.declared.course.Answer.TheVariants as answers
 use Rattle.rb_course.specs.declared.course.Course.{Course}
 use Rattle.rb_course.specs.declared.course.End.TheVariants as ends
+use Rattle.rb_course.specs.declared.course.Place.{Place}
 use Rattle.rb_course.specs.declared.course.Place.TheVariants as places
 use Rattle.rb_course.specs.declared.course.Stage.{Stage}
 use Rattle.rb_course.specs.declared.course.Stage.TheVariants.{Find, FindOld, Call, End}
 use Rattle.rb_course.specs.declared.course.Step.{Step}
-use Rattle.rb_course.specs.declared.course.Way.{Way}
-use Rattle.rb_course.specs.declared.course.Way.TheVariants as ways
-use Rattle.rb_course.specs.Next.{begin_by, next_stage, step_to, after_lack, transport_at, after_port, is_of_teller, after_address, after_find_refusal_by, after_find, after_find_old, after_call}
+use Rattle.rb_words.specs.declared.plan.Way.{Way}
+use Rattle.rb_words.specs.declared.plan.Way.TheVariants as ways
+use Rattle.rb_course.specs.Next.{place_of, begin_at, next_stage, step_to, after_lack, transport_at, after_port, is_of_teller, after_address, after_find_refusal_by, after_find, after_find_old, after_call}
 use Rattle.rb_plans.specs.declared.fault.Fault.{Fault}
 use Rattle.rb_plans.specs.declared.fault.Fault.TheVariants.{Info, NoConnection, NoSocket, NoReply, NoHost, NoAddress, NotAvailable, NoProgram, TooManyVersions, TooManyRoutes, SomeLack}
 use Rattle.rb_plans.specs.Addresses.{is_unanswered}
@@ -32,14 +33,13 @@ step_of : (b : Bool) (x y : Step) → AsksNoOther x.stage → AsksNoOther y.stag
 step_of true x y p q = p
 step_of false x y p q = q
 
-begins : (way : Way) (vers high : ℕ) (lacks : Bool) → AsksNoOther (begin_by way (aims.Each vers high lacks))
-begins (ways.Port transport) vers high lacks = tt
-begins (ways.Address netid) vers high lacks = tt
-begins (ways.Known place) vers high lacks = tt
+begins : (known : Option Place) (vers high : ℕ) (lacks : Bool) → AsksNoOther (begin_at known (aims.Each vers high lacks))
+begins (Some place) vers high lacks = tt
+begins None vers high lacks = tt
 
 goes_on : (course : Course) (vers high : ℕ) (lacks : Bool) → AsksNoOther (next_stage course vers high lacks)
 goes_on course vers high lacks =
-    stage_of (nat_lt vers high) (begin_by course.way (aims.Each (vers + 1) high lacks)) (End (if lacks then ends.SomeLack else ends.Ready)) (begins course.way (vers + 1) high lacks) tt
+    stage_of (nat_lt vers high) (begin_at (place_of course.way) (aims.Each (vers + 1) high lacks)) (End (if lacks then ends.SomeLack else ends.Ready)) (begins (place_of course.way) (vers + 1) high lacks) tt
 
 -- ---- each answer
 
@@ -54,16 +54,17 @@ at_address course vers high lacks address =
     step_of (is_of_teller address) (after_port course aim (port_of address)) (step_to (Call aim (places.Address (transport_at course.way) address))) (at_port course vers high lacks (port_of address)) tt
 
 refused : (way : Way) (course : Course) (vers high : ℕ) (lacks : Bool) (status : ReplyStatus) → AsksNoOther (after_find_refusal_by way course (aims.Each vers high lacks) status).stage
-refused (ways.Port transport) course vers high lacks status = goes_on course vers high true
-refused (ways.Known place) course vers high lacks status = goes_on course vers high true
-refused (ways.Address netid) course vers high lacks (statuses.ProgMismatch low most) = tt
-refused (ways.Address netid) course vers high lacks statuses.Success = goes_on course vers high true
-refused (ways.Address netid) course vers high lacks statuses.ProgUnavail = goes_on course vers high true
-refused (ways.Address netid) course vers high lacks statuses.ProcUnavail = goes_on course vers high true
-refused (ways.Address netid) course vers high lacks statuses.GarbageArgs = goes_on course vers high true
-refused (ways.Address netid) course vers high lacks statuses.SystemErr = goes_on course vers high true
-refused (ways.Address netid) course vers high lacks (statuses.RpcMismatch low most) = goes_on course vers high true
-refused (ways.Address netid) course vers high lacks (statuses.AuthError stat) = goes_on course vers high true
+refused (ways.Getport transport) course vers high lacks status = goes_on course vers high true
+refused (ways.Port transport port) course vers high lacks status = goes_on course vers high true
+refused (ways.Address netid address) course vers high lacks status = goes_on course vers high true
+refused (ways.Getaddr netid) course vers high lacks (statuses.ProgMismatch low most) = tt
+refused (ways.Getaddr netid) course vers high lacks statuses.Success = goes_on course vers high true
+refused (ways.Getaddr netid) course vers high lacks statuses.ProgUnavail = goes_on course vers high true
+refused (ways.Getaddr netid) course vers high lacks statuses.ProcUnavail = goes_on course vers high true
+refused (ways.Getaddr netid) course vers high lacks statuses.GarbageArgs = goes_on course vers high true
+refused (ways.Getaddr netid) course vers high lacks statuses.SystemErr = goes_on course vers high true
+refused (ways.Getaddr netid) course vers high lacks (statuses.RpcMismatch low most) = goes_on course vers high true
+refused (ways.Getaddr netid) course vers high lacks (statuses.AuthError stat) = goes_on course vers high true
 
 found : (course : Course) (vers high : ℕ) (lacks : Bool) (answer : Answer) → AsksNoOther (after_find course (aims.Each vers high lacks) answer).stage
 found course vers high lacks (answers.Port port) = at_port course vers high lacks port

@@ -6,8 +6,8 @@ use Rattle.std.specs.Net.Addr.{is_ipv4, is_ipv6}
 use Rattle.rb_address.specs.declared.host.Family.{Family}
 use Rattle.rb_address.specs.declared.host.Family.TheVariants.{Inet, Inet6}
 use Rattle.rb_address.specs.Netids.{family_of_netid}
-use Rattle.rb_course.specs.declared.course.Way.{Way}
-use Rattle.rb_course.specs.declared.course.Way.TheVariants as ways
+use Rattle.rb_words.specs.declared.plan.Way.{Way}
+use Rattle.rb_words.specs.declared.plan.Way.TheVariants as ways
 use Rattle.rb_ask.specs.declared.fault.InfoFault.TheVariants.{Memory}
 use Rattle.rb_show.specs.declared.show.Shown.{Shown}
 use Rattle.rb_plans.specs.declared.ending.Notices.{Notices}
@@ -16,9 +16,10 @@ use Rattle.rb_plans.specs.declared.fault.Fault.TheVariants.{Info, NoConnection, 
 
 -- the family of the addresses that are asked; none where each is
 abbrev pub family_of : Way → Option Family
-family_of (ways.Address netid) = family_of_netid netid
-family_of (ways.Port transport) = None
-family_of (ways.Known place) = None
+family_of (ways.Getaddr netid) = family_of_netid netid
+family_of (ways.Getport transport) = None
+family_of (ways.Port transport port) = None
+family_of (ways.Address netid address) = None
 
 abbrev pub is_of_family : Option Family → IpAddr → Bool
 is_of_family (Some Inet) ip = is_ipv4 ip

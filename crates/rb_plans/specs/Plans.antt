@@ -1,11 +1,7 @@
 -- Plans as questions and courses.
-use Rattle.std.specs.Prelude.{ℕ, Bool, true, false, if◌then◌else◌, Option, Some, None, option_map, Result, Ok, Err}
-use Rattle.rb_uaddr.specs.declared.address.Uaddr.{Uaddr}
-use Rattle.rb_address.specs.declared.netid.Netid.{Netid}
+use Rattle.std.specs.Prelude.{ℕ, Bool, true, false, if◌then◌else◌, Option, Some, None, Result, Ok, Err}
 use Rattle.rb_words.specs.declared.plan.Listing.{Listing}
 use Rattle.rb_words.specs.declared.plan.Listing.TheVariants as listings
-use Rattle.rb_words.specs.declared.plan.Means.{Means}
-use Rattle.rb_words.specs.declared.plan.Means.TheVariants as means
 use Rattle.rb_words.specs.declared.plan.Plan.{Plan}
 use Rattle.rb_words.specs.declared.plan.Plan.TheVariants.{Show, Entries, Ping, Delete, Broadcast}
 use Rattle.rb_words.specs.declared.plan.Source.{Source}
@@ -20,14 +16,11 @@ use Rattle.rb_course.specs.declared.course.Aim.TheVariants as aims
 use Rattle.rb_course.specs.declared.course.Answer.{Answer}
 use Rattle.rb_course.specs.declared.course.Answer.TheVariants as answers
 use Rattle.rb_course.specs.declared.course.End.TheVariants as ends
-use Rattle.rb_course.specs.declared.course.Place.TheVariants as places
 use Rattle.rb_course.specs.declared.course.Stage.{Stage}
 use Rattle.rb_course.specs.declared.course.Stage.TheVariants.{Find, FindOld, Call, End}
-use Rattle.rb_course.specs.declared.course.Way.{Way}
-use Rattle.rb_course.specs.declared.course.Way.TheVariants as ways
 use Rattle.rb_course.specs.declared.course.Course.{Course}
 use Rattle.rb_course.specs.declared.course.Step.{Step}
-use Rattle.rb_course.specs.Next.{transport_of, next, unanswered}
+use Rattle.rb_course.specs.Next.{next, unanswered}
 use Rattle.rb_plans.specs.declared.fault.Fault.{Fault}
 use Rattle.rb_plans.specs.declared.fault.Fault.TheVariants.{Info, NotAvailable, NoProgram, TooManyVersions, TooManyRoutes, SomeLack}
 
@@ -43,18 +36,8 @@ abbrev pub plan_question : Plan → Option (Source × Question)
 plan_question (Show listing source) = Some (source, question_of listing)
 plan_question (Entries source prog vers) = Some (source, questions.Entries prog vers)
 plan_question (Delete netid prog vers) = Some (Here, questions.Unset netid prog vers)
-plan_question (Ping means prog vers) = None
+plan_question (Ping way prog vers) = None
 plan_question (Broadcast prog vers) = None
-
-abbrev pub known_at : Netid → Uaddr → Way
-known_at netid address = ways.Known (places.Address (transport_of netid) address)
-
--- how a program is found
-abbrev pub way_of : Means → Option Uaddr → Option Way
-way_of (means.Mapped transport) address = Some (ways.Port transport)
-way_of (means.Port transport port) address = Some (ways.Known (places.Port transport port))
-way_of (means.Netid netid) address = Some (ways.Address netid)
-way_of (means.Address netid) address = option_map (known_at netid) address
 
 abbrev pub aim_of : Option ℕ → Aim
 aim_of (Some vers) = aims.Only vers

@@ -1,21 +1,19 @@
 -- The words of a command line: what they name, and what their shape says.
-use Rattle.std.specs.Prelude.{◌≡◌, ◌≢◌, ℕ, Bool, true, false, List, [], Option, Some, None, option_map, slice_get, Result, Ok, Err}
+use Rattle.std.specs.Prelude.{◌≡◌, ◌≢◌, ℕ, Bool, true, false, List, [], Option, Some, None, slice_get, Result, Ok, Err}
 use Rattle.std.specs.Borrow.{Bor}
 use Rattle.std.specs.declared.net.ipv4_addr.Ipv4Addr.{Ipv4Addr}
 use Rattle.std.specs.Net.Grammar.{IsIpv4Text}
-use Rattle.rb_uaddr.specs.declared.address.Uaddr.{Uaddr}
-use Rattle.rb_uaddr.specs.Uaddr.{parse}
 use Rattle.rb_names.specs.declared.services.Service.{Service}
 use Rattle.rb_words.specs.declared.plan.Layout.{Layout}
 use Rattle.rb_words.specs.declared.plan.Layout.TheVariants as layouts
 use Rattle.rb_words.specs.declared.plan.Listing.TheVariants as listings
-use Rattle.rb_words.specs.declared.plan.Means.{Means}
-use Rattle.rb_words.specs.declared.plan.Means.TheVariants as means
 use Rattle.rb_words.specs.declared.plan.Plan.{Plan}
 use Rattle.rb_words.specs.declared.plan.Plan.TheVariants.{Show, Entries, Ping, Delete, Broadcast}
 use Rattle.rb_words.specs.declared.plan.Source.{Source}
 use Rattle.rb_words.specs.declared.plan.Source.TheVariants.{Here, Input, Named}
 use Rattle.rb_words.specs.declared.plan.Request.{Request}
+use Rattle.rb_words.specs.declared.plan.Way.{Way}
+use Rattle.rb_words.specs.declared.plan.Way.TheVariants as ways
 use Rattle.rb_words.specs.declared.shape.Shape.{Shape}
 use Rattle.rb_words.specs.declared.refusal.Refusal.{Refusal}
 use Rattle.rb_words.specs.Refusals.{refusal_lines}
@@ -46,11 +44,6 @@ form_by plan layout services = layout_form layout services
 abbrev pub form_of : Request → Bor (List Service) → Form
 form_of request services = form_by request.plan request.layout services
 
--- the address of `-a`, none where it is not given; nothing where its text is no address
-abbrev pub address_of : Option (Bor (List ℕ)) → Option (Option Uaddr)
-address_of None = Some None
-address_of (Some text) = option_map (λ address. Some address) (parse text.now)
-
 -- The network of `--broadcast` is the IPv4 address that its text writes, where it is given.
 abbrev pub IsNetworkOf : Option (Bor (List ℕ)) → Option Ipv4Addr → Type 0
 IsNetworkOf None network = network ≡ None
@@ -73,16 +66,16 @@ is_named Named = true
 is_named Here = false
 is_named Input = false
 
-abbrev pub is_at_host : Means → Bool
-is_at_host (means.Mapped transport) = true
-is_at_host (means.Port transport port) = true
-is_at_host (means.Netid netid) = true
-is_at_host (means.Address netid) = false
+abbrev pub is_at_host : Way → Bool
+is_at_host (ways.Getport transport) = true
+is_at_host (ways.Getaddr netid) = true
+is_at_host (ways.Port transport port) = true
+is_at_host (ways.Address netid address) = false
 
 abbrev pub names_host : Plan → Bool
 names_host (Show listing source) = is_named source
 names_host (Entries source prog vers) = is_named source
-names_host (Ping means prog vers) = is_at_host means
+names_host (Ping way prog vers) = is_at_host way
 names_host (Delete netid prog vers) = false
 names_host (Broadcast prog vers) = false
 
@@ -97,7 +90,6 @@ pub record AreOf (shape : Shape) (words : Words) : Type 0 where
   pub request : request_of shape ≡ Ok words.request
   pub host : words.host.now ≡ first_word shape
   pub named : names_host words.request.plan ≡ true → words.host.now ≢ []
-  pub address : address_of shape.address ≡ Some words.address
   pub network : IsNetworkOf shape.broadcast words.network
   pub local : words.local ≡ shape.local
   pub form : words.form ≡ form_of words.request shape.services

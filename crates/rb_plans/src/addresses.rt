@@ -6,8 +6,8 @@ ghost use Rattle.rb_plans.specs.Addresses.{family_of, is_asked, none_asked, defa
 use crate::ending::Notices;
 use crate::fault::Fault;
 use rb_address::Family;
-use rb_course::Way;
 use rb_show::{InfoFault, Shown};
+use rb_words::Way;
 use std::net::{IpAddr, SocketAddr};
 
 /// The family of the addresses that are asked; none where each is.
@@ -15,8 +15,8 @@ fn family_of(way: Way) -> Option<Family>
     ensures { result ≡ family_of way }
 {
     match way {
-        Way::Address(netid) => netid.family(),
-        Way::Port(_) | Way::Known(_) => None,
+        Way::Getaddr(netid) => netid.family(),
+        Way::Getport(_) | Way::Port(..) | Way::Address(..) => None,
     }
 }
 

@@ -22,7 +22,7 @@ pub use input::{FIRST_XID, show_input};
 pub use laws::{
     addresses_are_asked_in_order, objects_are_shown, texts_are_hexadecimal, versions_are_asked_once,
 };
-pub use plans::{aim_of, course_end, follow, plan_question, way_of};
+pub use plans::{aim_of, course_end, follow, plan_question};
 pub use told::{ask_input, flushed};
 pub use waits::{WAITS, Waits, wait_left};
 pub use words::{Words, words_of};

@@ -1,15 +1,12 @@
 //! Plans as questions and courses.
 ghost use Rattle.std.specs.Prelude.{◌≡◌};
-ghost use Rattle.rb_plans.specs.Plans.{question_of, plan_question, way_of, aim_of, answer_of, is_of_here, passed_over, follow, course_end};
+ghost use Rattle.rb_plans.specs.Plans.{question_of, plan_question, aim_of, answer_of, is_of_here, passed_over, follow, course_end};
 
 use crate::fault::Fault;
-use rb_course::{
-    Aim, Answer, Course, End, Place, Stage, Step, Way, next, transport_of, unanswered,
-};
+use rb_course::{Aim, Answer, Course, End, Stage, Step, next, unanswered};
 use rb_rpc::ReplyHead;
 use rb_show::{InfoFault, Question, Shown};
-use rb_uaddr::Uaddr;
-use rb_words::{Listing, Means, Plan, Source};
+use rb_words::{Listing, Plan, Source};
 
 fn question_of(listing: Listing) -> Question
     ensures { result ≡ question_of listing }
@@ -32,21 +29,6 @@ pub fn plan_question(plan: Plan) -> Option<(Source, Question)>
         Plan::Entries(source, prog, vers) => Some((source, Question::Entries(prog, vers))),
         Plan::Delete(netid, prog, vers) => Some((Source::Here, Question::Unset(netid, prog, vers))),
         Plan::Ping(..) | Plan::Broadcast(..) => None,
-    }
-}
-
-/// How a program is found; none where the address of `-a` is missing.
-pub fn way_of(means: Means, address: Option<Uaddr>) -> Option<Way>
-    ensures { result ≡ way_of means address }
-{
-    match means {
-        Means::Mapped(transport) => Some(Way::Port(transport)),
-        Means::Port(transport, port) => Some(Way::Known(Place::Port(transport, port))),
-        Means::Netid(netid) => Some(Way::Address(netid)),
-        Means::Address(netid) => match address {
-            Some(address) => Some(Way::Known(Place::Address(transport_of(netid), address))),
-            None => None,
-        },
     }
 }
 

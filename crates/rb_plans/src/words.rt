@@ -1,16 +1,14 @@
 //! The words of a command line, read.
 ghost use Rattle.std.specs.Prelude.{◌≡◌, ◌≢◌, true, [], IfErr, IfOk, OnOk};
-ghost use Rattle.std.specs.Result.{result_ok};
 ghost use Rattle.rb_words.specs.Refusals.{refusal_lines};
 ghost use Rattle.rb_plans.specs.Ending.{Says};
-ghost use Rattle.rb_plans.specs.Words.{address_of, ask_of, first_word, form_of, is_at_host, is_named, names_host, AreOf, IsNetworkOf, ReadsShape};
+ghost use Rattle.rb_plans.specs.Words.{ask_of, first_word, form_of, is_at_host, is_named, names_host, AreOf, IsNetworkOf, ReadsShape};
 
 use crate::ending::{Ending, UNREADABLE};
 use rb_names::Service;
 use rb_show::{Ask, Form, Question};
-use rb_uaddr::Uaddr;
 use rb_words::{
-    Layout, Listing, Means, Plan, Refusal, Request, Shape, Source, Spot, Wanted, read_words,
+    Layout, Listing, Plan, Refusal, Request, Shape, Source, Spot, Wanted, Way, read_words,
     write_refusal,
 };
 use std::io::Write;
@@ -23,8 +21,6 @@ pub struct Words<'a, 'n> {
     pub request: Request,
     /// The first word that belongs to no option, or nothing.
     pub host: &'a str,
-    /// The address of `-a`.
-    pub address: Option<Uaddr>,
     /// The path of `--local`.
     pub local: Option<&'a str>,
     /// Where a broadcast goes, in place of the networks of this machine.
@@ -80,30 +76,6 @@ fn read_shape<E: Write>(shape: &Shape<'_, '_, '_>, faults: &mut E) -> Result<Req
     }
 }
 
-/// The address of `-a`, where it is given.
-fn read_address<E: Write>(
-    shape: &Shape<'_, '_, '_>,
-    faults: &mut E,
-) -> Result<Option<Uaddr>, Ending>
-    ensures value { result_ok result ≡ address_of shape.now.address }
-    ensures read { OnOk result (faults.new ≡ faults.old) }
-    ensures refused { IfErr result (λ ending. ending.status ≡ 2) }
-{
-    let Some(text) = shape.address else {
-        return Ok(None);
-    };
-    match Uaddr::parse(text.as_bytes()) {
-        Ok(address) => Ok(Some(address)),
-        Err(_) => {
-            let refusal = Refusal {
-                at: Spot::Address,
-                wanted: Wanted::Address,
-            };
-            Err(refuse(shape, refusal, faults))
-        }
-    }
-}
-
 /// The address of `--broadcast`, where it is given.
 fn read_network<E: Write>(
     shape: &Shape<'_, '_, '_>,
@@ -139,12 +111,12 @@ fn is_named(source: Source) -> bool
 }
 
 /// Whether a program is called at that host.
-fn is_at_host(means: Means) -> bool
-    ensures { result ≡ is_at_host means }
+fn is_at_host(way: Way) -> bool
+    ensures { result ≡ is_at_host way }
 {
-    match means {
-        Means::Mapped(_) | Means::Port(..) | Means::Netid(_) => true,
-        Means::Address(_) => false,
+    match way {
+        Way::Getport(_) | Way::Getaddr(_) | Way::Port(..) => true,
+        Way::Address(..) => false,
     }
 }
 
@@ -154,7 +126,7 @@ fn names_host(plan: Plan) -> bool
 {
     match plan {
         Plan::Show(_, source) | Plan::Entries(source, _, _) => is_named(source),
-        Plan::Ping(means, _, _) => is_at_host(means),
+        Plan::Ping(way, _, _) => is_at_host(way),
         Plan::Delete(..) | Plan::Broadcast(..) => false,
     }
 }
@@ -192,12 +164,10 @@ pub fn words_of<'a, 'n, E: Write>(
 {
     let request = read_shape(shape, faults)?;
     let host = read_host(shape, request.plan, faults)?;
-    let address = read_address(shape, faults)?;
     let network = read_network(shape, faults)?;
     Ok(Words {
         request,
         host,
-        address,
         local: shape.local,
         network,
         form: form_of(&request, shape.services),

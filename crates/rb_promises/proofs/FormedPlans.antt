@@ -9,11 +9,13 @@ use Rattle.rb_address.specs.declared.netid.Transport.{Transport}
 use Rattle.rb_address.specs.declared.netid.Transport.TheVariants as transports
 use Rattle.rb_address.specs.Netids.{netid_named}
 use Rattle.rb_address.proofs.NameLaws.{names_are_exact}
+use Rattle.rb_uaddr.specs.declared.address.Uaddr.{Uaddr}
+use Rattle.rb_uaddr.specs.Grammar.{Spells as SpellsAddress}
+use Rattle.rb_uaddr.specs.Uaddr.{parse}
+use Rattle.rb_uaddr.proofs.GrammarLaws.{read_is_spelled}
 use Rattle.rb_names.specs.Services.{borrowed_texts}
 use Rattle.rb_words.specs.declared.plan.Listing.{Listing}
 use Rattle.rb_words.specs.declared.plan.Listing.TheVariants as listings
-use Rattle.rb_words.specs.declared.plan.Means.{Means}
-use Rattle.rb_words.specs.declared.plan.Means.TheVariants as means
 use Rattle.rb_words.specs.declared.plan.Plan.{Plan}
 use Rattle.rb_words.specs.declared.plan.Plan.TheVariants.{Show, Ping}
 use Rattle.rb_words.specs.declared.plan.Source.{Source}
@@ -25,7 +27,9 @@ use Rattle.rb_words.specs.declared.refusal.Wanted.TheVariants as wants
 use Rattle.rb_words.specs.declared.shape.Flag.{Flag}
 use Rattle.rb_words.specs.declared.shape.Flag.TheVariants as flags
 use Rattle.rb_words.specs.declared.shape.Shape.{Shape}
-use Rattle.rb_words.specs.Words.{flag_of, some_or_refusal, option_number, number_at, program_at, ends_at, source_of, source_at, host_at, show_from, show_plan, entries_plan, version_in, ping_plan, ping_plan_at_host, program_and_version, option_netid, by_address, by_netid, by_option, without_flag, by_port, by_transport, delete_plan, broadcast_plan, plan_of, is_ping, is_broadcast, may_have_netid, only_where, has_address, check_options, is_here}
+use Rattle.rb_words.specs.declared.plan.Way.{Way}
+use Rattle.rb_words.specs.declared.plan.Way.TheVariants as ways
+use Rattle.rb_words.specs.Words.{flag_of, some_or_refusal, option_number, number_at, program_at, ends_at, source_of, source_at, host_at, show_from, show_plan, entries_plan, version_in, ping_plan, ping_plan_at_host, program_and_version, option_netid, option_address, by_address, by_netid, by_option, without_flag, by_port, by_transport, delete_plan, broadcast_plan, plan_of, is_ping, is_broadcast, may_have_netid, only_where, has_address, check_options, is_here}
 use Rattle.rb_promises.specs.WordForms.{SpellsNumber, SpellsPort, SpellsNetid, SpellsSocket, NamesHost, SpellsSource, NoWord, ◌▹◌, MayEnd, words_in, IsProgram, Given, MayHave, NotGiven, listing_flags, transport_flag, IsLine}
 use Rattle.rb_promises.proofs.FormedWords.{bound, followed, same_Ok, option_spelled, number_option_spelled, source_spelled, stands, ends, stands_at, ends_there, number_there, number_here, program_there, program_here, none_there, none_here, source_there, host_there, host_here}
 
@@ -51,14 +55,14 @@ version_here words i (Some n) h =
     ∙ followed (number_at words i wants.Version) _ n (Some n) (number_here words i n wants.Version s.word s.there s.spells)
     (followed (ends_at words (i + 1)) _ tt (Some n) (none_here words (i + 1) (ends_there words (i + 1) s.follow)) refl)
 
-record Called (means : Means) (shape : Shape) (i : ℕ) (plan : Plan) : Type 0 where
+record Called (way : Way) (shape : Shape) (i : ℕ) (plan : Plan) : Type 0 where
   program : ℕ
   version : Option ℕ
-  is : Ping means program version ≡ plan
+  is : Ping way program version ≡ plan
   words : (IsProgram shape program ▹ MayEnd version) (borrowed_texts (drop i shape.words.now))
 
-call_there : (means : Means) (shape : Shape) (i : ℕ) (plan : Plan) → ping_plan means shape i ≡ Ok plan → Called means shape i plan
-call_there means shape i plan h =
+call_there : (way : Way) (shape : Shape) (i : ℕ) (plan : Plan) → ping_plan way shape i ≡ Ok plan → Called way shape i plan
+call_there way shape i plan h =
     let (program, read, rest) = bound (program_at shape i) _ plan h in
     let (version, last, made) = bound (version_in shape.words.now (i + 1) (slice_get shape.words.now (i + 1))) _ plan rest in
     let there = program_there shape i program read in
@@ -69,23 +73,23 @@ call_there means shape i plan h =
       words = stands shape.words.now i there.word (IsProgram shape program) (MayEnd version) there.there there.spells (version_there shape.words.now (i + 1) version last);
     }
 
-pub call_here : (means : Means) (shape : Shape) (i program : ℕ) (version : Option ℕ) → (IsProgram shape program ▹ MayEnd version) (borrowed_texts (drop i shape.words.now)) → ping_plan means shape i ≡ Ok (Ping means program version)
-call_here means shape i program version h =
+pub call_here : (way : Way) (shape : Shape) (i program : ℕ) (version : Option ℕ) → (IsProgram shape program ▹ MayEnd version) (borrowed_texts (drop i shape.words.now)) → ping_plan way shape i ≡ Ok (Ping way program version)
+call_here way shape i program version h =
     let s = stands_at shape.words.now i (IsProgram shape program) (MayEnd version) h in
     followed (program_at shape i) _ program _ (program_here shape i program s.word s.there s.spells)
     (followed (version_in shape.words.now (i + 1) (slice_get shape.words.now (i + 1))) _ version _ (version_here shape.words.now (i + 1) version s.follow) refl)
 
-record HostCalled (means : Means) (shape : Shape) (plan : Plan) : Type 0 where
+record HostCalled (way : Way) (shape : Shape) (plan : Plan) : Type 0 where
   program : ℕ
   version : Option ℕ
-  is : Ping means program version ≡ plan
+  is : Ping way program version ≡ plan
   words : (NamesHost ▹ IsProgram shape program ▹ MayEnd version) (words_in shape)
 
-host_call_there : (means : Means) (shape : Shape) (plan : Plan) → ping_plan_at_host means shape ≡ Ok plan → HostCalled means shape plan
-host_call_there means shape plan h =
+host_call_there : (way : Way) (shape : Shape) (plan : Plan) → ping_plan_at_host way shape ≡ Ok plan → HostCalled way shape plan
+host_call_there way shape plan h =
     let (x, host, rest) = bound (host_at shape.words.now) _ plan h in
     let named = host_there shape.words.now x host in
-    let called = call_there means shape 1 plan rest in
+    let called = call_there way shape 1 plan rest in
     record {
       program = called.program;
       version = called.version;
@@ -93,10 +97,10 @@ host_call_there means shape plan h =
       words = stands shape.words.now 0 named.word NamesHost (IsProgram shape called.program ▹ MayEnd called.version) named.there named.spells called.words;
     }
 
-pub host_call_here : (means : Means) (shape : Shape) (program : ℕ) (version : Option ℕ) → (NamesHost ▹ IsProgram shape program ▹ MayEnd version) (words_in shape) → ping_plan_at_host means shape ≡ Ok (Ping means program version)
-host_call_here means shape program version h =
+pub host_call_here : (way : Way) (shape : Shape) (program : ℕ) (version : Option ℕ) → (NamesHost ▹ IsProgram shape program ▹ MayEnd version) (words_in shape) → ping_plan_at_host way shape ≡ Ok (Ping way program version)
+host_call_here way shape program version h =
     let s = stands_at shape.words.now 0 NamesHost (IsProgram shape program ▹ MayEnd version) h in
-    followed (host_at shape.words.now) _ tt _ (host_here shape.words.now s.word s.there s.spells) (call_here means shape 1 program version s.follow)
+    followed (host_at shape.words.now) _ tt _ (host_here shape.words.now s.word s.there s.spells) (call_here way shape 1 program version s.follow)
 
 both_there : (shape : Shape) (pair : ℕ × ℕ) → program_and_version shape ≡ Ok pair → (IsProgram shape pair.0 ▹ SpellsNumber pair.1 ▹ NoWord) (words_in shape)
 both_there shape pair h =
@@ -150,6 +154,15 @@ netid_read option None h = ap option_netid h
 netid_read None (Some netid) h = absurd h
 netid_read (Some text) (Some netid) h = ap (some_or_refusal spots.Netid wants.Netid) ((names_are_exact text.now netid).1 h)
 
+address_spelled : (option : Option (Bor (List ℕ))) (address : Option Uaddr) → option_address option ≡ Ok address → MayHave SpellsAddress address option
+address_spelled None address h = subst (λ (a : Option Uaddr). MayHave SpellsAddress a None) (same_Ok _ _ h) refl
+address_spelled (Some text) address h = option_spelled SpellsAddress parse spots.Address wants.Address text address (λ u is. (read_is_spelled text.now u).0 is) h
+
+pub address_read : (option : Option (Bor (List ℕ))) (address : Option Uaddr) → MayHave SpellsAddress address option → option_address option ≡ Ok address
+address_read option None h = ap option_address h
+address_read None (Some called) h = absurd h
+address_read (Some text) (Some called) h = ap (some_or_refusal spots.Address wants.Address) ((read_is_spelled text.now called).1 h)
+
 pub record Checked (flag : Option Flag) (shape : Shape) : Type 0 where
   pub target : only_where (is_some shape.target) (is_ping flag) spots.Target wants.Ping ≡ Ok tt
   pub netid : only_where (is_some shape.netid) (may_have_netid flag) spots.Netid wants.NoFlagOrDelete ≡ Ok tt
@@ -201,23 +214,24 @@ transport_is shape transport plan flag netid address broadcast h =
   where
     by_target : (port : Option ℕ) → MayHave SpellsPort port shape.target → by_port transport shape port ≡ Ok plan → WithLocal shape plan
     by_target None target rest =
-        let c = host_call_there (means.Mapped transport) shape plan rest in
+        let c = host_call_there (ways.Getport transport) shape plan rest in
         subst (WithLocal shape) c.is (λ local. record { flag = flag; target = target; words = c.words; others = (netid, (address, (barred shape.local spots.Local wants.NoHost tt local, (broadcast, tt)))) })
     by_target (Some port) target rest =
-        let c = host_call_there (means.Port transport port) shape plan rest in
+        let c = host_call_there (ways.Port transport port) shape plan rest in
         subst (WithLocal shape) c.is (λ local. record { flag = flag; target = target; words = c.words; others = (netid, (address, (barred shape.local spots.Local wants.NoHost tt local, (broadcast, tt)))) })
 
 netid_is : (shape : Shape) (netid : Netid) (plan : Plan) → shape.flags.now ≡ [] → Given (SpellsSocket netid) shape.netid → shape.target ≡ None → shape.broadcast ≡ None → by_netid netid shape ≡ Ok plan → WithLocal shape plan
-netid_is shape netid plan flag socket target broadcast h = by_given shape.address refl h
+netid_is shape netid plan flag socket target broadcast h =
+    let (address, read, rest) = bound (option_address shape.address) (by_address netid shape) plan h in
+    by_given address (address_spelled shape.address address read) rest
   where
-    by_given : (address : Option (Bor (List ℕ))) → shape.address ≡ address → by_address netid shape address ≡ Ok plan → WithLocal shape plan
-    by_given None is h =
-        let c = host_call_there (means.Netid netid) shape plan h in
-        subst (WithLocal shape) c.is (λ local. record { flag = flag; socket = socket; words = c.words; others = (target, (is, (barred shape.local spots.Local wants.NoHost tt local, (broadcast, tt)))) })
-    by_given (Some text) is h =
-        let c = call_there (means.Address netid) shape 0 plan h in
-        let address = subst (Given (λ text. Unit {0})) (sym is) tt in
-        subst (WithLocal shape) c.is (λ local. record { flag = flag; address = address; socket = socket; words = c.words; others = (target, (barred shape.local spots.Local wants.NoHost tt local, (broadcast, tt))) })
+    by_given : (address : Option Uaddr) → MayHave SpellsAddress address shape.address → by_address netid shape address ≡ Ok plan → WithLocal shape plan
+    by_given None none h =
+        let c = host_call_there (ways.Getaddr netid) shape plan h in
+        subst (WithLocal shape) c.is (λ local. record { flag = flag; socket = socket; words = c.words; others = (target, (none, (barred shape.local spots.Local wants.NoHost tt local, (broadcast, tt)))) })
+    by_given (Some called) given h =
+        let c = call_there (ways.Address netid called) shape 0 plan h in
+        subst (WithLocal shape) c.is (λ local. record { flag = flag; address = given; socket = socket; words = c.words; others = (target, (barred shape.local spots.Local wants.NoHost tt local, (broadcast, tt))) })
 
 socket_given : (option : Option (Bor (List ℕ))) (netid : Netid) → netid ≢ netids.Local → MayHave SpellsNetid (Some netid) option → Given (SpellsSocket netid) option
 socket_given None netid socket h = absurd h

@@ -7,13 +7,12 @@ use Rattle.rb_address.specs.declared.netid.Netid.{Netid}
 use Rattle.rb_address.specs.declared.netid.Netid.TheVariants as netids
 use Rattle.rb_address.specs.declared.netid.Transport.{Transport}
 use Rattle.rb_address.specs.declared.netid.Transport.TheVariants as transports
+use Rattle.rb_uaddr.specs.declared.address.Uaddr.{Uaddr}
 use Rattle.rb_names.specs.Services.{borrowed_texts}
 use Rattle.rb_words.specs.declared.plan.Layout.{Layout}
 use Rattle.rb_words.specs.declared.plan.Layout.TheVariants.{Names, Json}
 use Rattle.rb_words.specs.declared.plan.Listing.{Listing}
 use Rattle.rb_words.specs.declared.plan.Listing.TheVariants as listings
-use Rattle.rb_words.specs.declared.plan.Means.{Means}
-use Rattle.rb_words.specs.declared.plan.Means.TheVariants as means
 use Rattle.rb_words.specs.declared.plan.Plan.{Plan}
 use Rattle.rb_words.specs.declared.plan.Plan.TheVariants.{Show, Entries, Ping, Delete, Broadcast}
 use Rattle.rb_words.specs.declared.plan.Request.{Request}
@@ -25,10 +24,12 @@ use Rattle.rb_words.specs.declared.refusal.Wanted.TheVariants as wants
 use Rattle.rb_words.specs.declared.shape.Flag.{Flag}
 use Rattle.rb_words.specs.declared.shape.Flag.TheVariants as flags
 use Rattle.rb_words.specs.declared.shape.Shape.{Shape}
-use Rattle.rb_words.specs.Words.{refusal_at, flag_of, option_number, number_at, program_at, ends_at, source_at, show_plan, program_and_version, option_netid, by_address, by_netid, by_option, by_port, by_transport, plan_of, is_here, is_ping, is_broadcast, may_have_netid, has_address, only_where, check_options, wanted_with, listing_has_layout, has_layout, layout_of, request_of}
+use Rattle.rb_words.specs.declared.plan.Way.{Way}
+use Rattle.rb_words.specs.declared.plan.Way.TheVariants as ways
+use Rattle.rb_words.specs.Words.{refusal_at, flag_of, option_number, number_at, program_at, ends_at, source_at, show_plan, program_and_version, option_netid, option_address, by_address, by_netid, by_option, by_port, by_transport, plan_of, is_here, is_ping, is_broadcast, may_have_netid, has_address, only_where, check_options, wanted_with, listing_has_layout, has_layout, layout_of, request_of}
 use Rattle.rb_promises.specs.WordForms.{SpellsNumber, SpellsNetid, SpellsSocket, NamesHost, SpellsSource, NoWord, ◌▹◌, MayEnd, words_in, IsProgram, Given, MayHave, listing_flags, MayNameHost, IsList, IsEntries, transport_flag, IsTransportPing, IsNetidPing, IsAddressPing, IsDelete, IsBroadcast, IsLine, listings_with, GoesWith, IsLayout, IsForm, WordsAreOfTheForms}
 use Rattle.rb_promises.proofs.FormedWords.{bound, followed, same_Ok, number_option_spelled, number_option_read, port_spelled, port_read, source_read, stands_at, ends_there, number_here, program_here, none_here, source_here}
-use Rattle.rb_promises.proofs.FormedPlans.{call_here, host_call_here, both_here, absent, free, netid_read, Checked, checked, passes, HasLocal, line_is}
+use Rattle.rb_promises.proofs.FormedPlans.{call_here, host_call_here, both_here, absent, free, netid_read, address_read, Checked, checked, passes, HasLocal, line_is}
 
 -- ---- what a line says is read
 
@@ -116,13 +117,13 @@ entries_read shape source program version l =
       local = no_local shape (Entries source program version) l.others.1.1.1.0;
     }
 
-abbrev called_by : Transport → Option ℕ → Means
-called_by transport None = means.Mapped transport
-called_by transport (Some port) = means.Port transport port
+abbrev called_by : Transport → Option ℕ → Way
+called_by transport None = ways.Getport transport
+called_by transport (Some port) = ways.Port transport port
 
 by_port_read : (shape : Shape) (transport : Transport) (port : Option ℕ) (program : ℕ) (version : Option ℕ) → (NamesHost ▹ IsProgram shape program ▹ MayEnd version) (words_in shape) → by_port transport shape port ≡ Ok (Ping (called_by transport port) program version)
-by_port_read shape transport None program version words = host_call_here (means.Mapped transport) shape program version words
-by_port_read shape transport (Some port) program version words = host_call_here (means.Port transport port) shape program version words
+by_port_read shape transport None program version words = host_call_here (ways.Getport transport) shape program version words
+by_port_read shape transport (Some port) program version words = host_call_here (ways.Port transport port) shape program version words
 
 transport_read : (shape : Shape) (transport : Transport) (port : Option ℕ) (program : ℕ) (version : Option ℕ) → IsTransportPing shape transport port program version → IsRead shape (Ping (called_by transport port) program version)
 transport_read shape transport port program version l = by_transport_of transport l.flag is_read
@@ -166,7 +167,7 @@ socket_read shape netids.Tcp6 h = refl
 socket_read shape netids.Udp6 h = refl
 socket_read shape netids.Local h = absurd (h refl)
 
-netid_ping_read : (shape : Shape) (netid : Netid) (program : ℕ) (version : Option ℕ) → IsNetidPing shape netid program version → IsRead shape (Ping (means.Netid netid) program version)
+netid_ping_read : (shape : Shape) (netid : Netid) (program : ℕ) (version : Option ℕ) → IsNetidPing shape netid program version → IsRead shape (Ping (ways.Getaddr netid) program version)
 netid_ping_read shape netid program version l =
     let s = socket_is shape.netid netid l.socket in
     record {
@@ -179,18 +180,17 @@ netid_ping_read shape netid program version l =
         address = no_address None shape l.others.1.0;
       };
       read = followed (option_netid shape.netid) (by_option shape) (Some netid) _ (netid_read shape.netid (Some netid) s.1)
-          (socket_read shape netid s.0 ∙ ap (by_address netid shape) l.others.1.0 ∙ host_call_here (means.Netid netid) shape program version l.words);
-      local = no_local shape (Ping (means.Netid netid) program version) l.others.1.1.0;
+          (socket_read shape netid s.0 ∙ followed (option_address shape.address) (by_address netid shape) None _ (address_read shape.address None l.others.1.0) (host_call_here (ways.Getaddr netid) shape program version l.words));
+      local = no_local shape (Ping (ways.Getaddr netid) program version) l.others.1.1.0;
     }
 
 some_given : (Spells : List ℕ → Type 0) (option : Option (Bor (List ℕ))) → Given Spells option → (text : Bor (List ℕ)) × (option ≡ Some text)
 some_given Spells None h = absurd h
 some_given Spells (Some text) h = (text, refl)
 
-address_ping_read : (shape : Shape) (netid : Netid) (program : ℕ) (version : Option ℕ) → IsAddressPing shape netid program version → IsRead shape (Ping (means.Address netid) program version)
-address_ping_read shape netid program version l =
+address_ping_read : (shape : Shape) (netid : Netid) (called : Uaddr) (program : ℕ) (version : Option ℕ) → IsAddressPing shape netid called program version → IsRead shape (Ping (ways.Address netid called) program version)
+address_ping_read shape netid called program version l =
     let s = socket_is shape.netid netid l.socket in
-    let (text, address) = some_given (λ text. Unit {0}) shape.address l.address in
     let (name, named) = some_given (SpellsSocket netid) shape.netid l.socket in
     record {
       flag = None;
@@ -202,8 +202,8 @@ address_ping_read shape netid program version l =
         address = ap (λ (o : Option (Bor (List ℕ))). only_where (is_some shape.address) (is_some o) spots.Address wants.NetidAlone) named ∙ free (is_some shape.address) spots.Address wants.NetidAlone;
       };
       read = followed (option_netid shape.netid) (by_option shape) (Some netid) _ (netid_read shape.netid (Some netid) s.1)
-          (socket_read shape netid s.0 ∙ ap (by_address netid shape) address ∙ call_here (means.Address netid) shape 0 program version l.words);
-      local = no_local shape (Ping (means.Address netid) program version) l.others.1.0;
+          (socket_read shape netid s.0 ∙ followed (option_address shape.address) (by_address netid shape) (Some called) _ (address_read shape.address (Some called) l.address) (call_here (ways.Address netid called) shape 0 program version l.words));
+      local = no_local shape (Ping (ways.Address netid called) program version) l.others.1.0;
     }
 
 delete_read : (shape : Shape) (netid : Option Netid) (program version : ℕ) → IsDelete shape netid program version → IsRead shape (Delete netid program version)
@@ -238,10 +238,10 @@ broadcast_read shape program version l = record {
 line_read : (shape : Shape) (plan : Plan) → IsLine shape plan → IsRead shape plan
 line_read shape (Show listing source) l = list_read shape listing source l
 line_read shape (Entries source program version) l = entries_read shape source program version l
-line_read shape (Ping (means.Mapped transport) program version) l = transport_read shape transport None program version l
-line_read shape (Ping (means.Port transport port) program version) l = transport_read shape transport (Some port) program version l
-line_read shape (Ping (means.Netid netid) program version) l = netid_ping_read shape netid program version l
-line_read shape (Ping (means.Address netid) program version) l = address_ping_read shape netid program version l
+line_read shape (Ping (ways.Getport transport) program version) l = transport_read shape transport None program version l
+line_read shape (Ping (ways.Port transport port) program version) l = transport_read shape transport (Some port) program version l
+line_read shape (Ping (ways.Getaddr netid) program version) l = netid_ping_read shape netid program version l
+line_read shape (Ping (ways.Address netid called) program version) l = address_ping_read shape netid called program version l
 line_read shape (Delete netid program version) l = delete_read shape netid program version l
 line_read shape (Broadcast program version) l = broadcast_read shape program version l
 
@@ -258,7 +258,7 @@ goes (Show listings.Statistics source) Names h = absurd cc
 goes (Show listings.Statistics source) Json h = (2, lit< tt, refl)
 goes (Show listings.Summary source) layout h = absurd cc
 goes (Entries source program version) layout h = tt
-goes (Ping means program version) layout h = absurd cc
+goes (Ping way program version) layout h = absurd cc
 goes (Delete netid program version) layout h = absurd cc
 goes (Broadcast program version) layout h = absurd cc
 
@@ -276,7 +276,7 @@ each_has Json listing in_list =
 has : (plan : Plan) (layout : Layout) → GoesWith plan layout → has_layout plan layout ≡ true
 has (Show listing source) layout h = each_has layout listing h
 has (Entries source program version) layout h = refl
-has (Ping means program version) layout h = absurd h
+has (Ping way program version) layout h = absurd h
 has (Delete netid program version) layout h = absurd h
 has (Broadcast program version) layout h = absurd h
 

@@ -7,18 +7,20 @@ use Rattle.rb_address.specs.declared.netid.Netid.TheVariants.{Local}
 use Rattle.rb_address.specs.declared.netid.Transport.{Transport}
 use Rattle.rb_address.specs.declared.netid.Transport.TheVariants.{Tcp, Udp}
 use Rattle.rb_address.specs.Netids.{netid_text}
+use Rattle.rb_uaddr.specs.declared.address.Uaddr.{Uaddr}
+use Rattle.rb_uaddr.specs.Grammar.{Spells as SpellsAddress}
 use Rattle.rb_names.specs.declared.services.Service.{Service}
 use Rattle.rb_names.specs.Services.{borrowed_texts}
 use Rattle.rb_words.specs.declared.plan.Layout.{Layout}
 use Rattle.rb_words.specs.declared.plan.Layout.TheVariants.{Names, Json}
 use Rattle.rb_words.specs.declared.plan.Listing.{Listing}
 use Rattle.rb_words.specs.declared.plan.Listing.TheVariants.{Rows, Short, Summary, Table, Statistics}
-use Rattle.rb_words.specs.declared.plan.Means.TheVariants as means
 use Rattle.rb_words.specs.declared.plan.Plan.{Plan}
 use Rattle.rb_words.specs.declared.plan.Plan.TheVariants.{Show, Entries, Ping, Delete, Broadcast}
 use Rattle.rb_words.specs.declared.plan.Request.{Request}
 use Rattle.rb_words.specs.declared.plan.Source.{Source}
 use Rattle.rb_words.specs.declared.plan.Source.TheVariants.{Here, Input, Named}
+use Rattle.rb_words.specs.declared.plan.Way.TheVariants as ways
 use Rattle.rb_words.specs.declared.shape.Flag.{Flag}
 use Rattle.rb_words.specs.declared.shape.Flag.TheVariants as flags
 use Rattle.rb_words.specs.declared.shape.Shape.{Shape}
@@ -154,9 +156,9 @@ pub record IsNetidPing (shape : Shape) (netid : Netid) (program : ℕ) (version 
   pub others : NotGiven (shape.target ∷ shape.address ∷ shape.local ∷ shape.broadcast ∷ [])
 
 -- -a address -T netid program [version]
-pub record IsAddressPing (shape : Shape) (netid : Netid) (program : ℕ) (version : Option ℕ) : Type 0 where
+pub record IsAddressPing (shape : Shape) (netid : Netid) (called : Uaddr) (program : ℕ) (version : Option ℕ) : Type 0 where
   pub flag : shape.flags.now ≡ []
-  pub address : Given (λ text. ⊤) shape.address
+  pub address : Given (SpellsAddress called) shape.address
   pub socket : Given (SpellsSocket netid) shape.netid
   pub words : (IsProgram shape program ▹ MayEnd version) (words_in shape)
   pub others : NotGiven (shape.target ∷ shape.local ∷ shape.broadcast ∷ [])
@@ -177,10 +179,10 @@ pub record IsBroadcast (shape : Shape) (program version : ℕ) : Type 0 where
 abbrev pub IsLine : Shape → Plan → Type 0
 IsLine shape (Show listing source) = IsList shape listing source
 IsLine shape (Entries source program version) = IsEntries shape source program version
-IsLine shape (Ping (means.Mapped transport) program version) = IsTransportPing shape transport None program version
-IsLine shape (Ping (means.Port transport port) program version) = IsTransportPing shape transport (Some port) program version
-IsLine shape (Ping (means.Netid netid) program version) = IsNetidPing shape netid program version
-IsLine shape (Ping (means.Address netid) program version) = IsAddressPing shape netid program version
+IsLine shape (Ping (ways.Getport transport) program version) = IsTransportPing shape transport None program version
+IsLine shape (Ping (ways.Port transport port) program version) = IsTransportPing shape transport (Some port) program version
+IsLine shape (Ping (ways.Getaddr netid) program version) = IsNetidPing shape netid program version
+IsLine shape (Ping (ways.Address netid address) program version) = IsAddressPing shape netid address program version
 IsLine shape (Delete netid program version) = IsDelete shape netid program version
 IsLine shape (Broadcast program version) = IsBroadcast shape program version
 

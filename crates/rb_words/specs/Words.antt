@@ -13,7 +13,6 @@ use Rattle.rb_words.specs.declared.plan.Layout.{Layout}
 use Rattle.rb_words.specs.declared.plan.Layout.TheVariants as layouts
 use Rattle.rb_words.specs.declared.plan.Listing.{Listing}
 use Rattle.rb_words.specs.declared.plan.Listing.TheVariants as listings
-use Rattle.rb_words.specs.declared.plan.Means.TheVariants as means
 use Rattle.rb_words.specs.declared.plan.Request.{Request}
 use Rattle.rb_words.specs.declared.shape.Shape.{Shape}
 use Rattle.rb_words.specs.declared.shape.Flag.TheVariants as flags
@@ -26,9 +25,12 @@ use Rattle.rb_address.specs.declared.netid.Transport.TheVariants as transports
 use Rattle.rb_address.specs.Netids.{netid_named}
 use Rattle.rb_names.specs.declared.services.Service.{Service}
 use Rattle.rb_names.specs.Services.{number_of}
-use Rattle.rb_words.specs.declared.plan.Means.{Means}
 use Rattle.rb_words.specs.declared.plan.Plan.{Plan}
 use Rattle.rb_words.specs.declared.plan.Plan.TheVariants.{Show, Entries, Ping, Delete, Broadcast}
+use Rattle.rb_words.specs.declared.plan.Way.{Way}
+use Rattle.rb_words.specs.declared.plan.Way.TheVariants as ways
+use Rattle.rb_uaddr.specs.declared.address.Uaddr.{Uaddr}
+use Rattle.rb_uaddr.specs.Uaddr.{parse}
 use Rattle.rb_names.specs.Numbers.{number_in}
 
 -- ---- refusals
@@ -139,15 +141,15 @@ version_in words i (Some text) = do
   Ok (Some vers)
 
 -- PROGRAM [VERSION]
-abbrev pub ping_plan : Means → Shape → ℕ → Result Plan Refusal
-ping_plan means shape i = do
+abbrev pub ping_plan : Way → Shape → ℕ → Result Plan Refusal
+ping_plan way shape i = do
   prog ← program_at shape i
   vers ← version_in shape.words.now (i + 1) (slice_get shape.words.now (i + 1))
-  Ok (Ping means prog vers)
+  Ok (Ping way prog vers)
 
 -- HOST PROGRAM [VERSION]
-abbrev pub ping_plan_at_host : Means → Shape → Result Plan Refusal
-ping_plan_at_host means shape = host_at shape.words.now >>= λ _. ping_plan means shape 1
+abbrev pub ping_plan_at_host : Way → Shape → Result Plan Refusal
+ping_plan_at_host way shape = host_at shape.words.now >>= λ _. ping_plan way shape 1
 
 -- PROGRAM VERSION
 abbrev pub program_and_version : Shape → Result (ℕ × ℕ) Refusal
@@ -157,21 +159,26 @@ program_and_version shape = do
   _ ← ends_at shape.words.now 2
   Ok (prog, vers)
 
--- ---- netids
+-- ---- netids and addresses
 
 abbrev pub option_netid : Option (Bor (List ℕ)) → Result (Option Netid) Refusal
 option_netid None = Ok None
 option_netid (Some text) = some_or_refusal spots.Netid wants.Netid (netid_named text.now)
 
+-- the universal address of `-a` (RFC 5665 section 5.2.3)
+abbrev pub option_address : Option (Bor (List ℕ)) → Result (Option Uaddr) Refusal
+option_address None = Ok None
+option_address (Some text) = some_or_refusal spots.Address wants.Address (parse text.now)
+
 -- ---- what each flag asks for
 
 -- procedure 0 at the address of `-a`, or at that which GETADDR says
-abbrev pub by_address : Netid → Shape → Option (Bor (List ℕ)) → Result Plan Refusal
-by_address netid shape None = ping_plan_at_host (means.Netid netid) shape
-by_address netid shape (Some address) = ping_plan (means.Address netid) shape 0
+abbrev pub by_address : Netid → Shape → Option Uaddr → Result Plan Refusal
+by_address netid shape None = ping_plan_at_host (ways.Getaddr netid) shape
+by_address netid shape (Some address) = ping_plan (ways.Address netid address) shape 0
 
 abbrev pub by_netid : Netid → Shape → Result Plan Refusal
-by_netid netid shape = by_address netid shape shape.address
+by_netid netid shape = option_address shape.address >>= by_address netid shape
 
 -- a socket has no address of a host
 abbrev pub by_option : Shape → Option Netid → Result Plan Refusal
@@ -184,8 +191,8 @@ without_flag shape = option_netid shape.netid >>= by_option shape
 
 -- procedure 0 at the port of `-n`, or at that which GETPORT says
 abbrev pub by_port : Transport → Shape → Option ℕ → Result Plan Refusal
-by_port transport shape None = ping_plan_at_host (means.Mapped transport) shape
-by_port transport shape (Some port) = ping_plan_at_host (means.Port transport port) shape
+by_port transport shape None = ping_plan_at_host (ways.Getport transport) shape
+by_port transport shape (Some port) = ping_plan_at_host (ways.Port transport port) shape
 
 abbrev pub by_transport : Transport → Shape → Result Plan Refusal
 by_transport transport shape = option_number shape.target spots.Target wants.Port 1 65535 >>= by_port transport shape
@@ -265,7 +272,7 @@ listing_has_layout listing layout = true
 abbrev pub has_layout : Plan → Layout → Bool
 has_layout (Show listing source) layout = listing_has_layout listing layout
 has_layout (Entries source prog vers) layout = true
-has_layout (Ping means prog vers) layout = false
+has_layout (Ping way prog vers) layout = false
 has_layout (Delete netid prog vers) layout = false
 has_layout (Broadcast prog vers) layout = false
 

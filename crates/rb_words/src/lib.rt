@@ -6,7 +6,7 @@ mod read;
 mod refusal;
 mod shape;
 
-pub use plan::{Layout, Listing, Means, Plan, Request, Source};
+pub use plan::{Layout, Listing, Plan, Request, Source, Way};
 pub use read::read_words;
 pub use refusal::{Refusal, Spot, Wanted, write_refusal};
 pub use shape::{Flag, Shape};

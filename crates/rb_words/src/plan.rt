@@ -1,5 +1,6 @@
 //! What is asked for.
 use rb_address::{Netid, Transport};
+use rb_uaddr::Uaddr;
 
 /// What is listed of a host's portmapper.
 #[derive(Clone, Copy, Debug, PartialEq, Eq)]
@@ -27,17 +28,17 @@ pub enum Source {
     Named,
 }
 
-/// How a program is found whose procedure 0 is called.
+/// How the place of a program is found whose procedure 0 is called.
 #[derive(Clone, Copy, Debug, PartialEq, Eq)]
-pub enum Means {
-    /// At the port that GETPORT says, on the host that the first word names.
-    Mapped(Transport),
-    /// At this port there.
+pub enum Way {
+    /// By GETPORT of version 2, on the host that the first word names.
+    Getport(Transport),
+    /// By GETADDR of version 3, on that host, over the transport of this netid. It is not `local`.
+    Getaddr(Netid),
+    /// By nothing: it is this port of that host.
     Port(Transport, u16),
-    /// At the address that GETADDR says. It is not `local`.
-    Netid(Netid),
-    /// At the address of `-a`. It is not `local`.
-    Address(Netid),
+    /// By nothing: it is this address, over the transport of this netid. It is not `local`.
+    Address(Netid, Uaddr),
 }
 
 /// What a command line asks for.
@@ -48,7 +49,7 @@ pub enum Plan {
     /// The addresses of a program and a version.
     Entries(Source, u32, u32),
     /// Procedure 0 of a program, in one version or in each.
-    Ping(Means, u32, Option<u32>),
+    Ping(Way, u32, Option<u32>),
     /// UNSET of a program and a version on this machine, on one netid or on all.
     Delete(Option<Netid>, u32, u32),
     /// Procedure 0 of a program and a version, by the portmappers of a network.

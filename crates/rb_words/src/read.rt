@@ -1,12 +1,13 @@
 //! Reads the words of a command line.
 ghost use Rattle.std.specs.Prelude.{◌≡◌, ◌<◌};
-ghost use Rattle.rb_words.specs.Words.{flag_of, option_number, number_at, program_of, program_at, ends_at, source_of, source_at, host_at, show_plan, entries_plan, ping_plan, ping_plan_at_host, program_and_version, option_netid, by_netid, by_transport, without_flag, delete_plan, plan_of, is_ping, is_broadcast, broadcast_plan, may_have_netid, is_here, wanted_with, has_layout, layout_of, only_where, check_options, request_of};
+ghost use Rattle.rb_words.specs.Words.{flag_of, option_number, number_at, program_of, program_at, ends_at, source_of, source_at, host_at, show_plan, entries_plan, ping_plan, ping_plan_at_host, program_and_version, option_netid, option_address, by_netid, by_transport, without_flag, delete_plan, plan_of, is_ping, is_broadcast, broadcast_plan, may_have_netid, is_here, wanted_with, has_layout, layout_of, only_where, check_options, request_of};
 
-use crate::plan::{Layout, Listing, Means, Plan, Request, Source};
+use crate::plan::{Layout, Listing, Plan, Request, Source, Way};
 use crate::refusal::{Refusal, Spot, Wanted};
 use crate::shape::{Flag, Shape};
 use rb_address::{Netid, Transport};
 use rb_names::{Service, number_in, number_of};
+use rb_uaddr::Uaddr;
 
 /// The portmapper's port.
 const PORT: u16 = 111;
@@ -147,25 +148,25 @@ fn entries_plan(shape: &Shape<'_, '_, '_>) -> Result<Plan, Refusal>
 }
 
 /// PROGRAM, and VERSION where it is there, from this place on.
-fn ping_plan(means: Means, shape: &Shape<'_, '_, '_>, i: usize) -> Result<Plan, Refusal>
+fn ping_plan(way: Way, shape: &Shape<'_, '_, '_>, i: usize) -> Result<Plan, Refusal>
     requires { i < 2 }
-    ensures { result ≡ ping_plan means shape.now i }
+    ensures { result ≡ ping_plan way shape.now i }
 {
     let prog = program_at(shape, i)?;
     if shape.words.get(i + 1).is_none() {
-        return Ok(Plan::Ping(means, prog, None));
+        return Ok(Plan::Ping(way, prog, None));
     }
     let vers = number_at(shape.words, i + 1, Wanted::Version)?;
     ends_at(shape.words, i + 2)?;
-    Ok(Plan::Ping(means, prog, Some(vers)))
+    Ok(Plan::Ping(way, prog, Some(vers)))
 }
 
 /// HOST PROGRAM, and VERSION where it is there.
-fn ping_plan_at_host(means: Means, shape: &Shape<'_, '_, '_>) -> Result<Plan, Refusal>
-    ensures { result ≡ ping_plan_at_host means shape.now }
+fn ping_plan_at_host(way: Way, shape: &Shape<'_, '_, '_>) -> Result<Plan, Refusal>
+    ensures { result ≡ ping_plan_at_host way shape.now }
 {
     host_at(shape.words)?;
-    ping_plan(means, shape, 1)
+    ping_plan(way, shape, 1)
 }
 
 /// PROGRAM VERSION.
@@ -191,6 +192,19 @@ fn option_netid(text: Option<&str>) -> Result<Option<Netid>, Refusal>
     }
 }
 
+/// The address of `-a`.
+fn option_address(text: Option<&str>) -> Result<Option<Uaddr>, Refusal>
+    ensures { result ≡ option_address text.entry }
+{
+    match text {
+        None => Ok(None),
+        Some(text) => match Uaddr::parse(text.as_bytes()) {
+            Ok(address) => Ok(Some(address)),
+            Err(_) => refusal_at(Spot::Address, Wanted::Address),
+        },
+    }
+}
+
 /// The number of a port, where it is given.
 fn option_port(text: Option<&str>, at: Spot) -> Result<Option<u16>, Refusal>
     ensures { result ≡ option_number text.entry at Wanted.Port 1 65535 }
@@ -205,9 +219,9 @@ fn option_port(text: Option<&str>, at: Spot) -> Result<Option<u16>, Refusal>
 fn by_netid(netid: Netid, shape: &Shape<'_, '_, '_>) -> Result<Plan, Refusal>
     ensures { result ≡ by_netid netid shape.now }
 {
-    match shape.address {
-        None => ping_plan_at_host(Means::Netid(netid), shape),
-        Some(_) => ping_plan(Means::Address(netid), shape, 0),
+    match option_address(shape.address)? {
+        None => ping_plan_at_host(Way::Getaddr(netid), shape),
+        Some(address) => ping_plan(Way::Address(netid, address), shape, 0),
     }
 }
 
@@ -227,8 +241,8 @@ fn by_transport(transport: Transport, shape: &Shape<'_, '_, '_>) -> Result<Plan,
     ensures { result ≡ by_transport transport shape.now }
 {
     match option_port(shape.target, Spot::Target)? {
-        None => ping_plan_at_host(Means::Mapped(transport), shape),
-        Some(port) => ping_plan_at_host(Means::Port(transport, port), shape),
+        None => ping_plan_at_host(Way::Getport(transport), shape),
+        Some(port) => ping_plan_at_host(Way::Port(transport, port), shape),
     }
 }
 

@@ -9,10 +9,10 @@ use rb_address::Transport;
 use rb_course::{Course, Place, Stage, asked, begin, called_at, fallback, show_lack};
 use rb_plans::{
     FIRST_XID, Fault, Notices, Words, aim_of, course_end, falls_back, follow, is_asked,
-    is_unanswered, none_asked, notices_at, way_of,
+    is_unanswered, none_asked, notices_at,
 };
 use rb_show::{Ask, Form, InfoFault, Question, Shown};
-use rb_words::Means;
+use rb_words::Way;
 use std::alloc::Global;
 use std::io::Write;
 use std::net::{Net, SocketAddr};
@@ -226,26 +226,23 @@ pub fn ping<N: Net + Clock, O: Write>(
     alloc: Global,
     net: &N,
     words: &Words<'_, '_>,
-    means: Means,
+    way: Way,
     prog: u32,
     vers: Option<u32>,
     output: &mut O,
 ) -> Answered {
-    let Some(way) = way_of(means, words.address) else {
-        return silently(Err(Fault::NoHost));
-    };
     let course = Course {
         way,
         prog,
         uid: words.request.uid,
     };
-    match means {
-        Means::Address(_) => {
+    match way {
+        Way::Address(..) => {
             let portmapper = here(words.request.port);
             let mut is_old = false;
             silently(run_course(alloc, net, portmapper, &course, vers, &mut is_old, output))
         }
-        Means::Mapped(_) | Means::Port(..) | Means::Netid(_) => ping_named(
+        Way::Getport(_) | Way::Getaddr(_) | Way::Port(..) => ping_named(
             alloc, net, words, &course, vers, output,
         ),
     }

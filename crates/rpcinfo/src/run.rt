@@ -46,7 +46,7 @@ fn carry_course<N: Net + Clock + Files, O: Write>(
     output: &mut O,
 ) -> Answered {
     match words.request.plan {
-        Plan::Ping(means, prog, vers) => ping(alloc, net, words, means, prog, vers, output),
+        Plan::Ping(way, prog, vers) => ping(alloc, net, words, way, prog, vers, output),
         Plan::Broadcast(prog, vers) => {
             silently(broadcast(alloc, net, words, prog, vers, output))
         }

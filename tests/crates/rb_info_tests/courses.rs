@@ -1,9 +1,10 @@
 //! A course of questions to a daemon in the same process, on port 20116 of 127.0.0.1.
 use crate::turns::{daemon_of, receive};
 use rb_address::Transport;
-use rb_course::{Aim, Answer, Course, End, Place, Stage, Step, Way, asked, begin, next};
+use rb_course::{Aim, Answer, Course, End, Stage, Step, asked, begin, next};
 use rb_daemon::Daemon;
 use rb_show::{Form, HeldBytes, InfoFault, Shown, show_reply, write_call};
+use rb_words::Way;
 use std::io::Write;
 use std::net::{Ipv4Addr, SocketAddr, TcpStream};
 use std::test::Fail;
@@ -44,7 +45,7 @@ fn step(
 fn each_version_over_tcp(rt: HostRuntime) -> Result<(), Fail> {
     let mut daemon = daemon_of(&rt, PORT, 4).ok_or("no daemon")?;
     let course = Course {
-        way: Way::Known(Place::Port(Transport::Tcp, PORT)),
+        way: Way::Port(Transport::Tcp, PORT),
         prog: 100_000,
         uid: None,
     };

@@ -1,11 +1,10 @@
 //! The forms of rpcinfo that call procedure 0 of a program: their words are read, and what they ask for is asked of a
 //! daemon by turns.
 use crate::client::{Client, PORT, daemon_everywhere, portmapper, portmapper6};
-use rb_course::{Aim, Course, End, Place, Way, transport_of};
+use rb_course::{Aim, Course, End};
 use rb_names::{Service, read_services};
 use rb_show::Form;
-use rb_uaddr::Uaddr;
-use rb_words::{Flag, Means, Plan, Shape, read_words};
+use rb_words::{Flag, Plan, Shape, read_words};
 use std::net::SocketAddr;
 use std::test::Fail;
 
@@ -30,25 +29,13 @@ fn shape_of<'s, 'a>(flags: &'s [Flag], words: &'s [&'a str]) -> Shape<'s, 'a, 's
     }
 }
 
-fn way_of(means: Means, address: Option<&str>) -> Option<Way> {
-    match means {
-        Means::Mapped(transport) => Some(Way::Port(transport)),
-        Means::Port(transport, port) => Some(Way::Known(Place::Port(transport, port))),
-        Means::Netid(netid) => Some(Way::Address(netid)),
-        Means::Address(netid) => {
-            let address = Uaddr::parse(address?.as_bytes()).ok()?;
-            Some(Way::Known(Place::Address(transport_of(netid), address)))
-        }
-    }
-}
-
 /// The course that words ask for, and the version that it begins with.
 fn course_of(shape: &Shape<'_, '_, '_>) -> Option<(Course, Aim)> {
-    let Plan::Ping(means, prog, vers) = read_words(shape).ok()?.plan else {
+    let Plan::Ping(way, prog, vers) = read_words(shape).ok()?.plan else {
         return None;
     };
     let course = Course {
-        way: way_of(means, shape.address)?,
+        way,
         prog,
         uid: None,
     };

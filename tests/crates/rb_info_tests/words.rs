@@ -1,6 +1,6 @@
 use rb_address::{Netid, Transport};
 use rb_names::{name_of, number_of, read_services};
-use rb_words::{Flag, Means, Plan, Refusal, Shape, Spot, Wanted, read_words, write_refusal};
+use rb_words::{Flag, Plan, Refusal, Shape, Spot, Wanted, Way, read_words, write_refusal};
 use std::test::Fail;
 
 /// `--uid 7 -u HOST 100000` is read with each of its parts.
@@ -24,7 +24,7 @@ fn words_are_read(rt: HostRuntime) -> Result<(), Fail> {
     assert_eq!(rt; request.port, 111);
     assert_eq!(rt;
         request.plan,
-        Plan::Ping(Means::Mapped(Transport::Udp), 100_000, None)
+        Plan::Ping(Way::Getport(Transport::Udp), 100_000, None)
     );
     assert_eq!(rt; Netid::named(b"udp6".as_slice()), Some(Netid::Udp6));
     assert_eq!(rt; Netid::Udp6.text().as_bytes(), b"udp6".as_slice());
