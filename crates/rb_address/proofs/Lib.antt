@@ -5,3 +5,4 @@ pub mod CallerWords
 pub mod HostLaws
 pub mod NameLaws
 pub mod NetworkBits
+pub mod OnLiterals

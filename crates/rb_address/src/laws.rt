@@ -30,6 +30,7 @@ pub fn caller_laws()
 {}
 
 /// Worked examples of the definitions.
+#[tactic(auto, unfolding(crate::proofs::OnLiterals::rb_address_on_literals))]
 pub fn worked_examples()
     ensures hosts_of_this_host { HostsOfThisHost }
     ensures peers_printed { PeersPrinted }

@@ -1,3 +1,4 @@
 pub mod Readings
 pub mod Remotes
 pub mod Requests
+pub mod OnLiterals

@@ -3,7 +3,8 @@ ghost use Rattle.std.specs.Prelude.{◌≡◌, ◌≤◌, length, IfOk};
 ghost use Rattle.rb_xdr.specs.Xdr.{IsContent, read_opaque};
 ghost use Rattle.rb_arguments.specs.Types.{read_rpcb, read_netbuf};
 
-use rb_xdr::{Xdr, XdrFault, take_opaque};
+use crate::rpcb::Rpcb;
+use rb_xdr::{Text, Xdr, XdrFault, take_opaque};
 use std::marker::Model;
 
 /// The content of a string or of opaque data of at most `N` bytes.
@@ -40,6 +41,13 @@ impl<'a, const N: usize> LentText<'a, N> {
     {
         self.content
     }
+
+    /// A copy of it.
+    fn to_owned(&self) -> Text<N>
+        ensures { result ≡ self.now }
+    {
+        Text::new(self.as_slice())
+    }
 }
 
 /// An rpcb (RFC 1833 section 2.1).
@@ -66,7 +74,8 @@ impl<'a> LentRpcb<'a> {
     #[inline(never)]
     #[tactic(auto, unfolding(crate::specs::Types::read_rpcb))]
     pub(crate) fn read(bytes: &'a [u8]) -> Result<(LentRpcb<'a>, usize), XdrFault>
-        ensures { result ≡ read_rpcb bytes.now }
+        ensures exact { result ≡ read_rpcb bytes.now }
+        ensures within { IfOk result (λ read. read.1 ≤ length bytes.now) }
     {
         let (prog, first) = u32::read(bytes)?;
         let bytes = &bytes[first..];
@@ -88,6 +97,19 @@ impl<'a> LentRpcb<'a> {
             },
             used,
         ))
+    }
+
+    /// The same with copies of its texts.
+    pub(crate) fn to_owned(&self) -> Rpcb
+        ensures { result ≡ self.now }
+    {
+        Rpcb {
+            prog: self.prog,
+            vers: self.vers,
+            netid: self.netid.to_owned(),
+            addr: self.addr.to_owned(),
+            owner: self.owner.to_owned(),
+        }
     }
 
     /// The program's number.

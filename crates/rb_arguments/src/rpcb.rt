@@ -1,6 +1,7 @@
 //! rpcb (RFC 1833 section 2.1).
 ghost use Rattle.rb_arguments.specs.Types.{IsRpcb, rpcb_spelling, max_rpcb, rpcb_form, read_rpcb};
 
+use crate::lent::LentRpcb;
 use rb_xdr::{Kept, Meter, Text, Xdr, XdrFault};
 
 /// The universal address at which a version of a program is reached on a netid, and who set it.
@@ -47,27 +48,8 @@ impl Xdr for Rpcb {
         self.owner.write(out, meter);
     }
 
-    #[tactic(auto, unfolding(crate::specs::Types::read_rpcb))]
     fn read(bytes: &[u8]) -> Result<(Self, usize), XdrFault> {
-        let (prog, first) = u32::read(bytes)?;
-        let bytes = &bytes[first..];
-        let (vers, second) = u32::read(bytes)?;
-        let bytes = &bytes[second..];
-        let (netid, third) = Text::read(bytes)?;
-        let bytes = &bytes[third..];
-        let (addr, fourth) = Text::read(bytes)?;
-        let bytes = &bytes[fourth..];
-        let (owner, fifth) = Text::read(bytes)?;
-        let used = first + (second + (third + (fourth + fifth)));
-        Ok((
-            Rpcb {
-                prog,
-                vers,
-                netid,
-                addr,
-                owner,
-            },
-            used,
-        ))
+        let (lent, used) = LentRpcb::read(bytes)?;
+        Ok((lent.to_owned(), used))
     }
 }

@@ -1,4 +1,6 @@
 //! Worked examples of the definitions.
+#![tactic(auto, unfolding(crate::proofs::OnLiterals::rb_arguments_on_literals))]
+
 ghost use Rattle.rb_arguments.specs.Worked.{ProceduresAreKnown, GreatestArguments};
 
 /// The definitions give what the worked examples say.

@@ -4,7 +4,7 @@ ghost use Rattle.std.specs.Borrow.{sem};
 ghost use Rattle.std.specs.Option.{option_copied_mut, option_map};
 ghost use Rattle.std.specs.Map.{values_of};
 ghost use Rattle.rb_xdr.specs.Meter.{Pays, PaysAtMost};
-ghost use Rattle.rb_xdr.specs.Pool.{HasDistinctKeys};
+ghost use Rattle.rb_xdr.specs.Pool.{HasDistinctKeys, SameFrame};
 ghost use Rattle.rb_connections.specs.Slots.{wanted_slot, AreBuffers, AreSpare, HasBuffers, HasDistinctNumbers};
 ghost use Rattle.rb_connections.specs.LiveSlots.{charge_of, count_cost, FindsLive, LendsLive};
 ghost use Rattle.rb_connections.specs.StandsFor.{held_in};
@@ -84,9 +84,7 @@ fn take_buffers(spare: &mut Pool<Buffers>, meter: &mut Meter) -> Buffers
     ensures buffers { All (AreSpare spare.old.tie) (values_of spare.new.entries) }
     ensures distinct { HasDistinctKeys spare.new.entries }
     ensures made { AreSpare spare.old.tie result }
-    ensures cap { spare.new.cap ≡ spare.old.cap }
-    ensures memory { spare.new.memory ≡ spare.old.memory }
-    ensures tie { spare.new.tie ≡ spare.old.tie }
+    ensures frame { SameFrame spare.old spare.new }
     ensures cost { PaysAtMost meter.old meter.new 2 }
 {
     let Some(key) = spare.first(meter) else {
@@ -108,35 +106,12 @@ fn put_buffers(spare: &mut Pool<Buffers>, mut buffers: Buffers, meter: &mut Mete
     ensures more { length spare.new.entries ≡ length spare.old.entries + 1 }
     ensures buffers { All (AreSpare spare.old.tie) (values_of spare.new.entries) }
     ensures distinct { HasDistinctKeys spare.new.entries }
-    ensures cap { spare.new.cap ≡ spare.old.cap }
-    ensures memory { spare.new.memory ≡ spare.old.memory }
-    ensures tie { spare.new.tie ≡ spare.old.tie }
+    ensures frame { SameFrame spare.old spare.new }
     ensures cost { PaysAtMost meter.old meter.new 3 }
 {
     buffers.buffer.clear(meter);
     buffers.window.clear(meter);
-    let Ok(_) = spare.insert(buffers, meter) else {
-        unreachable!()
-    };
-}
-
-/// Adds a slot behind the others, and gives its key.
-fn put_slot(slots: &mut Pool<Slot>, slot: Slot, meter: &mut Meter) -> usize
-    requires tie { meter.old.tie ≡ slots.old.tie }
-    requires room { length slots.old.entries < slots.old.cap }
-    requires distinct { HasDistinctKeys slots.old.entries }
-    ensures last { values_of slots.new.entries ≡ values_of slots.old.entries ++ slot ∷ [] }
-    ensures more { length slots.new.entries ≡ length slots.old.entries + 1 }
-    ensures distinct { HasDistinctKeys slots.new.entries }
-    ensures cap { slots.new.cap ≡ slots.old.cap }
-    ensures memory { slots.new.memory ≡ slots.old.memory }
-    ensures tie { slots.new.tie ≡ slots.old.tie }
-    ensures cost { PaysAtMost meter.old meter.new 1 }
-{
-    let Ok(key) = slots.insert(slot, meter) else {
-        unreachable!()
-    };
-    key
+    spare.add(buffers, meter);
 }
 
 /// Whether a list with this stamp began before a change.
@@ -297,7 +272,7 @@ impl Connections {
             buffer,
             window,
         };
-        let key = put_slot(&mut self.slots, slot, meter);
+        let key = self.slots.add(slot, meter);
         self.hints.note(self.last_number, key);
         Ok(self.last_number)
     }

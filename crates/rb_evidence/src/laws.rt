@@ -11,6 +11,7 @@ pub fn table_laws()
 {}
 
 /// Worked examples, of tables that Linux 6.18 showed.
+#[tactic(auto, unfolding(crate::proofs::OnLiterals::rb_evidence_on_literals))]
 pub fn worked_examples()
     ensures over_ipv4 { OverIpv4 }
     ensures over_ipv6 { OverIpv6 }

@@ -5,3 +5,4 @@ mod WordVerdicts
 mod CallsStay
 mod CallFeeds
 mod WholeHeads
+pub mod OnLiterals

@@ -7,3 +7,4 @@ pub mod Stands
 pub mod TableSteps
 pub mod Tables
 pub mod Xids
+pub mod OnLiterals

@@ -31,6 +31,13 @@ pub record Table : Type 0 where
   pub memory : (ℕ × ℕ) × (ℕ × ℕ)
   pub tie : ℕ
 
+-- the first xid, the number of entries that there may be, the memory and the meter stay
+pub record SameFrame (old new : Table) : Type 0 where
+  pub first_xid : new.first_xid ≡ old.first_xid
+  pub cap : new.cap ≡ old.cap
+  pub memory : new.memory ≡ old.memory
+  pub tie : new.tie ≡ old.tie
+
 pub record StandsForForwards (table : Table) (f : Forwards) : Type 0 where
   pub all : AllZip (StandsForEntry table.first_xid) (values_of table.slots) f.all
   pub next : f.next ≡ table.last_number + 1

@@ -2,7 +2,7 @@
 ghost use Rattle.std.specs.Prelude.{◌≡◌, ◌≤◌, ◌<◌, ◌+◌, ◌*◌, ◌++◌, [], All, length, IfOk};
 ghost use Rattle.std.specs.Map.{values_of};
 ghost use Rattle.rb_xdr.specs.Meter.{PaysAtMost};
-ghost use Rattle.rb_xdr.specs.Pool.{HasDistinctKeys};
+ghost use Rattle.rb_xdr.specs.Pool.{HasDistinctKeys, SameFrame};
 ghost use Rattle.rb_rpc.specs.CallBytes.{call_bytes};
 ghost use Rattle.rb_rpc.specs.declared.call.Credential.TheVariants as credentials;
 ghost use Rattle.rb_forward.specs.Table.{IsBuffer, IsSpare};
@@ -29,9 +29,7 @@ pub(crate) fn take_buffer(spare: &mut Pool<Kept>, meter: &mut Meter) -> Kept
     ensures buffers { All (IsSpare spare.old.tie) (values_of spare.new.entries) }
     ensures distinct { HasDistinctKeys spare.new.entries }
     ensures made { IsSpare spare.old.tie result }
-    ensures cap { spare.new.cap ≡ spare.old.cap }
-    ensures memory { spare.new.memory ≡ spare.old.memory }
-    ensures tie { spare.new.tie ≡ spare.old.tie }
+    ensures frame { SameFrame spare.old spare.new }
     ensures cost { PaysAtMost meter.old meter.new 2 }
 {
     let Some(key) = spare.first(meter) else {
@@ -53,15 +51,11 @@ pub(crate) fn put_buffer(spare: &mut Pool<Kept>, mut buffer: Kept, meter: &mut M
     ensures more { length spare.new.entries ≡ length spare.old.entries + 1 }
     ensures buffers { All (IsSpare spare.old.tie) (values_of spare.new.entries) }
     ensures distinct { HasDistinctKeys spare.new.entries }
-    ensures cap { spare.new.cap ≡ spare.old.cap }
-    ensures memory { spare.new.memory ≡ spare.old.memory }
-    ensures tie { spare.new.tie ≡ spare.old.tie }
+    ensures frame { SameFrame spare.old spare.new }
     ensures cost { PaysAtMost meter.old meter.new 2 }
 {
     buffer.clear(meter);
-    let Ok(_) = spare.insert(buffer, meter) else {
-        unreachable!()
-    };
+    spare.add(buffer, meter);
 }
 
 /// As many buffers as there may be entries.

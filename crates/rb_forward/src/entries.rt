@@ -1,9 +1,7 @@
 //! What is kept of entries, in the order of their calls.
-ghost use Rattle.std.specs.Prelude.{◌≡◌, ◌≤◌, ◌<◌, ◌+◌, ◌∷◌, [], ◌++◌, length};
+ghost use Rattle.std.specs.Prelude.{◌≡◌, length};
 ghost use Rattle.std.specs.Option.{option_map};
-ghost use Rattle.std.specs.Map.{values_of};
 ghost use Rattle.rb_xdr.specs.Meter.{PaysAtMost};
-ghost use Rattle.rb_xdr.specs.Pool.{HasDistinctKeys};
 ghost use Rattle.rb_xdr.specs.Places.{to_come};
 ghost use Rattle.rb_forward.specs.Costs.{find_cost};
 ghost use Rattle.rb_forward.specs.Table.{is_wanted_slot, wanted_slot};
@@ -135,22 +133,4 @@ pub(crate) fn wanted_key(slots: &Pool<Slot>, wanted: Wanted, meter: &mut Meter) 
     ensures cost { PaysAtMost meter.old meter.new (find_cost (length slots.now.entries)) }
 {
     slots.find_key(|slot| slot.is_wanted(wanted), meter)
-}
-
-/// Adds a slot behind the others.
-pub(crate) fn put_slot(slots: &mut Pool<Slot>, slot: Slot, meter: &mut Meter)
-    requires tie { meter.old.tie ≡ slots.old.tie }
-    requires room { length slots.old.entries < slots.old.cap }
-    requires distinct { HasDistinctKeys slots.old.entries }
-    ensures last { values_of slots.new.entries ≡ values_of slots.old.entries ++ slot ∷ [] }
-    ensures more { length slots.new.entries ≡ length slots.old.entries + 1 }
-    ensures distinct { HasDistinctKeys slots.new.entries }
-    ensures cap { slots.new.cap ≡ slots.old.cap }
-    ensures memory { slots.new.memory ≡ slots.old.memory }
-    ensures tie { slots.new.tie ≡ slots.old.tie }
-    ensures cost { PaysAtMost meter.old meter.new 1 }
-{
-    let Ok(_) = slots.insert(slot, meter) else {
-        unreachable!()
-    };
 }

@@ -5,7 +5,7 @@ ghost use Rattle.rb_forward.specs.Forwards.{head_of, entry_charge};
 
 use crate::buffers::{HEAD, make_spare, put_buffer, take_buffer, write_call};
 use crate::deadlines::soonest_in;
-use crate::entries::{Slot, Wanted, put_slot, wanted_key};
+use crate::entries::{Slot, Wanted, wanted_key};
 use crate::outcome::{outcome_of, xid_of};
 use crate::types::{Ended, Forward, FwdId, Gone, Outcome, Unsent};
 use rb_address::Peer;
@@ -88,7 +88,7 @@ impl Forwards {
     ghost use Rattle.rb_rpc.specs.Forwarded.{longest_forwarded};
     ghost use Rattle.rb_forward.specs.Forwards.{no_forwards, reply, due, drop_caller, can_start, with_next_entry, can_be_sent, sent, unsent, held, without_first};
     ghost use Rattle.rb_forward.specs.Outcomes.{PassesWithin};
-    ghost use Rattle.rb_forward.specs.StandsFor.{StandsForForwards, slots_of, longest_forwarded_call, held_in};
+    ghost use Rattle.rb_forward.specs.StandsFor.{StandsForForwards, SameFrame, slots_of, longest_forwarded_call, held_in};
     ghost use Rattle.rb_forward.specs.Table.{Whatever, Becomes, GivenBy, LeftBy, end_of, IsNew, NoneWaitsAnew, OnlyWaitsAnew, is_waiting, AreOfDistinctCallers, is_wanted_slot, plain_unsent, count_lent};
 
     /// An empty table for at most `cap` entries; the first one will have the xid `first_xid`. It takes the memory for
@@ -138,11 +138,8 @@ impl Forwards {
             (Becomes self.old self.new (with_next_entry clock forward.now args.now)) }
         ensures waiting { OnlyWaitsAnew forward.now.caller
             (slots_of self.old) (slots_of self.new) }
-        ensures err { OnErr result (self.new ≡ self.old) }
-        ensures first_xid { self.new.first_xid ≡ self.old.first_xid }
-        ensures cap { self.new.cap ≡ self.old.cap }
-        ensures memory { self.new.memory ≡ self.old.memory }
-        ensures tie { self.new.tie ≡ self.old.tie }
+        ensures unchanged { OnErr result (self.new ≡ self.old) }
+        ensures frame { SameFrame self.old self.new }
         ensures cost { PaysAtMost meter.old meter.new (start_cost (length args.now)) }
     {
         if self.slots.len(meter) >= self.cap as usize {
@@ -164,7 +161,7 @@ impl Forwards {
             sent: false,
             call,
         };
-        put_slot(&mut self.slots, slot, meter);
+        self.slots.add(slot, meter);
         Ok(FwdId {
             number: self.last_number,
         })
@@ -201,11 +198,8 @@ impl Forwards {
         ensures there { Whatever self.old (λ f. IsOk result ↔ IsTrue (can_be_sent id.number f)) }
         ensures sent { OnOk result (Becomes self.old self.new (sent id.number)) }
         ensures waiting { NoneWaitsAnew (slots_of self.old) (slots_of self.new) }
-        ensures err { OnErr result (self.new ≡ self.old) }
-        ensures first_xid { self.new.first_xid ≡ self.old.first_xid }
-        ensures cap { self.new.cap ≡ self.old.cap }
-        ensures memory { self.new.memory ≡ self.old.memory }
-        ensures tie { self.new.tie ≡ self.old.tie }
+        ensures unchanged { OnErr result (self.new ≡ self.old) }
+        ensures frame { SameFrame self.old self.new }
         ensures cost { PaysAtMost meter.old meter.new (sent_cost self.old.cap) }
     {
         let Some(key) = wanted_key(&self.slots, Wanted::Unsent(id.number), meter) else {
@@ -235,10 +229,7 @@ impl Forwards {
         ensures alone { IfSome result
             (λ ended. IsNew ended.forward.caller (slots_of self.new)) }
         ensures waiting { NoneWaitsAnew (slots_of self.old) (slots_of self.new) }
-        ensures first_xid { self.new.first_xid ≡ self.old.first_xid }
-        ensures cap { self.new.cap ≡ self.old.cap }
-        ensures memory { self.new.memory ≡ self.old.memory }
-        ensures tie { self.new.tie ≡ self.old.tie }
+        ensures frame { SameFrame self.old self.new }
         ensures cost { PaysAtMost meter.old meter.new (end_cost self.old.cap) }
     {
         let Some(xid) = xid_of(bytes) else {
@@ -257,10 +248,7 @@ impl Forwards {
         ensures alone { IfSome result
             (λ ended. IsNew ended.forward.caller (slots_of self.new)) }
         ensures waiting { NoneWaitsAnew (slots_of self.old) (slots_of self.new) }
-        ensures first_xid { self.new.first_xid ≡ self.old.first_xid }
-        ensures cap { self.new.cap ≡ self.old.cap }
-        ensures memory { self.new.memory ≡ self.old.memory }
-        ensures tie { self.new.tie ≡ self.old.tie }
+        ensures frame { SameFrame self.old self.new }
         ensures cost { PaysAtMost meter.old meter.new (end_cost self.old.cap) }
     {
         self.end(Wanted::Due(clock), Outcome::Failed, meter)
@@ -274,10 +262,7 @@ impl Forwards {
         ensures left { LeftBy (drop_caller id) self.old self.new }
         ensures none_left { is_waiting id (slots_of self.new) ≡ false }
         ensures waiting { NoneWaitsAnew (slots_of self.old) (slots_of self.new) }
-        ensures first_xid { self.new.first_xid ≡ self.old.first_xid }
-        ensures cap { self.new.cap ≡ self.old.cap }
-        ensures memory { self.new.memory ≡ self.old.memory }
-        ensures tie { self.new.tie ≡ self.old.tie }
+        ensures frame { SameFrame self.old self.new }
         ensures cost { PaysAtMost meter.old meter.new (end_cost self.old.cap) }
     {
         self.end(Wanted::OfConnection(id), Outcome::Dropped, meter)
@@ -304,10 +289,7 @@ impl Forwards {
         ensures alone { IfSome result
             (λ ended. IsNew ended.forward.caller (slots_of self.new)) }
         ensures waiting { NoneWaitsAnew (slots_of self.old) (slots_of self.new) }
-        ensures first_xid { self.new.first_xid ≡ self.old.first_xid }
-        ensures cap { self.new.cap ≡ self.old.cap }
-        ensures memory { self.new.memory ≡ self.old.memory }
-        ensures tie { self.new.tie ≡ self.old.tie }
+        ensures frame { SameFrame self.old self.new }
         ensures cost { PaysAtMost meter.old meter.new (end_cost self.old.cap) }
     {
         let Some(key) = wanted_key(&self.slots, wanted, meter) else {

@@ -1,4 +1,6 @@
 //! Worked examples of the definitions.
+#![tactic(auto, unfolding(crate::proofs::OnLiterals::rb_forward_on_literals))]
+
 ghost use Rattle.rb_forward.specs.Worked.{IsAsked, ArgumentsFollow, SentOnce, XidsWrap, OnePlace, NumbersAreSpent, OtherHost, OtherPort, OtherXid, ThreeBytes, BeforeItIsSent, AtTheDeadline, InTime, EndsAtTheDeadline, TargetRefuses, TargetDenies, FourBytes, LongResultsPass, LongerResultsFail, CallerGoesAway, WhatIsHeld};
 
 /// The definitions give what the worked examples say.

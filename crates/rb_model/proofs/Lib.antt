@@ -5,3 +5,4 @@ pub mod Expiring
 pub mod ReplyHeads
 pub mod AskedArgs
 pub mod CostBounds
+pub mod OnLiterals

@@ -12,3 +12,4 @@ pub mod Notes
 pub mod Goings
 pub mod Refusing
 pub mod OwnRows
+pub mod OnLiterals

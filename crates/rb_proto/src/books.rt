@@ -181,7 +181,7 @@ impl Books {
         requires { AreTied meter.old.tie self.old }
         ensures there { IsOkWhere (λ l. can_be_sent id.number l.forwards) self.old result }
         ensures sent { OnOk result (Becomes (call_sent id.number) self.old self.new) }
-        ensures err { OnErr result (self.new ≡ self.old) }
+        ensures unchanged { OnErr result (self.new ≡ self.old) }
         ensures registry { self.new.registry ≡ self.old.registry }
         ensures waiting { NoneWaitsAnew (slots_of self.old.forwards) (slots_of self.new.forwards) }
         ensures frame { SameFrame self.old self.new }

@@ -1,4 +1,6 @@
 //! Worked examples of the definitions.
+#![tactic(auto, unfolding(crate::proofs::OnLiterals::rb_proto_on_literals))]
+
 ghost use Rattle.rb_proto.specs.Worked.{DumpOwnRows, SetGetportSetAgain, GetportGreatestVersion, SetAtRowLimit, VersionTwoRefuses, OwnersRemove, UnsetByOwner, OtherAddressesRefused, GetaddrByTransport, Getaddrlist, AddressTransportForm, LocalityAndGettime, RefusalsOfAcceptedCalls, GetstatFirstCall, GetstatAfterCalls, GetstatOfOtherCalls, GetstatFirstKeys, LongDump, LongPmapDump};
 ghost use Rattle.rb_proto.specs.WorkedForwards.{WithoutRow, WithOtherRows, PortmapperIsNotCalled, TableIsFull, FailuresAreCounted, AnyHostIsThisMachine, OtherHostsStay, EndsAreNoted, OthersAreNotNoted, PlacesAreShown};
 ghost use Rattle.rb_proto.specs.WorkedNetids.{AddressesGoByNetid, TextsStay, OthersAreNotSeen, VersionTwoListsNone, Ipv6TransportForm};

@@ -16,7 +16,8 @@ use Rattle.rb_registry.specs.Slots.{slot_of, removed_by, is_dropped, removal_of,
 use Rattle.rb_registry.specs.Table.{IsStamped, AreStamped, with_mark, entries_with_marks, entries_left}
 use Rattle.rb_registry.specs.Registry.{AreOwn}
 use Rattle.rb_registry.proofs.Changes.{own_row, both}
-use Rattle.rb_registry.proofs.Finds.{values_of-push, values_of-filter}
+use Rattle.rb_xdr.proofs.PoolLemmas.{values_of-push}
+use Rattle.rb_registry.proofs.Finds.{values_of-filter}
 use Rattle.rb_registry.proofs.Tables.{live_has_none}
 
 -- ---- one slot at a change

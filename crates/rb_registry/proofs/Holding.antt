@@ -8,7 +8,7 @@ use Rattle.rb_registry.specs.declared.slot.Slot.{Slot}
 use Rattle.rb_registry.specs.Rows.{Change}
 use Rattle.rb_registry.specs.Slots.{slot_of, held_in}
 use Rattle.rb_registry.specs.Table.{AreStamped, goes, with_mark, entries_with_marks}
-use Rattle.rb_registry.proofs.Finds.{values_of-push}
+use Rattle.rb_xdr.proofs.PoolLemmas.{values_of-push}
 
 abbrev pub charge : Slot → ℕ
 charge slot = 32 + length slot.row.addr

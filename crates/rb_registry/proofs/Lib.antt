@@ -16,3 +16,4 @@ pub mod FoundLaws
 pub mod SetAgain
 pub mod Ranks
 pub mod Marks
+pub mod OnLiterals

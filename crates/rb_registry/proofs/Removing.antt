@@ -3,7 +3,8 @@ use Rattle.std.proofs.Common.{◌≡◌, ℕ, ◌+◌, length, arith, Bool, true
 use Rattle.std.specs.Prelude.{filter}
 use Rattle.rb_xdr.specs.Pool.{value_at, without, first_key, HasDistinctKeys}
 use Rattle.rb_xdr.specs.Places.{behind, to_come}
-use Rattle.rb_xdr.proofs.Walks.{step, up_to, passed}
+use Rattle.rb_xdr.proofs.PoolLemmas.{distinct-without}
+use Rattle.rb_xdr.proofs.Walks.{step, up_to, passed, next_found, next_passed}
 
 module _ {T : Type 0} where
   up_to-behind : (entries : List (ℕ × T)) (key : ℕ) → up_to entries key ++ behind entries key ≡ entries
@@ -17,42 +18,18 @@ module _ {T : Type 0} where
   passed-to_come entries None = refl
   passed-to_come entries (Some key) = up_to-behind entries key
 
-  still_missing : (entries : List (ℕ × T)) (key a : ℕ) → value_at entries a ≡ None → value_at (without entries key) a ≡ None
-  still_missing [] key a h = refl
-  still_missing (e ∷ rest) key a h = by_tests (eqb e.0 key) refl (eqb e.0 a) refl (still_missing rest key a)
-    where
-      by_tests : (b : Bool) → eqb e.0 key ≡ b → (t : Bool) → eqb e.0 a ≡ t → (value_at rest a ≡ None → value_at (without rest key) a ≡ None) → value_at (without (e ∷ rest) key) a ≡ None
-      by_tests b p true q further = let clash : Some e.1 ≡ None = rw q at h in absurd cc
-      by_tests true p false q further = rw (p) (rw q at h)
-      by_tests false p false q further = rw (p, q) (further (rw q at h))
-
-  pub distinct-without : (entries : List (ℕ × T)) (key : ℕ) → HasDistinctKeys entries → HasDistinctKeys (without entries key)
-  distinct-without [] key d = tt
-  distinct-without (e ∷ rest) key d = by_test (eqb e.0 key) (distinct-without rest key d.1)
-    where
-      by_test : (b : Bool) → HasDistinctKeys (without rest key) → HasDistinctKeys (cond b rest (e ∷ without rest key))
-      by_test true further = d.1
-      by_test false further = (still_missing rest key e.0 d.0, further)
-
   -- up to the place only what stays is left, and behind it nothing was looked at
   pub record Removing (goes : T → Bool) (before now : List (ℕ × T)) (place : Option ℕ) : Type 0 where
     pub distinct : HasDistinctKeys now
     pub kept : passed now place ++ filter (λ e. not (goes e.1)) (to_come now place) ≡ filter (λ e. not (goes e.1)) before
 
 module _ {T : Type 0} (goes : T → Bool) (before now : List (ℕ × T)) (place : Option ℕ) (h : Removing goes before now place) where
-  abbrev first_value : T → List (ℕ × T) → T
-  first_value other [] = other
-  first_value other (e ∷ es) = e.1
-
   module _ (key : ℕ) (value : T) (next : to_come now place ≡ (key, value) ∷ behind now key) where
     abbrev is_next : first_key (to_come now place) ≡ Some key
     is_next = ap (λ (es : List (ℕ × T)). first_key es) next
 
     pub is_there : value_at now key ≡ Some value
-    is_there =
-        let s = step now place key h.distinct is_next in
-        let same : s.value ≡ value = ap (λ (es : List (ℕ × T)). first_value value es) (sym s.come ∙ next) in
-        s.found ∙ ap (λ (v : T). Some v) same
+    is_there = next_found now place key value h.distinct next
 
     pub one_fewer : length (to_come (without now key) place) + 1 ≡ length (to_come now place)
     one_fewer =
@@ -72,9 +49,7 @@ module _ {T : Type 0} (goes : T → Bool) (before now : List (ℕ × T)) (place 
 
     pub left_in : goes value ≡ false → Removing goes before now (Some key)
     left_in stays =
-        let s = step now place key h.distinct is_next in
-        let same : s.value ≡ value = ap (λ (es : List (ℕ × T)). first_value value es) (sym s.come ∙ next) in
-        let one : passed now (Some key) ≡ passed now place ++ (key, value) ∷ [] = rw (← same) s.pass in
+        let one : passed now (Some key) ≡ passed now place ++ (key, value) ∷ [] = next_passed now place key value h.distinct next in
         let kept : passed now place ++ ((key, value) ∷ filter (λ e. not (goes e.1)) (behind now key)) ≡ filter (λ e. not (goes e.1)) before = rw (next, stays) at h.kept in
         record {
           distinct = h.distinct;

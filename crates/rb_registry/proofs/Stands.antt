@@ -16,7 +16,8 @@ use Rattle.rb_registry.specs.Slots.{slot_of, is_dropped, slots_from}
 use Rattle.rb_registry.specs.Table.{AreStamped, with_mark, entries_left}
 use Rattle.rb_registry.specs.Registry.{Registry, Reaches, StandsForChanges, slots_of, rows_of, rows_at, table_of, retained_count}
 use Rattle.rb_registry.proofs.Changes.{left_by-added, left_by-removed, own_stay}
-use Rattle.rb_registry.proofs.Finds.{values_of-push, values_of-filter}
+use Rattle.rb_xdr.proofs.PoolLemmas.{values_of-push}
+use Rattle.rb_registry.proofs.Finds.{values_of-filter}
 use Rattle.rb_registry.proofs.Tables.{set_before, set_now, marked_table_before, marked_table_after, live_and_retained, AreStamped-push, AreStamped-marked, AreStamped-filter}
 use Rattle.rb_registry.proofs.Registries.{with_row, with_removal, trimmed, trimmed_at, trimmed_now}
 use Rattle.rb_registry.proofs.History.{slots-set, slots-unset, slots-trim}

@@ -35,6 +35,12 @@ pub record Registry : Type 0 where
   pub floor : ℕ
   pub tie : ℕ
 
+-- the limit, the memory and the meter stay
+pub record SameFrame (old new : Registry) : Type 0 where
+  pub limit : new.limit ≡ old.limit
+  pub memory : new.memory ≡ old.memory
+  pub tie : new.tie ≡ old.tie
+
 -- the live rows, and the retained ones
 abbrev pub slots_of : Registry → List Slot
 slots_of kept = values_of kept.entries

@@ -89,7 +89,7 @@ impl Registry {
     ghost use Rattle.rb_registry.specs.declared.row.Row.{Row};
     ghost use Rattle.rb_registry.specs.Rows.{are_distinct, find_exact, find_row, live};
     ghost use Rattle.rb_registry.specs.Rows.Change.{Added, Removed};
-    ghost use Rattle.rb_registry.specs.Registry.{rows_of, slots_of, removals_of, retained_count, Reaches, AreOwn, StandsForChanges};
+    ghost use Rattle.rb_registry.specs.Registry.{rows_of, slots_of, removals_of, retained_count, Reaches, AreOwn, StandsForChanges, SameFrame};
     ghost use Rattle.rb_registry.specs.Table.{takes, floor_raised, StandsForMore, StandsForSame, later_than, IsLeast, PaysFor};
     ghost use Rattle.rb_registry.specs.Removals.{takes_removal};
     ghost use Rattle.rb_registry.specs.Costs.{set_cost, unset_cost};
@@ -165,11 +165,9 @@ impl Registry {
         ensures changes { StandsForMore self.old self.new result (Added row) }
         ensures retained { removals_of self.new ≡ removals_of self.old }
         ensures cursors { GoesOn self.old self.new }
-        ensures rejected { OnFalse result (self.new ≡ self.old) }
+        ensures unchanged { OnFalse result (self.new ≡ self.old) }
         ensures floor { self.new.floor ≡ self.old.floor }
-        ensures limit { self.new.limit ≡ self.old.limit }
-        ensures memory { self.new.memory ≡ self.old.memory }
-        ensures tie { self.new.tie ≡ self.old.tie }
+        ensures frame { SameFrame self.old self.new }
         ensures cost { PaysAtMost meter.old meter.new (set_cost self.old) }
     {
         if !is_change_left(self.changes) || has_key(&self.index, &row, meter) {
@@ -213,11 +211,9 @@ impl Registry {
             (Removed prog vers which owner) }
         ensures count { length (slots_of self.new) ≡ length (slots_of self.old) }
         ensures cursors { GoesOn self.old self.new }
-        ensures rejected { OnFalse result (self.new ≡ self.old) }
+        ensures unchanged { OnFalse result (self.new ≡ self.old) }
         ensures floor { self.new.floor ≡ self.old.floor }
-        ensures limit { self.new.limit ≡ self.old.limit }
-        ensures memory { self.new.memory ≡ self.old.memory }
-        ensures tie { self.new.tie ≡ self.old.tie }
+        ensures frame { SameFrame self.old self.new }
         ensures cost { PaysAtMost meter.old meter.new (unset_cost self.old which) }
     {
         let removal = Removal {
@@ -322,9 +318,7 @@ impl Registry {
         ensures rows { rows_of self.new ≡ rows_of self.old }
         ensures floor { self.new.floor ≡ floor_raised self.old oldest }
         ensures stamp { self.new.stamp ≡ self.old.stamp }
-        ensures limit { self.new.limit ≡ self.old.limit }
-        ensures memory { self.new.memory ≡ self.old.memory }
-        ensures tie { self.new.tie ≡ self.old.tie }
+        ensures frame { SameFrame self.old self.new }
         ensures cost { PaysAtMost meter.old meter.new (3 * length (slots_of self.old) + 1) }
         ensures free { retained_count self.old ≡ 0 → meter.new ≡ meter.old }
     {

@@ -8,3 +8,4 @@ pub mod SysBodies
 pub mod Feeding
 pub mod RecordCuts
 pub mod Streams
+pub mod OnLiterals

@@ -157,7 +157,7 @@ pub fn put_call(head: &CallHead, out: &mut Kept, meter: &mut Meter) -> Result<()
     requires { meter.old.tie ≡ out.old.tie }
     ensures room { IsOk result ↔ HasRoom (call_bytes head.now) out.old }
     ensures ok { OnOk result (Appends (call_bytes head.now) out.old out.new) }
-    ensures err { OnErr result (out.new ≡ out.old) }
+    ensures unchanged { OnErr result (out.new ≡ out.old) }
     ensures cap { out.new.cap ≡ out.old.cap }
     ensures tie { out.new.tie ≡ out.old.tie }
     ensures cost { OnOk result (Pays meter.old meter.new (1 + length (call_bytes head.now))) }

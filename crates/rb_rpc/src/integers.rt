@@ -23,7 +23,7 @@ pub(crate) fn put_numbers(numbers: &[u32], out: &mut Kept, meter: &mut Meter) ->
     requires few { length numbers.now < 2 ^ 32 }
     ensures room { IsOk result ↔ (length out.old.bytes + 4 * length numbers.now ≤ out.old.cap) }
     ensures ok { OnOk result (Appends (words numbers.now) out.old out.new) }
-    ensures err { OnErr result (out.new ≡ out.old) }
+    ensures unchanged { OnErr result (out.new ≡ out.old) }
     ensures cap { out.new.cap ≡ out.old.cap }
     ensures tie { out.new.tie ≡ out.old.tie }
     ensures cost { OnOk result (Pays meter.old meter.new (1 + 4 * length numbers.now)) }

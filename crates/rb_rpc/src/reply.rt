@@ -99,7 +99,7 @@ fn put_accepted(xid: u32, stat: u32, out: &mut Kept, meter: &mut Meter) -> Resul
     requires { meter.old.tie ≡ out.old.tie }
     ensures room { IsOk result ↔ HasRoom (accepted_reply xid auth_none stat) out.old }
     ensures ok { OnOk result (Appends (accepted_reply xid auth_none stat) out.old out.new) }
-    ensures err { OnErr result (out.new ≡ out.old) }
+    ensures unchanged { OnErr result (out.new ≡ out.old) }
     ensures cap { out.new.cap ≡ out.old.cap }
     ensures tie { out.new.tie ≡ out.old.tie }
     ensures cost { OnOk result (Pays meter.old meter.new 25) }
@@ -120,7 +120,7 @@ pub fn put_reply(head: &ReplyHead, out: &mut Kept, meter: &mut Meter) -> Result<
     requires { meter.old.tie ≡ out.old.tie }
     ensures room { IsOk result ↔ HasRoom (reply_bytes head.now) out.old }
     ensures ok { OnOk result (Appends (reply_bytes head.now) out.old out.new) }
-    ensures err { OnErr result (out.new ≡ out.old) }
+    ensures unchanged { OnErr result (out.new ≡ out.old) }
     ensures cap { out.new.cap ≡ out.old.cap }
     ensures tie { out.new.tie ≡ out.old.tie }
     ensures cost { OnOk result (Pays meter.old meter.new (1 + length (reply_bytes head.now))) }

@@ -1,4 +1,6 @@
 //! Worked examples of the definitions.
+#![tactic(auto, unfolding(crate::proofs::OnLiterals::rb_rpc_on_literals))]
+
 ghost use Rattle.rb_rpc.specs.Worked.{NullCall, NullCallAndMore, NullCallBySys, OtherRpcVersion, TooShort, GreatestCredential, OverlongCredential, HugeCredential, OtherFlavor, SysBodyCutShort, OverlongVerifier, BadResidue, GoodResidue, CutCalls, CutMismatches, CutCredentials, WritesNone, WritesSys, WritesRpcMismatch, WritesSuccess, WritesAuthError, WritesProgMismatch, WritesFaults, ReadsSuccess, ReadsNoneShort, ReadsProgMismatch, ReadsDenied, ReadsAuthStat, ReadsNoOtherAuthStat, ReadsVerifier, ManyFragments, ManyFragmentsData, OneByteLess, FirstOfTwo, ShortRecord, HugeFragment, MarkedReply, MarkedInNine, LongRecord, LongRecordVerdict};
 
 /// The verdicts on worked messages, and calls as they are written.

@@ -9,8 +9,8 @@ use Rattle.std.proofs.lemmas.List.{length-map}
 use Rattle.std.proofs.lemmas.List.Elements.{filter-append}
 use Rattle.std.proofs.lemmas.Map.Entries.{length-values_of}
 use Rattle.rb_xdr.specs.Pool.{Pool, value_at, with_value, HasDistinctKeys}
+use Rattle.rb_xdr.proofs.PoolLemmas.{distinct-with, values_of-push}
 use Rattle.rb_xdr.proofs.Walks.{distinct-push}
-use Rattle.rb_registry.proofs.Finds.{values_of-push}
 use Rattle.rb_stats.specs.declared.key.Version.{Version}
 use Rattle.rb_stats.specs.declared.key.Version.TheVariants.{Two, Three, Four}
 use Rattle.rb_stats.specs.declared.key.Info.{Info}
@@ -23,24 +23,6 @@ use Rattle.rb_stats.proofs.Keys.{by_test, key_same, in_place}
 use Rattle.rb_stats.proofs.Items.{filter-bumped, none_bumped}
 
 module _ {T : Type 0} where
-  missing-with : (entries : List (ℕ × T)) (key a : ℕ) (w : T) → value_at entries a ≡ None → value_at (with_value entries key w) a ≡ None
-  missing-with [] key a w h = refl
-  missing-with (e ∷ rest) key a w h = by_cases (eqb e.0 a) refl (missing-with rest key a w)
-    where
-      by_cases : (b : Bool) → eqb e.0 a ≡ b → (value_at rest a ≡ None → value_at (with_value rest key w) a ≡ None) → value_at (with_value (e ∷ rest) key w) a ≡ None
-      by_cases true t further = let clash : Some e.1 ≡ None = rw t at h in absurd cc
-      by_cases false t further =
-          let later : value_at (with_value rest key w) a ≡ None = further (rw t at h) in
-          let r : value_at rest a ≡ None = rw t at h in
-          elim (eqb e.0 key) as (λ b. value_at (cond b ((e.0, w) ∷ rest) (e ∷ with_value rest key w)) a ≡ None)
-          [ true ↦ rw t r | false ↦ rw t later ]
-
-  distinct-with : (entries : List (ℕ × T)) (key : ℕ) (w : T) → HasDistinctKeys entries → HasDistinctKeys (with_value entries key w)
-  distinct-with [] key w d = tt
-  distinct-with (e ∷ rest) key w d =
-      elim (eqb e.0 key) as (λ b. HasDistinctKeys (cond b ((e.0, w) ∷ rest) (e ∷ with_value rest key w)))
-      [ true ↦ (d.0, d.1) | false ↦ (missing-with rest key e.0 w d.0, distinct-with rest key w d.1) ]
-
   abbrev place_in : (T → Bool) → List (ℕ × T) → Option ℕ
   place_in test entries = option_map (λ e. e.0) (find (λ e. test e.1) entries)
 

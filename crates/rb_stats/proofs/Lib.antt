@@ -4,3 +4,4 @@ pub mod Entries
 pub mod Writing
 pub mod Sizes
 pub mod Histories
+pub mod OnLiterals

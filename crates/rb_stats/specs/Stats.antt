@@ -12,6 +12,11 @@ pub record Stats : Type 0 where
   pub memory : ℕ × ℕ
   pub tie : ℕ
 
+-- the memory and the meter stay
+pub record SameFrame (old new : Stats) : Type 0 where
+  pub memory : new.memory ≡ old.memory
+  pub tie : new.tie ≡ old.tie
+
 -- Statistics that keep this stand for these calls.
 pub record StandsForHistory (kept : Stats) (notes : List Note) : Type 0 where
   pub two : kept.two ≡ stat Two notes

@@ -58,7 +58,7 @@ impl Stats {
     ghost use Rattle.rb_stats.specs.Lists.{AreListsOf, lists_size};
     ghost use Rattle.rb_stats.specs.Statistics.{greatest_int};
     ghost use Rattle.rb_stats.specs.Statistics.Note.{Called, WasSet, WasUnset, LookedUp, Forwarded};
-    ghost use Rattle.rb_stats.specs.Stats.{StandsForHistory, key_count, most_keys};
+    ghost use Rattle.rb_stats.specs.Stats.{StandsForHistory, SameFrame, key_count, most_keys};
     ghost use Rattle.rb_stats.specs.Counting.{HasNoted, SpellsHistory, spelling, put_cost, calls_at};
 
     /// Nothing was called. `NoMemory` where the memory for the 192 keys is refused. It costs nothing.
@@ -79,8 +79,7 @@ impl Stats {
     pub fn clear(&mut self, meter: &mut Meter)
         requires { meter.old.tie ≡ self.old.tie }
         ensures cleared { StandsForHistory self.new [] }
-        ensures memory { self.new.memory ≡ self.old.memory }
-        ensures tie { self.new.tie ≡ self.old.tie }
+        ensures frame { SameFrame self.old self.new }
         ensures few { key_count self.old ≤ most_keys }
         ensures cost { Pays meter.old meter.new (2 * key_count self.old + 1) }
     {
@@ -96,8 +95,7 @@ impl Stats {
     pub fn note_call(&mut self, version: Version, proc: u32)
         ensures history { HasNoted (Called version proc) self.old self.new }
         ensures full { calls_at version proc self.old ≡ greatest_int → self.new ≡ self.old }
-        ensures memory { self.new.memory ≡ self.old.memory }
-        ensures tie { self.new.tie ≡ self.old.tie }
+        ensures frame { SameFrame self.old self.new }
     {
         match version {
             Version::Two => self.two.count_call(proc),
@@ -109,8 +107,7 @@ impl Stats {
     /// Notes a SET of the version that answered TRUE; a count of 2^31 - 1 stays. It costs nothing.
     pub fn note_set(&mut self, version: Version)
         ensures history { HasNoted (WasSet version) self.old self.new }
-        ensures memory { self.new.memory ≡ self.old.memory }
-        ensures tie { self.new.tie ≡ self.old.tie }
+        ensures frame { SameFrame self.old self.new }
     {
         match version {
             Version::Two => self.two.count_set(),
@@ -122,8 +119,7 @@ impl Stats {
     /// Notes an UNSET of the version that answered TRUE; a count of 2^31 - 1 stays. It costs nothing.
     pub fn note_unset(&mut self, version: Version)
         ensures history { HasNoted (WasUnset version) self.old self.new }
-        ensures memory { self.new.memory ≡ self.old.memory }
-        ensures tie { self.new.tie ≡ self.old.tie }
+        ensures frame { SameFrame self.old self.new }
     {
         match version {
             Version::Two => self.two.count_unset(),
@@ -139,8 +135,7 @@ impl Stats {
     pub fn note_addr(&mut self, version: Version, target: Target, found: bool, meter: &mut Meter)
         requires { meter.old.tie ≡ self.old.tie }
         ensures history { HasNoted (LookedUp version target found) self.old self.new }
-        ensures memory { self.new.memory ≡ self.old.memory }
-        ensures tie { self.new.tie ≡ self.old.tie }
+        ensures frame { SameFrame self.old self.new }
         ensures few { key_count self.old ≤ most_keys }
         ensures cost { PaysAtMost meter.old meter.new (2 * key_count self.old + 2) }
     {
@@ -167,8 +162,7 @@ impl Stats {
     )
         requires { meter.old.tie ≡ self.old.tie }
         ensures history { HasNoted (Forwarded version target proc passed indirect) self.old self.new }
-        ensures memory { self.new.memory ≡ self.old.memory }
-        ensures tie { self.new.tie ≡ self.old.tie }
+        ensures frame { SameFrame self.old self.new }
         ensures few { key_count self.old ≤ most_keys }
         ensures cost { PaysAtMost meter.old meter.new (2 * key_count self.old + 2) }
     {
@@ -194,7 +188,7 @@ impl Stats {
             (length out.old.bytes + length (spelling self.now) ≤ limit) }
         ensures ok { OnOk result (out.new
             ≡ record out.old { bytes = out.old.bytes ++ spelling self.now }) }
-        ensures err { OnErr result (out.new ≡ out.old) }
+        ensures unchanged { OnErr result (out.new ≡ out.old) }
         ensures within { length out.old.bytes ≤ limit → length out.new.bytes ≤ limit }
         ensures cap { out.new.cap ≡ out.old.cap }
         ensures tie { out.new.tie ≡ out.old.tie }

@@ -2,7 +2,7 @@
 ghost use Rattle.std.specs.Prelude.{◌≡◌, ◌+◌, ◌*◌, ◌<◌, ◌≤◌, [], length, IfOk, IfErr, Some};
 ghost use Rattle.std.specs.Map.{values_of};
 ghost use Rattle.rb_xdr.specs.Meter.{Pays, PaysAtMost};
-ghost use Rattle.rb_xdr.specs.Pool.{HasDistinctKeys};
+ghost use Rattle.rb_xdr.specs.Pool.{HasDistinctKeys, SameFrame};
 ghost use Rattle.rb_xdr.specs.Search.{key_of};
 ghost use Rattle.rb_stats.specs.Statistics.{greatest_list};
 ghost use Rattle.rb_stats.specs.Table.{list_len, is_item, HasNone, IsTable, count_with, HasCounted, HasAdded};
@@ -57,8 +57,7 @@ fn count_at(
     requires found { key_of (is_item key) items.old.entries ≡ Some place }
     ensures items { HasCounted (count_with key passed indirect) items.old items.new }
     ensures table { IsTable items.new }
-    ensures memory { items.new.memory ≡ items.old.memory }
-    ensures tie { items.new.tie ≡ items.old.tie }
+    ensures frame { SameFrame items.old items.new }
     ensures cost { Pays meter.old meter.new 1 }
 {
     let Some(item) = items.get_mut(place, meter) else {
@@ -75,15 +74,12 @@ fn add_item(items: &mut Pool<Item>, key: Key, passed: bool, indirect: bool, mete
     requires room { list_len key (values_of items.old.entries) < greatest_list }
     ensures items { HasAdded (count_with key passed indirect) items.old items.new }
     ensures table { IsTable items.new }
-    ensures memory { items.new.memory ≡ items.old.memory }
-    ensures tie { items.new.tie ≡ items.old.tie }
+    ensures frame { SameFrame items.old items.new }
     ensures cost { Pays meter.old meter.new 1 }
 {
     let mut item = Item::new(key);
     item.count(passed, indirect);
-    let Ok(_) = items.insert(item, meter) else {
-        unreachable!()
-    };
+    items.add(item, meter);
 }
 
 /// Removes all items, one after another. It costs 2 steps for each, and 1.

@@ -1,4 +1,6 @@
 //! Worked rows of the definitions.
+#![tactic(auto, unfolding(crate::proofs::OnLiterals::rb_stats_on_literals))]
+
 ghost use Rattle.rb_stats.specs.Worked.{FirstCall, CallsAreCounted, FirstKeysAlone, ForwardsAreCounted, NetidsAreApart, LocalIsLonger};
 
 /// The definitions give what the worked rows say.

@@ -13,3 +13,4 @@ pub mod Families
 pub mod ShortTexts
 pub mod Fronts
 pub mod TransportLaws
+pub mod OnLiterals

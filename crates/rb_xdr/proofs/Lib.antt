@@ -10,3 +10,4 @@ pub mod Taking
 pub mod Types
 pub mod Words
 pub mod XdrSets
+pub mod OnLiterals

@@ -25,7 +25,7 @@ module _ {T : Type 0} where
   passed entries (Some key) = up_to entries key
 
   -- two keys differ where one has a value and the other none
-  apart : (entries : List (ℕ × T)) (a b : ℕ) (v : T) → value_at entries a ≡ None → value_at entries b ≡ Some v → eqb a b ≡ false
+  pub apart : (entries : List (ℕ × T)) (a b : ℕ) (v : T) → value_at entries a ≡ None → value_at entries b ≡ Some v → eqb a b ≡ false
   apart entries a b v no_value some_value =
       by_test (λ t. t ≡ false) (eqb a b)
       (λ same. let e : a ≡ b = eqb-true a b same in let clash : value_at entries a ≡ Some v = rw e some_value in absurd cc)
@@ -100,6 +100,24 @@ module _ {T : Type 0} where
       let s = step entries place key d h in
       let same : s.value ≡ value = cc (s.found, found) in
       rw (← same) s.come
+
+  abbrev first_value : T → List (ℕ × T) → T
+  first_value other [] = other
+  first_value other (e ∷ es) = e.1
+
+  -- what comes next is there, and has then been passed
+  pub next_found : (entries : List (ℕ × T)) (place : Option ℕ) (key : ℕ) (value : T) → HasDistinctKeys entries → to_come entries place ≡ (key, value) ∷ behind entries key → value_at entries key ≡ Some value
+  next_found entries place key value d next =
+      let s = step entries place key d (ap (λ (es : List (ℕ × T)). first_key es) next) in
+      let same : s.value ≡ value = ap (λ (es : List (ℕ × T)). first_value value es) (sym s.come ∙ next) in
+      s.found ∙ ap (λ (v : T). Some v) same
+
+  pub next_passed : (entries : List (ℕ × T)) (place : Option ℕ) (key : ℕ) (value : T) → HasDistinctKeys entries → to_come entries place ≡ (key, value) ∷ behind entries key
+      → up_to entries key ≡ passed entries place ++ (key, value) ∷ []
+  next_passed entries place key value d next =
+      let s = step entries place key d (ap (λ (es : List (ℕ × T)). first_key es) next) in
+      let same : s.value ≡ value = ap (λ (es : List (ℕ × T)). first_value value es) (sym s.come ∙ next) in
+      rw (← same) s.pass
 
   pub has_entry : (entries : List (ℕ × T)) (place : Option ℕ) (key : ℕ) → HasDistinctKeys entries → first_key (to_come entries place) ≡ Some key → value_at entries key ≡ None → ⊥
   has_entry entries place key d h missing =

@@ -18,6 +18,6 @@ Leaves bytes room result = MatchOption result (room < length bytes) (λ left. le
 pub record Puts {A E : Type 0} (bytes : List ℕ) (limit : ℕ) (old new : Kept) (result : Result A E) : Type 0 where
   pub room : IsOk result ↔ (length old.bytes + length bytes ≤ limit)
   pub ok : OnOk result (Appends bytes old new)
-  pub err : OnErr result (new ≡ old)
+  pub unchanged : OnErr result (new ≡ old)
   pub cap : new.cap ≡ old.cap
   pub tie : new.tie ≡ old.tie

@@ -128,7 +128,7 @@ impl Ordered {
         requires absent { value_at self.old.entries number ≡ None }
         ensures room { IsOk result ↔ (length self.old.entries < self.old.cap) }
         ensures ok { OnOk result (self.new ≡ with_more self.old number key) }
-        ensures err { OnErr result (self.new ≡ self.old) }
+        ensures unchanged { OnErr result (self.new ≡ self.old) }
         ensures cost { Pays meter.old meter.new (insert_cost number self.old.entries) }
     {
         let place = self.place(number, meter);

@@ -1,11 +1,12 @@
 //! A table of fixed capacity whose keys are kept in order of insertion, and whose calls are counted.
-ghost use Rattle.std.specs.Prelude.{◌≡◌, ◌<◌, ◌≤◌, ◌+◌, ◌*◌, ◌↔◌, Bool, [], length, IsTrue, IsOk, IsSome, IfOk, IfErr, IfSome, OnErr, option_copied, Some, None};
+ghost use Rattle.std.specs.Prelude.{◌≡◌, ◌<◌, ◌≤◌, ◌+◌, ◌*◌, ◌↔◌, ◌++◌, ◌∷◌, Bool, [], length, IsTrue, IsOk, IsSome, IfOk, IfErr, IfSome, OnErr, option_copied, Some, None};
 ghost use Rattle.std.specs.Option.{option_copied_mut};
 ghost use Rattle.std.specs.Borrow.{sem};
+ghost use Rattle.std.specs.Map.{values_of};
 ghost use Rattle.rb_xdr.specs.Meter.{Pays, PaysAtMost};
 ghost use Rattle.rb_xdr.specs.Places.{to_come, IsNextEntry, look_cost};
 ghost use Rattle.rb_xdr.specs.Search.{IsTestOf, key_of, search_cost};
-ghost use Rattle.rb_xdr.specs.Pool.{with_entry, value_at, without, first_key, HasDistinctKeys};
+ghost use Rattle.rb_xdr.specs.Pool.{with_entry, value_at, without, first_key, HasDistinctKeys, SameFrame};
 
 use crate::chain::Chain;
 use crate::full::Full;
@@ -120,20 +121,34 @@ impl<T> Pool<T> {
         ensures room { IsOk result ↔ (length self.old.entries < self.old.cap) }
         ensures ok { IfOk result (λ key. self.new ≡ with_entry self.old key value) }
         ensures fresh { IfOk result (λ key. value_at self.old.entries key ≡ None) }
-        ensures err { OnErr result (self.new ≡ self.old) }
-        ensures cap { self.new.cap ≡ self.old.cap }
-        ensures memory { self.new.memory ≡ self.old.memory }
-        ensures tie { self.new.tie ≡ self.old.tie }
+        ensures unchanged { OnErr result (self.new ≡ self.old) }
+        ensures frame { SameFrame self.old self.new }
         ensures returned { IfErr result (λ full. full.value ≡ value) }
         ensures cost { Pays meter.old meter.new 1 }
     {
-        meter.pay(1);
         if self.values.len() == self.cap {
+            meter.pay(1);
             return Err(Full { value });
         }
+        Ok(self.add(value, meter))
+    }
+
+    /// Adds a value at the end of the order, for which there is room, and returns its key, which was free, in 1 step.
+    pub fn add(&mut self, value: T, meter: &mut Meter) -> usize
+        requires tie { meter.old.tie ≡ self.old.tie }
+        requires room { length self.old.entries < self.old.cap }
+        ensures entry { self.new ≡ with_entry self.old result value }
+        ensures fresh { value_at self.old.entries result ≡ None }
+        ensures last { values_of self.new.entries ≡ values_of self.old.entries ++ value ∷ [] }
+        ensures more { length self.new.entries ≡ length self.old.entries + 1 }
+        ensures distinct { HasDistinctKeys self.new.entries }
+        ensures frame { SameFrame self.old self.new }
+        ensures cost { Pays meter.old meter.new 1 }
+    {
+        meter.pay(1);
         let key = self.values.insert_reserved(value);
         self.keys.push(key);
-        Ok(key)
+        key
     }
 
     /// The value under `key`, or `None` where there is none, in 1 step.

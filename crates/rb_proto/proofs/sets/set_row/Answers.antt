@@ -33,4 +33,4 @@ returns-else-added-clause-acts c =
     c.requires.limit
     (rw c.in-Some.is at c.requires.room)
     (sym c.if-added.ensures.taken)
-    (ap (λ (kept : Registry). record c.args.books.now { registry = kept }) c.if-added.ensures.rejected))
+    (ap (λ (kept : Registry). record c.args.books.now { registry = kept }) c.if-added.ensures.unchanged))

@@ -49,8 +49,8 @@ invariant_of-self c =
       spare_distinct = c.put_buffers.ensures.distinct;
       room = omega (arith, one_less, c.put_buffers.ensures.more, c.self.invariant.room);
       cap = c.self.invariant.cap;
-      spare_cap = c.put_buffers.ensures.cap ∙ c.self.invariant.spare_cap;
-      tie = c.put_buffers.ensures.tie ∙ c.self.invariant.tie;
+      spare_cap = c.put_buffers.ensures.frame.cap ∙ c.self.invariant.spare_cap;
+      tie = c.put_buffers.ensures.frame.tie ∙ c.self.invariant.tie;
       buffers = All-without (HasBuffers c.self.inside.slots.tie) es c.in-Some.key c.self.invariant.buffers;
       spare_buffers = subst (λ t. All (AreSpare t) (values_of c.put_buffers.new.spare.entries)) c.self.invariant.tie c.put_buffers.ensures.buffers;
       numbers = numbered-without c.self.inside.last_number es c.in-Some.key c.self.invariant.numbers;
@@ -63,7 +63,7 @@ invariant_of-self c =
 
 pub returns-clause-acts : goal.returns-clause-acts
 returns-clause-acts c =
-    λ registry. rw (c.remove.ensures.entries, c.put_buffers.ensures.memory) (
+    λ registry. rw (c.remove.ensures.entries, c.put_buffers.ensures.frame.memory) (
     acts_from registry (close_in_table c.args.id) (the_view c.self.inside) c.args.self.now _ _ c.self.view_is
     (one_closed registry c.args.id (the_view c.self.inside) c.in-Some.key c.in-Some-remove.slot c.self.invariant.distinct c.self.invariant.numbers (sym c.in-Some.ensures.key) (sym c.in-Some-remove.ensures.value)))
 
@@ -71,7 +71,7 @@ pub returns-in_default-clause-goes_on : goal.returns-in_default-clause-goes_on
 returns-in_default-clause-goes_on c = goes_on_same _
 
 pub returns-clause-goes_on : goal.returns-clause-goes_on
-returns-clause-goes_on c = rw (c.remove.ensures.entries, c.put_buffers.ensures.memory) (record {
+returns-clause-goes_on c = rw (c.remove.ensures.entries, c.put_buffers.ensures.frame.memory) (record {
   lists = keeps_less (the_view c.self.inside) c.args.self.now c.self.view_is c.in-Some.key;
   free = freed_from (the_view c.self.inside) c.args.self.now _ c.self.view_is (none_freed_by_close (the_view c.self.inside) c.in-Some.key);
   stays = rw (← c.self.view_is) (record { conns = refl; memory = refl; tie = refl; within = λ within. All-without IsWithin c.self.inside.slots.entries c.in-Some.key within });

@@ -29,26 +29,26 @@ overflow_add-self-2 c = let room = room_for_one c.self.inside.slots c.self.insid
 
 pub invariant_of-self : goal.invariant_of-self
 invariant_of-self c = record {
-  distinct = c.put_slot-key.ensures.distinct;
+  distinct = c.add-key.ensures.distinct;
   spare_distinct = c.take_buffers-buffer.ensures.distinct;
-  room = omega (arith, c.put_slot-key.ensures.more, c.take_buffers-buffer.ensures.fewer, c.self.invariant.room);
-  cap = c.put_slot-key.ensures.cap ∙ c.self.invariant.cap;
-  spare_cap = c.take_buffers-buffer.ensures.cap ∙ c.self.invariant.spare_cap;
-  tie = c.take_buffers-buffer.ensures.tie ∙ c.self.invariant.tie ∙ sym c.put_slot-key.ensures.tie;
+  room = omega (arith, c.add-key.ensures.more, c.take_buffers-buffer.ensures.fewer, c.self.invariant.room);
+  cap = c.add-key.ensures.frame.cap ∙ c.self.invariant.cap;
+  spare_cap = c.take_buffers-buffer.ensures.frame.cap ∙ c.self.invariant.spare_cap;
+  tie = c.take_buffers-buffer.ensures.frame.tie ∙ c.self.invariant.tie ∙ sym c.add-key.ensures.frame.tie;
   buffers =
-      subst (λ t. All (HasBuffers t) (values_of c.put_slot-key.new.slots.entries)) (sym c.put_slot-key.ensures.tie)
-      (rw c.put_slot-key.ensures.last (All-push (HasBuffers c.self.inside.slots.tie) (values_of c.self.inside.slots.entries) _ c.self.invariant.buffers
+      subst (λ t. All (HasBuffers t) (values_of c.add-key.new.self.entries)) (sym c.add-key.ensures.frame.tie)
+      (rw c.add-key.ensures.last (All-push (HasBuffers c.self.inside.slots.tie) (values_of c.self.inside.slots.entries) _ c.self.invariant.buffers
       (subst (λ t. AreBuffers t c.take_buffers-buffer.result.buffer c.take_buffers-buffer.result.window) c.self.invariant.tie c.take_buffers-buffer.ensures.made.buffers)));
   spare_buffers =
-      subst (λ t. All (AreSpare t) (values_of c.take_buffers-buffer.new.spare.entries)) (c.self.invariant.tie ∙ sym c.put_slot-key.ensures.tie)
+      subst (λ t. All (AreSpare t) (values_of c.take_buffers-buffer.new.spare.entries)) (c.self.invariant.tie ∙ sym c.add-key.ensures.frame.tie)
       c.take_buffers-buffer.ensures.buffers;
-  numbers = rw c.put_slot-key.ensures.last (numbered-more c.self.inside.last_number (values_of c.self.inside.slots.entries) _ c.self.invariant.numbers refl);
+  numbers = rw c.add-key.ensures.last (numbered-more c.self.inside.last_number (values_of c.self.inside.slots.entries) _ c.self.invariant.numbers refl);
   few = c.self.invariant.few;
   within =
-      rw c.put_slot-key.ensures.last
+      rw c.add-key.ensures.last
       (within_pushed (values_of c.self.inside.slots.entries) _ c.take_buffers-buffer.ensures.made.buffer_empty c.take_buffers-buffer.ensures.made.window_empty c.self.invariant.within);
   is_held =
-      rw c.put_slot-key.ensures.last
+      rw c.add-key.ensures.last
       (held_pushed (values_of c.self.inside.slots.entries) _ c.take_buffers-buffer.ensures.made.buffer_empty c.take_buffers-buffer.ensures.made.window_empty c.self.inside.held c.self.invariant.is_held);
 }
 
@@ -56,7 +56,7 @@ pub returns-clause-acts : goal.returns-clause-acts
 returns-clause-acts c = λ registry.
     let conns = ap (λ t. t.conns) c.self.view_is in
     acts_from registry (open_in_table c.args.self.now.conns c.args.who c.args.clock) (the_view c.self.inside) c.args.self.now _ _ c.self.view_is
-    (opened_acts registry c.args.self.now.conns c.args.who c.args.clock (the_view c.self.inside) _ _ (omega (arith, conns, c.len.ensures.len, c.if-len-self.false)) (omega (arith, c.if-self.false)) c.put_slot-key.ensures.last refl
+    (opened_acts registry c.args.self.now.conns c.args.who c.args.clock (the_view c.self.inside) _ _ (omega (arith, conns, c.len.ensures.len, c.if-len-self.false)) (omega (arith, c.if-self.false)) c.add-key.ensures.last refl
     (record {
       number = refl;
       who = refl;
@@ -72,14 +72,14 @@ returns-then-self-clause-goes_on c = goes_on_same _
 
 pub returns-clause-goes_on : goal.returns-clause-goes_on
 returns-clause-goes_on c = record {
-  lists = keeps_more (the_view c.self.inside) c.args.self.now c.self.view_is _ c.put_slot-key.new.slots.entries c.put_slot-key.ensures.last (λ registry. tt);
-  free = freed_from (the_view c.self.inside) c.args.self.now _ c.self.view_is (none_freed_by_open (the_view c.self.inside) _ _ c.put_slot-key.ensures.last refl refl);
+  lists = keeps_more (the_view c.self.inside) c.args.self.now c.self.view_is _ c.add-key.new.self.entries c.add-key.ensures.last (λ registry. tt);
+  free = freed_from (the_view c.self.inside) c.args.self.now _ c.self.view_is (none_freed_by_open (the_view c.self.inside) _ _ c.add-key.ensures.last refl refl);
   stays = rw (← c.self.view_is) (record {
     conns = refl;
-    memory = rw (c.put_slot-key.ensures.memory, c.take_buffers-buffer.ensures.memory) refl;
-    tie = c.put_slot-key.ensures.tie;
+    memory = rw (c.add-key.ensures.frame.memory, c.take_buffers-buffer.ensures.frame.memory) refl;
+    tie = c.add-key.ensures.frame.tie;
     within = λ within.
-        rw c.put_slot-key.ensures.last
+        rw c.add-key.ensures.last
         (within_pushed (values_of c.self.inside.slots.entries) _ c.take_buffers-buffer.ensures.made.buffer_empty c.take_buffers-buffer.ensures.made.window_empty within);
   });
 }

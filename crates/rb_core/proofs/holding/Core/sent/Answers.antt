@@ -20,7 +20,7 @@ is_ok (Err f) x is = absurd cc
 
 pub returns-in_default-clause-acts : goal.returns-in_default-clause-acts
 returns-in_default-clause-acts c =
-    rw c.in_default.ensures.err (
+    rw c.in_default.ensures.unchanged (
     acts_begun _ (the_view c.self.inside) c.args.self.now _ c.count-self-inside.result _ c.self.view_is
     (sent_refused (with_steps_before (the_view c.self.inside) c.count-self-inside.result) c.args.id.number c.self.inside.books
     (λ l h. is_not _ (λ e. not_ok c.sent.result c.in_default.field-0 c.in_default.is ((c.sent.ensures.there l h).1 e)))))

@@ -52,7 +52,7 @@ pub invariant_of-self : goal.invariant_of-self
 invariant_of-self c =
     rw (c.remove.ensures.entries, c.len.ensures.len)
     (table_ended c.self.inside.slots c.self.inside.spare c.self.inside.cap c.self.inside.held c.self.invariant c.args.wanted c.in-Some.key c.in-Some-remove.slot (sym c.in-Some.ensures.key) (sym c.in-Some-remove.ensures.value)
-    c.put_buffer.new.spare c.put_buffer.ensures.more c.put_buffer.ensures.distinct c.put_buffer.ensures.cap c.put_buffer.ensures.tie
+    c.put_buffer.new.spare c.put_buffer.ensures.more c.put_buffer.ensures.distinct c.put_buffer.ensures.frame.cap c.put_buffer.ensures.frame.tie
     (subst (λ t. All (IsSpare t) (values_of c.put_buffer.new.spare.entries)) c.self.invariant.tie c.put_buffer.ensures.buffers))
 
 pub returns-clause-ended : goal.returns-clause-ended

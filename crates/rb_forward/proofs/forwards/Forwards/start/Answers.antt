@@ -35,9 +35,9 @@ invariant_of-self c =
       cap = ap (λ (k : Kept). k.cap) c.write_call.ensures.written ∙ c.take_buffer-call.ensures.made.cap;
       within = rw c.write_call.ensures.count (omega (arith, c.requires.args));
     } in
-    table_started c.self.inside.slots c.self.inside.spare c.self.inside.cap c.self.inside.held c.self.invariant (length c.args.args.now) c.put_slot.new.slots c.take_buffer-call.new.spare _
-    c.put_slot.ensures.last c.put_slot.ensures.more c.put_slot.ensures.distinct c.put_slot.ensures.cap c.put_slot.ensures.tie c.take_buffer-call.ensures.fewer c.take_buffer-call.ensures.distinct
-    c.take_buffer-call.ensures.cap c.take_buffer-call.ensures.tie (subst (λ t. All (IsSpare t) (values_of c.take_buffer-call.new.spare.entries)) c.self.invariant.tie c.take_buffer-call.ensures.buffers)
+    table_started c.self.inside.slots c.self.inside.spare c.self.inside.cap c.self.inside.held c.self.invariant (length c.args.args.now) c.add.new.self c.take_buffer-call.new.spare _
+    c.add.ensures.last c.add.ensures.more c.add.ensures.distinct c.add.ensures.frame.cap c.add.ensures.frame.tie c.take_buffer-call.ensures.fewer c.take_buffer-call.ensures.distinct
+    c.take_buffer-call.ensures.frame.cap c.take_buffer-call.ensures.frame.tie (subst (λ t. All (IsSpare t) (values_of c.take_buffer-call.new.spare.entries)) c.self.invariant.tie c.take_buffer-call.ensures.buffers)
     buffer c.write_call.ensures.count (subst (λ t. IsNew c.args.forward.now.caller (values_of t.slots)) (sym c.self.view_is) c.requires.caller)
 
 pub returns-clause-room : goal.returns-clause-room
@@ -53,7 +53,7 @@ unfolding later
 returns-clause-ok c = λ f h.
     let z = subst (λ t. StandsForForwards t f) (sym c.self.view_is) h in
     record {
-      all = rw c.put_slot.ensures.last
+      all = rw c.add.ensures.last
           (started_stands c.self.inside.first_xid (values_of c.self.inside.slots.entries) c.args.clock c.args.forward.now c.args.args.now f _ z.all
           (stands_new c.self.inside.first_xid c.self.inside.last_number c.args.clock c.args.forward.now c.args.args.now f c.head_of-head.result c.write_call.new.buffer c.saturating_add.result z.next
           c.head_of-head.ensures c.saturating_add.ensures (ap (λ (k : Kept). k.bytes) c.write_call.ensures.written)));
@@ -62,5 +62,5 @@ returns-clause-ok c = λ f h.
 
 pub returns-clause-waiting : goal.returns-clause-waiting
 returns-clause-waiting c = λ id other h.
-    rw c.put_slot.ensures.last
+    rw c.add.ensures.last
     (any-more (λ (s : Slot). is_connection id s.forward.caller) (values_of c.self.inside.slots.entries) _ (subst (λ t. is_waiting id (values_of t.slots) ≡ false) (sym c.self.view_is) h) other)

@@ -9,7 +9,7 @@ use Rattle.std.proofs.lemmas.Map.Entries.{length-values_of}
 use Rattle.rb_registry.specs.Slots.{slot_of, slots_from}
 use Rattle.rb_registry.specs.Registry.{table_at}
 use Rattle.rb_xdr.proofs.Walks.{distinct-push}
-use Rattle.rb_registry.proofs.Finds.{values_of-push}
+use Rattle.rb_xdr.proofs.PoolLemmas.{values_of-push}
 use Rattle.rb_registry.proofs.History.{slots-new}
 use Rattle.rb_registry.proofs.Holding.{held-push, held_bound}
 use Rattle.rb_registry.proofs.Tables.{own_now, AreStamped-own, live_and_retained, removals-push}
@@ -103,8 +103,8 @@ own-preserved c =
           (ap (λ (es : List (ℕ × Row)). values_of es) (own_now c.in-Ok.key c.in-Some.row c.own.slots.entries)
           ∙ values_of-push (table_at 0 c.own.slots.entries) c.in-Ok.key c.in-Some.row
           ∙ ap (λ (rows : List Row). rows ++ c.in-Some.row ∷ []) c.own.invariant.rows);
-      cap = c.insert.ensures.cap ∙ c.own.invariant.cap;
-      tie = c.insert.ensures.tie ∙ c.own.invariant.tie;
+      cap = c.insert.ensures.frame.cap ∙ c.own.invariant.cap;
+      tie = c.insert.ensures.frame.tie ∙ c.own.invariant.tie;
       meter = ap (λ (m : Meter). m.tie) c.insert-in-own.ensures.cost ∙ ap (λ (m : Meter). m.tie) c.insert.ensures.cost ∙ c.own.invariant.meter;
       rises = omega (arith, added, moved, c.own.invariant.rises);
       steps = omega (arith, added, moved, cost, longer, c.own.invariant.steps);

@@ -104,7 +104,7 @@ returns-in-Err-clause-taken c =
     rw (← c.self.view_is) (sym (no_room (the_view c.self.inside) c.args.row (omega (arith, full)) c.self.invariant.stamped))
 
 pub returns-in-Err-clause-cursors : goal.returns-in-Err-clause-cursors
-returns-in-Err-clause-cursors c = rw (c.in-Err.ensures.err, c.self.view_is) (goes_on_same _)
+returns-in-Err-clause-cursors c = rw (c.in-Err.ensures.unchanged, c.self.view_is) (goes_on_same _)
 
 pub returns-in-Err-clause-cost : goal.returns-in-Err-clause-cost
 returns-in-Err-clause-cost c =

@@ -93,8 +93,8 @@ returns-clause-changes c own changes h =
     rw (c.mark_covered-removed.ensures.marks, c.mark_covered-removed.ensures.index.cap)
     (after_unset (the_view c.self.inside) c.args.prog c.args.vers c.args.which c.args.owner own changes c.self.invariant.stamped c.self.invariant.made (subst (λ (kept : Registry). StandsForChanges kept own changes) (sym c.self.view_is) h))
 
-pub returns-then-removed-eq0-clause-rejected : goal.returns-then-removed-eq0-clause-rejected
-returns-then-removed-eq0-clause-rejected c = rw (unchanged _ _ _ _ c.mark_covered-removed.ensures.marks (none_goes c), c.mark_covered-removed.ensures.index.cap) c.self.view_is
+pub returns-then-removed-eq0-clause-unchanged : goal.returns-then-removed-eq0-clause-unchanged
+returns-then-removed-eq0-clause-unchanged c = rw (unchanged _ _ _ _ c.mark_covered-removed.ensures.marks (none_goes c), c.mark_covered-removed.ensures.index.cap) c.self.view_is
 
 pub returns-then-removed-eq0-clause-count : goal.returns-then-removed-eq0-clause-count
 returns-then-removed-eq0-clause-count c =

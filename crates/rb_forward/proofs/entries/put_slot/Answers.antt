@@ -1,6 +1,0 @@
-use Rattle.rb_xdr.proofs.Walks.{distinct-push}
-use Rattle.rb_forward.proofs.entries.put_slot.Goals as goal
-
-pub returns-clause-distinct : goal.returns-clause-distinct
-returns-clause-distinct c =
-    rw c.in-Ok.ensures.ok (distinct-push c.args.slots.now.entries c.in-Ok.field-0 c.args.slot c.requires.distinct c.in-Ok.ensures.fresh)
