@@ -1,6 +1,6 @@
 # rpcbind: `make run` shows a run, `make quick` tests without proof, `make` proves and builds the programs, `make test` is
-# the whole test, `make install` puts the programs that `make` built in their places. Needs `rt` (the Rattle toolchain)
-# and bash on the PATH; `make install` needs neither.
+# the whole test, `make install` puts the programs that `make` built in their places, `make deb` makes a package of Debian
+# of them. Needs `rt` (the Rattle toolchain) and bash on the PATH; `make install` needs neither, and `make deb` no `rt`.
 
 PREFIX = /usr/local
 DESTDIR =
@@ -16,7 +16,7 @@ NAMES = proved
 SUFFIX = $(if $(filter plain,$(NAMES)),,-proved)
 PLACED = sed 's|@PREFIX@|$(PREFIX)|g; s|@SUFFIX@|$(SUFFIX)|g'
 
-.PHONY: all run quick test rows hosts peers memory hostile attacks units bench measure install uninstall clean
+.PHONY: all run quick test rows hosts peers memory hostile attacks units bench measure deb release install uninstall clean
 
 # Proves each crate, side by side, and builds the programs, crates/rpcbind/out/rpcbind and crates/rpcinfo/out/rpcinfo.
 all:
@@ -61,10 +61,19 @@ hostile:
 attacks:
 	tests/attacks.sh
 
-# The units of systemd with the built programs, under a systemd of its own in a Debian that debootstrap makes. Needs root.
-# CACHE=FOLDER keeps that Debian there for the next time.
+# The units of systemd with the built programs, and the package, under a systemd of its own in a Debian that debootstrap
+# makes. Needs root. CACHE=FOLDER keeps that Debian there for the next time.
 units:
 	@CACHE=$(CACHE) tests/systemd.sh
+
+# A package of Debian of the built programs, in this folder. Needs dpkg-deb.
+deb:
+	@packaging/make-deb.sh
+
+# A release in out/release: each test from a clean checkout, the package, its SHA-256 sums, and what passed. Needs root.
+# LEAVE_OUT='STEP ..' leaves steps out, and what is made then says that it is none.
+release:
+	@LEAVE_OUT="$(LEAVE_OUT)" CACHE="$(CACHE)" packaging/release.sh
 
 # The time of a call, over the built program: TCP in single bytes and in one piece, datagrams over 300 rows, and long lists;
 # and that of a SET with --keep, beside one without.
@@ -102,4 +111,4 @@ uninstall:
 	rm -rf $(DOCDIR)
 
 clean:
-	rm -rf crates/*/out
+	rm -rf crates/*/out out rpcbind-proved_*.deb

@@ -1,12 +1,15 @@
 # Sourced by run-rows.sh: what must hold in the repository, whatever the programs do: its proofs by hand, the names that
 # documents give, and words of tests/row.py beside the bytes that they make. Of the programs it has their version alone.
 
-# Both programs are of one version, the newest of CHANGELOG that has a number.
+# Both programs and each man page are of one version, the newest of CHANGELOG.
 check_version() {
-    local version
-    version=$(grep -m 1 -oE '^[0-9]+\.[0-9]+\.[0-9]+$' CHANGELOG)
+    local page
     [ "$("$program" --version)" = "rpcbind $version" ] && [ "$("$rpcinfo" --version)" = "rpcinfo $version" ]
-    judge $? "the version of both programs"
+    judge $? "the version of both programs is not the newest of CHANGELOG, $version"
+    for page in man/*; do
+        grep -qxE "\.Os rpcbind ${version//./\\.}|\.TH .* \"rpcbind ${version//./\\.}\" .*" "$page"
+        judge $? "$page is not of the newest version of CHANGELOG, $version"
+    done
 }
 
 # A proof by hand could set the true count of the meter's token, so those of its two functions are the only ones.

@@ -356,7 +356,7 @@ run_rpcinfo_help() {
     run_rpcinfo /dev/null --help
     [ "$got" -eq 0 ] && [ ! -s "$work/stderr" ] && grep -q -e '--uid' "$work/stdout"
     judge $? "the help of rpcinfo"
-    echo 'rpcinfo 0.1.0' > "$work/wanted"
+    echo "rpcinfo $version" > "$work/wanted"
     run_rpcinfo /dev/null --version
     as_wanted "$work/wanted" /dev/null 0
     judge $? "the version of rpcinfo"

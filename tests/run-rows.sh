@@ -12,19 +12,21 @@
 #     keep.sh        a daemon that keeps its rows
 #     asking.sh      forms of rpcinfo over sockets
 #     refused.sh     programs whose memory is refused
+#     releases.sh    the package, and what a release refuses
 #     repository.sh  proofs by hand, names in documents, words and versions
 #
 # Each difference is printed. The last line is 'N passed, N failed'; the status is 1 where one failed.
 set -u
 cd "$(dirname "$0")/.." || exit 1
 
-for part in daemon rows starts records serving keep asking refused repository; do
+for part in daemon rows starts records serving keep asking refused releases repository; do
     . "tests/$part.sh"
 done
 
 program=${1:-$PWD/crates/rpcbind/out/rpcbind}
 rpcinfo=${2:-$PWD/crates/rpcinfo/out/rpcinfo}
 has_checks=${1:+1}
+version=$(packaging/changelog.sh version) || exit 1
 passed=0
 failed=0
 beside=()
@@ -95,6 +97,7 @@ if [ "$failed" -eq 0 ]; then
     run_serving
     run_keep_rows
     join_beside
+    run_releases
 fi
 check_repository
 

@@ -169,7 +169,7 @@ run_help_of() {
 # The version of the program, which each command says with its own name.
 run_version_of() {
     local command=$1 name=$2
-    echo "$name 0.1.0" > "$work/wanted"
+    echo "$name $version" > "$work/wanted"
     run /dev/null $command --version
     as_wanted "$work/wanted" /dev/null 0
     judge $? "the version by '$command'"

@@ -1,12 +1,14 @@
 #!/usr/bin/env bash
 # Boots a Debian with the built programs installed, by its systemd as process 1 of namespaces of its own, and checks what
-# the units of packaging/ do there beside Debian's rpcbind: tests/units/checks.sh has the checks. It boots twice, the
-# second time with ours enabled and /var mounted as NFS is. Nothing of the machine is touched, and no network.
+# the units of packaging/ do there beside Debian's rpcbind: tests/units/checks.sh has the checks. It boots twice with what
+# `make install` puts there, the second time with ours enabled and /var mounted as NFS is. Then it boots that Debian anew,
+# and has apt install, upgrade and purge the package of `make deb`: tests/units/package.sh has these checks. Nothing of the
+# machine is touched, and no network.
 #
 # The Debian is made by debootstrap, of the machine's own release and from the mirror of its package sources, in a folder
 # under /var/tmp that goes at the end. With CACHE=FOLDER in the environment it is kept there for the next time. Needs root,
-# and says what is missing. Each check is a line 'ok' or 'FAILED'; the last line is 'N passed, N failed'; the status is 1
-# where one failed.
+# and says what is missing. Each check is a line 'ok' or 'FAILED'; a line 'package: ' has the SHA-256 sum of the package;
+# the last line is 'N passed, N failed'; the status is 1 where one failed.
 set -u
 cd "$(dirname "$0")/.." || exit 1
 
@@ -26,13 +28,14 @@ fail() {
 
 [ -x crates/rpcbind/out/rpcbind ] && [ -x crates/rpcinfo/out/rpcinfo ] || fail "no built programs: run 'make' first"
 [ "$(id -u)" -eq 0 ] || skip "namespaces of its own want root"
-for tool in debootstrap apt-get unshare pivot_root chroot setpriv; do
+for tool in debootstrap apt-get dpkg-deb unshare pivot_root chroot setpriv; do
     command -v "$tool" > /dev/null || skip "there is no $tool"
 done
 unshare --pid --fork --mount --net --uts --ipc --cgroup true 2> /dev/null || skip "namespaces are not allowed here"
 
 work=$(mktemp -d /var/tmp/rpcbind-units.XXXXXX) || exit 1
 tree=$work/tree
+packages_made=$work/packages
 cgroup=
 
 # Ends what still runs in the control group, which is nothing where all went well.
@@ -55,8 +58,9 @@ mirror_of() {
         awk -v release="$1" '$1 == release && $2 == "main" { print $3; exit }'
 }
 
+# Has one in the folder `kept`.
 make_debian() {
-    local release mirror kept
+    local release mirror
     release=$(. /etc/os-release && echo "${VERSION_CODENAME:-}")
     mirror=$(mirror_of "$release")
     [ -n "$mirror" ] || skip "this machine has no package sources of Debian"
@@ -71,36 +75,47 @@ make_debian() {
         rm -rf --one-file-system "$kept"
         mv "$kept.new" "$kept"
     fi
-    if [ -n "${CACHE:-}" ]; then cp -a --reflink=auto "$kept" "$tree"; else mv "$kept" "$tree"; fi
 }
 
-# The lines of README.md with systemd's commands, block N of them: 1 puts ours in the place of the other, 2 goes back.
-lines_of_readme() {
-    awk -v wanted="$1" '
-        /^    sudo system/ { if (!inside) block++; inside = 1; if (block == wanted) print $0; next }
-        { inside = 0 }' README.md | sed 's/^ *sudo //'
+# The commands in README.md's lines that begin with sudo, one a line and without it: those from one that begins with the
+# first words up to the next that begins with the second ones.
+commands_of_readme() {
+    sed -nE 's/^    sudo /sudo /p' README.md | sed -E 's/ +#.*//; s/ && /\n/g' | sed -n 's/^sudo //p' |
+        sed -n "/^$1/,/^$2/p"
 }
 
 # What `make install` takes, for an upgrade in there.
 copy_source() {
     local source=$tree/checks/source name
     mkdir "$source"
-    cp -r Makefile LICENSE CHANGELOG packaging man "$source/"
+    cp -r Makefile LICENSE CHANGELOG ./*.md packaging man "$source/"
     for name in rpcbind rpcinfo; do
         mkdir -p "$source/crates/$name/out"
         cp "crates/$name/out/$name" "$source/crates/$name/out/"
     done
 }
 
+# The package of `make deb`, and one of a later version, which differs in that alone.
+make_packages() {
+    local package
+    package=$(packaging/make-deb.sh "$packages_made") || fail "no package"
+    (cd "$packages_made" && sha256sum "$(basename "$package")") | sed 's/^/package: /'
+    mkdir "$packages_made/next"
+    dpkg-deb --raw-extract "$package" "$work/next" &&
+        sed -i 's/^Version: .*/&+next/' "$work/next/DEBIAN/control" &&
+        dpkg-deb --root-owner-group --build "$work/next" "$packages_made/next" > "$work/made" 2>&1 ||
+        fail "no package of a later version: $(tail -n 1 "$work/made")"
+}
+
+# A Debian as it was made, with the checks.
 prepare() {
     local unit
-    make --no-print-directory install DESTDIR="$tree" > "$work/made" 2>&1 ||
-        fail "make install: $(tail -n 1 "$work/made")"
+    rm -rf --one-file-system "$tree"
+    cp -a --reflink=auto "$kept" "$tree" || fail "the Debian can't be copied"
     mkdir "$tree/checks"
-    lines_of_readme 1 > "$tree/checks/to-ours"
-    lines_of_readme 2 > "$tree/checks/back"
-    cp tests/units/checks.sh "$tree/checks/"
-    copy_source
+    commands_of_readme 'systemctl disable --now rpcbind\.' 'systemctl enable --now rpcbind-proved\.' > "$tree/checks/to-ours"
+    commands_of_readme 'systemctl disable --now rpcbind-proved\.' 'systemctl enable --now rpcbind\.' > "$tree/checks/back"
+    cp tests/units/checks.sh tests/units/package.sh "$tree/checks/"
     : > "$tree/etc/machine-id"
     # timers that would ask for the network, and servers of NFS: that of the kernel, and one that the checks start by hand
     for unit in apt-daily.timer apt-daily-upgrade.timer fstrim.timer e2scrub_all.timer \
@@ -118,6 +133,21 @@ ExecStopPost=/bin/systemctl --no-block exit
 END
     mkdir -p "$tree/etc/systemd/system/default.target.wants"
     ln -s ../checks.service "$tree/etc/systemd/system/default.target.wants/"
+}
+
+prepare_installed() {
+    prepare
+    make --no-print-directory install DESTDIR="$tree" > "$work/made" 2>&1 ||
+        fail "make install: $(tail -n 1 "$work/made")"
+    copy_source
+    # README.md's command that makes the user, once; the package does it by itself
+    { grep -m 1 -o 'systemd-sysusers rpcbind-proved.conf' README.md; cat "$tree/checks/to-ours"; } > "$work/to-ours"
+    cp "$work/to-ours" "$tree/checks/to-ours"
+}
+
+prepare_package() {
+    prepare
+    cp -r "$packages_made" "$tree/checks/packages"
 }
 
 # A folder as /var far away: what mounts NFS binds it in place of asking a server. By _netdev it stays a mount of the
@@ -169,12 +199,30 @@ boot() {
     sed '/^end of the checks$/d' "$tree/checks/output" | tee -a "$work/output"
 }
 
+# Whether the package installs and is purged where no systemd runs, as in an image that is being made.
+install_in_chroot() {
+    if (
+        chroot "$tree" sh -c 'apt-get install --yes /checks/packages/rpcbind-proved_*.deb' &&
+            [ -x "$tree/usr/sbin/rpcbind-proved" ] && chroot "$tree" apt-get purge --yes rpcbind-proved &&
+            [ ! -e "$tree/usr/sbin/rpcbind-proved" ]
+    ) > "$work/made" 2>&1; then
+        echo "ok      it installs and is purged where no systemd runs"
+    else
+        echo "FAILED  it installs and is purged where no systemd runs"
+        sed 's/^/            /' "$work/made"
+    fi
+}
+
 make_cgroup
 make_debian
-prepare
+make_packages
+prepare_installed
 boot first
 prepare_far_var
 boot second
+prepare_package
+boot package
+install_in_chroot | tee -a "$work/output"
 passed=$(grep -c '^ok ' "$work/output")
 failed=$(grep -c '^FAILED ' "$work/output")
 echo "$passed passed, $failed failed"

@@ -1,15 +1,16 @@
 #!/usr/bin/env bash
-# The checks of the units, inside the Debian that tests/systemd.sh boots; /checks/name says which of the two boots it is.
-# Debian's rpcbind is there, ours beside it as `make install` puts it, and rpc-statd, which registers and is the unit of
-# others that starts rpcbind. Services that no unit ties to rpcbind are there too: rpc.statd, rpc.mountd and nfs-ganesha. They
-# register once, and run on whatever becomes of ours.
+# The checks of the units, inside the Debian that tests/systemd.sh boots; /checks/name says which boot it is. Debian's
+# rpcbind is there, ours beside it as `make install` or the package puts it (package.sh has the checks of the package), and
+# rpc-statd, which registers and is the unit of others that starts rpcbind. Services that no unit ties to rpcbind are there
+# too: rpc.statd, rpc.mountd and nfs-ganesha. They register once, and run on whatever becomes of ours.
 set -u
 
 ours=rpcbind-proved.service
 link=/run/rpcbind.sock
 settings=/etc/default/rpcbind-proved
 dropins=/etc/systemd/system/$ours.d
-documents=/usr/local/share/doc/rpcbind-proved
+prefix=/usr/local
+documents=$prefix/share/doc/rpcbind-proved
 record=/var/log/rpcbind-proved/record
 kept=/run/rpcbind-proved/rows
 served=/run/served
@@ -107,7 +108,7 @@ swap() {
 
 ours_is_there() {
     serves && is_active rpcbind.service rpcbind.socket && [ -S $link ] && rpcinfo-proved -t 127.0.0.1 100000 4 &&
-        [ "$(readlink "/proc/$(main_process)/exe")" = /usr/local/sbin/rpcbind-proved ]
+        [ "$(readlink "/proc/$(main_process)/exe")" = $prefix/sbin/rpcbind-proved ]
 }
 
 # It has a user of its own, and no right but to bind low ports.
@@ -466,5 +467,6 @@ second() {
     check "ours is down" is_down $ours
 }
 
+. /checks/package.sh
 "$(cat /checks/name)"
 echo "end of the checks"

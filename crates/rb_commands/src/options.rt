@@ -3,7 +3,7 @@ use clap::{Arg, ArgAction, Command};
 use rb_lines::{Valued, serve_default};
 use std::alloc::{AllocError, Global};
 
-const VERSION: &str = "0.1.0";
+const VERSION: &str = "0.2.0";
 
 /// What the help says of `--udp-lists`.
 const UDP_LISTS: &str =

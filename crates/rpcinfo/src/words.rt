@@ -12,6 +12,8 @@ use std::alloc::{AllocError, Global};
 use std::convert::AsStr;
 use std::io::Write;
 
+const VERSION: &str = "0.2.0";
+
 /// The names of programs.
 const PROGRAMS: &str = "/etc/rpc";
 
@@ -149,7 +151,7 @@ fn with_portmapper<'a>(alloc: Global, command: Command<'a>) -> Result<Command<'a
 
 fn command<'a>(alloc: Global) -> Result<Command<'a>, AllocError> {
     let command = Command::new(alloc, "rpcinfo")
-        .version("0.1.0")
+        .version(VERSION)
         .about("Asks a portmapper and shows what it answers");
     let command = with_flags(alloc, command)?;
     let command = with_places(alloc, command)?;
