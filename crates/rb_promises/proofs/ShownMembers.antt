@@ -18,11 +18,14 @@ use Rattle.rb_show.specs.JsonGrammar.IsObject.{Members}
 use Rattle.rb_show.specs.JsonGrammar.AreMembers.{OneMember, MoreMembers}
 use Rattle.rb_show.specs.JsonGrammar.IsMember.{Member}
 use Rattle.rb_show.specs.Objects.{row_object, mapping_object, entry_object, info_items, numbers_object, look_ups_object, forwards_object}
-use Rattle.rb_show.specs.Statistics.{Numbers, LookUps, Forwards}
+use Rattle.rb_show.specs.declared.stat.VersionStat.{VersionStat}
+use Rattle.rb_show.specs.declared.stat.AddrStat.{AddrStat}
+use Rattle.rb_show.specs.declared.stat.CallStat.{CallStat}
+use Rattle.rb_show.specs.Statistics.{IsInt, IsVersionStat, IsAddrStat, IsCallStat}
 use Rattle.rb_show.proofs.JsonGrammar.{signed_number, array}
 use Rattle.rb_promises.specs.JsonMembers.{member_names, row_names, mapping_names, entry_names, numbers_names, look_ups_names, forwards_names, HasMembers, IsLineOf, EachHasItsMembers, AreDistinct, NoNameIsTwice}
 use Rattle.rb_promises.specs.JsonMembers.AreNamesOf.{OfRow, OfOldRow, OfMapping, OfEntry, OfNumbers, OfLookUps, OfForwards}
-use Rattle.rb_show.proofs.ObjectLines.{content, field, IsInt, AreNumbers, AreLookUps, AreForwards, info_are}
+use Rattle.rb_show.proofs.ObjectLines.{content, field, info_are}
 use Rattle.rb_show.proofs.LineTellers.{ObjectsAre, each_line}
 use Rattle.rb_promises.proofs.PlainStrings.{is_plain, quoted, plain_string}
 use Rattle.rb_promises.proofs.ReadTexts.{names_in_one_way}
@@ -148,39 +151,39 @@ numbers_text : (l1 rpcbind l2 items bracket more : List ℕ)
     → l1 ++ (rpcbind ++ (l2 ++ (items ++ (bracket ++ more)))) ≡ l1 ++ (rpcbind ++ (l2 ++ ((items ++ bracket) ++ more)))
 numbers_text l1 rpcbind l2 items bracket more = simp append_assoc
 
-numbers_have : (vers : ℕ) (n : Numbers) → IsNumber vers → AreNumbers n → HasMembers numbers_names (numbers_object vers n)
-numbers_have vers n small fits =
+numbers_have : (vers : ℕ) (s : VersionStat) → IsNumber vers → IsVersionStat s → HasMembers numbers_names (numbers_object vers s)
+numbers_have vers s small fits =
     has_members (codes "rpcbind", decimal vers)
-    ((codes "info", 91 ∷ (info_items n ++ 93 ∷ [])) ∷ (codes "set", signed_decimal n.1.1.1.0) ∷ (codes "unset", signed_decimal n.1.1.1.1) ∷ []) (numbers_object vers n)
+    ((codes "info", 91 ∷ (info_items s ++ 93 ∷ [])) ∷ (codes "set", signed_decimal s.setinfo) ∷ (codes "unset", signed_decimal s.unsetinfo) ∷ []) (numbers_object vers s)
     (refl, count vers small)
-    ((refl, (array (info_are n fits)).is), ((refl, int n.1.1.1.0 fits.1.1.1.0), ((refl, int n.1.1.1.1 fits.1.1.1.1), tt)))
-    (numbers_text (codes "{\"rpcbind\":") (decimal vers) (codes ",\"info\":[") (info_items n) (codes "]") (codes ",\"set\":" ++ (signed_decimal n.1.1.1.0 ++ (codes ",\"unset\":" ++ (signed_decimal n.1.1.1.1 ++ codes "}\n")))))
+    ((refl, (array (info_are s fits)).is), ((refl, int s.setinfo fits.setinfo), ((refl, int s.unsetinfo fits.unsetinfo), tt)))
+    (numbers_text (codes "{\"rpcbind\":") (decimal vers) (codes ",\"info\":[") (info_items s) (codes "]") (codes ",\"set\":" ++ (signed_decimal s.setinfo ++ (codes ",\"unset\":" ++ (signed_decimal s.unsetinfo ++ codes "}\n")))))
 
 look_ups_text : (l1 rpcbind comma l2 program l3 version l4 netid l5 success l6 failure end : List ℕ)
     → l1 ++ (rpcbind ++ (comma ++ ((l2 ++ (program ++ (l3 ++ version))) ++ (l4 ++ (netid ++ (comma ++ ((l5 ++ (success ++ (l6 ++ failure))) ++ end)))))))
     ≡ l1 ++ (rpcbind ++ (comma ++ (l2 ++ (program ++ (l3 ++ (version ++ (l4 ++ (netid ++ (comma ++ (l5 ++ (success ++ (l6 ++ (failure ++ end)))))))))))))
 look_ups_text l1 rpcbind comma l2 program l3 version l4 netid l5 success l6 failure end = simp append_assoc
 
-look_ups_have : (vers : ℕ) (l : LookUps) → IsNumber vers → AreLookUps l → HasMembers look_ups_names (look_ups_object vers l)
-look_ups_have vers l small fits =
+look_ups_have : (vers : ℕ) (s : AddrStat) → IsNumber vers → IsAddrStat s → HasMembers look_ups_names (look_ups_object vers s)
+look_ups_have vers s small fits =
     has_members (codes "rpcbind", decimal vers)
-    ((codes "program", decimal l.0.0) ∷ (codes "version", decimal l.0.1) ∷ (codes "netid", json_text l.1.1) ∷ (codes "success", signed_decimal l.1.0.0) ∷ (codes "failure", signed_decimal l.1.0.1) ∷ []) (look_ups_object vers l)
+    ((codes "program", decimal s.prog) ∷ (codes "version", decimal s.vers) ∷ (codes "netid", json_text s.netid) ∷ (codes "success", signed_decimal s.success) ∷ (codes "failure", signed_decimal s.failure) ∷ []) (look_ups_object vers s)
     (refl, count vers small)
-    ((refl, count l.0.0 fits.0.0), ((refl, count l.0.1 fits.0.1), ((refl, text 32 l.1.1 fits.1.1), ((refl, int l.1.0.0 fits.1.0.0), ((refl, int l.1.0.1 fits.1.0.1), tt)))))
-    (look_ups_text (codes "{\"rpcbind\":") (decimal vers) (codes ",") (codes "\"program\":") (decimal l.0.0) (codes ",\"version\":") (decimal l.0.1) (codes ",\"netid\":") (json_text l.1.1) (codes "\"success\":") (signed_decimal l.1.0.0) (codes ",\"failure\":") (signed_decimal l.1.0.1) (codes "}\n"))
+    ((refl, count s.prog fits.prog), ((refl, count s.vers fits.vers), ((refl, text 32 s.netid fits.netid), ((refl, int s.success fits.success), ((refl, int s.failure fits.failure), tt)))))
+    (look_ups_text (codes "{\"rpcbind\":") (decimal vers) (codes ",") (codes "\"program\":") (decimal s.prog) (codes ",\"version\":") (decimal s.vers) (codes ",\"netid\":") (json_text s.netid) (codes "\"success\":") (signed_decimal s.success) (codes ",\"failure\":") (signed_decimal s.failure) (codes "}\n"))
 
 forwards_text : (l1 rpcbind comma l2 program l3 version l4 procedure l5 netid l6 success l7 failure l8 indirect end : List ℕ)
     → l1 ++ (rpcbind ++ (comma ++ (((l2 ++ (program ++ (l3 ++ version))) ++ (l4 ++ procedure)) ++ (l5 ++ (netid ++ (comma ++ ((l6 ++ (success ++ (l7 ++ (failure ++ (l8 ++ indirect))))) ++ end)))))))
     ≡ l1 ++ (rpcbind ++ (comma ++ (l2 ++ (program ++ (l3 ++ (version ++ (l4 ++ (procedure ++ (l5 ++ (netid ++ (comma ++ (l6 ++ (success ++ (l7 ++ (failure ++ (l8 ++ (indirect ++ end)))))))))))))))))
 forwards_text l1 rpcbind comma l2 program l3 version l4 procedure l5 netid l6 success l7 failure l8 indirect end = simp append_assoc
 
-forwards_have : (vers : ℕ) (f : Forwards) → IsNumber vers → AreForwards f → HasMembers forwards_names (forwards_object vers f)
-forwards_have vers f small fits =
+forwards_have : (vers : ℕ) (s : CallStat) → IsNumber vers → IsCallStat s → HasMembers forwards_names (forwards_object vers s)
+forwards_have vers s small fits =
     has_members (codes "rpcbind", decimal vers)
-    ((codes "program", decimal f.0.0) ∷ (codes "version", decimal f.0.1.0) ∷ (codes "procedure", decimal f.0.1.1) ∷ (codes "netid", json_text f.1.1) ∷ (codes "success", signed_decimal f.1.0.0) ∷ (codes "failure", signed_decimal f.1.0.1.0) ∷ (codes "indirect", signed_decimal f.1.0.1.1) ∷ []) (forwards_object vers f)
+    ((codes "program", decimal s.prog) ∷ (codes "version", decimal s.vers) ∷ (codes "procedure", decimal s.proc) ∷ (codes "netid", json_text s.netid) ∷ (codes "success", signed_decimal s.success) ∷ (codes "failure", signed_decimal s.failure) ∷ (codes "indirect", signed_decimal s.indirect) ∷ []) (forwards_object vers s)
     (refl, count vers small)
-    ((refl, count f.0.0 fits.0.0), ((refl, count f.0.1.0 fits.0.1.0), ((refl, count f.0.1.1 fits.0.1.1), ((refl, text 32 f.1.1 fits.1.1), ((refl, int f.1.0.0 fits.1.0.0), ((refl, int f.1.0.1.0 fits.1.0.1.0), ((refl, int f.1.0.1.1 fits.1.0.1.1), tt)))))))
-    (forwards_text (codes "{\"rpcbind\":") (decimal vers) (codes ",") (codes "\"program\":") (decimal f.0.0) (codes ",\"version\":") (decimal f.0.1.0) (codes ",\"procedure\":") (decimal f.0.1.1) (codes ",\"netid\":") (json_text f.1.1) (codes "\"success\":") (signed_decimal f.1.0.0) (codes ",\"failure\":") (signed_decimal f.1.0.1.0) (codes ",\"indirect\":") (signed_decimal f.1.0.1.1) (codes "}\n"))
+    ((refl, count s.prog fits.prog), ((refl, count s.vers fits.vers), ((refl, count s.proc fits.proc), ((refl, text 32 s.netid fits.netid), ((refl, int s.success fits.success), ((refl, int s.failure fits.failure), ((refl, int s.indirect fits.indirect), tt)))))))
+    (forwards_text (codes "{\"rpcbind\":") (decimal vers) (codes ",") (codes "\"program\":") (decimal s.prog) (codes ",\"version\":") (decimal s.vers) (codes ",\"procedure\":") (decimal s.proc) (codes ",\"netid\":") (json_text s.netid) (codes "\"success\":") (signed_decimal s.success) (codes ",\"failure\":") (signed_decimal s.failure) (codes ",\"indirect\":") (signed_decimal s.indirect) (codes "}\n"))
 
 -- ---- replies
 
@@ -191,9 +194,9 @@ objects_have = record {
   mapping = λ m fits. (mapping_names, OfMapping, mapping_has m fits);
   entry = λ prog vers e fits. (entry_names, OfEntry, entry_has e fits);
   statistics = record {
-    numbers = λ vers n small fits. (numbers_names, OfNumbers, numbers_have vers n small fits);
-    look_ups = λ vers l small fits. (look_ups_names, OfLookUps, look_ups_have vers l small fits);
-    forwards = λ vers f small fits. (forwards_names, OfForwards, forwards_have vers f small fits);
+    numbers = λ vers s small fits. (numbers_names, OfNumbers, numbers_have vers s small fits);
+    look_ups = λ vers s small fits. (look_ups_names, OfLookUps, look_ups_have vers s small fits);
+    forwards = λ vers s small fits. (forwards_names, OfForwards, forwards_have vers s small fits);
   };
 }
 

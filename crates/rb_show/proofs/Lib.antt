@@ -11,3 +11,5 @@ pub mod ObjectTellers
 pub mod WorkedTexts
 pub mod SummaryRows
 pub mod RowTexts
+pub mod StatReadings
+pub mod IntWriting

@@ -1,15 +1,14 @@
 -- What is so of each line of an item is so of each line that a reply tells.
 use Rattle.std.proofs.Common.{◌≡◌, ◌+◌, ℕ, zero, suc, Bool, true, false, List, [], ◌∷◌, ◌++◌, take, drop, Option, Some, None, Ok, Err, refl, sym, subst, arith, inl, inr}
-use Rattle.std.specs.Prelude.{ℤ, slice_range, nat_eq}
+use Rattle.std.specs.Prelude.{slice_range, nat_eq}
 use Rattle.std.specs.List.{AllByRecursion}
 use Rattle.std.proofs.lemmas.Bool.{cases_Bool}
-use Rattle.rb_xdr.specs.Xdr.{AreBytes, Reader, Reading, IsNumber, IsContent, number, boolean, opaque, read_number, read_bool, read_opaque}
-use Rattle.rb_xdr.specs.XdrTypes.{signed, optional, read_signed, read_pair, read_optional}
-use Rattle.rb_xdr.specs.XdrLaws.{IsSound, anything, both, pair, if_there}
+use Rattle.rb_xdr.specs.Xdr.{AreBytes, Reader, Reading, IsNumber, boolean, read_bool}
+use Rattle.rb_xdr.specs.XdrTypes.{optional, read_optional}
+use Rattle.rb_xdr.specs.XdrLaws.{IsSound, anything, if_there}
 use Rattle.rb_xdr.specs.declared.fault.XdrFault.TheVariants as faults
 use Rattle.rb_xdr.proofs.Words.{AreBytes-drop, AreBytes-take}
-use Rattle.rb_xdr.proofs.Readers.{number_sound, opaque_sound}
-use Rattle.rb_xdr.proofs.Types.{bool_sound, signed_sound, pair_sound, optional_sound}
+use Rattle.rb_xdr.proofs.Types.{bool_sound, optional_sound}
 use Rattle.rb_rpc.specs.Records.{is_last, fragment_end, data_in, data_of}
 use Rattle.rb_rpc.specs.ReadReplies.{Read, read_reply}
 use Rattle.rb_rpc.specs.declared.reply.ReplyHead.{ReplyHead}
@@ -35,51 +34,17 @@ use Rattle.rb_show.specs.declared.form.Form.TheVariants.{Json}
 use Rattle.rb_show.specs.declared.show.Shown.{Shown}
 use Rattle.rb_show.specs.declared.show.Shown.TheVariants as shown
 use Rattle.rb_show.specs.Counts.{total, addr_line, call_line, tell_lists, tell_version, tell_statistics}
-use Rattle.rb_show.specs.Statistics.{Four, Numbers, LookUps, Forwards, read_four, read_numbers, read_look_ups, read_forwards}
+use Rattle.rb_show.specs.declared.stat.VersionStat.{VersionStat}
+use Rattle.rb_show.specs.declared.stat.AddrStat.{AddrStat}
+use Rattle.rb_show.specs.declared.stat.CallStat.{CallStat}
+use Rattle.rb_show.specs.Statistics.{IsVersionStat, read_version, IsAddrStat, read_addr, IsCallStat, read_call}
 use Rattle.rb_show.specs.Lines.{row_line, mapping_line, entry_line}
 use Rattle.rb_show.specs.Objects.{row_object, mapping_object, entry_object, numbers_object, look_ups_object, forwards_object}
 use Rattle.rb_show.specs.ObjectLaws.{has_objects}
 use Rattle.rb_show.specs.Rows.{mapping_row}
 use Rattle.rb_show.specs.Replies.{tell_list, tell_results, is_success, by_status, by_head, tell_reply, tell_bytes}
 use Rattle.rb_show.proofs.RowTexts.{mapping_row_fits}
-use Rattle.rb_show.proofs.ObjectLines.{IsInt, IsFour, AreNumbers, AreLookUps, AreForwards}
-
--- ---- statistics of a version
-
-ints_sound : IsSound (both IsInt IsInt) (pair signed signed) (read_pair read_signed read_signed)
-ints_sound = pair_sound IsInt signed read_signed IsInt signed read_signed signed_sound signed_sound
-
-abbrev four : Four → List ℕ
-four = pair (pair signed signed) (pair signed signed)
-
-four_sound : IsSound IsFour four read_four
-four_sound = pair_sound (both IsInt IsInt) (pair signed signed) (read_pair read_signed read_signed) (both IsInt IsInt) (pair signed signed) (read_pair read_signed read_signed) ints_sound ints_sound
-
-abbrev three : ℤ × (ℤ × ℤ) → List ℕ
-three = pair signed (pair signed signed)
-
-three_sound : IsSound (both IsInt (both IsInt IsInt)) three (read_pair read_signed (read_pair read_signed read_signed))
-three_sound = pair_sound IsInt signed read_signed (both IsInt IsInt) (pair signed signed) (read_pair read_signed read_signed) signed_sound ints_sound
-
-numbers_sound : IsSound AreNumbers (pair (pair four four) (pair four three)) read_numbers
-numbers_sound =
-    pair_sound (both IsFour IsFour) (pair four four) (read_pair read_four read_four) (both IsFour (both IsInt (both IsInt IsInt))) (pair four three) (read_pair read_four (read_pair read_signed (read_pair read_signed read_signed)))
-    (pair_sound IsFour four read_four IsFour four read_four four_sound four_sound)
-    (pair_sound IsFour four read_four (both IsInt (both IsInt IsInt)) three (read_pair read_signed (read_pair read_signed read_signed)) four_sound three_sound)
-
-words_sound : IsSound (both IsNumber IsNumber) (pair number number) (read_pair read_number read_number)
-words_sound = pair_sound IsNumber number read_number IsNumber number read_number number_sound number_sound
-
-look_ups_sound : IsSound AreLookUps (pair (pair number number) (pair (pair signed signed) opaque)) read_look_ups
-look_ups_sound =
-    pair_sound (both IsNumber IsNumber) (pair number number) (read_pair read_number read_number) (both (both IsInt IsInt) (IsContent 32)) (pair (pair signed signed) opaque) (read_pair (read_pair read_signed read_signed) (read_opaque 32))
-    words_sound (pair_sound (both IsInt IsInt) (pair signed signed) (read_pair read_signed read_signed) (IsContent 32) opaque (read_opaque 32) ints_sound (opaque_sound 32))
-
-forwards_sound : IsSound AreForwards (pair (pair number (pair number number)) (pair three opaque)) read_forwards
-forwards_sound =
-    pair_sound (both IsNumber (both IsNumber IsNumber)) (pair number (pair number number)) (read_pair read_number (read_pair read_number read_number)) (both (both IsInt (both IsInt IsInt)) (IsContent 32)) (pair three opaque) (read_pair (read_pair read_signed (read_pair read_signed read_signed)) (read_opaque 32))
-    (pair_sound IsNumber number read_number (both IsNumber IsNumber) (pair number number) (read_pair read_number read_number) number_sound words_sound)
-    (pair_sound (both IsInt (both IsInt IsInt)) three (read_pair read_signed (read_pair read_signed read_signed)) (IsContent 32) opaque (read_opaque 32) three_sound (opaque_sound 32))
+use Rattle.rb_show.proofs.StatReadings.{version_sound, addr_sound, call_sound}
 
 -- ---- the data of a reply
 
@@ -186,23 +151,23 @@ module _ (IsLine : List ℕ → Type 0) where
 
   -- the lines of a version's numbers, look-ups and forwarded calls
   pub record StatisticsLines : Type 0 where
-    pub numbers : (vers : ℕ) (n : Numbers) → IsNumber vers → AreNumbers n → IsLine (numbers_object vers n)
-    pub look_ups : (vers : ℕ) (l : LookUps) → IsNumber vers → AreLookUps l → IsLine (look_ups_object vers l)
-    pub forwards : (vers : ℕ) (f : Forwards) → IsNumber vers → AreForwards f → IsLine (forwards_object vers f)
+    pub numbers : (vers : ℕ) (s : VersionStat) → IsNumber vers → IsVersionStat s → IsLine (numbers_object vers s)
+    pub look_ups : (vers : ℕ) (s : AddrStat) → IsNumber vers → IsAddrStat s → IsLine (look_ups_object vers s)
+    pub forwards : (vers : ℕ) (s : CallStat) → IsNumber vers → IsCallStat s → IsLine (forwards_object vers s)
 
   tells_lists : StatisticsLines → (vers : ℕ) → IsNumber vers → IsGood anything (tell_lists Json vers)
   unfolding tell_lists
   tells_lists lines vers small =
-      onward anything anything (tell_items read_look_ups (addr_line Json vers) greatest_list 0) _
-      (tells_items AreLookUps _ read_look_ups (addr_line Json vers) look_ups_sound (λ l is. lines.look_ups vers l small is) greatest_list 0)
-      (λ found _. onward anything anything (tell_items read_forwards (call_line Json vers) greatest_list 0) _
-      (tells_items AreForwards _ read_forwards (call_line Json vers) forwards_sound (λ f is. lines.forwards vers f small is) greatest_list 0)
+      onward anything anything (tell_items read_addr (addr_line Json vers) greatest_list 0) _
+      (tells_items IsAddrStat _ read_addr (addr_line Json vers) addr_sound (λ l is. lines.look_ups vers l small is) greatest_list 0)
+      (λ found _. onward anything anything (tell_items read_call (call_line Json vers) greatest_list 0) _
+      (tells_items IsCallStat _ read_call (call_line Json vers) call_sound (λ f is. lines.forwards vers f small is) greatest_list 0)
       (λ called _. gives {A = ℕ × ℕ} anything (found, called) tt))
 
   tells_version : StatisticsLines → (vers : ℕ) → IsNumber vers → IsGood anything (tell_version Json vers)
   unfolding tell_version
   tells_version lines vers small =
-      onward AreNumbers anything (take_one read_numbers) _ (takes AreNumbers _ read_numbers numbers_sound)
+      onward IsVersionStat anything (take_one read_version) _ (takes IsVersionStat _ read_version version_sound)
       (λ n is. onward anything anything (tell (numbers_object vers n ∷ [])) _ (tells_line (numbers_object vers n) (lines.numbers vers n small is)) (λ _ _. tells_lists lines vers small))
 
   tells_statistics : StatisticsLines → IsGood anything (tell_statistics Json)

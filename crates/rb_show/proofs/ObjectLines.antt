@@ -1,20 +1,22 @@
 -- The objects that are shown are lines of JSON.
-use Rattle.std.proofs.Common.{◌≡◌, ◌<◌, ◌++◌, ◌∷◌, [], ℕ, suc, List, refl, append_assoc, arith}
-use Rattle.std.specs.Prelude.{codes, FitsSigned, ℤ}
+use Rattle.std.proofs.Common.{◌≡◌, ◌<◌, ◌++◌, ◌∷◌, [], ℕ, suc, List, map, refl, sym, subst, append_assoc, append-nil, arith}
+use Rattle.std.specs.Prelude.{codes, ℤ}
 use Rattle.std.specs.Fmt.{decimal, signed_decimal}
-use Rattle.std.specs.Int.{w32}
 use Rattle.std.specs.List.{AllByRecursion}
 use Rattle.rb_xdr.specs.Xdr.{AreBytes, IsNumber, IsContent}
-use Rattle.rb_xdr.specs.XdrLaws.{both}
 use Rattle.rb_arguments.specs.declared.mapping.Mapping.{Mapping}
 use Rattle.rb_arguments.specs.declared.rpcb.Rpcb.{Rpcb}
 use Rattle.rb_arguments.specs.declared.entry.Entry.{Entry}
 use Rattle.rb_arguments.specs.Types.{IsMapping, IsRpcb, IsEntry}
 use Rattle.rb_show.specs.Json.{json_text}
 use Rattle.rb_show.specs.JsonGrammar.{IsValue, AreValues, AreMembers}
-use Rattle.rb_show.specs.Objects.{program_members, place_members, row_members, row_object, mapping_object, family_members, entry_object, four_items, info_items, numbers_object, found_members, look_ups_object, procedure_members, outcomes_members, forwards_object}
+use Rattle.rb_show.specs.Objects.{program_members, place_members, row_members, row_object, mapping_object, family_members, entry_object, info_items, numbers_object, found_members, look_ups_object, procedure_members, outcomes_members, forwards_object}
 use Rattle.rb_show.specs.ObjectLaws.{IsObjectLine}
-use Rattle.rb_show.specs.Statistics.{Four, Numbers, LookUps, Forwards}
+use Rattle.rb_show.specs.declared.stat.VersionStat.{VersionStat}
+use Rattle.rb_show.specs.declared.stat.AddrStat.{AddrStat}
+use Rattle.rb_show.specs.declared.stat.CallStat.{CallStat}
+use Rattle.rb_show.specs.Statistics.{IsInt, AreInts, IsVersionStat, IsAddrStat, IsCallStat}
+use Rattle.rb_show.specs.Texts.{joined}
 use Rattle.rb_show.proofs.JsonGrammar.{Printed, number, signed_number, string, member, members_joined, one_value, values_joined, array, object_line}
 
 -- ---- fields of a reply
@@ -72,44 +74,32 @@ entry_is e fits =
 
 -- ---- statistics
 
-abbrev pub IsInt : ℤ → Type 0
-IsInt z = FitsSigned w32 z
-
-abbrev pub IsFour : Four → Type 0
-IsFour = both (both IsInt IsInt) (both IsInt IsInt)
-
-abbrev pub AreNumbers : Numbers → Type 0
-AreNumbers = both (both IsFour IsFour) (both IsFour (both IsInt (both IsInt IsInt)))
-
-abbrev pub AreLookUps : LookUps → Type 0
-AreLookUps = both (both IsNumber IsNumber) (both (both IsInt IsInt) (IsContent 32))
-
-abbrev pub AreForwards : Forwards → Type 0
-AreForwards = both (both IsNumber (both IsNumber IsNumber)) (both (both IsInt (both IsInt IsInt)) (IsContent 32))
-
 int_value : (z : ℤ) → IsInt z → Printed AreValues (signed_decimal z)
 int_value z fits = one_value (signed_number z fits)
 
-four_are : (f : Four) → IsFour f → Printed AreValues (four_items f)
-four_are f fits =
-    values_joined (int_value f.0.0 fits.0.0) (values_joined (int_value f.0.1 fits.0.1) (values_joined (int_value f.1.0 fits.1.0) (int_value f.1.1 fits.1.1)))
+some_values : (n : ℤ) (ns : List ℤ) → AllByRecursion IsInt (n ∷ ns) → Printed AreValues (joined (codes ",") (map signed_decimal (n ∷ ns)))
+some_values n [] fits = subst (Printed AreValues) (sym (append-nil (signed_decimal n))) (int_value n fits.0)
+some_values n (m ∷ ns) fits = values_joined (int_value n fits.0) (some_values m ns fits.1)
 
-pub info_are : (n : Numbers) → AreNumbers n → Printed AreValues (info_items n)
-info_are n fits =
-    values_joined (four_are n.0.0 fits.0.0) (values_joined (four_are n.0.1 fits.0.1) (values_joined (four_are n.1.0 fits.1.0) (int_value n.1.1.0 fits.1.1.0)))
+ints_are : (k : ℕ) (ns : List ℤ) → AreInts (suc k) ns → Printed AreValues (joined (codes ",") (map signed_decimal ns))
+ints_are k [] are = absurd (omega (arith, are.0))
+ints_are k (n ∷ ns) are = some_values n ns are.1
+
+pub info_are : (s : VersionStat) → IsVersionStat s → Printed AreValues (info_items s)
+info_are s fits = ints_are 12 s.info fits.info
 
 numbers_text : (begin name rpcbind comma info_name bracket info closed set_name set unset_name unset end : List ℕ)
     → begin ++ (name ++ (rpcbind ++ (comma ++ (info_name ++ (bracket ++ (info ++ (closed ++ (comma ++ (set_name ++ (set ++ (unset_name ++ (unset ++ end))))))))))))
     ≡ begin ++ (((name ++ rpcbind) ++ (comma ++ ((info_name ++ (bracket ++ (info ++ closed))) ++ (comma ++ ((set_name ++ set) ++ (unset_name ++ unset)))))) ++ end)
 numbers_text begin name rpcbind comma info_name bracket info closed set_name set unset_name unset end = simp append_assoc
 
-pub numbers_is : (rpcbind : ℕ) (n : Numbers) → IsNumber rpcbind → AreNumbers n → IsObjectLine (numbers_object rpcbind n)
-numbers_is rpcbind n small fits =
-    object_line _ (numbers_object rpcbind n)
+pub numbers_is : (rpcbind : ℕ) (s : VersionStat) → IsNumber rpcbind → IsVersionStat s → IsObjectLine (numbers_object rpcbind s)
+numbers_is rpcbind s small fits =
+    object_line _ (numbers_object rpcbind s)
     (members_joined (member (codes "rpcbind") refl (field rpcbind small))
-    (members_joined (member (codes "info") refl (array (info_are n fits)))
-    (members_joined (member (codes "set") refl (signed_number n.1.1.1.0 fits.1.1.1.0)) (member (codes "unset") refl (signed_number n.1.1.1.1 fits.1.1.1.1)))))
-    (numbers_text (codes "{") (codes "\"rpcbind\":") (decimal rpcbind) (codes ",") (codes "\"info\":") (codes "[") (info_items n) (codes "]") (codes "\"set\":") (signed_decimal n.1.1.1.0) (codes ",\"unset\":") (signed_decimal n.1.1.1.1) (codes "}\n"))
+    (members_joined (member (codes "info") refl (array (info_are s fits)))
+    (members_joined (member (codes "set") refl (signed_number s.setinfo fits.setinfo)) (member (codes "unset") refl (signed_number s.unsetinfo fits.unsetinfo)))))
+    (numbers_text (codes "{") (codes "\"rpcbind\":") (decimal rpcbind) (codes ",") (codes "\"info\":") (codes "[") (info_items s) (codes "]") (codes "\"set\":") (signed_decimal s.setinfo) (codes ",\"unset\":") (signed_decimal s.unsetinfo) (codes "}\n"))
 
 -- the version of rpcbind, other members, a netid, and others
 counted_text : (begin name rpcbind comma first netid_name netid last end : List ℕ)
@@ -124,18 +114,18 @@ counted_line rpcbind netid {first} {last} small fits f l =
     (members_joined (member (codes "rpcbind") refl (field rpcbind small)) (members_joined f (members_joined (member (codes "netid") refl (content 32 netid fits)) l)))
     (counted_text (codes "{") (codes "\"rpcbind\":") (decimal rpcbind) (codes ",") first (codes "\"netid\":") (json_text netid) last (codes "}\n"))
 
-found_are : (f : ℤ × ℤ) → both IsInt IsInt f → Printed AreMembers (found_members f)
-found_are f fits = members_joined (member (codes "success") refl (signed_number f.0 fits.0)) (member (codes "failure") refl (signed_number f.1 fits.1))
+found_are : (s : AddrStat) → IsAddrStat s → Printed AreMembers (found_members s)
+found_are s fits = members_joined (member (codes "success") refl (signed_number s.success fits.success)) (member (codes "failure") refl (signed_number s.failure fits.failure))
 
-pub look_ups_is : (rpcbind : ℕ) (l : LookUps) → IsNumber rpcbind → AreLookUps l → IsObjectLine (look_ups_object rpcbind l)
-look_ups_is rpcbind l small fits = counted_line rpcbind l.1.1 small fits.1.1 (program_are l.0.0 l.0.1 fits.0.0 fits.0.1) (found_are l.1.0 fits.1.0)
+pub look_ups_is : (rpcbind : ℕ) (s : AddrStat) → IsNumber rpcbind → IsAddrStat s → IsObjectLine (look_ups_object rpcbind s)
+look_ups_is rpcbind s small fits = counted_line rpcbind s.netid small fits.netid (program_are s.prog s.vers fits.prog fits.vers) (found_are s fits)
 
-procedure_are : (p : ℕ × (ℕ × ℕ)) → both IsNumber (both IsNumber IsNumber) p → Printed AreMembers (procedure_members p)
-procedure_are p fits = members_joined (program_are p.0 p.1.0 fits.0 fits.1.0) (member (codes "procedure") refl (field p.1.1 fits.1.1))
+procedure_are : (s : CallStat) → IsCallStat s → Printed AreMembers (procedure_members s)
+procedure_are s fits = members_joined (program_are s.prog s.vers fits.prog fits.vers) (member (codes "procedure") refl (field s.proc fits.proc))
 
-outcomes_are : (o : ℤ × (ℤ × ℤ)) → both IsInt (both IsInt IsInt) o → Printed AreMembers (outcomes_members o)
-outcomes_are o fits =
-    members_joined (member (codes "success") refl (signed_number o.0 fits.0)) (members_joined (member (codes "failure") refl (signed_number o.1.0 fits.1.0)) (member (codes "indirect") refl (signed_number o.1.1 fits.1.1)))
+outcomes_are : (s : CallStat) → IsCallStat s → Printed AreMembers (outcomes_members s)
+outcomes_are s fits =
+    members_joined (member (codes "success") refl (signed_number s.success fits.success)) (members_joined (member (codes "failure") refl (signed_number s.failure fits.failure)) (member (codes "indirect") refl (signed_number s.indirect fits.indirect)))
 
-pub forwards_is : (rpcbind : ℕ) (f : Forwards) → IsNumber rpcbind → AreForwards f → IsObjectLine (forwards_object rpcbind f)
-forwards_is rpcbind f small fits = counted_line rpcbind f.1.1 small fits.1.1 (procedure_are f.0 fits.0) (outcomes_are f.1.0 fits.1.0)
+pub forwards_is : (rpcbind : ℕ) (s : CallStat) → IsNumber rpcbind → IsCallStat s → IsObjectLine (forwards_object rpcbind s)
+forwards_is rpcbind s small fits = counted_line rpcbind s.netid small fits.netid (procedure_are s fits) (outcomes_are s fits)

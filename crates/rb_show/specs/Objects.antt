@@ -1,11 +1,14 @@
 -- Objects of JSON (RFC 8259), one on each line.
-use Rattle.std.specs.Prelude.{ℕ, ℤ, List, ◌++◌, codes}
+use Rattle.std.specs.Prelude.{ℕ, List, ◌++◌, map, codes}
 use Rattle.std.specs.Fmt.{decimal, signed_decimal}
 use Rattle.rb_arguments.specs.declared.mapping.Mapping.{Mapping}
 use Rattle.rb_arguments.specs.declared.rpcb.Rpcb.{Rpcb}
 use Rattle.rb_arguments.specs.declared.entry.Entry.{Entry}
-use Rattle.rb_show.specs.Statistics.{Four, Numbers, LookUps, Forwards}
+use Rattle.rb_show.specs.declared.stat.VersionStat.{VersionStat}
+use Rattle.rb_show.specs.declared.stat.AddrStat.{AddrStat}
+use Rattle.rb_show.specs.declared.stat.CallStat.{CallStat}
 use Rattle.rb_show.specs.Json.{json_text}
+use Rattle.rb_show.specs.Texts.{joined}
 
 -- ---- lists
 
@@ -33,30 +36,30 @@ entry_object e = codes "{" ++ (place_members e.netid e.maddr ++ (codes ",\"seman
 
 -- ---- statistics of a version of rpcbind
 
-abbrev pub four_items : Four → List ℕ
-four_items f = signed_decimal f.0.0 ++ (codes "," ++ (signed_decimal f.0.1 ++ (codes "," ++ (signed_decimal f.1.0 ++ (codes "," ++ signed_decimal f.1.1)))))
+abbrev pub info_items : VersionStat → List ℕ
+info_items s = joined (codes ",") (map signed_decimal s.info)
 
-abbrev pub info_items : Numbers → List ℕ
-info_items n = four_items n.0.0 ++ (codes "," ++ (four_items n.0.1 ++ (codes "," ++ (four_items n.1.0 ++ (codes "," ++ signed_decimal n.1.1.0)))))
-
-abbrev pub numbers_object : ℕ → Numbers → List ℕ
-numbers_object rpcbind n = codes "{\"rpcbind\":" ++ (decimal rpcbind ++ (codes ",\"info\":[" ++ (info_items n ++ (codes "],\"set\":" ++ (signed_decimal n.1.1.1.0
-    ++ (codes ",\"unset\":" ++ (signed_decimal n.1.1.1.1 ++ codes "}\n")))))))
+abbrev pub numbers_object : ℕ → VersionStat → List ℕ
+numbers_object rpcbind s = codes "{\"rpcbind\":" ++ (decimal rpcbind ++ (codes ",\"info\":[" ++ (info_items s ++ (codes "],\"set\":" ++ (signed_decimal s.setinfo
+    ++ (codes ",\"unset\":" ++ (signed_decimal s.unsetinfo ++ codes "}\n")))))))
 
 -- how look-ups ended
-abbrev pub found_members : ℤ × ℤ → List ℕ
-found_members f = codes "\"success\":" ++ (signed_decimal f.0 ++ (codes ",\"failure\":" ++ signed_decimal f.1))
+abbrev pub found_members : AddrStat → List ℕ
+found_members s = codes "\"success\":" ++ (signed_decimal s.success ++ (codes ",\"failure\":" ++ signed_decimal s.failure))
 
-abbrev pub look_ups_object : ℕ → LookUps → List ℕ
-look_ups_object rpcbind l = codes "{\"rpcbind\":" ++ (decimal rpcbind ++ (codes "," ++ (program_members l.0.0 l.0.1 ++ (codes ",\"netid\":" ++ (json_text l.1.1 ++ (codes "," ++ (found_members l.1.0 ++ codes "}\n")))))))
+abbrev pub look_ups_object : ℕ → AddrStat → List ℕ
+look_ups_object rpcbind s = codes "{\"rpcbind\":" ++ (decimal rpcbind ++ (codes "," ++ (program_members s.prog s.vers
+    ++ (codes ",\"netid\":" ++ (json_text s.netid ++ (codes "," ++ (found_members s ++ codes "}\n")))))))
 
 -- the program, version and procedure of forwarded calls
-abbrev pub procedure_members : ℕ × (ℕ × ℕ) → List ℕ
-procedure_members p = program_members p.0 p.1.0 ++ (codes ",\"procedure\":" ++ decimal p.1.1)
+abbrev pub procedure_members : CallStat → List ℕ
+procedure_members s = program_members s.prog s.vers ++ (codes ",\"procedure\":" ++ decimal s.proc)
 
 -- how forwarded calls ended
-abbrev pub outcomes_members : ℤ × (ℤ × ℤ) → List ℕ
-outcomes_members o = codes "\"success\":" ++ (signed_decimal o.0 ++ (codes ",\"failure\":" ++ (signed_decimal o.1.0 ++ (codes ",\"indirect\":" ++ signed_decimal o.1.1))))
+abbrev pub outcomes_members : CallStat → List ℕ
+outcomes_members s = codes "\"success\":" ++ (signed_decimal s.success ++ (codes ",\"failure\":" ++ (signed_decimal s.failure
+    ++ (codes ",\"indirect\":" ++ signed_decimal s.indirect))))
 
-abbrev pub forwards_object : ℕ → Forwards → List ℕ
-forwards_object rpcbind f = codes "{\"rpcbind\":" ++ (decimal rpcbind ++ (codes "," ++ (procedure_members f.0 ++ (codes ",\"netid\":" ++ (json_text f.1.1 ++ (codes "," ++ (outcomes_members f.1.0 ++ codes "}\n")))))))
+abbrev pub forwards_object : ℕ → CallStat → List ℕ
+forwards_object rpcbind s = codes "{\"rpcbind\":" ++ (decimal rpcbind ++ (codes "," ++ (procedure_members s
+    ++ (codes ",\"netid\":" ++ (json_text s.netid ++ (codes "," ++ (outcomes_members s ++ codes "}\n")))))))

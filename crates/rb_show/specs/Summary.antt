@@ -10,7 +10,7 @@ use Rattle.rb_arguments.specs.declared.rpcb.Rpcb.{Rpcb}
 use Rattle.rb_show.specs.declared.form.Form.{Form}
 use Rattle.rb_show.specs.declared.form.Form.TheVariants.{Plain, Named, Json}
 use Rattle.rb_show.specs.declared.summary.Row.{Row}
-use Rattle.rb_show.specs.Texts.{shown_text, at_left, at_right}
+use Rattle.rb_show.specs.Texts.{shown_text, at_left, at_right, joined}
 use Rattle.rb_show.specs.Lines.{name_text}
 
 -- ---- rows
@@ -78,8 +78,7 @@ owner_of rows prog = owner_in (find (λ row. row.prog == prog) rows)
 
 -- with commas between them
 abbrev pub comma_list : List (List ℕ) → List ℕ
-comma_list [] = []
-comma_list (text ∷ texts) = text ++ flat_map (λ next. codes "," ++ next) texts
+comma_list texts = joined (codes ",") texts
 
 abbrev pub service_text : Form → ℕ → List ℕ
 service_text Plain prog = codes "-"

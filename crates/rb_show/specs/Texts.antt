@@ -1,6 +1,7 @@
 -- Texts of a reply, as they are printed.
 use Rattle.std.specs.Prelude.{ℕ, ◌-◌, nat_le, ◌&&◌, if◌then◌else◌, List, [], ◌∷◌, ◌++◌, map, length, replicate, codes, Option, Some, None}
 use Rattle.std.specs.Fmt.{decimal}
+use Rattle.std.specs.List.{flat_map}
 use Rattle.rb_address.specs.declared.netid.Transport.{Transport}
 use Rattle.rb_address.specs.Netids.{netid_text, netid_of, transport_of_protocol}
 
@@ -15,7 +16,12 @@ abbrev pub shown_text : List ℕ → List ℕ
 shown_text [] = codes "-"
 shown_text (b ∷ text) = map shown_byte (b ∷ text)
 
--- ---- columns
+-- ---- lists and columns
+
+-- texts with another between them
+abbrev pub joined : List ℕ → List (List ℕ) → List ℕ
+joined between [] = []
+joined between (text ∷ texts) = text ++ flat_map (λ next. between ++ next) texts
 
 abbrev pub at_right : ℕ → List ℕ → List ℕ
 at_right width text = replicate (width - length text) 32 ++ text

@@ -9,6 +9,7 @@ mod lines;
 mod objects;
 mod rows;
 mod show;
+mod stat;
 mod statistics;
 mod summary;
 mod texts;

@@ -1,10 +1,11 @@
 //! Objects of JSON, one on each line.
 ghost use Rattle.std.specs.Prelude.{◌≡◌, IfOk};
 ghost use Rattle.std.specs.String.{string_bytes};
-ghost use Rattle.rb_show.specs.Objects.{program_members, place_members, row_members, row_object, mapping_object, family_members, entry_object, four_items, info_items, numbers_object, found_members, look_ups_object, procedure_members, outcomes_members, forwards_object};
+ghost use Rattle.rb_show.specs.Objects.{program_members, place_members, row_members, row_object, mapping_object, family_members, entry_object, numbers_object, found_members, look_ups_object, procedure_members, outcomes_members, forwards_object};
 
 use crate::json::json_text;
-use crate::statistics::{Forwards, Four, LookUps, Numbers};
+use crate::stat::{AddrStat, CallStat, VersionStat};
+use crate::texts::joined_ints;
 use rb_arguments::{Entry, Mapping, Rpcb};
 use std::alloc::{AllocError, Global};
 
@@ -74,42 +75,25 @@ pub(crate) fn entry_object(alloc: Global, item: &Entry) -> Result<String, AllocE
     format!(in alloc; "{{{place},\"semantics\":{semantics},{family}}}\n")
 }
 
-fn four_items(alloc: Global, four: Four) -> Result<String, AllocError>
-    ensures { IfOk result (λ items. string_bytes items ≡ four_items four) }
-{
-    let ((a, b), (c, d)) = four;
-    format!(in alloc; "{a},{b},{c},{d}")
-}
-
-fn info_items(alloc: Global, numbers: &Numbers) -> Result<String, AllocError>
-    ensures { IfOk result (λ items. string_bytes items ≡ info_items numbers.now) }
-{
-    let ((first, second), (third, (last, _))) = *numbers;
-    let first = four_items(alloc, first)?;
-    let second = four_items(alloc, second)?;
-    let third = four_items(alloc, third)?;
-    format!(in alloc; "{first},{second},{third},{last}")
-}
-
 /// The numbers of a version of rpcbind.
 pub(crate) fn numbers_object(
     alloc: Global,
     rpcbind: u32,
-    item: &Numbers,
+    item: &VersionStat,
 ) -> Result<String, AllocError>
     ensures { IfOk result (λ object. string_bytes object ≡ numbers_object rpcbind item.now) }
 {
-    let info = info_items(alloc, item)?;
-    let (_, (_, (_, (set, unset)))) = *item;
+    let info = joined_ints(alloc, &item.info, ",")?;
+    let (set, unset) = (item.setinfo, item.unsetinfo);
     format!(in alloc;
         "{{\"rpcbind\":{rpcbind},\"info\":[{info}],\"set\":{set},\"unset\":{unset}}}\n"
     )
 }
 
-fn found_members(alloc: Global, found: (i32, i32)) -> Result<String, AllocError>
-    ensures { IfOk result (λ text. string_bytes text ≡ found_members found) }
+fn found_members(alloc: Global, item: &AddrStat) -> Result<String, AllocError>
+    ensures { IfOk result (λ text. string_bytes text ≡ found_members item.now) }
 {
-    let (success, failure) = found;
+    let (success, failure) = (item.success, item.failure);
     format!(in alloc; "\"success\":{success},\"failure\":{failure}")
 }
 
@@ -117,28 +101,28 @@ fn found_members(alloc: Global, found: (i32, i32)) -> Result<String, AllocError>
 pub(crate) fn look_ups_object(
     alloc: Global,
     rpcbind: u32,
-    item: &LookUps,
+    item: &AddrStat,
 ) -> Result<String, AllocError>
     ensures { IfOk result (λ object. string_bytes object ≡ look_ups_object rpcbind item.now) }
 {
-    let program = program_members(alloc, item.0.0, item.0.1)?;
-    let netid = json_text(alloc, item.1.1.as_slice())?;
-    let found = found_members(alloc, item.1.0)?;
+    let program = program_members(alloc, item.prog, item.vers)?;
+    let netid = json_text(alloc, item.netid.as_slice())?;
+    let found = found_members(alloc, item)?;
     format!(in alloc; "{{\"rpcbind\":{rpcbind},{program},\"netid\":{netid},{found}}}\n")
 }
 
-fn procedure_members(alloc: Global, procedure: (u32, (u32, u32))) -> Result<String, AllocError>
-    ensures { IfOk result (λ text. string_bytes text ≡ procedure_members procedure) }
+fn procedure_members(alloc: Global, item: &CallStat) -> Result<String, AllocError>
+    ensures { IfOk result (λ text. string_bytes text ≡ procedure_members item.now) }
 {
-    let (prog, (vers, proc)) = procedure;
-    let program = program_members(alloc, prog, vers)?;
+    let program = program_members(alloc, item.prog, item.vers)?;
+    let proc = item.proc;
     format!(in alloc; "{program},\"procedure\":{proc}")
 }
 
-fn outcomes_members(alloc: Global, outcomes: (i32, (i32, i32))) -> Result<String, AllocError>
-    ensures { IfOk result (λ text. string_bytes text ≡ outcomes_members outcomes) }
+fn outcomes_members(alloc: Global, item: &CallStat) -> Result<String, AllocError>
+    ensures { IfOk result (λ text. string_bytes text ≡ outcomes_members item.now) }
 {
-    let (success, (failure, indirect)) = outcomes;
+    let (success, failure, indirect) = (item.success, item.failure, item.indirect);
     format!(in alloc; "\"success\":{success},\"failure\":{failure},\"indirect\":{indirect}")
 }
 
@@ -146,12 +130,12 @@ fn outcomes_members(alloc: Global, outcomes: (i32, (i32, i32))) -> Result<String
 pub(crate) fn forwards_object(
     alloc: Global,
     rpcbind: u32,
-    item: &Forwards,
+    item: &CallStat,
 ) -> Result<String, AllocError>
     ensures { IfOk result (λ object. string_bytes object ≡ forwards_object rpcbind item.now) }
 {
-    let procedure = procedure_members(alloc, item.0)?;
-    let netid = json_text(alloc, item.1.1.as_slice())?;
-    let outcomes = outcomes_members(alloc, item.1.0)?;
+    let procedure = procedure_members(alloc, item)?;
+    let netid = json_text(alloc, item.netid.as_slice())?;
+    let outcomes = outcomes_members(alloc, item)?;
     format!(in alloc; "{{\"rpcbind\":{rpcbind},{procedure},\"netid\":{netid},{outcomes}}}\n")
 }

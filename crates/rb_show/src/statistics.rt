@@ -3,35 +3,16 @@ ghost use Rattle.std.specs.Prelude.{◌≡◌, [], ◌∷◌, IfOk};
 ghost use Rattle.std.specs.String.{string_bytes};
 ghost use Rattle.rb_ask.specs.Telling.{tell, Shows, WritesOnly};
 ghost use Rattle.rb_show.specs.Objects.{numbers_object};
-ghost use Rattle.rb_show.specs.Counts.{four_text, version_line, info_line, sets_line, addr_columns, addr_line, procedure_text, outcomes_text, call_columns, call_line, tell_count_lines, tell_counts, tell_lists, tell_version, tell_statistics, total};
+ghost use Rattle.rb_show.specs.Counts.{version_line, info_line, sets_line, addr_columns, addr_line, procedure_text, outcomes_text, call_columns, call_line, tell_count_lines, tell_counts, tell_lists, tell_version, tell_statistics, total};
 
 use crate::form::Form;
 use crate::objects::{forwards_object, look_ups_object, numbers_object};
 use crate::show::Shown;
-use crate::texts::shown_text;
+use crate::stat::{AddrStat, CallStat, VersionStat};
+use crate::texts::{joined_ints, shown_text};
 use rb_ask::{ByteSource, InfoFault, Record, Style, show_item, show_list, take_item};
-use rb_xdr::Text;
 use std::alloc::{AllocError, Global};
 use std::io::Write;
-
-pub(crate) type Four = ((i32, i32), (i32, i32));
-
-/// info[13], setinfo and unsetinfo.
-pub(crate) type Numbers = ((Four, Four), (Four, (i32, (i32, i32))));
-
-/// An item of rpcbs_addrlist: program and version; success and failure; netid.
-pub(crate) type LookUps = ((u32, u32), ((i32, i32), Text<32>));
-
-/// An item of rpcbs_rmtcalllist: program, version and procedure; success, failure and indirect;
-/// netid.
-pub(crate) type Forwards = ((u32, (u32, u32)), ((i32, (i32, i32)), Text<32>));
-
-fn four_text(alloc: Global, four: Four) -> Result<String, AllocError>
-    ensures { IfOk result (λ text. string_bytes text ≡ four_text four) }
-{
-    let ((a, b), (c, d)) = four;
-    format!(in alloc; "{a} {b} {c} {d}")
-}
 
 struct VersionLine;
 
@@ -46,35 +27,32 @@ impl Style<u32> for VersionLine {
 
 struct InfoLine;
 
-impl Style<Numbers> for InfoLine {
+impl Style<VersionStat> for InfoLine {
     ghost text = { λ _. info_line };
 
-    fn line(&self, alloc: Global, item: &Numbers) -> Result<String, AllocError> {
-        let ((first, second), (third, (last, _))) = *item;
-        let first = four_text(alloc, first)?;
-        let second = four_text(alloc, second)?;
-        let third = four_text(alloc, third)?;
-        format!(in alloc; "info {first} {second} {third} {last}\n")
+    fn line(&self, alloc: Global, item: &VersionStat) -> Result<String, AllocError> {
+        let counts = joined_ints(alloc, &item.info, " ")?;
+        format!(in alloc; "info {counts}\n")
     }
 }
 
 struct SetsLine;
 
-impl Style<Numbers> for SetsLine {
+impl Style<VersionStat> for SetsLine {
     ghost text = { λ _. sets_line };
 
-    fn line(&self, alloc: Global, item: &Numbers) -> Result<String, AllocError> {
-        let (_, (_, (_, (set, unset)))) = *item;
+    fn line(&self, alloc: Global, item: &VersionStat) -> Result<String, AllocError> {
+        let (set, unset) = (item.setinfo, item.unsetinfo);
         format!(in alloc; "set {set} unset {unset}\n")
     }
 }
 
-fn addr_columns(alloc: Global, item: &LookUps) -> Result<String, AllocError>
+fn addr_columns(alloc: Global, item: &AddrStat) -> Result<String, AllocError>
     ensures { IfOk result (λ line. string_bytes line ≡ addr_columns item.now) }
 {
-    let netid = shown_text(alloc, item.1.1.as_slice())?;
-    let (prog, vers) = item.0;
-    let (success, failure) = item.1.0;
+    let netid = shown_text(alloc, item.netid.as_slice())?;
+    let (prog, vers) = (item.prog, item.vers);
+    let (success, failure) = (item.success, item.failure);
     format!(in alloc; "addr {prog} {vers} {netid} {success} {failure}\n")
 }
 
@@ -85,10 +63,10 @@ struct AddrLines<'a> {
     rpcbind: u32,
 }
 
-impl Style<LookUps> for AddrLines<'_> {
+impl Style<AddrStat> for AddrLines<'_> {
     ghost text = { λ style. addr_line style.form style.rpcbind };
 
-    fn line(&self, alloc: Global, item: &LookUps) -> Result<String, AllocError> {
+    fn line(&self, alloc: Global, item: &AddrStat) -> Result<String, AllocError> {
         if self.form.is_json() {
             look_ups_object(alloc, self.rpcbind, item)
         } else {
@@ -97,26 +75,26 @@ impl Style<LookUps> for AddrLines<'_> {
     }
 }
 
-fn procedure_text(alloc: Global, procedure: (u32, (u32, u32))) -> Result<String, AllocError>
-    ensures { IfOk result (λ text. string_bytes text ≡ procedure_text procedure) }
+fn procedure_text(alloc: Global, item: &CallStat) -> Result<String, AllocError>
+    ensures { IfOk result (λ text. string_bytes text ≡ procedure_text item.now) }
 {
-    let (prog, (vers, proc)) = procedure;
+    let (prog, vers, proc) = (item.prog, item.vers, item.proc);
     format!(in alloc; "{prog} {vers} {proc}")
 }
 
-fn outcomes_text(alloc: Global, outcomes: (i32, (i32, i32))) -> Result<String, AllocError>
-    ensures { IfOk result (λ text. string_bytes text ≡ outcomes_text outcomes) }
+fn outcomes_text(alloc: Global, item: &CallStat) -> Result<String, AllocError>
+    ensures { IfOk result (λ text. string_bytes text ≡ outcomes_text item.now) }
 {
-    let (success, (failure, indirect)) = outcomes;
+    let (success, failure, indirect) = (item.success, item.failure, item.indirect);
     format!(in alloc; "{success} {failure} {indirect}")
 }
 
-fn call_columns(alloc: Global, item: &Forwards) -> Result<String, AllocError>
+fn call_columns(alloc: Global, item: &CallStat) -> Result<String, AllocError>
     ensures { IfOk result (λ line. string_bytes line ≡ call_columns item.now) }
 {
-    let procedure = procedure_text(alloc, item.0)?;
-    let netid = shown_text(alloc, item.1.1.as_slice())?;
-    let outcomes = outcomes_text(alloc, item.1.0)?;
+    let procedure = procedure_text(alloc, item)?;
+    let netid = shown_text(alloc, item.netid.as_slice())?;
+    let outcomes = outcomes_text(alloc, item)?;
     format!(in alloc; "call {procedure} {netid} {outcomes}\n")
 }
 
@@ -127,10 +105,10 @@ struct CallLines<'a> {
     rpcbind: u32,
 }
 
-impl Style<Forwards> for CallLines<'_> {
+impl Style<CallStat> for CallLines<'_> {
     ghost text = { λ style. call_line style.form style.rpcbind };
 
-    fn line(&self, alloc: Global, item: &Forwards) -> Result<String, AllocError> {
+    fn line(&self, alloc: Global, item: &CallStat) -> Result<String, AllocError> {
         if self.form.is_json() {
             forwards_object(alloc, self.rpcbind, item)
         } else {
@@ -145,10 +123,10 @@ struct NumbersObject {
     rpcbind: u32,
 }
 
-impl Style<Numbers> for NumbersObject {
+impl Style<VersionStat> for NumbersObject {
     ghost text = { λ style. numbers_object style.rpcbind };
 
-    fn line(&self, alloc: Global, item: &Numbers) -> Result<String, AllocError> {
+    fn line(&self, alloc: Global, item: &VersionStat) -> Result<String, AllocError> {
         numbers_object(alloc, self.rpcbind, item)
     }
 }
@@ -159,14 +137,22 @@ fn show_heading<W: Write>(alloc: Global, vers: u32, writer: &mut W) -> Result<()
     show_item(alloc, &VersionLine, &vers, writer)
 }
 
-fn show_info<W: Write>(alloc: Global, numbers: &Numbers, writer: &mut W) -> Result<(), InfoFault>
+fn show_info<W: Write>(
+    alloc: Global,
+    numbers: &VersionStat,
+    writer: &mut W,
+) -> Result<(), InfoFault>
     ensures { WritesOnly (tell (info_line numbers.now ∷ [])) result
         W.contents writer.old writer.new }
 {
     show_item(alloc, &InfoLine, numbers, writer)
 }
 
-fn show_sets<W: Write>(alloc: Global, numbers: &Numbers, writer: &mut W) -> Result<(), InfoFault>
+fn show_sets<W: Write>(
+    alloc: Global,
+    numbers: &VersionStat,
+    writer: &mut W,
+) -> Result<(), InfoFault>
     ensures { WritesOnly (tell (sets_line numbers.now ∷ [])) result
         W.contents writer.old writer.new }
 {
@@ -177,7 +163,7 @@ fn show_sets<W: Write>(alloc: Global, numbers: &Numbers, writer: &mut W) -> Resu
 fn show_count_lines<W: Write>(
     alloc: Global,
     vers: u32,
-    numbers: &Numbers,
+    numbers: &VersionStat,
     writer: &mut W,
 ) -> Result<(), InfoFault>
     ensures { WritesOnly (tell_count_lines vers numbers.now) result
@@ -193,7 +179,7 @@ fn show_numbers<W: Write>(
     alloc: Global,
     form: Form<'_>,
     vers: u32,
-    numbers: &Numbers,
+    numbers: &VersionStat,
     writer: &mut W,
 ) -> Result<(), InfoFault>
     ensures { WritesOnly (tell_counts form.entry vers numbers.now) result
@@ -253,7 +239,7 @@ fn show_version<B: ByteSource, W: Write>(
     ensures { Shows (tell_version form.entry vers) result
         B.left source.old source.new at.old at.new W.contents writer.old writer.new }
 {
-    let numbers: Numbers = take_item(alloc, source, at)?;
+    let numbers: VersionStat = take_item(alloc, source, at)?;
     show_numbers(alloc, form, vers, &numbers, writer)?;
     show_lists(alloc, form, vers, source, at, writer)
 }

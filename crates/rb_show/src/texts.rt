@@ -1,7 +1,8 @@
 //! Texts of a reply, as they are printed.
-ghost use Rattle.std.specs.Prelude.{◌≡◌, IfOk};
+ghost use Rattle.std.specs.Prelude.{◌≡◌, map, IfOk};
+ghost use Rattle.std.specs.Fmt.{signed_decimal};
 ghost use Rattle.std.specs.String.{string_bytes};
-ghost use Rattle.rb_show.specs.Texts.{shown_byte, shown_text, at_left, prot_text};
+ghost use Rattle.rb_show.specs.Texts.{shown_byte, shown_text, at_left, joined, prot_text};
 
 use rb_address::{Family, Netid, Transport};
 use std::alloc::{AllocError, Global};
@@ -49,4 +50,20 @@ pub(crate) fn at_left(alloc: Global, text: &str, width: usize) -> Result<String,
         padded.push(' ')?;
     }
     Ok(padded)
+}
+
+/// Numbers with this text between them.
+pub(crate) fn joined_ints(alloc: Global, ints: &[i32], between: &str) -> Result<String, AllocError>
+    ensures { IfOk result
+        (λ text. string_bytes text ≡ joined between.now (map signed_decimal ints.now)) }
+{
+    let [first, rest @ ..] = ints else {
+        return Ok(String::new(alloc));
+    };
+    let mut text = format!(in alloc; "{first}")?;
+    for next in rest {
+        let next = format!(in alloc; "{between}{next}")?;
+        text.push_str(&next)?;
+    }
+    Ok(text)
 }

@@ -6,7 +6,7 @@ use Rattle.rb_show.proofs.objects.forwards_object.Goals as goal
 
 pub returns : goal.returns
 returns c =
-    let procedure : string_bytes c.in_ok-procedure.procedure ≡ procedure_members c.args.item.now.0 = search rules in
-    let netid : string_bytes c.in_ok-netid.netid ≡ json_text c.args.item.now.1.1 = search rules in
-    let outcomes : string_bytes c.in_ok-outcomes.outcomes ≡ outcomes_members c.args.item.now.1.0 = search rules in
+    let procedure : string_bytes c.in_ok-procedure.procedure ≡ procedure_members c.args.item.now = search rules in
+    let netid : string_bytes c.in_ok-netid.netid ≡ json_text c.args.item.now.netid = search rules in
+    let outcomes : string_bytes c.in_ok-outcomes.outcomes ≡ outcomes_members c.args.item.now = search rules in
     rw (procedure, netid, outcomes) at c.format.ensures.ok

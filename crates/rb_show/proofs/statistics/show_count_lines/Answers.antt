@@ -1,15 +1,15 @@
 use Rattle.std.proofs.Common.{[], ◌∷◌}
 use Rattle.std.proofs.lemmas.Result.{err_from_is_err_and}
 use Rattle.rb_ask.specs.Telling.{Teller, ◌>>=◌, tell}
-use Rattle.rb_show.specs.Statistics.{Numbers}
+use Rattle.rb_show.specs.declared.stat.VersionStat.{VersionStat}
 use Rattle.rb_show.specs.Counts.{version_line, info_line, sets_line, tell_count_lines}
 use Rattle.rb_ask.proofs.Tellings.{tells_then, tells_fault}
 use Rattle.rb_show.proofs.statistics.show_count_lines.Goals as goal
 
-abbrev rest : Numbers → Unit {0} → Teller (Unit {0})
+abbrev rest : VersionStat → Unit {0} → Teller (Unit {0})
 rest n _ = tell (info_line n ∷ []) >>= λ _. tell (sets_line n ∷ [])
 
-abbrev last : Numbers → Unit {0} → Teller (Unit {0})
+abbrev last : VersionStat → Unit {0} → Teller (Unit {0})
 last n _ = tell (sets_line n ∷ [])
 
 pub returns-in_err-show_heading : goal.returns-in_err-show_heading
