@@ -4,6 +4,8 @@ use Rattle.rb_xdr.specs.Meter.{Meter, PaysAtMost}
 use Rattle.rb_registry.specs.Registry.{Registry, slots_of}
 use Rattle.rb_model.specs.declared.types.CoreFault.{CoreFault}
 use Rattle.rb_model.specs.declared.types.Given.{Given}
+use Rattle.rb_model.specs.declared.types.Standing.{Standing}
+use Rattle.rb_model.specs.Standings.{without_standing}
 use Rattle.rb_model.specs.Connections.{longest_fragment, live_connection}
 use Rattle.rb_model.specs.Costs.{walked, show_cost, listed_cost, given_cost, recount_cost, find_cost, take_cost, swap_cost, gave_cost}
 use Rattle.rb_model.specs.Gives.{given_into_cost, give_into_cost, given_in}
@@ -84,3 +86,8 @@ PaysToGiveInto table registry id result before now =
     (x : Connections) → StandsForConnections registry table x
     → PaysAtMost before now
     (give_into_cost (slot_count table) (row_count registry) (given_in result) (live_connection id x.all))
+
+-- a piece of bytes is taken on a connection of the table, if it is there
+abbrev pub PaysToTake : Table → Result (Received × Standing) CoreFault → Meter → Meter → Type 0
+PaysToTake table result before now =
+    PaysAtMost before now (2 * slot_count table + 3 + taken_cost (without_standing result))

@@ -9,8 +9,10 @@ use Rattle.rb_xdr.specs.Pool.{Pool, HasDistinctKeys}
 use Rattle.rb_rpc.specs.Verdict.{verdict}
 use Rattle.rb_address.specs.declared.who.Who.{Who}
 use Rattle.rb_model.specs.declared.types.CoreFault.{CoreFault}
+use Rattle.rb_model.specs.declared.types.Standing.{Standing}
 use Rattle.rb_model.specs.declared.types.Given.{Given}
 use Rattle.rb_model.specs.Gives.{give_fitting, bytes_given}
+use Rattle.rb_model.specs.Standings.{without_standing}
 use Rattle.rb_model.specs.State.{Phase, Connection, Connections}
 use Rattle.rb_model.specs.Calls.{kept_of}
 use Rattle.rb_model.specs.Connections.{longest_fragment, Taking, taking_on, taking_of, since_when_fed, keep_reading, give, is_lost, has_number, is_live, live_connection, on_live}
@@ -172,6 +174,11 @@ TableHasArguments id piece table before after = TableShows (arguments_on id befo
 -- so many bytes of a piece were taken on the live connection of the number, and this came of it
 abbrev pub TableTakes : ℕ → ℕ → List ℕ → Table → Table → Received → Type 0
 TableTakes id clock piece old new got = TableActs (on_live id (take_piece clock piece)) old new (Ok got)
+
+-- the same of what came of a piece, or that the connection is not there
+abbrev pub TableTakesPiece : ℕ → ℕ → List ℕ → Table → Table → Result (Received × Standing) CoreFault → Type 0
+TableTakesPiece id clock piece old new result =
+    TableActs (on_live id (take_piece clock piece)) old new (without_standing result)
 
 -- which arguments are kept of a record that came whole
 abbrev pub kept_in : WholeRecord → List ℕ

@@ -3,7 +3,7 @@ ghost use Rattle.std.specs.Prelude.{◌≡◌, ◌<◌, ◌≤◌, ◌+◌, ◌*
 ghost use Rattle.std.specs.Borrow.{sem};
 ghost use Rattle.std.specs.Option.{option_copied_mut, option_map};
 ghost use Rattle.std.specs.Map.{values_of};
-ghost use Rattle.rb_xdr.specs.Meter.{Pays, PaysAtMost};
+ghost use Rattle.rb_xdr.specs.Meter.{PaysAtMost};
 ghost use Rattle.rb_xdr.specs.Pool.{HasDistinctKeys, SameFrame};
 ghost use Rattle.rb_connections.specs.Slots.{wanted_slot, AreBuffers, AreSpare, HasBuffers, HasDistinctNumbers};
 ghost use Rattle.rb_connections.specs.LiveSlots.{charge_of, count_cost, FindsLive, LendsLive};
@@ -211,8 +211,8 @@ fn live_slot<'a>(
 }
 
 impl Connections {
-    ghost use Rattle.std.specs.Prelude.{◌≡◌, ◌≤◌, ◌<◌, ◌+◌, ◌*◌, [], true, false, ℕ, length, Some, OnErr, IfOk, IfSome, IfNone, All};
-    ghost use Rattle.rb_model.specs.Connections.{on_live, open_in_table, close_in_table, next_lost_in_table, longest_fragment};
+    ghost use Rattle.std.specs.Prelude.{◌≡◌, ◌≤◌, ◌<◌, ◌+◌, ◌*◌, [], false, length, Some, OnErr, IfOk, IfSome, IfNone, All};
+    ghost use Rattle.rb_model.specs.Connections.{open_in_table, close_in_table, next_lost_in_table, longest_fragment};
     ghost use Rattle.rb_connections.specs.Giving.{pending_count};
     ghost use Rattle.rb_connections.specs.Settling.{Settles};
     ghost use Rattle.rb_model.specs.Served.{kind_in, IsWritten};
@@ -220,10 +220,10 @@ impl Connections {
     ghost use Rattle.rb_model.specs.Losses.{expire_first};
     ghost use Rattle.rb_model.specs.Standings.{as_done, without_standing};
     ghost use Rattle.rb_connections.specs.Standings.{TellsStanding, TellsGiven, TellsReceived, IsStanding};
-    ghost use Rattle.rb_connections.specs.Slots.{Finds, TableActs, TableGives, TableGivesInto, TableHasArguments, TableLends, TableShows, TakesWhole, KeepsWhole, StaysTable, IsDraft, IsEmptyDraft, IsEmptyTable, take_piece, HasBuffers};
+    ghost use Rattle.rb_connections.specs.Slots.{Finds, TableActs, TableTakesPiece, TableGives, TableGivesInto, TableHasArguments, TableLends, TableShows, TakesWhole, KeepsWhole, StaysTable, IsDraft, IsEmptyDraft, IsEmptyTable, HasBuffers};
     ghost use Rattle.rb_model.specs.Gives.{given_in};
     ghost use Rattle.rb_model.specs.Step.{pending_at};
-    ghost use Rattle.rb_connections.specs.Costs.{slot_count, look_cost, received_cost, taken_cost, settling_cost, PaysToGive, PaysToGiveInto};
+    ghost use Rattle.rb_connections.specs.Costs.{slot_count, look_cost, settling_cost, PaysToTake, PaysToGive, PaysToGiveInto};
     ghost use Rattle.rb_model.specs.Costs.{pending_cost, oldest_cost, evict_cost};
     ghost use Rattle.rb_connections.specs.Awaits.{AwaitsIfForwarded, NoneIsFreed, OnlyIsFreed, EndedOn, EndsOnFree, GoOn, StayOpen};
     ghost use Rattle.rb_connections.specs.StandsFor.{held_in, most_charge};
@@ -335,8 +335,7 @@ impl Connections {
     ) -> Result<(Received, Standing), CoreFault>
         requires tie { meter.old.tie ≡ self.old.tie }
         requires arguments { IsDraft meter.old.tie arguments.old }
-        ensures acts { TableActs (on_live id (take_piece clock piece.now)) self.old self.new
-            (without_standing result) }
+        ensures acts { TableTakesPiece id clock piece.now self.old self.new result }
         ensures stands { TellsReceived id self.new result }
         ensures arguments { TableHasArguments id piece.now self.old arguments.old arguments.new }
         ensures goes_on { GoOn self.old self.new }
@@ -346,8 +345,7 @@ impl Connections {
         ensures kept { OnErr result (arguments.new ≡ arguments.old) }
         ensures draft { IsDraft meter.old.tie arguments.new }
         ensures as_many { length self.new.slots ≡ length self.old.slots }
-        ensures cost { PaysAtMost meter.old meter.new
-            (2 * slot_count self.old + 3 + taken_cost (without_standing result)) }
+        ensures cost { PaysToTake self.old result meter.old meter.new }
     {
         let Some(slot) = live_slot(&mut self.slots, &mut self.hints, &mut self.held, id, meter)
         else {

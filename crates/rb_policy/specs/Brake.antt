@@ -124,3 +124,11 @@ pub record StandsForServed (brake : BrakeTables) (served : List Datagram) : Type
   pub hosts : IsTable host_place brake.rate.host brake.hosts served
   pub latest : brake.latest ≡ latest_of served
   pub in_order : AreInOrder (map (λ d. d.moment) served)
+
+-- Whatever was served, so that the brake knows it, this is answered of it.
+abbrev pub ShowsServed : {A : Type 0} → (List Datagram → A) → BrakeTables → A → Type 0
+ShowsServed show brake result = (served : List Datagram) → StandsForServed brake served → result ≡ show served
+
+-- Whatever was served, so that the old brake knows it, the new one knows what becomes of it.
+abbrev pub BecomesServed : (List Datagram → List Datagram) → BrakeTables → BrakeTables → Type 0
+BecomesServed change old new = (served : List Datagram) → StandsForServed old served → StandsForServed new (change served)

@@ -1,5 +1,5 @@
 -- The moments of what was served last, of one place and of all places of a table.
-use Rattle.std.specs.Prelude.{ℕ, ◌+◌, ◌-◌, ◌≤◌, nat_lt, nat_le, Bool, false, ◌||◌, List, [], ◌∷◌, ◌++◌, length, drop}
+use Rattle.std.specs.Prelude.{◌≡◌, ℕ, ◌+◌, ◌-◌, ◌≤◌, nat_lt, nat_le, Bool, false, ◌||◌, List, [], ◌∷◌, ◌++◌, length, drop, slice_set, slice_index_or}
 
 -- a second, in milliseconds
 abbrev pub one_second : ℕ
@@ -34,3 +34,7 @@ noted recent now = record { most = recent.most; moments = last_of recent.most (r
 
 abbrev pub nothing_of : ℕ → RecentMoments
 nothing_of most = record { most = most; moments = [] }
+
+-- One more was served of a place of a table, at this moment.
+abbrev pub NotesAt : ℕ → ℕ → List RecentMoments → List RecentMoments → Type 0
+NotesAt place now old new = (d : RecentMoments) → new ≡ slice_set old place (noted (slice_index_or old place d) now)

@@ -2,7 +2,7 @@
 ghost use Rattle.std.specs.Prelude.{◌≡◌, ◌<◌, ◌&&◌, [], List, slice_index_or, IfOk};
 ghost use Rattle.rb_policy.specs.declared.recent.TheConstants.{PLACES};
 ghost use Rattle.rb_policy.specs.Recents.{RecentMoments, has_room};
-ghost use Rattle.rb_policy.specs.Brake.{place_by, network_place, host_place, Datagram, admits, admit, host_counted, passes, pass, StandsForServed};
+ghost use Rattle.rb_policy.specs.Brake.{place_by, network_place, host_place, Datagram, admits, admit, host_counted, passes, pass, StandsForServed, ShowsServed, BecomesServed};
 
 use crate::recent::{PLACES, Table};
 use rb_address::{Host, Source, Trust, Who};
@@ -61,10 +61,9 @@ impl Brake {
     /// from then on. A moment before the last one counts as that.
     pub fn admit(&mut self, now: u64, host: Host) -> bool
         ensures rate { self.new.rate ≡ self.old.rate }
-        ensures admits { (served : List Datagram) → StandsForServed self.old served
-            → result ≡ admits self.old.rate served now host }
-        ensures stands { (served : List Datagram) → StandsForServed self.old served
-            → StandsForServed self.new (admit self.old.rate served now host) }
+        ensures admits { ShowsServed (λ served. admits self.old.rate served now host) self.old result }
+        ensures stands { BecomesServed
+            (λ served. admit self.old.rate served now host) self.old self.new }
     {
         let now = now.max(self.latest);
         let network = network_place(host);
@@ -82,10 +81,10 @@ impl Brake {
     /// admitted, and of anyone else.
     pub fn passes(&mut self, now: u64, who: &Who) -> bool
         ensures rate { self.new.rate ≡ self.old.rate }
-        ensures passes { (served : List Datagram) → StandsForServed self.old served
-            → result ≡ passes self.old.rate served now who.now }
-        ensures stands { (served : List Datagram) → StandsForServed self.old served
-            → StandsForServed self.new (pass self.old.rate served now who.now) }
+        ensures passes { ShowsServed
+            (λ served. passes self.old.rate served now who.now) self.old result }
+        ensures stands { BecomesServed
+            (λ served. pass self.old.rate served now who.now) self.old self.new }
     {
         match host_counted(who) {
             Some(host) => self.admit(now, host),

@@ -101,9 +101,9 @@ impl Model for Table {
 }
 
 impl Table {
-    ghost use Rattle.std.specs.Prelude.{◌≡◌, ◌<◌, slice_set, slice_index_or, replicate, IfOk};
+    ghost use Rattle.std.specs.Prelude.{◌≡◌, ◌<◌, slice_index_or, replicate, IfOk};
     ghost use Rattle.rb_policy.specs.declared.recent.TheConstants.{PLACES};
-    ghost use Rattle.rb_policy.specs.Recents.{RecentMoments, has_room, noted, nothing_of};
+    ghost use Rattle.rb_policy.specs.Recents.{NotesAt, RecentMoments, has_room, nothing_of};
 
     /// Nothing was served of any place, of each of which at most `most` count. An error where an allocation is refused.
     pub(crate) fn new(alloc: Global, most: usize) -> Result<Table, AllocError>
@@ -127,8 +127,7 @@ impl Table {
     /// One more was served of a place, at this moment.
     pub(crate) fn note(&mut self, place: usize, now: u64)
         requires { place < PLACES }
-        ensures { (d : RecentMoments)
-            → self.new ≡ slice_set self.old place (noted (slice_index_or self.old place d) now) }
+        ensures { NotesAt place now self.old self.new }
     {
         let recent = &mut self.places[place];
         recent.note(now);

@@ -1,13 +1,16 @@
 -- What calls on the books say of the ledger, and what of the books stays.
-use Rattle.std.specs.Prelude.{◌≡◌, ◌<◌, ◌↔◌, ⊤, ℕ, ◌+◌, Bool, true, IsTrue, if◌then◌else◌, List, [], ◌∷◌, ◌++◌, length, Option, Result, IsOk}
+use Rattle.std.specs.Prelude.{◌≡◌, ◌<◌, ◌↔◌, ⊤, ℕ, ◌+◌, Bool, true, IsTrue, if◌then◌else◌, List, [], ◌∷◌, ◌++◌, length, Option, is_some, Result, IsOk}
 use Rattle.std.specs.List.{filter_map}
+use Rattle.rb_rpc.specs.declared.call.CallHead.{CallHead}
 use Rattle.rb_rpc.specs.declared.caller.Caller.{Caller}
 use Rattle.rb_address.specs.declared.peer.Peer.{Peer}
 use Rattle.rb_registry.specs.declared.row.Row.{Row}
 use Rattle.rb_registry.specs.Slots.{slots_from}
 use Rattle.rb_registry.specs.Registry.{Registry, rows_of, retained_count, removals_of}
 use Rattle.rb_stats.specs.Statistics.{Note}
+use Rattle.rb_stats.specs.Statistics.Note.{LookedUp}
 use Rattle.rb_stats.specs.Stats.{Stats, StandsForHistory}
+use Rattle.rb_stats.specs.declared.key.Target.{Target}
 use Rattle.rb_forward.specs.StandsFor.{Table, slots_of}
 use Rattle.rb_forward.specs.Table.{OnlyWaitsAnew}
 use Rattle.rb_forward.specs.Forwards.{Unsent, unsent}
@@ -20,7 +23,9 @@ use Rattle.rb_proto.specs.declared.forwarding.Asked.{Asked}
 use Rattle.rb_arguments.specs.declared.remote.RemoteCall.{RemoteCall}
 use Rattle.rb_proto.specs.declared.answers.Answer.{Answer}
 use Rattle.rb_proto.specs.declared.answers.Answer.TheVariants as answers
-use Rattle.rb_proto.specs.Ledger.{Ledger, StandsForLedger}
+use Rattle.rb_proto.specs.Callers.{who_of}
+use Rattle.rb_proto.specs.Terms.{counts_forward, counts_look_up}
+use Rattle.rb_proto.specs.Ledger.{Ledger, StandsForLedger, version_of}
 use Rattle.rb_proto.specs.Answers.{adds, adds_row}
 use Rattle.rb_proto.specs.Forwarding.{outcome_note, forward_call, target_replied}
 
@@ -104,6 +109,16 @@ HasRowRoom context call kept = wants_room_in context call kept ≡ true → HasP
 -- the note of how a call ended that was asked for so
 abbrev pub note_asked : Asked → Bool → Note
 note_asked asked passed = outcome_note asked.kind asked.caller asked.prog asked.vers asked.proc passed
+
+-- That a forwarded call ended so is noted, where it counts.
+abbrev pub NotesForward : Asked → Bool → Stats → Stats → Type 0
+NotesForward asked passed old new = HasNotedWhere (counts_forward asked.caller passed) (note_asked asked passed) old new
+
+-- A look-up of a call with this head is noted, where it counts, with whether it found a row.
+abbrev pub NotesLookUp : Context → CallHead → Target → Option Row → Stats → Stats → Type 0
+NotesLookUp context head target found old new =
+    HasNotedWhere (counts_look_up (who_of context.caller) target.vers found)
+    (LookedUp (version_of head.vers) target (is_some found)) old new
 
 -- no answer but this one leaves a new entry
 abbrev pub StayUnlessForwarded : Answer → Table → Table → Type 0

@@ -1,6 +1,7 @@
 -- What answering and putting results costs.
-use Rattle.std.specs.Prelude.{ℕ, ◌+◌, ◌-◌, ◌*◌, Bool, true, false, ◌&&◌, ◌||◌, if◌then◌else◌, IsTrue, length, Option, Some, None}
+use Rattle.std.specs.Prelude.{ℕ, ◌+◌, ◌-◌, ◌*◌, Bool, true, false, ◌&&◌, ◌||◌, if◌then◌else◌, IsTrue, List, length, Option, Some, None}
 use Rattle.rb_xdr.specs.Kept.{Kept}
+use Rattle.rb_xdr.specs.Meter.{Meter, PaysAtMost}
 use Rattle.rb_xdr.specs.Ordered.{looks}
 use Rattle.rb_registry.specs.declared.row.Which.{Which}
 use Rattle.rb_registry.specs.declared.row.Which.TheVariants.{Inet}
@@ -71,6 +72,14 @@ request_cost may books (requests.Forward kind remote) args = forwarding_cost boo
 
 abbrev pub cost_of : Context → Books → Call → ℕ → ℕ
 cost_of context books call args = request_cost (comes_from_here context) books call.request args
+
+-- what a call asks for is done, and paid for
+abbrev pub PaysForCall : Context → Books → Call → List ℕ → Meter → Meter → Type 0
+PaysForCall context books call arguments before now = PaysAtMost before now (cost_of context books call (length arguments))
+
+-- A SET or an UNSET in this context pays that at most, and nothing where its caller may not register.
+abbrev pub PaysToRegister : Context → ℕ → Meter → Meter → Type 0
+PaysToRegister context most before now = PaysAtMost before now (registering_cost (comes_from_here context) most)
 
 -- a search for a row, and one step for the number of the live ones
 abbrev pub room_cost : Books → ℕ

@@ -53,7 +53,7 @@ pub(crate) fn version_of(vers: u32) -> Version
 }
 
 impl Books {
-    ghost use Rattle.std.specs.Prelude.{◌≡◌, ◌<◌, ◌≤◌, ◌↔◌, ◌+◌, ◌*◌, [], false, length, IfOk, IsErrOf, IfSome, IsOk, IsTrue, OnOk, OnErr};
+    ghost use Rattle.std.specs.Prelude.{◌≡◌, ◌<◌, ◌≤◌, ◌↔◌, ◌+◌, ◌*◌, [], false, length, IfOk, IsErrOf, IfSome, OnOk, OnErr};
     ghost use Rattle.rb_xdr.specs.Meter.{PaysAtMost};
     ghost use Rattle.rb_forward.specs.Costs.{sent_cost};
     ghost use Rattle.rb_forward.specs.Forwards.{can_be_sent};
@@ -62,8 +62,8 @@ impl Books {
     ghost use Rattle.rb_forward.specs.Table.{plain_unsent, count_lent, is_waiting, IsNew, NoneWaitsAnew};
     ghost use Rattle.rb_proto.specs.Forwarding.{fell_due, caller_dropped, call_sent};
     ghost use Rattle.rb_proto.specs.Books.{unsent_of, reply_to, removals_in, wants_room_in, BooksShow, IsOkWhere, ActsAs, Becomes, AreTied, SameFrame};
-    ghost use Rattle.rb_proto.specs.Puts.{ending_cost, lending_cost, registering_cost, room_cost};
-    ghost use Rattle.rb_proto.specs.Answers.{comes_from_here, wants_room};
+    ghost use Rattle.rb_proto.specs.Puts.{PaysToRegister, ending_cost, lending_cost, room_cost};
+    ghost use Rattle.rb_proto.specs.Answers.{wants_room};
     ghost use Rattle.rb_registry.specs.Registry.{rows_of, slots_of as row_slots};
     ghost use Rattle.rb_registry.specs.Table.{floor_raised, later_than};
     ghost use Rattle.rb_registry.specs.Cursors.{GoesOn};
@@ -135,8 +135,7 @@ impl Books {
         requires limit { self.now.registry.limit ≡ context.now.limit }
         ensures wants { result ≡ wants_room_in context.now call.now self.now.registry }
         ensures shows { BooksShow (wants_room context.now call.now) self.now result }
-        ensures cost { PaysAtMost meter.old meter.new
-            (registering_cost (comes_from_here context.now) (room_cost self.now)) }
+        ensures cost { PaysToRegister context.now (room_cost self.now) meter.old meter.new }
     {
         match row_to_set(context, call) {
             Some(row) => accepts(&self.registry, context, &row, meter),

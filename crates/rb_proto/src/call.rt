@@ -1,13 +1,12 @@
 //! A call, and what it is answered (RFC 1833 sections 2.2 and 3.2).
-ghost use Rattle.std.specs.Prelude.{◌≡◌, length};
-ghost use Rattle.rb_xdr.specs.Meter.{PaysAtMost};
+ghost use Rattle.std.specs.Prelude.{◌≡◌};
 ghost use Rattle.rb_forward.specs.StandsFor.{slots_of};
 ghost use Rattle.rb_forward.specs.Table.{IsNew};
 ghost use Rattle.rb_proto.specs.Books.{ActsAs, AreTied, OnlyCallerWaits, SameFrame, StayUnlessForwarded, HasRowRoom};
 ghost use Rattle.rb_arguments.specs.Arguments.{HasArgs};
 ghost use Rattle.rb_registry.specs.Cursors.{GoesOn};
 ghost use Rattle.rb_proto.specs.Answers.{answer, answer_void};
-ghost use Rattle.rb_proto.specs.Puts.{cost_of, ListsIfAsked};
+ghost use Rattle.rb_proto.specs.Puts.{ListsIfAsked, PaysForCall};
 
 use crate::answers::{Answer, Listing, Results, Value};
 use crate::books::Books;
@@ -76,8 +75,7 @@ pub fn answer(
     ensures floor { books.new.registry.floor ≡ books.old.registry.floor }
     ensures frame { SameFrame books.old books.new }
     ensures lists { ListsIfAsked call.now result }
-    ensures cost { PaysAtMost meter.old meter.new
-        (cost_of context.now books.old call.now (length arguments.now)) }
+    ensures cost { PaysForCall context.now books.old call.now arguments.now meter.old meter.new }
 {
     let head = &call.head;
     match &call.request {

@@ -5,9 +5,9 @@ ghost use Rattle.rb_xdr.specs.Ordered.{looks};
 ghost use Rattle.rb_registry.specs.Registry.{rows_of};
 ghost use Rattle.rb_forward.specs.StandsFor.{slots_of};
 ghost use Rattle.rb_forward.specs.Table.{IsNew};
-ghost use Rattle.rb_proto.specs.Books.{ActsAs, ForwardsAs, AreTied, HasNotedWhere, OnlyCallerWaits, SameFrame, StayUnlessForwarded, note_asked};
+ghost use Rattle.rb_proto.specs.Books.{ActsAs, ForwardsAs, AreTied, HasNotedWhere, NotesForward, OnlyCallerWaits, SameFrame, StayUnlessForwarded};
 ghost use Rattle.rb_arguments.specs.Remote.{HasContent};
-ghost use Rattle.rb_proto.specs.Forwarding.{version_of_kind, is_indirect, is_pass, netid_to_forward, address_of_row, address_asked, peer_of_address, merged_peer, uaddr_at, forward_of, refusal, refuse, counts_end, end_note};
+ghost use Rattle.rb_proto.specs.Forwarding.{version_of_kind, netid_to_forward, address_of_row, address_asked, peer_of_address, merged_peer, uaddr_at, forward_of, refusal, refuse, counts_end, end_note};
 ghost use Rattle.rb_proto.specs.Terms.{counts_forward};
 ghost use Rattle.rb_proto.specs.Costs.{note_cost};
 ghost use Rattle.rb_proto.specs.Puts.{forwarding_cost, shows_rows};
@@ -56,8 +56,7 @@ struct Asked {
 #[tactic(auto, unfolding(crate::specs::Forwarding::outcome_note))]
 fn note_outcome(stats: &mut Stats, asked: Asked, passed: bool, meter: &mut Meter)
     requires { meter.old.tie ≡ stats.old.tie }
-    ensures history { HasNotedWhere
-        (counts_forward asked.caller passed) (note_asked asked passed) stats.old stats.new }
+    ensures history { NotesForward asked passed stats.old stats.new }
     ensures memory { stats.new.memory ≡ stats.old.memory }
     ensures tie { stats.new.tie ≡ stats.old.tie }
     ensures cost { PaysAtMost meter.old meter.new (note_cost + 2) }

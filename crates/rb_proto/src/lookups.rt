@@ -1,11 +1,9 @@
 //! The procedures that look something up, or turn an address into another form (RFC 1833 sections 2.2 and 3.2).
-ghost use Rattle.std.specs.Prelude.{◌≡◌, ◌+◌, option_copied, is_some};
+ghost use Rattle.std.specs.Prelude.{◌≡◌, ◌+◌, option_copied};
 ghost use Rattle.rb_xdr.specs.Meter.{PaysAtMost};
-ghost use Rattle.rb_proto.specs.Books.{ActsAs, AreTied, HasNotedWhere, SameFrame};
-ghost use Rattle.rb_proto.specs.Callers.{who_of};
+ghost use Rattle.rb_proto.specs.Books.{ActsAs, AreTied, NotesLookUp, SameFrame};
 ghost use Rattle.rb_proto.specs.Terms.{counts_look_up};
 ghost use Rattle.rb_proto.specs.Ledger.{version_of};
-ghost use Rattle.rb_stats.specs.Statistics.Note.{LookedUp};
 ghost use Rattle.rb_proto.specs.Answers.{shown_address, shown_text, shown_port, port_found, is_replaced, addr_told, addr_found, getport, getaddr, getversaddr, target_of, seconds, taddr_of, uaddr_of};
 ghost use Rattle.rb_uaddr.specs.Uaddr.{text_of};
 ghost use Rattle.rb_proto.specs.Costs.{note_cost};
@@ -122,9 +120,8 @@ fn note_lookup(
     meter: &mut Meter,
 )
     requires { meter.old.tie ≡ stats.old.tie }
-    ensures history { HasNotedWhere
-        (counts_look_up (who_of context.now.caller) target.vers (option_copied found.entry))
-        (LookedUp (version_of head.now.vers) target (is_some found.entry)) stats.old stats.new }
+    ensures history { NotesLookUp context.now head.now
+        target (option_copied found.entry) stats.old stats.new }
     ensures memory { stats.new.memory ≡ stats.old.memory }
     ensures tie { stats.new.tie ≡ stats.old.tie }
     ensures cost { PaysAtMost meter.old meter.new (note_cost + 2) }

@@ -3,11 +3,11 @@ ghost use Rattle.std.specs.Prelude.{◌≡◌, ◌+◌};
 ghost use Rattle.rb_xdr.specs.Meter.{PaysAtMost};
 ghost use Rattle.rb_xdr.specs.Ordered.{looks};
 ghost use Rattle.rb_registry.specs.Costs.{set_cost};
-ghost use Rattle.rb_proto.specs.Puts.{registering_cost, removal_cost};
+ghost use Rattle.rb_proto.specs.Puts.{PaysToRegister, removal_cost};
 ghost use Rattle.rb_registry.specs.Registry.{rows_of};
 ghost use Rattle.rb_registry.specs.Cursors.{GoesOn};
 ghost use Rattle.rb_proto.specs.Books.{ActsAs, AreTied, SameFrame, HasRoomFor};
-ghost use Rattle.rb_proto.specs.Answers.{comes_from_here, row_of_mapping, row_of_rpcb, can_be_set, row_to_set, has_share, accepts, set_row, unset_rows};
+ghost use Rattle.rb_proto.specs.Answers.{row_of_mapping, row_of_rpcb, can_be_set, row_to_set, has_share, accepts, set_row, unset_rows};
 
 use crate::books::{Books, version_of};
 use crate::call::Call;
@@ -88,8 +88,7 @@ pub(crate) fn accepts(registry: &Registry, context: &Context, row: &Row, meter: 
     requires limit { registry.now.limit ≡ context.now.limit }
     ensures value { result
         ≡ accepts context.now (rows_of registry.now) registry.now.stamp row.now }
-    ensures cost { PaysAtMost meter.old meter.new
-        (registering_cost (comes_from_here context.now) (looks registry.now.limit + 2)) }
+    ensures cost { PaysToRegister context.now (looks registry.now.limit + 2) meter.old meter.new }
 {
     if !context.comes_from_here() || !can_be_set(row) {
         return false;
@@ -121,8 +120,8 @@ pub(crate) fn set_row(
     ensures floor { books.new.registry.floor ≡ books.old.registry.floor }
     ensures forwards { books.new.forwards ≡ books.old.forwards }
     ensures frame { SameFrame books.old books.new }
-    ensures cost { PaysAtMost meter.old meter.new
-        (registering_cost (comes_from_here context.now) (set_cost books.old.registry + 1)) }
+    ensures cost { PaysToRegister context.now
+        (set_cost books.old.registry + 1) meter.old meter.new }
 {
     let Some(row) = row else {
         return false;
@@ -159,8 +158,8 @@ pub(crate) fn unset_rows(
     ensures floor { books.new.registry.floor ≡ books.old.registry.floor }
     ensures forwards { books.new.forwards ≡ books.old.forwards }
     ensures frame { SameFrame books.old books.new }
-    ensures cost { PaysAtMost meter.old meter.new
-        (registering_cost (comes_from_here context.now) (removal_cost books.old.registry which)) }
+    ensures cost { PaysToRegister context.now
+        (removal_cost books.old.registry which) meter.old meter.new }
 {
     let Some(which) = which else {
         return false;

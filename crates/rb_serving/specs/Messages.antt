@@ -26,6 +26,10 @@ asked_of head None = says.Garbage head
 abbrev pub CallsProcedure : Verdict → CallHead → Procedure → Type 0
 CallsProcedure verdict head procedure = (bytes : List ℕ) → message_with verdict bytes ≡ asked_of head (arguments procedure bytes)
 
+-- A message of this verdict says this, whatever bytes follow its head.
+abbrev pub IsMessageOf : Verdict → Message → Type 0
+IsMessageOf verdict message = (bytes : List ℕ) → message ≡ message_with verdict bytes
+
 abbrev pub AsksNothing : Message → Type 0
 AsksNothing (says.Asked call) = ⊥
 AsksNothing says.NoCall = ⊤

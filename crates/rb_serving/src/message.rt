@@ -1,9 +1,9 @@
 //! What the data of a record, or a datagram, says: the order of refusals.
-ghost use Rattle.std.specs.Prelude.{◌≡◌, ◌≤◌, List, ℕ, length, min, IfOk, IfErr};
+ghost use Rattle.std.specs.Prelude.{◌≡◌, ◌≤◌, length, IfOk, IfErr};
 ghost use Rattle.rb_rpc.specs.Verdict.{verdict as verdict_of, EndsWithin};
 ghost use Rattle.rb_feed.specs.Feeds.{arguments_of};
-ghost use Rattle.rb_model.specs.Calls.{is_served, call_of, kept_of, message_with};
-ghost use Rattle.rb_serving.specs.Messages.{AsksNothing, CallsProcedure};
+ghost use Rattle.rb_model.specs.Calls.{is_served, kept_of};
+ghost use Rattle.rb_serving.specs.Messages.{AsksNothing, CallsProcedure, IsMessageOf};
 
 use rb_arguments::{Procedure, VoidProcedure};
 use rb_model::{LONGEST_KEPT, Message};
@@ -66,8 +66,7 @@ impl Called<'_> {
 pub fn procedure_of(verdict: &Verdict) -> Result<Called<'_>, Message<'static>>
     ensures calls { IfOk result
         (λ called. CallsProcedure verdict.now called.head.now called.procedure) }
-    ensures refuses { IfErr result
-        (λ message. (bytes : List ℕ) → message ≡ message_with verdict.now bytes) }
+    ensures refuses { IfErr result (IsMessageOf verdict.now) }
     ensures asks { IfErr result (λ message. AsksNothing message) }
 {
     let head = match verdict {
