@@ -15,7 +15,7 @@ use Rattle.rb_ask.specs.declared.fault.InfoFault.{InfoFault}
 use Rattle.rb_ask.specs.declared.fault.InfoFault.TheVariants.{Unreadable, Refused}
 use Rattle.rb_ask.specs.Sources.{Supply}
 use Rattle.rb_ask.specs.Data.{front_of, end_of}
-use Rattle.rb_ask.specs.Telling.{Told, Teller, ◌>>=◌, give, stop, tell, take_one, Outcome}
+use Rattle.rb_ask.specs.Telling.{Told, Teller, ◌>>=◌, give, stop, tell, take_one, Outcome, WritesOnly}
 use Rattle.rb_ask.specs.Heads.{take_head}
 use Rattle.rb_ask.specs.Lists.{tell_items, greatest_list}
 use Rattle.rb_ask.specs.WholeLists.{take_items}
@@ -41,6 +41,11 @@ tell_rows reads stands_for line = tell_list reads (λ item. line (stands_for ite
 -- the summary of items
 abbrev pub tell_items_summary : {A : Type 0} → Form → (A → Rpcb) → List A → Teller (Unit {0})
 tell_items_summary form stands_for items = tell (items_summary form stands_for items ∷ [])
+
+-- it was written, or there was a fault
+abbrev pub WritesSummary : {A W : Type 0} → Form → (A → Rpcb) → List A → Result (Unit {0}) InfoFault → (W → Option (List ℕ)) → W → W → Type 0
+WritesSummary form stands_for items result contents writer writer' =
+    WritesOnly (tell_items_summary form stands_for items) result contents writer writer'
 
 -- the items of a list, summed up once all of them were read
 unfoldable pub tell_summary : {A : Type 0} → Form → Reader A → (A → Rpcb) → Teller Shown

@@ -103,6 +103,10 @@ summary_line form rows prog = at_right 10 (decimal prog) ++ (codes "  " ++ (vers
 abbrev pub summary_text : Form → List ShownRow → List ℕ
 summary_text form rows = summary_heading ++ flat_map (summary_line form rows) (programs_of rows)
 
--- the same of the rows that items stand for
+-- the rows that items stand for
+abbrev pub items_shown : {A : Type 0} → (A → Rpcb) → List A → List ShownRow
+items_shown stands_for items = map (λ item. as_shown (stands_for item)) items
+
+-- their summary
 abbrev pub items_summary : {A : Type 0} → Form → (A → Rpcb) → List A → List ℕ
-items_summary form stands_for items = summary_text form (map (λ item. as_shown (stands_for item)) items)
+items_summary form stands_for items = summary_text form (items_shown stands_for items)

@@ -1,8 +1,8 @@
 //! Shows what a reply tells.
 ghost use Rattle.std.specs.Prelude.{◌≡◌, List, [], ◌∷◌, ℕ};
 ghost use Rattle.rb_ask.specs.Telling.{tell, Shows, Takes, WritesOnly};
-ghost use Rattle.rb_show.specs.Lines.{heading, row_line, short_line};
-ghost use Rattle.rb_show.specs.Replies.{tell_list, tell_rows, tell_items_summary, tell_summary, tell_columns, tell_table, tell_port, address_in, tell_address, tell_ready, tell_removed, removed_line, tell_unset, tell_results, is_success, by_head, IsShown};
+ghost use Rattle.rb_show.specs.Lines.{heading};
+ghost use Rattle.rb_show.specs.Replies.{tell_list, WritesSummary, tell_summary, tell_columns, tell_table, tell_port, address_in, tell_address, tell_ready, tell_removed, removed_line, tell_unset, tell_results, is_success, by_head, IsShown};
 
 use crate::ask::{Ask, Question};
 use crate::form::Form;
@@ -72,34 +72,6 @@ fn show_items<T: Xdr, S: Style<T>, B: ByteSource, W: Write>(
     Ok(Shown::Rows(rows))
 }
 
-/// Shows rows with their addresses and owners.
-fn show_rows<T: Xdr + AsRow, B: ByteSource, W: Write>(
-    alloc: Global,
-    form: Form<'_>,
-    source: &mut B,
-    at: &mut Record,
-    writer: &mut W,
-) -> Result<Shown, InfoFault>
-    ensures { Shows (tell_rows T.reads T.stands_for (row_line form.entry)) result
-        B.left source.old source.new at.old at.new W.contents writer.old writer.new }
-{
-    show_items::<T, RowLines<'_>, B, W>(alloc, &RowLines { form }, source, at, writer)
-}
-
-/// Shows rows without them.
-fn show_short<T: Xdr + AsRow, B: ByteSource, W: Write>(
-    alloc: Global,
-    form: Form<'_>,
-    source: &mut B,
-    at: &mut Record,
-    writer: &mut W,
-) -> Result<Shown, InfoFault>
-    ensures { Shows (tell_rows T.reads T.stands_for (short_line form.entry)) result
-        B.left source.old source.new at.old at.new W.contents writer.old writer.new }
-{
-    show_items::<T, ShortLines<'_>, B, W>(alloc, &ShortLines { form }, source, at, writer)
-}
-
 /// Writes the summary of items.
 fn show_text<T: AsRow, W: Write>(
     alloc: Global,
@@ -107,7 +79,7 @@ fn show_text<T: AsRow, W: Write>(
     items: &[T],
     writer: &mut W,
 ) -> Result<(), InfoFault>
-    ensures { WritesOnly (tell_items_summary form.entry T.stands_for items.now) result
+    ensures { WritesSummary form.entry T.stands_for items.now result
         W.contents writer.old writer.new }
 {
     let Ok(text) = items_summary(alloc, form, items) else {
@@ -266,10 +238,18 @@ fn show_results<B: ByteSource, W: Write>(
         B.left source.old source.new at.old at.new W.contents writer.old writer.new }
 {
     match question {
-        Question::Rows => show_rows::<Rpcb, B, W>(alloc, form, source, at, writer),
-        Question::OldRows => show_rows::<Mapping, B, W>(alloc, form, source, at, writer),
-        Question::Short => show_short::<Rpcb, B, W>(alloc, form, source, at, writer),
-        Question::OldShort => show_short::<Mapping, B, W>(alloc, form, source, at, writer),
+        Question::Rows => {
+            show_items::<Rpcb, _, B, W>(alloc, &RowLines { form }, source, at, writer)
+        },
+        Question::OldRows => {
+            show_items::<Mapping, _, B, W>(alloc, &RowLines { form }, source, at, writer)
+        },
+        Question::Short => {
+            show_items::<Rpcb, _, B, W>(alloc, &ShortLines { form }, source, at, writer)
+        },
+        Question::OldShort => {
+            show_items::<Mapping, _, B, W>(alloc, &ShortLines { form }, source, at, writer)
+        },
         Question::Summary => show_summary::<Rpcb, B, W>(alloc, form, source, at, writer),
         Question::OldSummary => show_summary::<Mapping, B, W>(alloc, form, source, at, writer),
         Question::Pmap => show_table(alloc, form, source, at, writer),

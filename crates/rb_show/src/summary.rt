@@ -4,7 +4,7 @@ ghost use Rattle.std.specs.Fmt.{decimal};
 ghost use Rattle.std.specs.List.{list_any};
 ghost use Rattle.std.specs.Str.{bytes_eq};
 ghost use Rattle.std.specs.String.{string_bytes};
-ghost use Rattle.rb_show.specs.Summary.{shown_row, shown_rows, as_shown, add_program, programs_of, AddsVersion, versions_of, borrowed_texts, AddsNetid, netids_of, owner_of, comma_list, service_text, versions_text, netids_text, summary_line, summary_text, items_summary};
+ghost use Rattle.rb_show.specs.Summary.{shown_row, shown_rows, as_shown, items_shown, add_program, programs_of, AddsVersion, versions_of, borrowed_texts, AddsNetid, netids_of, owner_of, comma_list, service_text, versions_text, netids_text, summary_line, summary_text, items_summary};
 
 use crate::form::{Form, program_name};
 use crate::rows::AsRow;
@@ -39,8 +39,7 @@ fn as_shown(alloc: Global, row: &Rpcb) -> Result<Row, AllocError>
 
 /// The rows that items stand for.
 fn rows_of<T: AsRow>(alloc: Global, items: &[T]) -> Result<Vec<Row>, AllocError>
-    ensures { IfOk result
-        (λ rows. shown_rows rows.items ≡ map (λ item. as_shown (T.stands_for item)) items.now) }
+    ensures { IfOk result (λ rows. shown_rows rows.items ≡ items_shown T.stands_for items.now) }
 {
     let mut rows = Vec::new(alloc);
     for item in items {
