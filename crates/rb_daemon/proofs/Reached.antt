@@ -142,6 +142,7 @@ none_recorded core tape held = record {
   grows = λ is. sym (append-nil tape.text);
   ends = λ was off. absurd (true≢false (sym was ∙ off));
   stays = λ off. refl;
+  written = refl;
   limit = refl;
   within = ∥∥₁_elim held le_prop (λ h. h.recorded.within);
 }
@@ -153,6 +154,7 @@ off_recorded entries core tape off held = record {
   grows = λ is. absurd (true≢false (sym is ∙ off));
   ends = λ was is. absurd (true≢false (sym was ∙ off));
   stays = λ is. refl;
+  written = refl;
   limit = refl;
   within = ∥∥₁_elim held le_prop (λ h. h.recorded.within);
 }

@@ -12,10 +12,11 @@ use Rattle.rb_model.specs.declared.types.Exchanged.{Exchanged}
 use Rattle.rb_model.specs.declared.types.Given.{Given}
 use Rattle.rb_model.specs.Exchanges.{exchange, taken_in, count_given, count_now}
 use Rattle.rb_model.specs.Gives.{give_into, given_in, bytes_given}
+use Rattle.rb_core.specs.AtOnce.{Exchanges}
 use Rattle.rb_core.specs.StandsFor.{StandsFor}
 use Rattle.rb_links.specs.Outgoing.{Outgoing}
 use Rattle.rb_daemon.specs.declared.engine.Engine.{Engine}
-use Rattle.rb_daemon.specs.Recording.{give_events}
+use Rattle.rb_daemon.specs.Recording.{exchange_events, give_events}
 
 -- Its core stands for the state before the first event; the xid of the first forwarded call is the low 32 bits of the
 -- moment.
@@ -33,6 +34,22 @@ ActsNow step old new result = Acts StandsFor (λ s. step s old.moment) old.core.
 -- Whatever state its core stood for, these events from it were recorded, each with what it gave.
 abbrev pub RecordsEvents : (State → ℕ → List Event) → Engine → Engine → Type 0
 RecordsEvents events old new = (s : State) → StandsFor old.core.core s → Records (run_entries s (events s old.moment)) old.tape new.tape
+
+-- Bytes came on a connection, and what was given at once of the reply stands in the room.
+abbrev pub ExchangesNow : ℕ → List ℕ → Engine → Engine → Result Exchanged CoreFault → List ℕ → Type 0
+ExchangesNow id piece old new result room = Exchanges old.moment id piece old.core.core new.core.core result room
+
+-- Bytes came on a connection, of whose reply so many were given at once, and that was recorded.
+abbrev pub RecordsExchange : ℕ → List ℕ → ℕ → Engine → Engine → Type 0
+RecordsExchange id piece count old new = RecordsEvents (λ s now. exchange_events now id piece count) old new
+
+-- These bytes were given on a connection, piece by piece, and that was recorded.
+abbrev pub RecordsGiving : ℕ → List ℕ → Engine → Engine → Type 0
+RecordsGiving id given old new = RecordsEvents (λ s now. give_events now id given s) old new
+
+-- What a connection owes is given into a room of so many bytes, as far as it fits: these bytes, or a refusal.
+abbrev pub GivesInto : ℕ → ℕ → Engine → Engine → Result (List ℕ) CoreFault → Type 0
+GivesInto id room old new given = ActsNow (λ s now. give_into s now id room) old new given
 
 -- So many bytes are given at once of the reply to a record that ends with these bytes, where there is so much room.
 abbrev pub CountsGiven : ℕ → List ℕ → ℕ → Engine → ℕ → Type 0
@@ -52,8 +69,8 @@ pub record FillsOutbox (id : ℕ) (piece : List ℕ) (old new : Engine) (before 
 pub record GivesToOutbox (id : ℕ) (old new : Engine) (before after : Outgoing) (result : Result Given CoreFault) : Type 0 where
   pub given : List ℕ
   pub count : given_in result ≡ length given
-  pub acts : ActsNow (λ s now. give_into s now id before.free) old new (bytes_given given result)
+  pub acts : GivesInto id before.free old new (bytes_given given result)
   pub idle : given_in result ≡ 0 → Moves (λ s now. s) old new
   pub appended : after.bytes ≡ before.bytes ++ given
-  pub recorded : RecordsEvents (λ s now. give_events now id given s) old new
+  pub recorded : RecordsGiving id given old new
   pub moment : new.moment ≡ old.moment

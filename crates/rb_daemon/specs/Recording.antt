@@ -4,13 +4,13 @@ use Rattle.std.specs.List.{flat_map}
 use Rattle.rb_address.specs.declared.peer.Peer.{Peer}
 use Rattle.rb_forward.specs.Forwards.{Unsent as UnsentCall}
 use Rattle.rb_model.specs.declared.types.CoreFault.{CoreFault}
+use Rattle.rb_model.specs.Plain.{LentEvent, lent_event}
 use Rattle.rb_model.specs.State.{State, opening}
 use Rattle.rb_model.specs.declared.types.Told.{Told}
 use Rattle.rb_model.specs.Step.{Event, Output, unsent_call, show_taken, show_told, IsReached}
 use Rattle.rb_model.specs.Step.Event.{Bytes, Pending, Gave, Unsent, Sent}
 use Rattle.rb_model.specs.Step.Output.{Refused, Done, IsPending, UnsentIs}
-use Rattle.rb_record.specs.declared.happening.Happening.{Happening}
-use Rattle.rb_record.specs.Entries.{event_of, entry_text, run_entries, options_text}
+use Rattle.rb_record.specs.Entries.{entry_text, run_entries, options_text}
 use Rattle.rb_record.specs.Tapes.{Tape, IsRecordOf}
 use Rattle.rb_model.specs.declared.types.Exchanged.{Exchanged}
 use Rattle.rb_model.specs.Exchanges.{taken_in}
@@ -71,8 +71,8 @@ abbrev pub taken_output : Result Exchanged CoreFault → Output
 taken_output done = output_or_refusal show_taken (taken_in done)
 
 -- the end of a forwarded call, with the last reply
-abbrev pub end_entry : Happening → List ℕ → Told → List ℕ
-end_entry event reply told = entry_text (event_of event) (show_told reply told)
+abbrev pub end_entry : LentEvent → List ℕ → Told → List ℕ
+end_entry event reply told = entry_text (lent_event event) (show_told reply told)
 
 -- the look for a call that is to be sent, which is this one
 abbrev pub unsent_entry : ℕ → Peer → List ℕ → List ℕ

@@ -19,6 +19,8 @@ use Rattle.rb_record.specs.Tapes.{Tape}
 use Rattle.rb_core.specs.StandsFor.{Held, StandsFor}
 use Rattle.rb_core.specs.HeldBytes.{IsListener}
 use Rattle.rb_lines.specs.RecordLaws.{HasLine}
+use Rattle.rb_sockets.specs.declared.settings.Settings.{Settings}
+use Rattle.rb_sockets.specs.Settings.{listener_of}
 use Rattle.rb_daemon.specs.declared.engine.Answer.{Answer}
 use Rattle.rb_daemon.specs.declared.engine.Answer.TheVariants as answers
 use Rattle.rb_daemon.specs.declared.engine.Due.{Due}
@@ -35,6 +37,10 @@ pub record IsServed (core : Held) (tape : Tape) : Type 0 where
   pub listener : IsListener state.setting.listener
   pub lines : AllByRecursion HasLine reached.events
   pub recorded : HasRecorded reached tape
+
+-- the limits of the settings are in their ranges, with their listener
+abbrev pub has_good_limits : Settings → Bool
+has_good_limits settings = are_good settings.limits (listener_of settings)
 
 -- ---- datagrams
 

@@ -1,7 +1,7 @@
 //! The daemon and its turns.
 ghost use Rattle.std.specs.Prelude.{◌≡◌, ◌↔◌, IsTrue, IsErrOf, IfOk, OnOk, not};
 ghost use Rattle.rb_model.specs.State.{are_good};
-ghost use Rattle.rb_sockets.specs.Settings.{listener_of};
+ghost use Rattle.rb_daemon.specs.Served.{has_good_limits};
 
 use crate::engine::Engine;
 use crate::keeping::Keeper;
@@ -48,9 +48,8 @@ impl<'a, R: Clock> Daemon<'a, R> {
         kept: &[Row],
     ) -> Result<Daemon<'a, R>, DaemonFault>
         ensures bad { IsErrOf result DaemonFault.Limits
-            ↔ IsTrue (not (are_good settings.now.limits (listener_of settings.now))) }
-        ensures good { OnOk result
-            (IsTrue (are_good settings.now.limits (listener_of settings.now))) }
+            ↔ IsTrue (not (has_good_limits settings.now)) }
+        ensures good { OnOk result (IsTrue (has_good_limits settings.now)) }
     {
         let limits = settings.limits;
         let listener = settings.listener();

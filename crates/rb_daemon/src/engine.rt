@@ -18,7 +18,8 @@ use crate::showing::{
 use rb_address::{Source, Who};
 use rb_core::{CoreFault, Exchanged, Expired, Given, Limits, Listener, Metered, Outcome, Told};
 use rb_keep::{set_call, write_rows};
-use rb_record::{Happening, Shown, Start, Tape};
+use rb_model::{Event, Output};
+use rb_record::{Start, Tape};
 use rb_registry::Row;
 use rb_sockets::{CallSocket, CallSockets, ForwardSockets, Logged};
 use std::alloc::Global;
@@ -68,7 +69,7 @@ pub(crate) enum Due {
 fn tell(
     core: &mut Metered,
     tape: &mut Tape,
-    event: &Happening<'_>,
+    event: &Event<&[u8]>,
     told: Told,
     calls: &mut CallSockets,
 ) -> Option<u64>
@@ -79,18 +80,18 @@ fn tell(
 {
     match told {
         Told::TcpReady(id) => {
-            tape.record(event, &Shown::Ready(id));
+            tape.record(event, &Output::Ready(id));
             Some(id)
         }
         Told::Datagram(call, who) => {
             let reply = core.udp_reply();
             calls.reply_to_forwarded(call.number, reply, who);
-            tape.record(event, &Shown::RepliedTo(who, reply));
+            tape.record(event, &Output::RepliedTo(who, reply));
             None
         }
         Told::Silent(call) => {
             calls.drop_forwarded(call.number);
-            tape.record(event, &Shown::Silent);
+            tape.record(event, &Output::Silent);
             None
         }
     }
@@ -146,7 +147,7 @@ impl Engine {
     ghost use Rattle.rb_record.specs.Printing.{Writes};
     ghost use Rattle.rb_record.specs.Tapes.{unwritten_text};
     ghost use Rattle.rb_model.specs.Step.Event.{Open, Closed, NextLost, Datagram, Forward, Expire, ZeroStats};
-    ghost use Rattle.rb_daemon.specs.Recording.{exchange_events, give_events, send_events};
+    ghost use Rattle.rb_daemon.specs.Recording.{send_events};
     ghost use Rattle.rb_model.specs.State.{are_good};
     ghost use Rattle.rb_model.specs.NextDeadlines.{next_deadline};
     ghost use Rattle.rb_model.specs.Step.{open_connection, close_connection, next_lost, zero_stats};
@@ -155,12 +156,11 @@ impl Engine {
     ghost use Rattle.rb_connections.specs.Slots.{Shows};
     ghost use Rattle.rb_core.specs.StandsFor.{StandsFor};
     ghost use Rattle.rb_model.specs.Exchanges.{count_given};
-    ghost use Rattle.rb_model.specs.Gives.{give_into, given_in, bytes_given};
+    ghost use Rattle.rb_model.specs.Gives.{given_in, bytes_given};
     ghost use Rattle.rb_model.specs.Sessions.{pending_bytes};
-    ghost use Rattle.rb_core.specs.AtOnce.{Exchanges};
     ghost use Rattle.rb_core.specs.Standings.{StandsThen, StandsBehind};
     ghost use Rattle.rb_daemon.specs.Served.{answer_datagram, change_count, set_again, ready_of, take_forward_reply, expire_due, send_forward};
-    ghost use Rattle.rb_daemon.specs.Moves.{IsNewEngine, Moves, ActsNow, RecordsEvents, CountsGiven};
+    ghost use Rattle.rb_daemon.specs.Moves.{IsNewEngine, Moves, ActsNow, RecordsEvents, RecordsExchange, RecordsGiving, ExchangesNow, GivesInto, CountsGiven};
 
     /// A new core at this moment, which is the first. The xid of the first forwarded call is the low 32 bits of it.
     /// Up to `record_limit` bytes of its events are recorded, and `logged` says of what the log has lines. `BadLimits`
@@ -266,7 +266,7 @@ impl Engine {
         let who = caller.who;
         let opened = self.core.open(self.moment, who);
         self.tape
-            .record(&Happening::Open(self.moment, who), &show_opened(opened));
+            .record(&Event::Open(self.moment, who), &show_opened(opened));
         opened
     }
 
@@ -278,15 +278,13 @@ impl Engine {
         piece: &[u8],
         room: &mut [u8],
     ) -> Result<Exchanged, CoreFault>
-        ensures acts { Exchanges
-            self.old.moment id piece.now self.old.core.core self.new.core.core result room.new }
+        ensures acts { ExchangesNow id piece.now self.old self.new result room.new }
         ensures count { CountsGiven id piece.now (length room.old) self.old (count_given result) }
         ensures stands { IfOk result
             (λ done. StandsBehind id done.taken.count self.new.core.core done.standing) }
         ensures fits { count_given result ≤ length room.new }
         ensures within { IfOk result (λ done. done.taken.count ≤ length piece.now) }
-        ensures recorded { RecordsEvents
-            (λ s now. exchange_events now id piece.now (count_given result)) self.old self.new }
+        ensures recorded { RecordsExchange id piece.now (count_given result) self.old self.new }
         ensures moment { self.new.moment ≡ self.old.moment }
     {
         count_fits(room);
@@ -299,12 +297,12 @@ impl Engine {
     /// Gives whole fragments of the reply that a connection owes into the room, as many as fit: the longest is 1,028 bytes.
     /// `Gone` where there is no such connection, or the core has given it up.
     pub(crate) fn give(&mut self, id: u64, room: &mut [u8]) -> Result<Given, CoreFault>
-        ensures acts { ActsNow (λ s now. give_into s now id (length room.old))
-            self.old self.new (bytes_given room.new result) }
+        ensures acts { GivesInto
+            id (length room.old) self.old self.new (bytes_given room.new result) }
         ensures stands { IfOk result (λ done. StandsThen id self.new.core.core done.standing) }
         ensures fits { given_in result ≤ length room.new }
-        ensures recorded { RecordsEvents
-            (λ s now. give_events now id (pending_bytes (bytes_given room.new result)) s) self.old self.new }
+        ensures recorded { RecordsGiving
+            id (pending_bytes (bytes_given room.new result)) self.old self.new }
         ensures moment { self.new.moment ≡ self.old.moment }
     {
         count_fits(room);
@@ -326,7 +324,7 @@ impl Engine {
         ensures moment { self.new.moment ≡ self.old.moment }
     {
         let done = self.core.closed(id);
-        self.tape.record(&Happening::Closed(id), &show_done(done));
+        self.tape.record(&Event::Closed(id), &show_done(done));
     }
 
     /// The first connection that the core has given up, if there is one.
@@ -337,7 +335,7 @@ impl Engine {
         ensures moment { self.new.moment ≡ self.old.moment }
     {
         let lost = self.core.next_lost();
-        self.tape.record(&Happening::NextLost, &Shown::Lost(lost));
+        self.tape.record(&Event::NextLost, &Output::Lost(lost));
         lost
     }
 
@@ -361,19 +359,19 @@ impl Engine {
         ensures moment { self.new.moment ≡ self.old.moment }
     {
         let who = caller.who;
-        let event = Happening::Datagram(self.moment, who, content);
+        let event = Event::Datagram(self.moment, who, content);
         match self.core.datagram(self.moment, who, content) {
             Outcome::Reply => {
                 let reply = self.core.udp_reply();
-                self.tape.record(&event, &Shown::Replied(reply));
+                self.tape.record(&event, &Output::Replied(reply));
                 Answer::Reply
             }
             Outcome::Forwarded => {
-                self.tape.record(&event, &Shown::Forwarded);
+                self.tape.record(&event, &Output::Forwarded);
                 Answer::Forwarded
             }
             Outcome::NoCall | Outcome::Silent => {
-                self.tape.record(&event, &Shown::Silent);
+                self.tape.record(&event, &Output::Silent);
                 Answer::Nothing
             }
         }
@@ -408,7 +406,7 @@ impl Engine {
         ensures moment { self.new.moment ≡ self.old.moment }
     {
         self.core.zero_stats();
-        self.tape.record(&Happening::ZeroStats, &Shown::Done);
+        self.tape.record(&Event::ZeroStats, &Output::Done);
     }
 
     /// How many changes of rows were accepted.
@@ -443,9 +441,9 @@ impl Engine {
         ensures moment { self.new.moment ≡ self.old.moment }
     {
         let from = sender.peer;
-        let event = Happening::Forward(self.moment, from, content);
+        let event = Event::Forward(self.moment, from, content);
         let Some(told) = self.core.forward_reply(self.moment, from, content) else {
-            self.tape.record(&event, &Shown::Ignored);
+            self.tape.record(&event, &Output::Ignored);
             return None;
         };
         tell(&mut self.core, &mut self.tape, &event, told, calls)
@@ -457,14 +455,14 @@ impl Engine {
         ensures recorded { RecordsEvents (λ s now. Expire now ∷ []) self.old self.new }
         ensures moment { self.new.moment ≡ self.old.moment }
     {
-        let event = Happening::Expire(self.moment);
+        let event = Event::Expire(self.moment);
         let told = match self.core.expire(self.moment) {
             Expired::Nothing => {
-                self.tape.record(&event, &Shown::Nothing);
+                self.tape.record(&event, &Output::Nothing);
                 return Due::Nothing;
             }
             Expired::ConnectionClosed(id) => {
-                self.tape.record(&event, &Shown::ConnectionClosed(id));
+                self.tape.record(&event, &Output::ConnectionClosed(id));
                 return Due::Closed(id);
             }
             Expired::Ended(told) => told,
@@ -484,7 +482,7 @@ impl Engine {
         ensures moment { self.new.moment ≡ self.old.moment }
     {
         let Some(unsent) = self.core.unsent() else {
-            self.tape.record(&Happening::Unsent, &Shown::Unsent(None));
+            self.tape.record(&Event::Unsent, &Output::Unsent(None));
             return None;
         };
         let id = unsent.id;
@@ -492,8 +490,7 @@ impl Engine {
         record_unsent(&mut self.tape, id.number, unsent.target, unsent.call);
         forwards.call(unsent.call, unsent.target);
         let done = self.core.sent(id);
-        self.tape
-            .record(&Happening::Sent(id.number), &show_done(done));
+        self.tape.record(&Event::Sent(id.number), &show_done(done));
         Some(id.number)
     }
 }

@@ -1,8 +1,7 @@
 //! Replies that the core gives go into the outbox of their connection.
 ghost use Rattle.std.specs.Prelude.{◌≤◌, length, IfOk};
 ghost use Rattle.rb_model.specs.Exchanges.{count_given};
-ghost use Rattle.rb_daemon.specs.Recording.{exchange_events};
-ghost use Rattle.rb_daemon.specs.Moves.{FillsOutbox, GivesToOutbox, RecordsEvents};
+ghost use Rattle.rb_daemon.specs.Moves.{FillsOutbox, GivesToOutbox, RecordsExchange};
 
 use crate::engine::Engine;
 use rb_core::{CoreFault, Exchanged, Given};
@@ -16,8 +15,7 @@ pub(crate) fn exchange(
     outbox: &mut Outbox,
 ) -> Result<Exchanged, CoreFault>
     ensures acts { FillsOutbox id piece.now engine.old engine.new outbox.old outbox.new result }
-    ensures recorded { RecordsEvents
-        (λ s now. exchange_events now id piece.now (count_given result)) engine.old engine.new }
+    ensures recorded { RecordsExchange id piece.now (count_given result) engine.old engine.new }
     ensures within { IfOk result (λ done. done.taken.count ≤ length piece.now) }
 {
     let room = &mut outbox.bytes.as_mut_slice()[outbox.end..];

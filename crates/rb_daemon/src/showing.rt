@@ -1,45 +1,46 @@
 //! What calls of the core gave, as the outputs that are recorded.
 ghost use Rattle.std.specs.Prelude.{◌≡◌, ◌<◌, [], ◌∷◌, length};
 ghost use Rattle.rb_model.specs.Step.Output.{Opened};
+ghost use Rattle.rb_model.specs.Plain.{lent_output};
 ghost use Rattle.rb_model.specs.Step.{show_done};
 ghost use Rattle.rb_model.specs.Exchanges.{count_given};
 ghost use Rattle.rb_model.specs.Gives.{pieces_of};
-ghost use Rattle.rb_record.specs.Printing.{shown_output};
 ghost use Rattle.rb_record.specs.Tapes.{Records};
 ghost use Rattle.rb_daemon.specs.Recording.{output_or_refusal, given_entries, pieces_entries, exchange_entries, taken_output, unsent_entry};
 
 use rb_address::Peer;
 use rb_core::{CoreFault, Exchanged};
-use rb_record::{Happening, Shown, ShownCall, Tape};
+use rb_model::{Event, Output, UnsentCall};
+use rb_record::Tape;
 use rb_rpc::LONGEST_FRAGMENT;
 
 /// The number of a connection that was opened, or the refusal.
-pub(crate) fn show_opened<'a>(opened: Result<u64, CoreFault>) -> Shown<'a>
-    ensures { shown_output result ≡ output_or_refusal Opened opened }
+pub(crate) fn show_opened<'a>(opened: Result<u64, CoreFault>) -> Output<&'a [u8]>
+    ensures { lent_output result ≡ output_or_refusal Opened opened }
 {
     match opened {
-        Ok(id) => Shown::Opened(id),
-        Err(fault) => Shown::Refused(fault),
+        Ok(id) => Output::Opened(id),
+        Err(fault) => Output::Refused(fault),
     }
 }
 
 /// That a call was done, or the refusal.
-pub(crate) fn show_done<'a>(done: Result<(), CoreFault>) -> Shown<'a>
-    ensures { shown_output result ≡ output_or_refusal show_done done }
+pub(crate) fn show_done<'a>(done: Result<(), CoreFault>) -> Output<&'a [u8]>
+    ensures { lent_output result ≡ output_or_refusal show_done done }
 {
     match done {
-        Ok(()) => Shown::Done,
-        Err(fault) => Shown::Refused(fault),
+        Ok(()) => Output::Done,
+        Err(fault) => Output::Refused(fault),
     }
 }
 
-fn show_taken<'a>(done: &Result<Exchanged, CoreFault>) -> Shown<'a>
-    ensures { shown_output result ≡ taken_output done.now }
+fn show_taken<'a>(done: &Result<Exchanged, CoreFault>) -> Output<&'a [u8]>
+    ensures { lent_output result ≡ taken_output done.now }
 {
     match done {
-        Ok(exchanged) if exchanged.taken.closed => Shown::TookAndClosed(exchanged.taken.count),
-        Ok(exchanged) => Shown::Took(exchanged.taken.count),
-        Err(fault) => Shown::Refused(*fault),
+        Ok(exchanged) if exchanged.taken.closed => Output::TookAndClosed(exchanged.taken.count),
+        Ok(exchanged) => Output::Took(exchanged.taken.count),
+        Err(fault) => Output::Refused(*fault),
     }
 }
 
@@ -66,7 +67,7 @@ pub(crate) fn record_exchange(
     ensures { Records (exchange_entries now id piece.now (taken_output done.now) given.now)
         tape.old tape.new }
 {
-    tape.record(&Happening::Bytes(now, id, piece), &show_taken(done));
+    tape.record(&Event::Bytes(now, id, piece), &show_taken(done));
     if !given.is_empty() {
         record_given(tape, now, id, given);
     }
@@ -76,8 +77,8 @@ pub(crate) fn record_exchange(
 fn record_given(tape: &mut Tape, now: u64, id: u64, given: &[u8])
     ensures { Records (given_entries now id given.now) tape.old tape.new }
 {
-    tape.record(&Happening::Pending(id), &Shown::Pending(given));
-    tape.record(&Happening::Gave(now, id, given.len()), &Shown::Done);
+    tape.record(&Event::Pending(id), &Output::Pending(given));
+    tape.record(&Event::Gave(now, id, given.len() as u64), &Output::Done);
 }
 
 /// Records, piece by piece, the look at bytes and that all of them were given. The first piece has so many of them, or all;
@@ -98,10 +99,10 @@ pub(crate) fn record_pieces(tape: &mut Tape, now: u64, id: u64, first: usize, gi
 pub(crate) fn record_unsent(tape: &mut Tape, number: u64, target: Peer, call: &[u8])
     ensures { Records (unsent_entry number target call.now ∷ []) tape.old tape.new }
 {
-    let unsent = ShownCall {
+    let unsent = UnsentCall {
         number,
         target,
         call,
     };
-    tape.record(&Happening::Unsent, &Shown::Unsent(Some(unsent)));
+    tape.record(&Event::Unsent, &Output::Unsent(Some(unsent)));
 }

@@ -9,7 +9,8 @@ ghost use Rattle.rb_keep.specs.Writing.{line_where_set, WritesKept};
 
 use crate::call::{set_call, this_machine};
 use rb_core::Metered;
-use rb_record::{Happening, write_event};
+use rb_model::Event;
+use rb_record::write_event;
 use rb_registry::{RPCB_PROG, Row};
 use std::io;
 use std::io::Write;
@@ -20,7 +21,7 @@ fn write_row<W: Write>(now: u64, row: &Row, writer: &mut W) -> io::Result<()>
 {
     let call = set_call(row);
     write_event(
-        &Happening::Datagram(now, this_machine(), call.as_slice()),
+        &Event::Datagram(now, this_machine(), call.as_slice()),
         writer,
     )
 }

@@ -7,8 +7,7 @@ use Rattle.rb_address.specs.CallerTexts.{who}
 use Rattle.rb_address.specs.Reading.{◌>>=◌, cut, number_below, peer}
 use Rattle.rb_model.specs.Step.{Event}
 use Rattle.rb_model.specs.Step.Event.{Open, Bytes, Pending, Gave, Closed, NextLost, Datagram, Unsent, Sent, Forward, Expire, ZeroStats}
-use Rattle.rb_model.specs.declared.events.Event as event_type
-use Rattle.rb_model.specs.Plain.{event_of, events_of}
+use Rattle.rb_model.specs.Plain.{OwnedEvent, event_of, events_of}
 use Rattle.rb_lines.specs.declared.lines.Line as line_type
 use Rattle.rb_lines.specs.declared.lines.Line.TheVariants as lines
 use Rattle.rb_lines.specs.declared.lines.ReadFault.{ReadFault}
@@ -151,7 +150,7 @@ with_front front (Ok events) = Ok (front ++ events)
 with_front front (Err fault) = Err fault
 
 -- The events grew by what the line of this number says.
-abbrev pub AddsLine : ℕ → Line → List event_type.Event → List event_type.Event → Type 0
+abbrev pub AddsLine : ℕ → Line → List OwnedEvent → List OwnedEvent → Type 0
 AddsLine k said old new =
     (rest : Result (List Event) ReadFault)
     → with_front (events_of new) rest ≡ with_front (events_of old) (add_line k said rest)

@@ -2,8 +2,7 @@
 use Rattle.std.specs.Prelude.{ℕ, Bool, true, false, List, [], ◌++◌, codes}
 use Rattle.std.specs.List.{flat_map}
 use Rattle.std.specs.Fmt.{decimal}
-use Rattle.rb_model.specs.declared.events.Output as output_type
-use Rattle.rb_model.specs.Plain.{outputs_of}
+use Rattle.rb_model.specs.Plain.{OwnedOutput, outputs_of}
 use Rattle.rb_model.specs.Step.{Output}
 use Rattle.rb_record.specs.Printing.{output_text}
 
@@ -21,5 +20,5 @@ report_of outputs = flat_map output_text outputs
 
 -- ---- as the code has them
 
-abbrev pub report : List output_type.Output → List ℕ
+abbrev pub report : List OwnedOutput → List ℕ
 report outputs = report_of (outputs_of outputs)

@@ -5,7 +5,7 @@ ghost use Rattle.rb_record.specs.Printing.{output_text, Writes};
 ghost use Rattle.rb_lines.specs.Printing.{steps_line, report};
 
 use rb_model::Output;
-use rb_record::{show, write_output};
+use rb_record::write_output;
 use std::io::Write;
 use thiserror::Error;
 
@@ -19,7 +19,7 @@ pub fn print_output<W: Write>(output: &Output, writer: &mut W) -> Result<(), Wri
     ensures { OnOk result
         (Writes W.contents writer.old writer.new (output_text (output_of output.now))) }
 {
-    match write_output(&show(output), writer) {
+    match write_output(output, writer) {
         Ok(()) => Ok(()),
         Err(_) => Err(WriteFailed),
     }

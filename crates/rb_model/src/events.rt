@@ -1,15 +1,15 @@
-//! Events of a run, and what they give.
+//! Events of a run, and what they give, over bytes of their own (`Vec<u8>`) or bytes that are lent (`&[u8]`).
 use crate::types::CoreFault;
 use rb_address::{Peer, Who};
 
 /// An event of a run: one call on a core, and where that makes a reply over UDP, the look at this reply. Moments are
 /// milliseconds since the start of 1970.
 #[derive(Debug, Drop)]
-pub enum Event {
+pub enum Event<B = Vec<u8>> {
     /// A connection is opened: the moment, and who is at its other end.
     Open(u64, Who),
     /// Bytes arrive on a connection: the moment, its number, and the bytes.
-    Bytes(u64, u64, Vec<u8>),
+    Bytes(u64, u64, B),
     /// Asks which bytes are to be sent next on the connection of this number.
     Pending(u64),
     /// Pending bytes were given on a connection: the moment, its number, and how many.
@@ -19,13 +19,13 @@ pub enum Event {
     /// Asks for the Lost connection of least number.
     NextLost,
     /// A datagram: the moment, who sent it, and its bytes.
-    Datagram(u64, Who, Vec<u8>),
+    Datagram(u64, Who, B),
     /// Asks for the forwarded call that is to be sent next.
     Unsent,
     /// The forwarded call of the number was sent.
     Sent(u64),
     /// A datagram on the socket that sends forwarded calls: the moment, where it came from, and its bytes.
-    Forward(u64, Peer, Vec<u8>),
+    Forward(u64, Peer, B),
     /// Does one thing that is due, if anything is: the moment.
     Expire(u64),
     /// Statistics begin anew.
@@ -34,18 +34,18 @@ pub enum Event {
 
 /// A forwarded call that is to be sent.
 #[derive(Debug, Drop)]
-pub struct UnsentCall {
+pub struct UnsentCall<B = Vec<u8>> {
     /// Its number; the first is 1.
     pub number: u64,
     /// Where it is sent.
     pub target: Peer,
     /// The datagram, of at most 8,840 bytes.
-    pub call: Vec<u8>,
+    pub call: B,
 }
 
 /// The result of an event.
 #[derive(Debug, Drop)]
-pub enum Output {
+pub enum Output<B = Vec<u8>> {
     /// The number of the new connection.
     Opened(u64),
     /// The call on the core was refused, and changed nothing.
@@ -57,19 +57,19 @@ pub enum Output {
     /// So many bytes were taken, and the connection is Lost now, since its record is no call.
     TookAndClosed(usize),
     /// The rest of the current fragment, at most 1,028 bytes; none where no reply is owed.
-    Pending(Vec<u8>),
+    Pending(B),
     /// The event was accepted, and has no other result.
     Done,
     /// The least number of a connection that is Lost.
     Lost(Option<u64>),
     /// The reply to a datagram, of at most 9,000 bytes.
-    Replied(Vec<u8>),
+    Replied(B),
     /// A datagram is a call that is forwarded.
     Forwarded,
     /// A datagram has no reply, or a forwarded call that came over UDP has ended without one.
     Silent,
     /// The forwarded call that is to be sent next, if there is one.
-    Unsent(Option<UnsentCall>),
+    Unsent(Option<UnsentCall<B>>),
     /// The datagram is no reply to a forwarded call.
     Ignored,
     /// Nothing was due.
@@ -79,5 +79,5 @@ pub enum Output {
     /// A forwarded call has ended, and its connection, of this number, awaits it no longer.
     Ready(u64),
     /// A forwarded call has ended, and this is the reply to its caller.
-    RepliedTo(Who, Vec<u8>),
+    RepliedTo(Who, B),
 }

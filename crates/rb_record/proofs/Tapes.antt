@@ -51,8 +51,8 @@ full_before limit front xs ys k full =
     }
 
 -- an entry alone that does not fit ends the record
-pub ended_at_once : (entry : List ℕ) (old new : Tape) → old.is_on ≡ true → new.is_on ≡ false → entry_fits old.limit old.text entry ≡ false → new.text ≡ old.text ++ last_line → new.limit ≡ old.limit → length new.text ≤ new.limit → Records (entry ∷ []) old new
-ended_at_once entry old new on off too_long text limit within = record {
+pub ended_at_once : (entry : List ℕ) (old new : Tape) → old.is_on ≡ true → new.is_on ≡ false → entry_fits old.limit old.text entry ≡ false → new.text ≡ old.text ++ last_line → new.written ≡ old.written → new.limit ≡ old.limit → length new.text ≤ new.limit → Records (entry ∷ []) old new
+ended_at_once entry old new on off too_long text written limit within = record {
   on = λ is. on;
   grows = λ is. absurd (true≢false (sym is ∙ off));
   ends = λ was now. record {
@@ -66,6 +66,7 @@ ended_at_once entry old new on off too_long text limit within = record {
     text = text;
   };
   stays = λ is. absurd (true≢false (sym on ∙ is));
+  written = written;
   limit = limit;
   within = within;
 }
@@ -83,6 +84,7 @@ records_more first second old mid new one two = record {
   grows = λ is. two.grows is ∙ ap (λ (t : List ℕ). t ++ concat second) (one.grows (two.on is)) ∙ behind old.text first second;
   ends = λ was off. by_mid was off mid.is_on refl;
   stays = λ off. let same = one.stays off in two.stays (ap (λ (t : Tape). t.is_on) same ∙ off) ∙ same;
+  written = two.written ∙ one.written;
   limit = two.limit ∙ one.limit;
   within = two.within;
 }

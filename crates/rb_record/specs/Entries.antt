@@ -12,14 +12,13 @@ use Rattle.rb_proto.specs.declared.listener.Forwarding.TheVariants.{Anywhere, Fo
 use Rattle.rb_proto.specs.declared.listener.Listener.{Listener}
 use Rattle.rb_proto.specs.declared.listener.Terms.{Terms}
 use Rattle.rb_model.specs.declared.types.Limits.{Limits}
+use Rattle.rb_model.specs.declared.events.Event as event_type
+use Rattle.rb_model.specs.Plain.{LentEvent, LentOutput, plain_event, lent_event, lent_output}
 use Rattle.rb_model.specs.State.{State}
 use Rattle.rb_model.specs.Step.{Event, Output, step}
 use Rattle.rb_model.specs.Step.Event.{Datagram, Open, Bytes, Pending, Gave, Closed, NextLost, Unsent, Sent, Forward, Expire, ZeroStats}
-use Rattle.rb_record.specs.declared.happening.Happening.{Happening}
-use Rattle.rb_record.specs.declared.happening.Happening.TheVariants as happening
-use Rattle.rb_record.specs.declared.shown.Shown.{Shown}
 use Rattle.rb_record.specs.declared.entries.Start.{Start}
-use Rattle.rb_record.specs.Printing.{bytes_line, peer_line, output_text, shown_output}
+use Rattle.rb_record.specs.Printing.{bytes_line, peer_line, output_text}
 
 -- a word, a caller, and bytes from it
 abbrev pub who_line : List ℕ → Who → List ℕ → List ℕ
@@ -39,6 +38,10 @@ event_text (Sent id) = codes "sent " ++ (decimal id ++ codes "\n")
 event_text (Forward now from bytes) = codes "forward " ++ (decimal now ++ peer_line (codes " ") from bytes)
 event_text (Expire now) = codes "expire " ++ (decimal now ++ codes "\n")
 event_text ZeroStats = codes "zero\n"
+
+-- that of an event as the code has it, by what its bytes are as a list
+abbrev pub event_line : {B : Type 0} → (B → List ℕ) → event_type.Event B → List ℕ
+event_line bytes_of event = event_text (plain_event bytes_of event)
 
 -- an event, and what it gave behind `#> `
 abbrev pub entry_text : Event → Output → List ℕ
@@ -102,22 +105,8 @@ options_text limits listener first_xid now =
 
 -- ---- as the code has them
 
-abbrev pub event_of : Happening → Event
-event_of (happening.Open now from) = Open now from
-event_of (happening.Bytes now id bytes) = Bytes now id bytes.now
-event_of (happening.Pending id) = Pending id
-event_of (happening.Gave now id n) = Gave now id n
-event_of (happening.Closed id) = Closed id
-event_of happening.NextLost = NextLost
-event_of (happening.Datagram now from bytes) = Datagram now from bytes.now
-event_of happening.Unsent = Unsent
-event_of (happening.Sent number) = Sent number
-event_of (happening.Forward now from bytes) = Forward now from bytes.now
-event_of (happening.Expire now) = Expire now
-event_of happening.ZeroStats = ZeroStats
-
-abbrev pub entry_of : Happening → Shown → List ℕ
-entry_of event output = entry_text (event_of event) (shown_output output)
+abbrev pub entry_of : LentEvent → LentOutput → List ℕ
+entry_of event output = entry_text (lent_event event) (lent_output output)
 
 abbrev pub options_of : Start → List ℕ
 options_of start = options_text start.limits start.listener.now start.first_xid start.moment

@@ -1,6 +1,5 @@
 -- What is printed.
 use Rattle.std.specs.Prelude.{ℕ, List, [], ◌∷◌, ◌++◌, Option, Some, None, codes}
-use Rattle.std.specs.Option.{option_map}
 use Rattle.std.specs.Fmt.{decimal}
 use Rattle.std.specs.Io.KnownBytes.{Appends}
 use Rattle.rb_address.specs.declared.peer.Peer.{Peer}
@@ -10,11 +9,10 @@ use Rattle.rb_address.specs.Peers.{peer_text}
 use Rattle.rb_forward.specs.Forwards.{Unsent}
 use Rattle.rb_model.specs.declared.types.CoreFault.{CoreFault}
 use Rattle.rb_model.specs.declared.types.CoreFault.TheVariants.{NoMemory, BadLimits, Full, Spent, Gone}
+use Rattle.rb_model.specs.declared.events.Output as output_type
+use Rattle.rb_model.specs.Plain.{plain_output}
 use Rattle.rb_model.specs.Step.{Output}
 use Rattle.rb_model.specs.Step.Output.{Opened, Refused, TooMuch, Took, TookAndClosed, IsPending, Done, LostIs, Replied, Forwarded, Silent, UnsentIs, Ignored, Nothing, ConnectionClosed, Ready, RepliedTo}
-use Rattle.rb_record.specs.declared.shown.Shown.{Shown}
-use Rattle.rb_record.specs.declared.shown.Shown.TheVariants as shown
-use Rattle.rb_record.specs.declared.shown.ShownCall.{ShownCall}
 use Rattle.hex.specs.Hex.{encode_lower}
 
 -- two hexadecimal digits for each byte, in lower case, or `-` for no bytes
@@ -67,29 +65,9 @@ output_text (ConnectionClosed id) = codes "closed " ++ (decimal id ++ codes "\n"
 output_text (Ready id) = codes "ready " ++ (decimal id ++ codes "\n")
 output_text (RepliedTo who bytes) = source_line (codes "datagram ") who.source bytes
 
--- ---- as the code has them
-
-abbrev pub call_of : ShownCall → Unsent
-call_of unsent = record { number = unsent.number; target = unsent.target; call = unsent.call.now }
-
-abbrev pub shown_output : Shown → Output
-shown_output (shown.Opened number) = Opened number
-shown_output (shown.Refused fault) = Refused fault
-shown_output shown.TooMuch = TooMuch
-shown_output (shown.Took count) = Took count
-shown_output (shown.TookAndClosed count) = TookAndClosed count
-shown_output (shown.Pending bytes) = IsPending bytes.now
-shown_output shown.Done = Done
-shown_output (shown.Lost number) = LostIs number
-shown_output (shown.Replied reply) = Replied reply.now
-shown_output shown.Forwarded = Forwarded
-shown_output shown.Silent = Silent
-shown_output (shown.Unsent unsent) = UnsentIs (option_map call_of unsent)
-shown_output shown.Ignored = Ignored
-shown_output shown.Nothing = Nothing
-shown_output (shown.ConnectionClosed number) = ConnectionClosed number
-shown_output (shown.Ready number) = Ready number
-shown_output (shown.RepliedTo who reply) = RepliedTo who reply.now
+-- that of an output as the code has it, by what its bytes are as a list
+abbrev pub output_line : {B : Type 0} → (B → List ℕ) → output_type.Output B → List ℕ
+output_line bytes_of output = output_text (plain_output bytes_of output)
 
 -- Where what a writer holds is known, it has grown by this text and by nothing else.
 abbrev pub Writes : {T : Type 0} → (T → Option (List ℕ)) → T → T → List ℕ → Type 0

@@ -21,6 +21,10 @@ last_line = codes "# the limit of this record is reached: what follows is not in
 abbrev pub empty_tape : ℕ → Tape
 empty_tape limit = record { text = []; written = 0; is_on = nat_lt (length last_line) limit; limit = limit }
 
+-- There is room for bytes after a text, and for the last line after both.
+abbrev pub HasRoom : ℕ → List ℕ → List ℕ → Type 0
+HasRoom limit text bytes = length text + length bytes + length last_line ≤ limit
+
 -- Whether an entry can be recorded after a text: the last line has to fit after both.
 abbrev pub entry_fits : ℕ → List ℕ → List ℕ → Bool
 entry_fits limit text entry = nat_le (length text + length entry + length last_line) limit
@@ -39,12 +43,13 @@ pub record EndsWithin (limit : ℕ) (entries : List (List ℕ)) (old new : List 
   pub text : new ≡ old ++ (concat (take count entries) ++ last_line)
 
 -- While the recording goes on, it went on before, and these entries are recorded after what was. It ends in front of the
--- first entry that does not fit, and nowhere else. If it had ended, all stays.
+-- first entry that does not fit, and nowhere else. If it had ended, all stays. No byte is written out.
 pub record Records (entries : List (List ℕ)) (old new : Tape) : Type 0 where
   pub on : new.is_on ≡ true → old.is_on ≡ true
   pub grows : new.is_on ≡ true → new.text ≡ old.text ++ concat entries
   pub ends : old.is_on ≡ true → new.is_on ≡ false → EndsWithin old.limit entries old.text new.text
   pub stays : old.is_on ≡ false → new ≡ old
+  pub written : new.written ≡ old.written
   pub limit : new.limit ≡ old.limit
   pub within : length new.text ≤ new.limit
 

@@ -2,15 +2,13 @@
 #![tactic(auto)]
 
 mod entries;
+mod events;
 mod front;
-mod happening;
 mod line;
 mod printing;
-mod shown;
 mod tape;
 
 pub use entries::Start;
-pub use happening::{Happening, write_event};
+pub use events::write_event;
 pub use printing::write_output;
-pub use shown::{Shown, ShownCall, show};
 pub use tape::Tape;

@@ -2,13 +2,14 @@
 ghost use Rattle.std.specs.Prelude.{◌≡◌, codes, OnOk, option_map};
 ghost use Rattle.rb_model.specs.Step.Output.{TookAndClosed, LostIs, UnsentIs};
 ghost use Rattle.rb_record.specs.Lines.{line_text};
-ghost use Rattle.rb_record.specs.Printing.{call_of, source_line, unsent_line, refusal_text, output_text, shown_output, Writes};
+ghost use Rattle.rb_model.specs.Plain.{plain_unsent};
+ghost use Rattle.rb_record.specs.Printing.{source_line, unsent_line, refusal_text, output_text, output_line, Writes};
 
 use crate::front::Front;
 use crate::line::Line;
-use crate::shown::{Shown, ShownCall};
 use rb_address::{Peer, Source};
-use rb_model::CoreFault;
+use rb_model::{CoreFault, Output, UnsentCall};
+use std::convert::AsSlice;
 use std::io;
 use std::io::Write;
 
@@ -23,31 +24,25 @@ fn reply_line<'a>(source: Source, bytes: &'a [u8]) -> Line<'a>
 }
 
 /// The line of a forwarded call that is to be sent.
-fn call_line<'a>(number: u64, target: Peer, call: &'a [u8]) -> Line<'a>
-    ensures { line_text result
-        ≡ unsent_line (record { number = number; target = target; call = call.now }) }
+fn call_line<'a, B: AsSlice<u8>>(unsent: &'a UnsentCall<B>) -> Line<'a>
+    ensures { line_text result ≡ unsent_line (plain_unsent B.items unsent.now) }
 {
     let mut front = Front::new("unsent ");
-    front.push_number(number);
+    front.push_number(unsent.number);
     front.push(b" ");
-    front.push_peer(target);
+    front.push_peer(unsent.target);
     front.push(b" ");
-    Line::with(front, call)
+    Line::with(front, unsent.call.as_slice())
 }
 
 /// The line of a look for a forwarded call that is to be sent.
-fn unsent_line<'a>(call: Option<ShownCall<'a>>) -> Line<'a>
-    ensures { line_text result ≡ output_text (UnsentIs (option_map call_of call.entry)) }
+fn unsent_line<'a, B: AsSlice<u8>>(call: &'a Option<UnsentCall<B>>) -> Line<'a>
+    ensures { line_text result
+        ≡ output_text (UnsentIs (option_map (plain_unsent B.items) call.now)) }
 {
     match call {
         None => Line::word("unsent -"),
-        Some(
-            ShownCall {
-                number,
-                target,
-                call,
-            },
-        ) => call_line(number, target, call),
+        Some(unsent) => call_line(unsent),
     }
 }
 
@@ -85,34 +80,33 @@ fn refusal_line<'a>(fault: CoreFault) -> Line<'a>
 }
 
 /// The line of an output (docs/EVENTS.md).
-pub(crate) fn output_line<'a>(output: &Shown<'a>) -> Line<'a>
-    ensures { line_text result ≡ output_text (shown_output output.now) }
+pub(crate) fn output_line<'a, B: AsSlice<u8>>(output: &'a Output<B>) -> Line<'a>
+    ensures { line_text result ≡ output_line B.items output.now }
 {
-    match *output {
-        Shown::Replied(bytes) => Line::bytes("reply ", bytes),
-        Shown::Silent => Line::word("silent"),
-        Shown::Opened(id) => Line::number("open ", id),
-        Shown::Refused(fault) => refusal_line(fault),
-        Shown::Took(n) => Line::number("took ", n as u64),
-        Shown::TookAndClosed(n) => closed_line(n),
-        Shown::Pending(bytes) => Line::bytes("pending ", bytes),
-        Shown::Done => Line::word("ok"),
-        Shown::TooMuch => Line::word("toomuch"),
-        Shown::Lost(id) => lost_line(id),
-        Shown::Forwarded => Line::word("forwarded"),
-        Shown::Unsent(call) => unsent_line(call),
-        Shown::Ignored => Line::word("ignored"),
-        Shown::Nothing => Line::word("nothing"),
-        Shown::ConnectionClosed(id) => Line::number("closed ", id),
-        Shown::Ready(id) => Line::number("ready ", id),
-        Shown::RepliedTo(who, bytes) => reply_line(who.source, bytes),
+    match output {
+        Output::Replied(bytes) => Line::bytes("reply ", bytes.as_slice()),
+        Output::Silent => Line::word("silent"),
+        Output::Opened(id) => Line::number("open ", *id),
+        Output::Refused(fault) => refusal_line(*fault),
+        Output::Took(n) => Line::number("took ", *n as u64),
+        Output::TookAndClosed(n) => closed_line(*n),
+        Output::Pending(bytes) => Line::bytes("pending ", bytes.as_slice()),
+        Output::Done => Line::word("ok"),
+        Output::TooMuch => Line::word("toomuch"),
+        Output::Lost(id) => lost_line(*id),
+        Output::Forwarded => Line::word("forwarded"),
+        Output::Unsent(call) => unsent_line(call),
+        Output::Ignored => Line::word("ignored"),
+        Output::Nothing => Line::word("nothing"),
+        Output::ConnectionClosed(id) => Line::number("closed ", *id),
+        Output::Ready(id) => Line::number("ready ", *id),
+        Output::RepliedTo(who, bytes) => reply_line(who.source, bytes.as_slice()),
     }
 }
 
 /// Writes the line of an output. An error if the writer fails; how much of the line it has then is not known.
-pub fn write_output<W: Write>(output: &Shown<'_>, writer: &mut W) -> io::Result<()>
-    ensures { OnOk result
-        (Writes W.contents writer.old writer.new (output_text (shown_output output.now))) }
+pub fn write_output<B: AsSlice<u8>, W: Write>(output: &Output<B>, writer: &mut W) -> io::Result<()>
+    ensures { OnOk result (Writes W.contents writer.old writer.new (output_line B.items output.now)) }
 {
     output_line(output).write_to(writer)
 }

@@ -3,10 +3,10 @@ ghost use Rattle.std.specs.Prelude.{◌≡◌, ◌≤◌, ◌+◌, [], true, len
 ghost use Rattle.rb_record.specs.Tapes.{last_line};
 
 use crate::entries::{Start, options_line};
-use crate::happening::{Happening, event_line};
+use crate::events::event_line;
 use crate::line::{Line, push_bytes};
 use crate::printing::output_line;
-use crate::shown::Shown;
+use rb_model::{Event, Output};
 use std::alloc::{AllocError, Global};
 use std::io;
 use std::io::Write;
@@ -44,6 +44,7 @@ struct Page {
 impl Page {
     ghost use Rattle.std.specs.Prelude.{◌≡◌, ◌≤◌, ◌+◌, ◌++◌, nat_le, length, true, false};
     ghost use Rattle.rb_record.specs.Lines.{line_text};
+    ghost use Rattle.rb_record.specs.Tapes.{HasRoom};
 
     /// Whether so many bytes fit, with the last line after them.
     fn has_room(&self, count: u128) -> bool
@@ -57,7 +58,7 @@ impl Page {
     /// Adds bytes that fit, with the last line after them.
     fn push(&mut self, bytes: &[u8])
         requires on { self.old.is_on ≡ true }
-        requires fits { length self.old.text.items + length bytes.now + length last_line ≤ self.old.limit }
+        requires fits { HasRoom self.old.limit self.old.text.items bytes.now }
         ensures text { self.new.text.items ≡ self.old.text.items ++ bytes.now }
         ensures on { self.new.is_on ≡ true }
         ensures limit { self.new.limit ≡ self.old.limit }
@@ -68,8 +69,7 @@ impl Page {
     /// Adds a line that fits, with the last line after it.
     fn push_line(&mut self, line: &Line<'_>)
         requires on { self.old.is_on ≡ true }
-        requires fits { length self.old.text.items + length (line_text line.now) + length last_line
-            ≤ self.old.limit }
+        requires fits { HasRoom self.old.limit self.old.text.items (line_text line.now) }
         ensures text { self.new.text.items ≡ self.old.text.items ++ line_text line.now }
         ensures on { self.new.is_on ≡ true }
         ensures limit { self.new.limit ≡ self.old.limit }
@@ -149,7 +149,7 @@ impl Tape {
 
     /// Records an event, and after `#> ` what it gave. If that does not fit, with the last line after it, the record
     /// ends in front of it with that line.
-    pub fn record(&mut self, event: &Happening<'_>, output: &Shown<'_>)
+    pub fn record(&mut self, event: &Event<&[u8]>, output: &Output<&[u8]>)
         ensures { Records (entry_of event.now output.now ∷ []) self.old self.new }
     {
         if !self.page.is_on {

@@ -11,8 +11,7 @@ use Rattle.std.proofs.lemmas.Slice.Eq.{strip_suffix_is}
 use Rattle.std.proofs.lemmas.List.{drop_more, take_more, take_all, length-take, length-take-le, length_push, length-map, append_cancel_left, append_cancel_right}
 use Rattle.std.proofs.lemmas.List.Concat.{flat_map-append}
 use Rattle.std.proofs.Math.ListN.{get_or-map}
-use Rattle.rb_model.specs.declared.events.Output as output
-use Rattle.rb_model.specs.Plain.{output_of, outputs_of}
+use Rattle.rb_model.specs.Plain.{OwnedOutput, output_of, outputs_of}
 use Rattle.rb_model.specs.Step.{Event, Output}
 use Rattle.rb_record.specs.Printing.{output_text}
 use Rattle.rb_lines.specs.declared.lines.ReadFault.{ReadFault}
@@ -166,39 +165,39 @@ ended_is text line front same is decides =
 
 -- ---- of the outputs as the code has them
 
-printed_length : (outputs : List output.Output) → length (output_lines (outputs_of outputs)) ≡ length outputs
+printed_length : (outputs : List OwnedOutput) → length (output_lines (outputs_of outputs)) ≡ length outputs
 unfolding output_lines
 printed_length outputs = length-map (outputs_of outputs) output_text ∙ length-map outputs output_of
 
-printed_at : (outputs : List output.Output) (i : ℕ) (there : output.Output) → there ≡ get_or outputs i there → output_text (output_of there) ≡ get_or (output_lines (outputs_of outputs)) i (output_text (output_of there))
+printed_at : (outputs : List OwnedOutput) (i : ℕ) (there : OwnedOutput) → there ≡ get_or outputs i there → output_text (output_of there) ≡ get_or (output_lines (outputs_of outputs)) i (output_text (output_of there))
 unfolding output_lines
 printed_at outputs i there is =
-    ap (λ (x : output.Output). output_text (output_of x)) is ∙ sym (get_or-map output_text (outputs_of outputs) i (output_of there) ∙ ap output_text (get_or-map output_of outputs i there))
+    ap (λ (x : OwnedOutput). output_text (output_of x)) is ∙ sym (get_or-map output_text (outputs_of outputs) i (output_of there) ∙ ap output_text (get_or-map output_of outputs i there))
 
-pub no_output : (outputs : List output.Output) (next : ℕ) (line said : List ℕ) → said ∷ [] ≡ output_line_in line → length outputs ≤ next → IsFrontOf (take next (output_lines (outputs_of outputs)) ++ output_line_in line) (output_lines (outputs_of outputs)) → ⊥
+pub no_output : (outputs : List OwnedOutput) (next : ℕ) (line said : List ℕ) → said ∷ [] ≡ output_line_in line → length outputs ≤ next → IsFrontOf (take next (output_lines (outputs_of outputs)) ++ output_line_in line) (output_lines (outputs_of outputs)) → ⊥
 no_output outputs next line said is le front =
     none_left (output_lines (outputs_of outputs)) next said (omega (arith, printed_length outputs, le)) (rw is front)
 
-pub other_output : (outputs : List output.Output) (next : ℕ) (line said : List ℕ) (there : output.Output) → said ∷ [] ≡ output_line_in line → next < length outputs → there ≡ get_or outputs next there → (output_text (output_of there) ≡ said → ⊥) → IsFrontOf (take next (output_lines (outputs_of outputs)) ++ output_line_in line) (output_lines (outputs_of outputs)) → ⊥
+pub other_output : (outputs : List OwnedOutput) (next : ℕ) (line said : List ℕ) (there : OwnedOutput) → said ∷ [] ≡ output_line_in line → next < length outputs → there ≡ get_or outputs next there → (output_text (output_of there) ≡ said → ⊥) → IsFrontOf (take next (output_lines (outputs_of outputs)) ++ output_line_in line) (output_lines (outputs_of outputs)) → ⊥
 other_output outputs next line said there is lt at other front =
     other_next (output_lines (outputs_of outputs)) next said (output_text (output_of there)) (omega (arith, printed_length outputs, lt)) (printed_at outputs next there at) other (rw is front)
 
-pub same_output : (outputs : List output.Output) (next : ℕ) (line said : List ℕ) (there : output.Output) → said ∷ [] ≡ output_line_in line → next < length outputs → there ≡ get_or outputs next there → output_text (output_of there) ≡ said → GoesOn (output_lines (outputs_of outputs)) line next (next + 1)
+pub same_output : (outputs : List OwnedOutput) (next : ℕ) (line said : List ℕ) (there : OwnedOutput) → said ∷ [] ≡ output_line_in line → next < length outputs → there ≡ get_or outputs next there → output_text (output_of there) ≡ said → GoesOn (output_lines (outputs_of outputs)) line next (next + 1)
 same_output outputs next line said there is lt at same =
     rw (← is) (same_next (output_lines (outputs_of outputs)) next said (omega (arith, printed_length outputs, lt)) (rw (← same) (printed_at outputs next there at)))
 
 -- where the lines of so many outputs were found, and no more lines are there
-pub all_found : (text : List ℕ) (outputs : List output.Output) (n next : ℕ) → length (lines_of text) ≤ n → flat_map output_line_in (take n (lines_of text)) ≡ take next (output_lines (outputs_of outputs)) → output_lines_in text ≡ take next (output_lines (outputs_of outputs))
+pub all_found : (text : List ℕ) (outputs : List OwnedOutput) (n next : ℕ) → length (lines_of text) ≤ n → flat_map output_line_in (take n (lines_of text)) ≡ take next (output_lines (outputs_of outputs)) → output_lines_in text ≡ take next (output_lines (outputs_of outputs))
 unfolding output_lines_in
 all_found text outputs n next le agree = ap (flat_map output_line_in) (sym (take_all n (lines_of text) le)) ∙ agree
 
-pub agrees : (text : List ℕ) (outputs : List output.Output) (next : ℕ) → output_lines_in text ≡ take next (output_lines (outputs_of outputs)) → next ≤ length outputs → length outputs ≤ next → 0 < next → Agrees text (outputs_of outputs)
+pub agrees : (text : List ℕ) (outputs : List OwnedOutput) (next : ℕ) → output_lines_in text ≡ take next (output_lines (outputs_of outputs)) → next ≤ length outputs → length outputs ≤ next → 0 < next → Agrees text (outputs_of outputs)
 agrees text outputs next is few all some = record {
   same = is ∙ take_all next (output_lines (outputs_of outputs)) (omega (arith, printed_length outputs, all));
   some = omega (arith, length-map outputs output_of, few, some);
 }
 
-pub unlike : (text : List ℕ) (outputs : List output.Output) (next : ℕ) (fault : Fault) → output_lines_in text ≡ take next (output_lines (outputs_of outputs)) → next ≤ length outputs → IsEnd next (length outputs) fault → IsUnlike text (outputs_of outputs) fault
+pub unlike : (text : List ℕ) (outputs : List OwnedOutput) (next : ℕ) (fault : Fault) → output_lines_in text ≡ take next (output_lines (outputs_of outputs)) → next ≤ length outputs → IsEnd next (length outputs) fault → IsUnlike text (outputs_of outputs) fault
 unlike text outputs next NoOutputs is few end = is ∙ ap (λ (n : ℕ). take n (output_lines (outputs_of outputs))) end
 unlike text outputs next (Lacks n) is few end = record {
   agree = (drop next (output_lines (outputs_of outputs)), sym (take-append-drop next (output_lines (outputs_of outputs))) ∙ ap (λ (xs : List (List ℕ)). xs ++ drop next (output_lines (outputs_of outputs))) (sym is));
@@ -216,7 +215,7 @@ unlike text outputs next WriteFailed is few end = absurd end
 unlike text outputs next (Differs n) is few end = absurd end
 
 -- what is wrong at a line is wrong with the text
-pub wrong_at : (text : List ℕ) (outputs : List output.Output) (n i next : ℕ) (line : List ℕ) (fault : Fault) → IsAt (lines_of text) n i line → flat_map output_line_in (take n (lines_of text)) ≡ take next (output_lines (outputs_of outputs)) → IsWrongAt (i + 1) (output_lines (outputs_of outputs)) line next fault → IsUnlike text (outputs_of outputs) fault
+pub wrong_at : (text : List ℕ) (outputs : List OwnedOutput) (n i next : ℕ) (line : List ℕ) (fault : Fault) → IsAt (lines_of text) n i line → flat_map output_line_in (take n (lines_of text)) ≡ take next (output_lines (outputs_of outputs)) → IsWrongAt (i + 1) (output_lines (outputs_of outputs)) line next fault → IsUnlike text (outputs_of outputs) fault
 wrong_at text outputs n i next line NoMemory at agree wrong = tt
 wrong_at text outputs n i next line (Differs k) at agree wrong = first_other text (outputs_of outputs) n i k next line at wrong.0 agree wrong.1
 wrong_at text outputs n i next line NotText at agree wrong = absurd wrong

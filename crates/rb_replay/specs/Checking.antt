@@ -5,8 +5,7 @@ use Rattle.std.specs.List.{flat_map}
 use Rattle.std.specs.Fmt.{decimal}
 use Rattle.std.specs.Borrow.{Bor}
 use Rattle.std.specs.declared.io.buffered.BufWriter.{BufWriter}
-use Rattle.rb_model.specs.declared.events.Output as output
-use Rattle.rb_model.specs.Plain.{output_of}
+use Rattle.rb_model.specs.Plain.{OwnedOutput, output_of}
 use Rattle.rb_model.specs.Step.{Event, Output, run}
 use Rattle.rb_record.specs.Printing.{output_text}
 use Rattle.rb_lines.specs.declared.lines.ReadFault.{ReadFault}
@@ -21,7 +20,7 @@ use Rattle.rb_lines.specs.OutputLines.{output_line_in, output_lines_in, output_l
 use Rattle.rb_replay.specs.Running.{first_state, IsCoreFault, IsRead, IsRefused, BufWrites, EndsBy}
 
 -- the line of an output, with its line feed, is this one
-abbrev pub IsPrintedAs : output.Output → List ℕ → Bool → Type 0
+abbrev pub IsPrintedAs : OwnedOutput → List ℕ → Bool → Type 0
 IsPrintedAs given line same = Decides same (output_text (output_of given) ≡ line ++ codes "\n")
 
 -- ---- how both compare

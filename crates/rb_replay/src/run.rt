@@ -1,10 +1,7 @@
 //! Runs: lists of events.
-ghost use Rattle.std.specs.Prelude.{◌<◌, ℕ, length, take, OnOk, OnErr};
-ghost use Rattle.rb_model.specs.State.{State};
-ghost use Rattle.rb_core.specs.StandsFor.{StandsFor};
-ghost use Rattle.rb_replay.specs.Runs.{PaysWithinWhole};
-ghost use Rattle.rb_model.specs.Plain.{events_of, outputs_of};
-ghost use Rattle.rb_replay.specs.Runs.{answered_events, Happened, PaysForRun, StaysWithinBound, PaysWithinBound};
+ghost use Rattle.std.specs.Prelude.{OnOk, OnErr};
+ghost use Rattle.rb_model.specs.Plain.{events_of};
+ghost use Rattle.rb_replay.specs.Runs.{AllHappened, SomeHappened, PaysForRun, PaysWithinBound, PaysForAnswered, StaysWithinBound};
 
 use crate::events::happen;
 use rb_core::Metered;
@@ -20,15 +17,12 @@ pub fn replay(
     events: &[Event],
     out: &mut Vec<Output>,
 ) -> Result<(), NoMemory>
-    ensures all { (s : State) → StandsFor core.old.core s → OnOk result
-        (Happened s (events_of events.now) (outputs_of out.old.items) (outputs_of out.new.items) core.new.core) }
-    ensures some { (s : State) → StandsFor core.old.core s → OnErr result ((n : ℕ) × (n < length events.now)
-        × Happened s (take n (events_of events.now)) (outputs_of out.old.items) (outputs_of out.new.items) core.new.core) }
+    ensures all { OnOk result (AllHappened events.now core.old core.new out.old out.new) }
+    ensures some { OnErr result (SomeHappened events.now core.old core.new out.old out.new) }
     ensures cost { PaysForRun core.old.core (events_of events.now) core.old.meter core.new.meter }
     ensures bound { PaysWithinBound core.old.core
         (events_of events.now) core.old.meter core.new.meter }
-    ensures whole { PaysWithinWhole core.old.core
-        (answered_events events.now out.old.items out.new.items) core.old.meter core.new.meter }
+    ensures whole { PaysForAnswered events.now core.old core.new out.old out.new }
     ensures held { StaysWithinBound core.old.core core.new.core }
 {
     for event in events {

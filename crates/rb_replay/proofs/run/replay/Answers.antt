@@ -1,10 +1,8 @@
 use Rattle.std.proofs.Common.{◌≡◌, ◌≤◌, ℕ, true, List, ◌∷◌, [], ◌++◌, length, take, refl, ap, ◌∙◌, arith}
 use Rattle.std.proofs.lemmas.List.{map_push}
 use Rattle.rb_xdr.specs.Meter.{Meter, PaysAtMost}
-use Rattle.rb_model.specs.declared.events.Event as event
-use Rattle.rb_model.specs.declared.events.Output as output
 use Rattle.rb_model.specs.Costs.{run_cost}
-use Rattle.rb_model.specs.Plain.{events_of, output_of, outputs_of}
+use Rattle.rb_model.specs.Plain.{OwnedEvent, OwnedOutput, events_of, output_of, outputs_of}
 use Rattle.rb_model.specs.State.{State, are_good}
 use Rattle.rb_model.specs.Step.{run, IsReached}
 use Rattle.rb_model.specs.WholeRuns.{whole_bound}
@@ -37,7 +35,7 @@ pub returns-clause-bound : goal.returns-clause-bound
 returns-clause-bound c s h reached good = paid_within s (events_of c.args.events.now) _ _ reached good (pays_within s (events_of c.args.events.now) c.loop-event.event-index _ _ (c.loop-event.invariant.cost s h))
 
 -- the bound of the events whose outputs were appended
-whole_of : (core : Held) (s : State) (events : List event.Event) (i : ℕ) → i ≤ length events → (before now : List output.Output) (new : Held) (a b : Meter)
+whole_of : (core : Held) (s : State) (events : List OwnedEvent) (i : ℕ) → i ≤ length events → (before now : List OwnedOutput) (new : Held) (a b : Meter)
     → StandsFor core s → IsReached s → are_good s.setting.limits s.setting.listener ≡ true
     → Happened s (take i (events_of events)) (outputs_of before) (outputs_of now) new → PaysAtMost a b (run_cost s (take i (events_of events)))
     → PaysAtMost a b (whole_bound s.setting.limits (buffer_bytes core) (answered_events events before now) (run s (answered_events events before now)))

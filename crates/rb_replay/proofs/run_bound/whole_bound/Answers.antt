@@ -2,27 +2,25 @@ use Rattle.std.specs.Prelude.{min}
 use Rattle.std.proofs.Common.{◌≡◌, ◌<◌, ◌+◌, ◌*◌, ℕ, zero, suc, List, [], ◌∷◌, length, get_or, take, refl, sym, ap, ◌∙◌, arith}
 use Rattle.std.proofs.lemmas.List.{length-map}
 use Rattle.rb_model.specs.Bounds.{bytes_in}
-use Rattle.rb_model.specs.declared.events.Event as event
-use Rattle.rb_model.specs.declared.events.Output as output
-use Rattle.rb_model.specs.Plain.{event_of, output_of, events_of, outputs_of}
+use Rattle.rb_model.specs.Plain.{OwnedEvent, OwnedOutput, event_of, output_of, events_of, outputs_of}
 use Rattle.rb_model.specs.Step.{Event, Output}
 use Rattle.rb_model.specs.WholeRuns.{total_of, total_in, total_out, bytes_reported, event_allowance}
 use Rattle.rb_core.specs.Events.{greatest_count}
 use Rattle.rb_replay.proofs.run_bound.whole_bound.Goals as goal
 
-pair : (x y : event.Event) (s t : output.Output) → x ≡ y → s ≡ t → ◌≡◌ {A = event.Event × output.Output} (x, s) (y, t)
+pair : (x y : OwnedEvent) (s t : OwnedOutput) → x ≡ y → s ≡ t → ◌≡◌ {A = OwnedEvent × OwnedOutput} (x, s) (y, t)
 pair x y s t e f = rw (e, f) refl
 
 module _ (count : Event → Output → ℕ) where
   -- one event more
-  next : (es : List event.Event) (os : List output.Output) (i : ℕ) (e : event.Event) (o : output.Output) → i < length es → i < length os → e ≡ get_or es i e → o ≡ get_or os i o
+  next : (es : List OwnedEvent) (os : List OwnedOutput) (i : ℕ) (e : OwnedEvent) (o : OwnedOutput) → i < length es → i < length os → e ≡ get_or es i e → o ≡ get_or os i o
       → total_of count (take (suc i) (events_of es)) (take (suc i) (outputs_of os)) ≡ total_of count (take i (events_of es)) (take i (outputs_of os)) + count (event_of e) (output_of o)
   next [] os i e o a b is so = absurd (omega (arith, a))
   next (x ∷ es) [] i e o a b is so = absurd (omega (arith, b))
-  next (x ∷ es) (y ∷ os) zero e o a b is so = ap (λ (p : event.Event × output.Output). count (event_of p.0) (output_of p.1) + 0) (pair x e y o (sym is) (sym so)) ∙ omega arith
+  next (x ∷ es) (y ∷ os) zero e o a b is so = ap (λ (p : OwnedEvent × OwnedOutput). count (event_of p.0) (output_of p.1) + 0) (pair x e y o (sym is) (sym so)) ∙ omega arith
   next (x ∷ es) (y ∷ os) (suc i) e o a b is so = let rest = next es os i e o (omega (arith, a)) (omega (arith, b)) is so in omega (arith, rest)
 
-  more : (es : List event.Event) (os : List output.Output) (i : ℕ) (e : event.Event) (o : output.Output) → i < length es → i < length os → e ≡ get_or es i e → o ≡ get_or os i o
+  more : (es : List OwnedEvent) (os : List OwnedOutput) (i : ℕ) (e : OwnedEvent) (o : OwnedOutput) → i < length es → i < length os → e ≡ get_or es i e → o ≡ get_or os i o
       → total_of count (take (i + 1) (events_of es)) (take (i + 1) (outputs_of os)) ≡ total_of count (take i (events_of es)) (take i (outputs_of os)) + count (event_of e) (output_of o)
   more es os i e o a b is so =
       let one : i + 1 ≡ suc i = omega arith in
