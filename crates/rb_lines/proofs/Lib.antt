@@ -7,3 +7,4 @@ pub mod LineWords
 pub mod Recorded
 pub mod Binds
 pub mod Written
+pub mod OnLiterals

@@ -2,6 +2,7 @@
 ghost use Rattle.rb_lines.specs.Worked.{StoredRunIsRead, StoredRunIsPrinted, BadEventLine, LinesAreCounted, NumbersOfLines, PeersOfLines, ConnectionsAreRead, ConnectionsArePrinted, ForwardsAreRead, ZeroIsRead, ZeroIsPrinted, ForwardsArePrinted, CallersAreRead, CallersArePrinted, OptionsArePrinted, Ipv6PeersAreRead, Ipv6PeersArePrinted};
 
 /// The definitions give what the worked examples say.
+#[tactic(auto, unfolding(crate::proofs::OnLiterals::rb_lines_on_literals))]
 pub fn worked_examples()
     ensures stored_run_is_read { StoredRunIsRead }
     ensures stored_run_is_printed { StoredRunIsPrinted }
