@@ -3,7 +3,7 @@
 # word, or in this one. Needs dpkg-deb, and no root. Its files are those of `make install`, where Debian has them, with what
 # stands in packaging/deb; the version is the newest of CHANGELOG, which both programs must say. Equal programs give equal
 # packages, whenever and wherever they are made: each file has the date of the version, or that of SOURCE_DATE_EPOCH.
-set -u
+set -uo pipefail
 umask 022
 cd "$(dirname "$0")/.." || exit 1
 

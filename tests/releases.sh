@@ -39,9 +39,9 @@ run_package_of_another_version() {
 
 # CHANGELOG in Debian's form, by deb-changelog(5): its days of the week are those of the calendar.
 run_changelog() {
-    mkdir -p "$work/log/packaging"
-    cp packaging/changelog.sh "$work/log/packaging/"
-    cat > "$work/log/CHANGELOG" << 'GIVEN'
+    mkdir -p "$work/history/packaging"
+    cp packaging/changelog.sh "$work/history/packaging/"
+    cat > "$work/history/CHANGELOG" << 'GIVEN'
 0.9.1 (2026-02-03)
   What comes:
   * Thing one.
@@ -72,11 +72,11 @@ p (0.9.0) unstable; urgency=medium
 
  -- n <n@localhost>  Wed, 31 Dec 2025 12:00:00 +0000
 WANTED
-    "$work/log/packaging/changelog.sh" debian p 'n <n@localhost>' > "$work/stdout"
+    "$work/history/packaging/changelog.sh" debian p 'n <n@localhost>' > "$work/stdout"
     same "$work/wanted" "$work/stdout" "Debian's form"
     judge $? "CHANGELOG in Debian's form"
-    [ "$("$work/log/packaging/changelog.sh" version)" = 0.9.1 ] && sed -i '1s/.*/Unreleased/' "$work/log/CHANGELOG" &&
-        ! "$work/log/packaging/changelog.sh" version > "$work/stdout" 2> "$work/stderr" && [ ! -s "$work/stdout" ] &&
+    [ "$("$work/history/packaging/changelog.sh" version)" = 0.9.1 ] && sed -i '1s/.*/Unreleased/' "$work/history/CHANGELOG" &&
+        ! "$work/history/packaging/changelog.sh" version > "$work/stdout" 2> "$work/stderr" && [ ! -s "$work/stdout" ] &&
         grep -q "a heading is 'Unreleased'" "$work/stderr"
     judge $? "a newest version of CHANGELOG without number and date is refused"
 }
