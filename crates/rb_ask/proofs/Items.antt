@@ -16,7 +16,7 @@ use Rattle.rb_ask.specs.Sources.{Supply}
 use Rattle.rb_ask.specs.declared.fault.InfoFault.{InfoFault}
 use Rattle.rb_ask.specs.declared.fault.InfoFault.TheVariants.{Read, Write, Unreadable, CutOff, Refused, TooMany, Memory}
 use Rattle.rb_ask.specs.declared.fault.InfoFault.TheVariants as infos
-use Rattle.rb_ask.specs.Data.{end_of, StandsBefore}
+use Rattle.rb_ask.specs.Data.{Input, end_of, StandsBefore}
 use Rattle.rb_ask.specs.Reading.{DataEnds, HasNoData, GivesByte, HasReadData}
 use Rattle.rb_ask.specs.Telling.{Told, take_one, told_by, Tells, HasBegun, told_lines}
 use Rattle.rb_ask.specs.Telling.Told.{Done, Stop}
@@ -104,7 +104,7 @@ item_broken {A} reads form has known known' at at' bytes fault holds e other hel
 
 -- the data ends before the value does
 item_cut : {A : Type 0} (reads : Reader A) (fault : InfoFault) (known between : Supply) (at at' : Record) (bytes : List ℕ) → HasReadData known between at at' bytes → reads bytes ≡ Err Short → HasNoData between at' fault
-    → (all content : List ℕ) → StandsBefore all known at content → take_one reads (end_of all) content ≡ Stop [] fault
+    → (all : Input) (content : List ℕ) → StandsBefore all known at content → take_one reads (end_of all) content ≡ Stop [] fault
 unfolding take_one
 item_cut {A} reads fault known between at at' bytes holds e ends all content st =
     let h = holds all content st in

@@ -14,7 +14,7 @@ use Rattle.rb_rpc.specs.Records.{is_last, is_cut, fragment_end, record_of, first
 use Rattle.rb_ask.specs.declared.fault.InfoFault.TheVariants.{CutOff, TooLong}
 use Rattle.rb_ask.specs.declared.record.Record.{Record}
 use Rattle.rb_ask.specs.Sources.{Supply}
-use Rattle.rb_ask.specs.Data.{longest_record, front_of, is_whole, end_of, data_left, ends_in, HasPassed, StandsBefore, EndsInData}
+use Rattle.rb_ask.specs.Data.{Input, longest_record, front_of, is_whole, data_read, is_over, end_of, data_left, ends_in, HasPassed, StandsBefore, EndsInData}
 use Rattle.rb_ask.specs.Reading.{HasFewer, HasMany, HasNoData}
 
 -- ---- fuel
@@ -227,14 +227,14 @@ record More (read front : List ℕ) (at at' : Record) (found : List ℕ) : Type 
   goes_on : (more : List ℕ) → data_left at (front ++ more) ≡ found ++ data_left at' more
   ends_on : (more : List ℕ) → ends_in at (front ++ more) ≡ ends_in at' more
 
-more_read : (bytes read front found rest' : List ℕ) (known known' : Supply) (at at' : Record) (content : List ℕ) (p : HasPassed bytes read known at content)
+more_read : (input : Input) (read front found rest' : List ℕ) (known known' : Supply) (at at' : Record) (content : List ℕ) (p : HasPassed input read known at content)
     → More read front at at' found → known'.bytes ≡ Some rest' → p.rest ≡ front ++ rest' → at.allowed ≡ length front + at'.allowed
-    → (content ≡ found ++ data_left at' (take at'.allowed rest')) × (data_of (read ++ front) ≡ data_of read ++ found) × HasPassed bytes (read ++ front) known' at' (data_left at' (take at'.allowed rest'))
-more_read bytes read front found rest' known known' at at' content p m known_is rest_is pays =
-    let ahead : (more : List ℕ) → data_of ((read ++ front) ++ more) ≡ data_of read ++ (found ++ data_left at' more) =
-    λ more. ap data_of (append_assoc read front more) ∙ p.stands (front ++ more) ∙ ap (λ (xs : List ℕ). data_of read ++ xs) (m.goes_on more) in
-    let here : data_of (read ++ front) ≡ data_of read ++ found =
-    ap data_of (sym (append-nil (read ++ front))) ∙ ahead [] ∙ ap (λ (xs : List ℕ). data_of read ++ (found ++ xs)) (left_nil at') ∙ ap (λ (xs : List ℕ). data_of read ++ xs) (append-nil found) in
+    → (content ≡ found ++ data_left at' (take at'.allowed rest')) × (data_read input (read ++ front) ≡ data_read input read ++ found) × HasPassed input (read ++ front) known' at' (data_left at' (take at'.allowed rest'))
+more_read input read front found rest' known known' at at' content p m known_is rest_is pays =
+    let ahead : (more : List ℕ) → data_read input ((read ++ front) ++ more) ≡ data_read input read ++ (found ++ data_left at' more) =
+    λ more. ap (data_read input) (append_assoc read front more) ∙ p.stands (front ++ more) ∙ ap (λ (xs : List ℕ). data_read input read ++ xs) (m.goes_on more) in
+    let here : data_read input (read ++ front) ≡ data_read input read ++ found =
+    ap (data_read input) (sym (append-nil (read ++ front))) ∙ ahead [] ∙ ap (λ (xs : List ℕ). data_read input read ++ (found ++ xs)) (left_nil at') ∙ ap (λ (xs : List ℕ). data_read input read ++ xs) (append-nil found) in
     let there : take at.allowed p.rest ≡ front ++ take at'.allowed rest' = ap (take at.allowed) rest_is ∙ take_more at.allowed at'.allowed front rest' pays in (
       p.content_is ∙ ap (data_left at) there ∙ m.goes_on (take at'.allowed rest'),
       here,
@@ -242,8 +242,8 @@ more_read bytes read front found rest' known known' at at' content p m known_is 
         rest = rest';
         known_is = known_is;
         whole = p.whole ∙ ap (λ (xs : List ℕ). read ++ xs) rest_is ∙ sym (append_assoc read front rest');
-        stands = λ more. ahead more ∙ sym (append_assoc (data_of read) found (data_left at' more)) ∙ ap (λ (xs : List ℕ). xs ++ data_left at' more) (sym here);
-        ends = λ more. ap is_whole (append_assoc read front more) ∙ p.ends (front ++ more) ∙ m.ends_on more;
+        stands = λ more. ahead more ∙ sym (append_assoc (data_read input read) found (data_left at' more)) ∙ ap (λ (xs : List ℕ). xs ++ data_left at' more) (sym here);
+        ends = λ more. ap (is_over input) (append_assoc read front more) ∙ p.ends (front ++ more) ∙ m.ends_on more;
         content_is = refl;
         counted = omega (arith, p.counted, pays, length-append read front);
       },
@@ -257,8 +257,8 @@ mark left last allowed = record { left = left; last = last; allowed = allowed }
 
 pub header_passes : (n : ℕ) (known known' : Supply) (at at' : Record) → n < 2 ^ 32 → at.left ≡ 0 → at.last ≡ false → at'.left ≡ n % 2 ^ 31 → at'.last ≡ leb (2 ^ 31) n
     → at.allowed ≡ at'.allowed + 4 → Consumes known.bytes known'.bytes (number n)
-    → (bytes read content : List ℕ) → HasPassed bytes read known at content → (read' : List ℕ) × HasPassed bytes read' known' at' content
-header_passes n known known' at at' small over more left last pays took bytes read content p =
+    → (input : Input) (read content : List ℕ) → HasPassed input read known at content → (read' : List ℕ) × HasPassed input read' known' at' content
+header_passes n known known' at at' small over more left last pays took input read content p =
     let c = consumed known.bytes known'.bytes (number n) p.rest p.known_is took in
     let same : ◌≡◌ {A = Record} (record { left = n % 2 ^ 31; last = not (ltb n (2 ^ 31)); allowed = at'.allowed }) at' =
     ap (λ (k : ℕ). mark k (not (ltb n (2 ^ 31))) at'.allowed) (sym left) ∙ ap (λ (b : Bool). mark at'.left b at'.allowed) (sym (last ∙ same_test n)) in
@@ -266,8 +266,8 @@ header_passes n known known' at at' small over more left last pays took bytes re
     λ rest. left_none at (number n ++ rest) over more ∙ data_behind n at'.allowed rest small ∙ ap (λ (r : Record). data_left r rest) same in
     let ends_on : (rest : List ℕ) → ends_in at (number n ++ rest) ≡ ends_in at' rest =
     λ rest. ends_none at (number n ++ rest) over more ∙ whole_behind n at'.allowed rest small ∙ ap (λ (r : Record). ends_in r rest) same in
-    let m = more_read bytes read (number n) [] c.0 known known' at at' content p (record { goes_on = goes_on; ends_on = ends_on }) c.1 c.2 (omega (arith, pays, length-number n)) in
-    (read ++ number n, subst (HasPassed bytes (read ++ number n) known' at') (sym m.0) m.2)
+    let m = more_read input read (number n) [] c.0 known known' at at' content p (record { goes_on = goes_on; ends_on = ends_on }) c.1 c.2 (omega (arith, pays, length-number n)) in
+    (read ++ number n, subst (HasPassed input (read ++ number n) known' at') (sym m.0) m.2)
 
 snoc_is : (xs ys : List ℕ) (a b : ℕ) → xs ++ a ∷ [] ≡ ys ++ b ∷ [] → (xs ≡ ys) × (a ≡ b)
 snoc_is xs ys a b e =
@@ -277,26 +277,26 @@ snoc_is xs ys a b e =
     (front, cc)
 
 pub byte_gives : (b : ℕ) (known known' : Supply) (at at' : Record) → at.left ≡ at'.left + 1 → at'.last ≡ at.last → at.allowed ≡ at'.allowed + 1 → Consumes known.bytes known'.bytes (b ∷ [])
-    → (bytes read content : List ℕ) → HasPassed bytes read known at content → (left : List ℕ) × (content ≡ b ∷ left) × StandsBefore bytes known' at' left
-byte_gives b known known' at at' left last pays took bytes read content p =
+    → (input : Input) (read content : List ℕ) → HasPassed input read known at content → (left : List ℕ) × (content ≡ b ∷ left) × StandsBefore input known' at' left
+byte_gives b known known' at at' left last pays took input read content p =
     let c = consumed known.bytes known'.bytes (b ∷ []) p.rest p.known_is took in
-    let m = more_read bytes read (b ∷ []) (b ∷ []) c.0 known known' at at' content p (record { goes_on = λ rest. left_some at at' b rest left last; ends_on = λ rest. ends_some at at' b rest left last }) c.1 c.2 (omega (arith, pays)) in
-    let ends : EndsInData (read ++ b ∷ []) =
-    λ front x e. let s = snoc_is read front b x e in m.1 ∙ ap (λ (xs : List ℕ). data_of xs ++ b ∷ []) s.0 ∙ ap (λ (y : ℕ). data_of front ++ y ∷ []) s.1 in
+    let m = more_read input read (b ∷ []) (b ∷ []) c.0 known known' at at' content p (record { goes_on = λ rest. left_some at at' b rest left last; ends_on = λ rest. ends_some at at' b rest left last }) c.1 c.2 (omega (arith, pays)) in
+    let ends : EndsInData input (read ++ b ∷ []) =
+    λ front x e. let s = snoc_is read front b x e in m.1 ∙ ap (λ (xs : List ℕ). data_read input xs ++ b ∷ []) s.0 ∙ ap (λ (y : ℕ). data_read input front ++ y ∷ []) s.1 in
     (data_left at' (take at'.allowed c.0), m.0, record { read = read ++ b ∷ []; passed = m.2; ends = ends })
 
 -- ---- where there is no more
 
 -- what may be read is what was read, and as much as is allowed
-front_is : (bytes read : List ℕ) (known : Supply) (at : Record) (content : List ℕ) (p : HasPassed bytes read known at content) → front_of bytes ≡ read ++ take at.allowed p.rest
+front_is : (input : Input) (read : List ℕ) (known : Supply) (at : Record) (content : List ℕ) (p : HasPassed input read known at content) → front_of input.bytes ≡ read ++ take at.allowed p.rest
 unfolding front_of
-front_is bytes read known at content p = by_limit longest_record p.counted
+front_is input read known at content p = by_limit longest_record p.counted
   where
-    by_limit : (n : ℕ) → length read + at.allowed ≡ n → take n bytes ≡ read ++ take at.allowed p.rest
+    by_limit : (n : ℕ) → length read + at.allowed ≡ n → take n input.bytes ≡ read ++ take at.allowed p.rest
     by_limit n e = ap (take n) p.whole ∙ take_more n at.allowed read p.rest (sym e)
 
-whole_is : (bytes read : List ℕ) (known : Supply) (at : Record) (content : List ℕ) (p : HasPassed bytes read known at content) → is_whole (front_of bytes) ≡ ends_in at (take at.allowed p.rest)
-whole_is bytes read known at content p = ap is_whole (front_is bytes read known at content p) ∙ p.ends (take at.allowed p.rest)
+over_is : (input : Input) (read : List ℕ) (known : Supply) (at : Record) (content : List ℕ) (p : HasPassed input read known at content) → is_over input (front_of input.bytes) ≡ ends_in at (take at.allowed p.rest)
+over_is input read known at content p = ap (is_over input) (front_is input read known at content p) ∙ p.ends (take at.allowed p.rest)
 
 by_tests : (a b c d : Bool) → a ≡ b → c ≡ d → cond (a || c) CutOff TooLong ≡ cond (b || d) CutOff TooLong
 by_tests a b c d p q = rw (p, q) refl
@@ -306,46 +306,46 @@ either true = refl
 either false = refl
 
 -- the input ends
-input_short : (bytes read : List ℕ) (known : Supply) (at : Record) (content : List ℕ) (p : HasPassed bytes read known at content) → length p.rest < at.allowed → CutOff ≡ end_of bytes
+input_short : (input : Input) (read : List ℕ) (known : Supply) (at : Record) (content : List ℕ) (p : HasPassed input read known at content) → length p.rest < at.allowed → CutOff ≡ end_of input
 unfolding end_of
-input_short bytes read known at content p short =
-    let few : length bytes < longest_record = omega (arith, short, p.counted, ap length p.whole, length-append read p.rest) in
-    sym (by_tests (ltb (length bytes) longest_record) true (is_whole (front_of bytes)) (is_whole (front_of bytes)) (lt-ltb (length bytes) longest_record few) refl)
+input_short input read known at content p short =
+    let few : length input.bytes < longest_record = omega (arith, short, p.counted, ap length p.whole, length-append read p.rest) in
+    sym (by_tests (ltb (length input.bytes) longest_record) true (is_over input (front_of input.bytes)) (is_over input (front_of input.bytes)) (lt-ltb (length input.bytes) longest_record few) refl)
 
 -- its record ends
-record_ends : (bytes : List ℕ) → is_whole (front_of bytes) ≡ true → CutOff ≡ end_of bytes
+record_ends : (input : Input) → is_over input (front_of input.bytes) ≡ true → CutOff ≡ end_of input
 unfolding end_of
-record_ends bytes e = sym (by_tests (ltb (length bytes) longest_record) (ltb (length bytes) longest_record) (is_whole (front_of bytes)) true refl e ∙ either (ltb (length bytes) longest_record))
+record_ends input e = sym (by_tests (ltb (length input.bytes) longest_record) (ltb (length input.bytes) longest_record) (is_over input (front_of input.bytes)) true refl e ∙ either (ltb (length input.bytes) longest_record))
 
 -- neither does before the limit
-limit_ends : (bytes : List ℕ) → longest_record ≤ length bytes → is_whole (front_of bytes) ≡ false → TooLong ≡ end_of bytes
+limit_ends : (input : Input) → longest_record ≤ length input.bytes → is_over input (front_of input.bytes) ≡ false → TooLong ≡ end_of input
 unfolding end_of
-limit_ends bytes long e = sym (by_tests (ltb (length bytes) longest_record) false (is_whole (front_of bytes)) false (le-ltb (length bytes) longest_record long) e)
+limit_ends input long e = sym (by_tests (ltb (length input.bytes) longest_record) false (is_over input (front_of input.bytes)) false (le-ltb (length input.bytes) longest_record long) e)
 
 few_taken : (n : ℕ) (bytes : List ℕ) → length bytes < 4 → length (take n bytes) < 4
 few_taken n bytes few = omega (arith, few, length-take n bytes)
 
 -- a header that the input cuts short
 pub header_cut : (known : Supply) (at : Record) → at.left ≡ 0 → at.last ≡ false → HasFewer 4 known → HasFewer at.allowed known → HasNoData known at CutOff
-header_cut known at over more few short bytes read content p = (
+header_cut known at over more few short input read content p = (
   p.content_is ∙ left_none at (take at.allowed p.rest) over more ∙ none_short (take at.allowed p.rest) (few_taken at.allowed p.rest (few p.rest p.known_is)),
-  input_short bytes read known at content p (short p.rest p.known_is),
+  input_short input read known at content p (short p.rest p.known_is),
 )
 
 -- a header that the limit cuts short
 pub header_limited : (known : Supply) (at : Record) → at.left ≡ 0 → at.last ≡ false → at.allowed < 4 → HasMany at.allowed known → HasNoData known at TooLong
-header_limited known at over more few there bytes read content p =
+header_limited known at over more few there input read content p =
     let size : length (take at.allowed p.rest) < 4 = omega (arith, few, length-take at.allowed p.rest) in
-    let long : longest_record ≤ length bytes = omega (arith, there p.rest p.known_is, p.counted, ap length p.whole, length-append read p.rest) in (
+    let long : longest_record ≤ length input.bytes = omega (arith, there p.rest p.known_is, p.counted, ap length p.whole, length-append read p.rest) in (
       p.content_is ∙ left_none at (take at.allowed p.rest) over more ∙ none_short (take at.allowed p.rest) size,
-      limit_ends bytes long (whole_is bytes read known at content p ∙ ends_none at (take at.allowed p.rest) over more ∙ none_whole (take at.allowed p.rest) size),
+      limit_ends input long (over_is input read known at content p ∙ ends_none at (take at.allowed p.rest) over more ∙ none_whole (take at.allowed p.rest) size),
     )
 
 -- behind the last fragment
 pub last_ends : (known : Supply) (at : Record) → at.left ≡ 0 → at.last ≡ true → HasNoData known at CutOff
-last_ends known at over last bytes read content p = (
+last_ends known at over last input read content p = (
   p.content_is ∙ left_over at (take at.allowed p.rest) over last,
-  record_ends bytes (whole_is bytes read known at content p ∙ ends_over at (take at.allowed p.rest) over last),
+  record_ends input (over_is input read known at content p ∙ ends_over at (take at.allowed p.rest) over last),
 )
 
 no_bytes : (bytes : List ℕ) → length bytes < 1 → bytes ≡ []
@@ -354,15 +354,15 @@ no_bytes (b ∷ bytes) few = absurd (omega (arith, few))
 
 -- data that the input cuts short
 pub data_cut : (known : Supply) (at : Record) → HasFewer 1 known → HasFewer at.allowed known → HasNoData known at CutOff
-data_cut known at few short bytes read content p =
+data_cut known at few short input read content p =
     let none : take at.allowed p.rest ≡ [] = no_bytes (take at.allowed p.rest) (omega (arith, few p.rest p.known_is, length-take at.allowed p.rest)) in
-    (p.content_is ∙ ap (data_left at) none ∙ left_nil at, input_short bytes read known at content p (short p.rest p.known_is))
+    (p.content_is ∙ ap (data_left at) none ∙ left_nil at, input_short input read known at content p (short p.rest p.known_is))
 
 -- data that the limit cuts short
 pub data_limited : (known : Supply) (at : Record) → 0 < at.left → at.allowed < 1 → HasMany at.allowed known → HasNoData known at TooLong
-data_limited known at more few there bytes read content p =
+data_limited known at more few there input read content p =
     let none : take at.allowed p.rest ≡ [] = no_bytes (take at.allowed p.rest) (omega (arith, few, length-take at.allowed p.rest)) in
-    let long : longest_record ≤ length bytes = omega (arith, there p.rest p.known_is, p.counted, ap length p.whole, length-append read p.rest) in (
+    let long : longest_record ≤ length input.bytes = omega (arith, there p.rest p.known_is, p.counted, ap length p.whole, length-append read p.rest) in (
       p.content_is ∙ ap (data_left at) none ∙ left_nil at,
-      limit_ends bytes long (whole_is bytes read known at content p ∙ ap (ends_in at) none ∙ ends_nil at more),
+      limit_ends input long (over_is input read known at content p ∙ ap (ends_in at) none ∙ ends_nil at more),
     )

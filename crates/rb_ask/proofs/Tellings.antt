@@ -7,7 +7,7 @@ use Rattle.rb_ask.specs.declared.record.Record.{Record}
 use Rattle.rb_ask.specs.Sources.{Supply}
 use Rattle.rb_ask.specs.declared.fault.InfoFault.{InfoFault}
 use Rattle.rb_ask.specs.declared.fault.InfoFault.TheVariants.{Read, Write, Unreadable, CutOff, TooLong, Refused, TooMany, Memory}
-use Rattle.rb_ask.specs.Data.{end_of}
+use Rattle.rb_ask.specs.Data.{Input, end_of}
 use Rattle.rb_ask.specs.Telling.{Told, Teller, add_lines, tell_on, ◌>>=◌, give, stop, tell, lines_text, told_lines, Tells, Outcome, AfterFault, HasStopped, HasBegun}
 use Rattle.rb_ask.specs.Telling.Told.{Done, Stop}
 
@@ -43,23 +43,23 @@ still_cut (Done lines x left) next a b o = record {
 still_cut (Stop lines fault) next a b o = record { lines = o.lines; more = o.more; lines_are = o.lines_are; written = o.written }
 
 -- the outcome of the second is that of both, behind the lines of the first
-behind_lines : {A : Type 0} (told : Told A) (lines : List (List ℕ)) (bytes : List ℕ) (known : Supply) (at : Record) (a b c : Option (List ℕ)) (result : Result A InfoFault)
-    → Appends a b (lines_text lines) → Outcome told bytes known at b c result → Outcome (add_lines lines told) bytes known at a c result
-behind_lines {A} told lines bytes known at a b c (Ok x) p o = record {
+behind_lines : {A : Type 0} (told : Told A) (lines : List (List ℕ)) (input : Input) (known : Supply) (at : Record) (a b c : Option (List ℕ)) (result : Result A InfoFault)
+    → Appends a b (lines_text lines) → Outcome told input known at b c result → Outcome (add_lines lines told) input known at a c result
+behind_lines {A} told lines input known at a b c (Ok x) p o = record {
   lines = lines ++ o.lines;
   left = o.left;
   told_is = ap (add_lines lines) o.told_is;
   stands = o.stands;
   written = wrote a b c lines o.lines p o.written;
 }
-behind_lines {A} told lines bytes known at a b c (Err Write) p o = tt
-behind_lines {A} told lines bytes known at a b c (Err Read) p o = (cut told lines a b c p o.0, o.1)
-behind_lines {A} told lines bytes known at a b c (Err Memory) p o = cut told lines a b c p o
-behind_lines {A} told lines bytes known at a b c (Err Unreadable) p o = stopped told lines a b c Unreadable p o
-behind_lines {A} told lines bytes known at a b c (Err CutOff) p o = stopped told lines a b c CutOff p o
-behind_lines {A} told lines bytes known at a b c (Err TooLong) p o = stopped told lines a b c TooLong p o
-behind_lines {A} told lines bytes known at a b c (Err TooMany) p o = stopped told lines a b c TooMany p o
-behind_lines {A} told lines bytes known at a b c (Err (Refused head)) p o = stopped told lines a b c (Refused head) p o
+behind_lines {A} told lines input known at a b c (Err Write) p o = tt
+behind_lines {A} told lines input known at a b c (Err Read) p o = (cut told lines a b c p o.0, o.1)
+behind_lines {A} told lines input known at a b c (Err Memory) p o = cut told lines a b c p o
+behind_lines {A} told lines input known at a b c (Err Unreadable) p o = stopped told lines a b c Unreadable p o
+behind_lines {A} told lines input known at a b c (Err CutOff) p o = stopped told lines a b c CutOff p o
+behind_lines {A} told lines input known at a b c (Err TooLong) p o = stopped told lines a b c TooLong p o
+behind_lines {A} told lines input known at a b c (Err TooMany) p o = stopped told lines a b c TooMany p o
+behind_lines {A} told lines input known at a b c (Err (Refused head)) p o = stopped told lines a b c (Refused head) p o
 
 pub tells_then : {A B : Type 0} (first : Teller A) (next : A → Teller B) (known known' known'' : Supply) (at at' at'' : Record) (a b c : Option (List ℕ)) (x : A) (result : Result B InfoFault)
     → Tells first known known' at at' a b (Ok x) → Tells (next x) known' known'' at' at'' b c result → Tells (first >>= next) known known'' at at'' a c result

@@ -1,10 +1,23 @@
--- The data of a record as it is read (RFC 5531 section 11).
-use Rattle.std.specs.Prelude.{◌≡◌, ℕ, ◌+◌, nat_lt, nat_le, ◌&&◌, ◌||◌, Bool, if◌then◌else◌, List, [], ◌∷◌, ◌++◌, length, take, drop, Some, is_some}
+-- The data of a record as it is read: of a stream that marks it (RFC 5531 section 11), or of a datagram, which is one.
+use Rattle.std.specs.Prelude.{◌≡◌, ℕ, ◌+◌, nat_lt, nat_le, ◌&&◌, ◌||◌, Bool, true, false, if◌then◌else◌, List, [], ◌∷◌, ◌++◌, length, take, drop, Some, is_some}
 use Rattle.rb_rpc.specs.Records.{data_of, first_record}
 use Rattle.rb_ask.specs.declared.fault.InfoFault.{InfoFault}
 use Rattle.rb_ask.specs.declared.fault.InfoFault.TheVariants.{CutOff, TooLong}
 use Rattle.rb_ask.specs.declared.record.Record.{Record}
 use Rattle.rb_ask.specs.Sources.{Supply}
+
+-- ---- inputs
+
+-- All bytes of an input, and whether its first record is marked, as in a stream. A datagram is a whole record.
+pub record Input : Type 0 where
+  pub bytes : List ℕ
+  pub is_marked : Bool
+
+abbrev pub of_stream : List ℕ → Input
+of_stream bytes = record { bytes = bytes; is_marked = true }
+
+abbrev pub of_datagram : List ℕ → Input
+of_datagram bytes = record { bytes = bytes; is_marked = false }
 
 -- ---- what may be read
 
@@ -16,14 +29,23 @@ longest_record = 16777216
 unfoldable pub front_of : List ℕ → List ℕ
 front_of bytes = take longest_record bytes
 
--- a record ends in these bytes
+-- a marked record ends in these bytes
 abbrev pub is_whole : List ℕ → Bool
 is_whole bytes = is_some (first_record bytes)
 
+-- the data in the first bytes of an input
+unfoldable pub data_read : Input → List ℕ → List ℕ
+data_read input front = if input.is_marked then data_of front else take (length input.bytes) front
+
+-- the record ends in the first bytes of an input
+unfoldable pub is_over : Input → List ℕ → Bool
+is_over input front = if input.is_marked then is_whole front else nat_le (length input.bytes) (length front)
+
 -- What is wrong where more is needed than the data that may be read: the input or its record ends there, or the record
 -- goes on behind the bytes that may be read.
-unfoldable pub end_of : List ℕ → InfoFault
-end_of bytes = if nat_lt (length bytes) longest_record || is_whole (front_of bytes) then CutOff else TooLong
+unfoldable pub end_of : Input → InfoFault
+end_of input =
+    if nat_lt (length input.bytes) longest_record || is_over input (front_of input.bytes) then CutOff else TooLong
 
 -- ---- where a reader stands
 
@@ -37,24 +59,25 @@ ends_in at bytes = nat_le at.left (length bytes) && (at.last || is_whole (drop a
 
 -- Of all bytes of an input these were read, and `rest` is left. Whatever follows those that were read, its data stands
 -- behind theirs, and the record ends there, as the record's place says.
-pub record HasPassed (bytes read : List ℕ) (known : Supply) (at : Record) (content : List ℕ) : Type 0 where
+pub record HasPassed (input : Input) (read : List ℕ) (known : Supply) (at : Record) (content : List ℕ) : Type 0 where
   pub rest : List ℕ
   pub known_is : known.bytes ≡ Some rest
-  pub whole : bytes ≡ read ++ rest
-  pub stands : (more : List ℕ) → data_of (read ++ more) ≡ data_of read ++ data_left at more
-  pub ends : (more : List ℕ) → is_whole (read ++ more) ≡ ends_in at more
+  pub whole : input.bytes ≡ read ++ rest
+  pub stands : (more : List ℕ) → data_read input (read ++ more) ≡ data_read input read ++ data_left at more
+  pub ends : (more : List ℕ) → is_over input (read ++ more) ≡ ends_in at more
   pub content_is : content ≡ data_left at (take at.allowed rest)
   pub counted : length read + at.allowed ≡ longest_record
 
 -- none were read, or the last of them is data
-abbrev pub EndsInData : List ℕ → Type 0
-EndsInData read = (front : List ℕ) (b : ℕ) → read ≡ front ++ b ∷ [] → data_of read ≡ data_of front ++ b ∷ []
+abbrev pub EndsInData : Input → List ℕ → Type 0
+EndsInData input read =
+    (front : List ℕ) (b : ℕ) → read ≡ front ++ b ∷ [] → data_read input read ≡ data_read input front ++ b ∷ []
 
 -- This data of an input's first record is still to come, and nothing behind the data before it was read.
-pub record StandsBefore (bytes : List ℕ) (known : Supply) (at : Record) (content : List ℕ) : Type 0 where
+pub record StandsBefore (input : Input) (known : Supply) (at : Record) (content : List ℕ) : Type 0 where
   pub read : List ℕ
-  pub passed : HasPassed bytes read known at content
-  pub ends : EndsInData read
+  pub passed : HasPassed input read known at content
+  pub ends : EndsInData input read
 
 -- a byte more was read
 pub record CountsByte (old new : Record) : Type 0 where

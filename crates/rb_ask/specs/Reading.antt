@@ -5,7 +5,7 @@ use Rattle.rb_ask.specs.declared.record.Record.{Record}
 use Rattle.rb_ask.specs.declared.fault.InfoFault.{InfoFault}
 use Rattle.rb_ask.specs.declared.fault.InfoFault.TheVariants.{Read, Write, Unreadable, CutOff, TooLong, Refused, TooMany, Memory}
 use Rattle.rb_ask.specs.Sources.{Supply}
-use Rattle.rb_ask.specs.Data.{end_of, HasPassed, StandsBefore}
+use Rattle.rb_ask.specs.Data.{Input, end_of, HasPassed, StandsBefore}
 
 -- the next bytes of the input were read
 abbrev pub HasRead : {B : Type 0} → (B → Supply) → B → B → List ℕ → Type 0
@@ -43,11 +43,13 @@ FailsWithin n known known' at Memory = ⊥
 -- bytes were read that hold no data
 abbrev pub Passes : {B : Type 0} → (B → Supply) → B → B → Record → Record → Type 0
 Passes left source source' at at' =
-    (bytes read content : List ℕ) → HasPassed bytes read (left source) at content → (read' : List ℕ) × HasPassed bytes read' (left source') at' content
+    (input : Input) (read content : List ℕ) → HasPassed input read (left source) at content
+    → (read' : List ℕ) × HasPassed input read' (left source') at' content
 
 -- No data is to come, and this is what is wrong where more is needed.
 abbrev pub HasNoData : Supply → Record → InfoFault → Type 0
-HasNoData known at fault = (bytes read content : List ℕ) → HasPassed bytes read known at content → (content ≡ []) × (fault ≡ end_of bytes)
+HasNoData known at fault =
+    (input : Input) (read content : List ℕ) → HasPassed input read known at content → (content ≡ []) × (fault ≡ end_of input)
 
 -- why no byte of data was read
 abbrev pub DataEnds : Supply → Supply → Record → InfoFault → Type 0
@@ -63,9 +65,11 @@ DataEnds known known' at Memory = ⊥
 -- the next byte of the data was read
 abbrev pub GivesByte : {B : Type 0} → (B → Supply) → B → B → Record → Record → ℕ → Type 0
 GivesByte left source source' at at' b =
-    (bytes read content : List ℕ) → HasPassed bytes read (left source) at content → (rest : List ℕ) × (content ≡ b ∷ rest) × StandsBefore bytes (left source') at' rest
+    (input : Input) (read content : List ℕ) → HasPassed input read (left source) at content
+    → (rest : List ℕ) × (content ≡ b ∷ rest) × StandsBefore input (left source') at' rest
 
 -- These bytes were read of the data that was to come.
 abbrev pub HasReadData : Supply → Supply → Record → Record → List ℕ → Type 0
 HasReadData known known' at at' bytes =
-    (all content : List ℕ) → StandsBefore all known at content → (left : List ℕ) × (content ≡ bytes ++ left) × StandsBefore all known' at' left
+    (input : Input) (content : List ℕ) → StandsBefore input known at content
+    → (left : List ℕ) × (content ≡ bytes ++ left) × StandsBefore input known' at' left

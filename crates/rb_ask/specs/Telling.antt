@@ -5,7 +5,7 @@ use Rattle.std.specs.Io.KnownBytes.{Appends}
 use Rattle.rb_xdr.specs.Xdr.{Reader, Reading}
 use Rattle.rb_xdr.specs.declared.fault.XdrFault.TheVariants as faults
 use Rattle.rb_ask.specs.Sources.{Supply}
-use Rattle.rb_ask.specs.Data.{end_of, StandsBefore}
+use Rattle.rb_ask.specs.Data.{Input, end_of, StandsBefore}
 use Rattle.rb_ask.specs.declared.record.Record.{Record}
 use Rattle.rb_ask.specs.declared.fault.InfoFault.TheVariants.{Read, Write, Unreadable, CutOff, TooLong, Refused, TooMany, Memory}
 pub use Rattle.rb_ask.specs.declared.fault.InfoFault.{InfoFault}
@@ -67,11 +67,11 @@ told_lines (Done lines x left) = lines
 told_lines (Stop lines fault) = lines
 
 -- all the lines were written, and the record stands behind what was read
-pub record HasFinished {A : Type 0} (told : Told A) (x : A) (bytes : List ℕ) (known : Supply) (at : Record) (old new : Option (List ℕ)) : Type 0 where
+pub record HasFinished {A : Type 0} (told : Told A) (x : A) (input : Input) (known : Supply) (at : Record) (old new : Option (List ℕ)) : Type 0 where
   pub lines : List (List ℕ)
   pub left : List ℕ
   pub told_is : told ≡ Done lines x left
-  pub stands : StandsBefore bytes known at left
+  pub stands : StandsBefore input known at left
   pub written : Appends old new (lines_text lines)
 
 -- all the lines were written before the stop
@@ -99,14 +99,15 @@ AfterFault told TooLong known old new = HasStopped told TooLong old new
 AfterFault told TooMany known old new = HasStopped told TooMany old new
 AfterFault told (Refused head) known old new = HasStopped told (Refused head) old new
 
-abbrev pub Outcome : {A : Type 0} → Told A → List ℕ → Supply → Record → Option (List ℕ) → Option (List ℕ) → Result A InfoFault → Type 0
-Outcome told bytes known at old new (Ok x) = HasFinished told x bytes known at old new
-Outcome told bytes known at old new (Err fault) = AfterFault told fault known old new
+abbrev pub Outcome : {A : Type 0} → Told A → Input → Supply → Record → Option (List ℕ) → Option (List ℕ) → Result A InfoFault → Type 0
+Outcome told input known at old new (Ok x) = HasFinished told x input known at old new
+Outcome told input known at old new (Err fault) = AfterFault told fault known old new
 
 -- Of each input where the record stood before the data, its outcome is what the teller says of the data. The source had
 -- `known` left, then `known'`, and the writer held `old`, then `new`.
 pub record Tells {A : Type 0} (teller : Teller A) (known known' : Supply) (at at' : Record) (old new : Option (List ℕ)) (result : Result A InfoFault) : Type 0 where
-  pub outcome : (bytes content : List ℕ) → StandsBefore bytes known at content → Outcome (teller (end_of bytes) content) bytes known' at' old new result
+  pub outcome : (input : Input) (content : List ℕ) → StandsBefore input known at content
+      → Outcome (teller (end_of input) content) input known' at' old new result
 
 -- the same of what is not written, whatever any writer holds
 abbrev pub Takes : {A B : Type 0} → Teller A → Result A InfoFault → (B → Supply) → B → B → Record → Record → Type 0

@@ -1,5 +1,5 @@
-//! The data of a marked record, byte by byte (RFC 5531 section 11).
-ghost use Rattle.std.specs.Prelude.{◌≡◌, ◌+◌, ◌<◌, ◌∷◌, [], false, IfOk, IfErr, OnOk};
+//! The data of a record, byte by byte: of a marked one (RFC 5531 section 11), or of a datagram.
+ghost use Rattle.std.specs.Prelude.{◌≡◌, ◌+◌, ◌<◌, ◌∷◌, [], true, false, length, IfOk, IfErr, OnOk};
 ghost use Rattle.rb_xdr.specs.Xdr.{number};
 ghost use Rattle.rb_ask.specs.Data.{longest_record, CountsByte};
 ghost use Rattle.rb_ask.specs.Reading.{HasRead, FailsWithin, DataEnds, Passes, GivesByte};
@@ -13,11 +13,11 @@ const LONGEST_RECORD: u32 = 16_777_216;
 /// The highest bit of a header: the fragment is the last of its record.
 const LAST: u32 = 1 << 31;
 
-/// A place in a marked record.
+/// A place in a record.
 #[derive(Clone, Copy, Debug, PartialEq, Eq)]
 pub struct Record {
     /// How many bytes of the fragment's data are still to come.
-    left: u32,
+    left: usize,
     /// The fragment is the last of the record.
     last: bool,
     /// How many more bytes may be read.
@@ -25,13 +25,24 @@ pub struct Record {
 }
 
 impl Record {
-    /// Returns the place before the first byte of a record.
+    /// Returns the place before the first byte of a marked record.
     pub fn new() -> Record
         ensures { result ≡ record { left = 0; last = false; allowed = longest_record } }
     {
         Record {
             left: 0,
             last: false,
+            allowed: LONGEST_RECORD,
+        }
+    }
+
+    /// Returns the place before the first byte of a datagram, which is a whole record without marks.
+    pub fn whole(datagram: &[u8]) -> Record
+        ensures { result ≡ record { left = length datagram.now; last = true; allowed = longest_record } }
+    {
+        Record {
+            left: datagram.len(),
+            last: true,
             allowed: LONGEST_RECORD,
         }
     }
@@ -79,7 +90,7 @@ impl Record {
         ensures faults { IfErr result (DataEnds (B.left source.old) (B.left source.new) self.old) }
     {
         let number = self.number(source)?;
-        self.left = number % LAST;
+        self.left = (number % LAST) as usize;
         self.last = number >= LAST;
         Ok(())
     }

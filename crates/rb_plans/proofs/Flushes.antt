@@ -34,7 +34,7 @@ shown_out : (told : Told Shown) (a b c : Option (List ℕ)) (shown : Shown) → 
 shown_out told a b c shown k p =
     let o = p.outcome in
     record {
-      bytes = p.bytes;
+      input = p.input;
       left = p.left;
       at = p.at;
       steady = p.steady;
@@ -42,7 +42,7 @@ shown_out told a b c shown k p =
     }
 
 not_out : (told : Told Shown) (a b c : Option (List ℕ)) (shown : Shown) → IsTold told a b (Ok shown) → IsToldOr told a c (Err Write)
-not_out told a b c shown p = inl (record { bytes = p.bytes; left = p.left; at = p.at; steady = p.steady; outcome = tt })
+not_out told a b c shown p = inl (record { input = p.input; left = p.left; at = p.at; steady = p.steady; outcome = tt })
 
 kept : (a b c : Option (List ℕ)) → Keeps a b → Keeps b c → Keeps a c
 kept None b c p q = tt
@@ -51,7 +51,7 @@ kept (Some xs) (Some ys) None p q = absurd q
 kept (Some xs) (Some ys) (Some zs) p q = q ∙ p
 
 err_out : (told : Told Shown) (a b c : Option (List ℕ)) (fault : InfoFault) → Keeps b c → IsToldOr told a b (Err fault) → IsToldOr told a c (Err fault)
-err_out told a b c fault k (inl p) = inl (record { bytes = p.bytes; left = p.left; at = p.at; steady = p.steady; outcome = fault_out told p.left a b c fault k p.outcome })
+err_out told a b c fault k (inl p) = inl (record { input = p.input; left = p.left; at = p.at; steady = p.steady; outcome = fault_out told p.left a b c fault k p.outcome })
 err_out told a b c fault k (inr p) = inr (record { fault_is = p.fault_is; kept = kept a b c p.kept k })
 
 told_out : (told : Told Shown) (a b c : Option (List ℕ)) (answer result : Result Shown Fault) → Keeps b c → IsOut answer result → IsToldAs told a b answer → IsToldAs told a c result

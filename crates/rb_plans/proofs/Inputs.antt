@@ -8,6 +8,7 @@ use Rattle.std.proofs.lemmas.Bool.{cases_lt, lt-ltb, le-ltb}
 use Rattle.rb_ask.specs.declared.fault.InfoFault.{InfoFault}
 use Rattle.rb_ask.specs.declared.fault.InfoFault.TheVariants.{Read, Unreadable, TooLong, Memory}
 use Rattle.rb_ask.specs.declared.record.Record.{Record}
+use Rattle.rb_ask.specs.Data.{of_stream}
 use Rattle.rb_ask.specs.Sources.{Supply}
 use Rattle.rb_ask.specs.Telling.{Told, Outcome, told_lines}
 use Rattle.rb_ask.specs.Telling.Told.{Stop}
@@ -41,7 +42,7 @@ nothing = record { bytes = None; can_fail = false }
 told_cut : (told : Told Shown) (held : Option (List ℕ)) (fault : InfoFault) → fault ≡ Memory → IsToldOr told held held (Err fault)
 told_cut told held fault e =
     rw e (inl (record {
-      bytes = [];
+      input = of_stream [];
       left = nothing;
       at = record { left = 0; last = false; allowed = 0 };
       steady = refl;
@@ -58,7 +59,7 @@ text_fault text fault e =
     same : (f : InfoFault) → ◌≡◌ {A = Result (List ℕ) InfoFault} (Err TooLong) (Err f) → f ≡ TooLong
     same f e = cc
 
-stopped : (fault : InfoFault) (held : Option (List ℕ)) → (fault ≡ TooLong) ⊎ (fault ≡ Unreadable) → Outcome {A = Shown} (Stop [] fault) [] nothing (record { left = 0; last = false; allowed = 0 }) held held (Err fault)
+stopped : (fault : InfoFault) (held : Option (List ℕ)) → (fault ≡ TooLong) ⊎ (fault ≡ Unreadable) → Outcome {A = Shown} (Stop [] fault) (of_stream []) nothing (record { left = 0; last = false; allowed = 0 }) held held (Err fault)
 stopped fault held (inl e) = rw e (record { lines = []; told_is = refl; written = Appends-nil held })
 stopped fault held (inr e) = rw e (record { lines = []; told_is = refl; written = Appends-nil held })
 
@@ -67,13 +68,13 @@ pub told_stop : (ask : Ask) (form : Form) (text : List ℕ) (held : Option (List
 told_stop ask form text held fault (inl e) = told_cut (tell_text ask form text) held fault e
 told_stop ask form text held fault (inr e) =
     let why = text_fault text fault e in
-    rw e (inl (record { bytes = []; left = nothing; at = record { left = 0; last = false; allowed = 0 }; steady = refl; outcome = stopped fault held why }))
+    rw e (inl (record { input = of_stream []; left = nothing; at = record { left = 0; last = false; allowed = 0 }; steady = refl; outcome = stopped fault held why }))
 
 -- the reply that a text gives was shown
 pub told_reply : (ask : Ask) (form : Form) (text bytes : List ℕ) (left : Supply) (at : Record) (old new : Option (List ℕ)) (result : Result Shown InfoFault) → bytes_of text ≡ Ok bytes → left.can_fail ≡ false
-    → Outcome (tell_bytes ask form 1 bytes) bytes left at old new result → IsToldOr (tell_text ask form text) old new result
-told_reply ask form text bytes left at old new (Ok shown) e steady outcome = rw e (record { bytes = bytes; left = left; at = at; steady = steady; outcome = outcome })
-told_reply ask form text bytes left at old new (Err fault) e steady outcome = rw e (inl (record { bytes = bytes; left = left; at = at; steady = steady; outcome = outcome }))
+    → Outcome (tell_bytes ask form 1 bytes) (of_stream bytes) left at old new result → IsToldOr (tell_text ask form text) old new result
+told_reply ask form text bytes left at old new (Ok shown) e steady outcome = rw e (record { input = of_stream bytes; left = left; at = at; steady = steady; outcome = outcome })
+told_reply ask form text bytes left at old new (Err fault) e steady outcome = rw e (inl (record { input = of_stream bytes; left = left; at = at; steady = steady; outcome = outcome }))
 
 keeps_same : (held : Option (List ℕ)) → Keeps held held
 keeps_same None = tt

@@ -36,7 +36,7 @@ use Rattle.rb_course.specs.Fallback.{has_two, old_of}
 use Rattle.rb_plans.specs.declared.fault.Fault.TheVariants.{Info, NoConnection, NoSocket, NoReply, NoHost, NoAddress, NotAvailable, NoProgram, TooManyVersions, TooManyRoutes, SomeLack}
 use Rattle.rb_plans.specs.Input.{digits_of, read_hex, bytes_of, longest_text, first_xid, tell_read, tell_text, IsTold, IsToldOr}
 use Rattle.rb_plans.specs.ObjectLaws.{AsksForObjects, ObjectsAreAskedFor, VersionTwoHasObjects, TextsAreShownAsObjects}
-use Rattle.rb_plans.specs.Words.{layout_form, form_by}
+use Rattle.rb_plans.specs.Invocations.{layout_form, form_by}
 use Rattle.rb_plans.proofs.HexTexts.{was_ok}
 
 -- ---- words
@@ -133,7 +133,7 @@ keeps (Some bytes) (Some more) kept = kept ∙ sym (append-nil bytes)
 by_outcome : (ask : Ask) (text : List ℕ) (old new : Option (List ℕ)) (result : Result Shown InfoFault) → has_objects ask.question ≡ true → IsTold (tell_text ask Json text) old new result → result ≢ Err Write
     → WritesObjects old new
 by_outcome ask text old new result has told whole =
-    written (tell_text ask Json text) told.bytes told.left told.at old new result (by_bytes ask text (bytes_of text) has refl) told.outcome whole
+    written (tell_text ask Json text) told.input told.left told.at old new result (by_bytes ask text (bytes_of text) has refl) told.outcome whole
 
 by_fault : (ask : Ask) (text : List ℕ) (old new : Option (List ℕ)) (fault : InfoFault) → has_objects ask.question ≡ true → IsToldOr (tell_text ask Json text) old new (Err fault) → (fault ≡ Write → ⊥)
     → WritesObjects old new

@@ -14,29 +14,23 @@ use Rattle.rb_plans.specs.declared.ending.Notices.{Notices}
 use Rattle.rb_plans.specs.declared.fault.Fault.{Fault}
 use Rattle.rb_plans.specs.declared.fault.Fault.TheVariants.{Info, NoConnection, NoSocket, NoReply, NoHost, NoAddress, TooManyRoutes}
 
--- the family of the addresses that are asked; none where each is
+-- the family of the addresses that are asked where a program is; none where each is
 abbrev pub family_of : Way → Option Family
 family_of (ways.Getaddr netid) = family_of_netid netid
 family_of (ways.Getport transport) = None
 family_of (ways.Port transport port) = None
 family_of (ways.Address netid address) = None
 
-abbrev pub is_of_family : Option Family → IpAddr → Bool
-is_of_family (Some Inet) ip = is_ipv4 ip
-is_of_family (Some Inet6) ip = is_ipv6 ip
-is_of_family None ip = true
-
--- an address is asked where a program is
-abbrev pub is_asked : Way → IpAddr → Bool
-is_asked way ip = is_of_family (family_of way) ip
-
-abbrev pub none_of : Option Family → ℕ → Fault
-none_of (Some family) count = if nat_lt 0 count then NoAddress family else NoHost
-none_of None count = NoHost
+-- an address is asked where those of a family are, or each is
+abbrev pub is_asked : Option Family → IpAddr → Bool
+is_asked (Some Inet) ip = is_ipv4 ip
+is_asked (Some Inet6) ip = is_ipv6 ip
+is_asked None ip = true
 
 -- why none of so many addresses of a host is asked: it has none, or none of the family
-abbrev pub none_asked : Way → ℕ → Fault
-none_asked way count = none_of (family_of way) count
+abbrev pub none_asked : Option Family → ℕ → Fault
+none_asked (Some family) count = if nat_lt 0 count then NoAddress family else NoHost
+none_asked None count = NoHost
 
 -- the path at which rpcbinds listen
 abbrev pub default_path : List ℕ

@@ -6,6 +6,7 @@ use Rattle.hex.specs.declared.error.FromHexError.{FromHexError}
 use Rattle.rb_ask.specs.declared.fault.InfoFault.{InfoFault}
 use Rattle.rb_ask.specs.declared.fault.InfoFault.TheVariants.{Read, Unreadable, TooLong, Memory}
 use Rattle.rb_ask.specs.declared.record.Record.{Record}
+use Rattle.rb_ask.specs.Data.{Input}
 use Rattle.rb_ask.specs.Sources.{Supply}
 use Rattle.rb_ask.specs.Telling.{Told, Outcome}
 use Rattle.rb_ask.specs.Telling.Told.{Stop}
@@ -60,11 +61,11 @@ IsEnoughOf left text = IfSome left (λ input. text ≡ take (longest_text + 1) i
 
 -- the lines were written, as far as the result says; the bytes of a text never fail
 pub record IsTold (told : Told Shown) (old new : Option (List ℕ)) (result : Result Shown InfoFault) : Type 0 where
-  pub bytes : List ℕ
+  pub input : Input
   pub left : Supply
   pub at : Record
   pub steady : left.can_fail ≡ false
-  pub outcome : Outcome told bytes left at old new result
+  pub outcome : Outcome told input left at old new result
 
 -- the input failed, and nothing was written
 pub record FailsUnread (old new : Option (List ℕ)) (fault : InfoFault) : Type 0 where

@@ -8,5 +8,5 @@ pub mod AddressLaws
 pub mod CourseLaws
 pub mod Errors
 pub mod Ending
-pub mod Words
+pub mod Invocations
 pub mod Told

@@ -20,7 +20,7 @@ use Rattle.rb_plans.specs.declared.fault.Fault.TheVariants.{Info}
 use Rattle.rb_plans.specs.Input.{tell_text}
 use Rattle.rb_plans.specs.Plans.{plan_question}
 use Rattle.rb_plans.specs.Told.{IsToldAs}
-use Rattle.rb_plans.specs.Words.{form_of}
+use Rattle.rb_plans.specs.Invocations.{form_of}
 
 -- the plan has one question, and objects are shown of its reply
 pub record AsksForObjects (plan : Plan) : Type 0 where

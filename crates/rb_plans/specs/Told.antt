@@ -9,9 +9,9 @@ use Rattle.rb_show.specs.declared.form.Form.{Form}
 use Rattle.rb_show.specs.declared.show.Shown.{Shown}
 use Rattle.rb_plans.specs.declared.fault.Fault.{Fault}
 use Rattle.rb_plans.specs.declared.fault.Fault.TheVariants.{Info, NoConnection, NoSocket, NoReply, NoHost, NoAddress, NotAvailable, NoProgram, TooManyVersions, TooManyRoutes, SomeLack}
-use Rattle.rb_plans.specs.declared.words.Words.{Words}
+use Rattle.rb_plans.specs.declared.invocation.Invocation.{Invocation}
 use Rattle.rb_plans.specs.Input.{tell_text, IsToldOr}
-use Rattle.rb_plans.specs.Words.{ask_of}
+use Rattle.rb_plans.specs.Invocations.{ask_of}
 
 -- the lines were written, as far as the answer says; without a socket there is no other fault
 abbrev pub IsToldAs : Told Shown → Option (List ℕ) → Option (List ℕ) → Result Shown Fault → Type 0
@@ -34,7 +34,7 @@ ShowsAs remaining contents ask form input output output' answer =
     IfSome (remaining input) (λ text. IsToldAs (tell_text ask form text) (contents output) (contents output') answer)
 
 -- the same of a question of the user that the words name, in their form
-abbrev pub Asks : {I O : Type 0} → (I → Option (List ℕ)) → (O → Option (List ℕ)) → Words → Question → I → O → O → Result Shown Fault → Type 0
+abbrev pub Asks : {I O : Type 0} → (I → Option (List ℕ)) → (O → Option (List ℕ)) → Invocation → Question → I → O → O → Result Shown Fault → Type 0
 Asks remaining contents words question input output output' answer = ShowsAs remaining contents (ask_of words question) words.form input output output' answer
 
 -- the same answer, or that the writer failed in place of what was shown

@@ -10,8 +10,8 @@ use rb_show::{InfoFault, Shown};
 use rb_words::Way;
 use std::net::{IpAddr, SocketAddr};
 
-/// The family of the addresses that are asked; none where each is.
-fn family_of(way: Way) -> Option<Family>
+/// The family of the addresses that are asked where a program is; none where each is.
+pub fn family_of(way: Way) -> Option<Family>
     ensures { result ≡ family_of way }
 {
     match way {
@@ -20,11 +20,11 @@ fn family_of(way: Way) -> Option<Family>
     }
 }
 
-/// Whether an address is asked where a program is, by its family.
-pub fn is_asked(way: Way, address: SocketAddr) -> bool
-    ensures { result ≡ is_asked way (socket_ip address) }
+/// Whether an address is asked where those of a family are, or each is.
+pub fn is_asked(family: Option<Family>, address: SocketAddr) -> bool
+    ensures { result ≡ is_asked family (socket_ip address) }
 {
-    match family_of(way) {
+    match family {
         Some(Family::Inet) => address.is_ipv4(),
         Some(Family::Inet6) => address.is_ipv6(),
         None => true,
@@ -32,10 +32,10 @@ pub fn is_asked(way: Way, address: SocketAddr) -> bool
 }
 
 /// Why none of so many addresses of a host is asked: it has none, or none of the family.
-pub fn none_asked(way: Way, count: usize) -> Fault
-    ensures { result ≡ none_asked way count }
+pub fn none_asked(family: Option<Family>, count: usize) -> Fault
+    ensures { result ≡ none_asked family count }
 {
-    match family_of(way) {
+    match family {
         Some(family) if count > 0 => Fault::NoAddress(family),
         Some(_) | None => Fault::NoHost,
     }

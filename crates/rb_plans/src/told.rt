@@ -3,7 +3,7 @@ ghost use Rattle.rb_plans.specs.Told.{Asks, IsFlushed};
 
 use crate::fault::Fault;
 use crate::input::show_input;
-use crate::words::Words;
+use crate::invocation::Invocation;
 use rb_show::{InfoFault, Question, Shown};
 use std::alloc::Global;
 use std::io::{Read, Write};
@@ -11,7 +11,7 @@ use std::io::{Read, Write};
 /// Shows the reply to a question that is on standard input.
 pub fn ask_input<I: Read, O: Write>(
     alloc: Global,
-    words: &Words<'_, '_>,
+    words: &Invocation<'_, '_>,
     question: Question,
     input: &mut I,
     output: &mut O,

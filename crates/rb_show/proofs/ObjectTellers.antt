@@ -37,21 +37,21 @@ begun told old new are b = record { lines = b.lines; are = first_lines b.lines b
 stopped : {A : Type 0} (told : Told A) (fault : InfoFault) (old new : Option (List ℕ)) → AllByRecursion IsObjectLine (told_lines told) → HasStopped told fault old new → WritesObjects old new
 stopped told fault old new are s = record { lines = s.lines; are = subst (λ (t : Told _). AllByRecursion IsObjectLine (told_lines t)) s.told_is are; written = s.written }
 
-finished : {A : Type 0} (told : Told A) (x : A) (bytes : List ℕ) (left : Supply) (at : Record) (old new : Option (List ℕ)) → AllByRecursion IsObjectLine (told_lines told) → HasFinished told x bytes left at old new → WritesObjects old new
-finished told x bytes left at old new are f = record { lines = f.lines; are = subst (λ (t : Told _). AllByRecursion IsObjectLine (told_lines t)) f.told_is are; written = f.written }
+finished : {A : Type 0} (told : Told A) (x : A) (input : Input) (left : Supply) (at : Record) (old new : Option (List ℕ)) → AllByRecursion IsObjectLine (told_lines told) → HasFinished told x input left at old new → WritesObjects old new
+finished told x input left at old new are f = record { lines = f.lines; are = subst (λ (t : Told _). AllByRecursion IsObjectLine (told_lines t)) f.told_is are; written = f.written }
 
-pub written : {A : Type 0} (told : Told A) (bytes : List ℕ) (left : Supply) (at : Record) (old new : Option (List ℕ)) (result : Result A InfoFault) → AllByRecursion IsObjectLine (told_lines told)
-    → Outcome told bytes left at old new result → result ≢ Err Write → WritesObjects old new
-written told bytes left at old new (Ok x) are outcome whole = finished told x bytes left at old new are outcome
-written told bytes left at old new (Err Write) are outcome whole = absurd (whole refl)
-written told bytes left at old new (Err ReadFailed) are outcome whole = begun told old new are outcome.0
-written told bytes left at old new (Err Memory) are outcome whole = begun told old new are outcome
-written told bytes left at old new (Err Unreadable) are outcome whole = stopped told Unreadable old new are outcome
-written told bytes left at old new (Err CutOff) are outcome whole = stopped told CutOff old new are outcome
-written told bytes left at old new (Err TooLong) are outcome whole = stopped told TooLong old new are outcome
-written told bytes left at old new (Err TooMany) are outcome whole = stopped told TooMany old new are outcome
-written told bytes left at old new (Err (Refused head)) are outcome whole = stopped told (Refused head) old new are outcome
+pub written : {A : Type 0} (told : Told A) (input : Input) (left : Supply) (at : Record) (old new : Option (List ℕ)) (result : Result A InfoFault) → AllByRecursion IsObjectLine (told_lines told)
+    → Outcome told input left at old new result → result ≢ Err Write → WritesObjects old new
+written told input left at old new (Ok x) are outcome whole = finished told x input left at old new are outcome
+written told input left at old new (Err Write) are outcome whole = absurd (whole refl)
+written told input left at old new (Err ReadFailed) are outcome whole = begun told old new are outcome.0
+written told input left at old new (Err Memory) are outcome whole = begun told old new are outcome
+written told input left at old new (Err Unreadable) are outcome whole = stopped told Unreadable old new are outcome
+written told input left at old new (Err CutOff) are outcome whole = stopped told CutOff old new are outcome
+written told input left at old new (Err TooLong) are outcome whole = stopped told TooLong old new are outcome
+written told input left at old new (Err TooMany) are outcome whole = stopped told TooMany old new are outcome
+written told input left at old new (Err (Refused head)) are outcome whole = stopped told (Refused head) old new are outcome
 
 pub only_objects : OnlyObjectsAreWritten
 only_objects ask xid bytes left at old new result has are outcome whole =
-    written (tell_bytes ask Json xid bytes) bytes left at old new result (each_is_an_object ask xid bytes has are) outcome whole
+    written (tell_bytes ask Json xid bytes) (of_stream bytes) left at old new result (each_is_an_object ask xid bytes has are) outcome whole

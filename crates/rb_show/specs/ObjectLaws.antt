@@ -7,6 +7,7 @@ use Rattle.rb_ask.specs.declared.fault.InfoFault.{InfoFault}
 use Rattle.rb_ask.specs.declared.fault.InfoFault.TheVariants.{Write}
 use Rattle.rb_ask.specs.Sources.{Supply}
 use Rattle.rb_ask.specs.declared.record.Record.{Record}
+use Rattle.rb_ask.specs.Data.{of_stream}
 use Rattle.rb_ask.specs.Telling.{Outcome, told_lines, lines_text}
 use Rattle.rb_show.specs.declared.ask.Ask.{Ask}
 use Rattle.rb_show.specs.declared.ask.Question.{Question}
@@ -55,5 +56,5 @@ pub record WritesObjects (old new : Option (List ℕ)) : Type 0 where
 abbrev pub OnlyObjectsAreWritten : Type 0
 OnlyObjectsAreWritten =
     (ask : Ask) (xid : ℕ) (bytes : List ℕ) (left : Supply) (at : Record) (old new : Option (List ℕ)) (result : Result Shown InfoFault)
-    → has_objects ask.question ≡ true → AreBytes bytes → Outcome (tell_bytes ask Json xid bytes) bytes left at old new result
+    → has_objects ask.question ≡ true → AreBytes bytes → Outcome (tell_bytes ask Json xid bytes) (of_stream bytes) left at old new result
     → result ≢ Err Write → WritesObjects old new

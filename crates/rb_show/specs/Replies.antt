@@ -14,7 +14,7 @@ use Rattle.rb_ask.specs.declared.record.Record.{Record}
 use Rattle.rb_ask.specs.declared.fault.InfoFault.{InfoFault}
 use Rattle.rb_ask.specs.declared.fault.InfoFault.TheVariants.{Unreadable, Refused}
 use Rattle.rb_ask.specs.Sources.{Supply}
-use Rattle.rb_ask.specs.Data.{front_of, end_of}
+use Rattle.rb_ask.specs.Data.{of_stream, of_datagram, front_of, end_of}
 use Rattle.rb_ask.specs.Telling.{Told, Teller, ◌>>=◌, give, stop, tell, take_one, Outcome, WritesOnly}
 use Rattle.rb_ask.specs.Heads.{take_head}
 use Rattle.rb_ask.specs.Lists.{tell_items, greatest_list}
@@ -129,11 +129,22 @@ tell_reply ask form xid = take_head >>= by_head form ask.question xid
 
 -- what the reply to a question tells that these bytes begin with, as far as they may be read
 abbrev pub tell_bytes : Ask → Form → ℕ → List ℕ → Told Shown
-tell_bytes ask form xid bytes = tell_reply ask form xid (end_of bytes) (data_of (front_of bytes))
+tell_bytes ask form xid bytes = tell_reply ask form xid (end_of (of_stream bytes)) (data_of (front_of bytes))
+
+-- what the datagram tells that is a reply to a question
+abbrev pub tell_datagram : Ask → Form → ℕ → List ℕ → Told Shown
+tell_datagram ask form xid bytes = tell_reply ask form xid (end_of (of_datagram bytes)) (front_of bytes)
 
 -- Where the bytes that the source has are known, what is written, and what is left unread, is what the reply tells that
 -- they begin with.
 abbrev pub IsShown : {B W : Type 0} → Ask → Form → ℕ → Result Shown InfoFault → (B → Supply) → B → B → (W → Option (List ℕ)) → W → W → Type 0
 IsShown ask form xid result left source source' contents writer writer' =
     (bytes : List ℕ) → (left source).bytes ≡ Some bytes
-    → (at : Record) × Outcome (tell_bytes ask form xid bytes) bytes (left source') at (contents writer) (contents writer') result
+    → (at : Record) × Outcome (tell_bytes ask form xid bytes) (of_stream bytes) (left source') at (contents writer) (contents writer') result
+
+-- What is written is what the datagram tells, whose bytes never fail.
+pub record IsDatagramShown {W : Type 0} (ask : Ask) (form : Form) (xid : ℕ) (bytes : List ℕ) (result : Result Shown InfoFault) (contents : W → Option (List ℕ)) (writer writer' : W) : Type 0 where
+  pub left : Supply
+  pub at : Record
+  pub steady : left.can_fail ≡ false
+  pub outcome : Outcome (tell_datagram ask form xid bytes) (of_datagram bytes) left at (contents writer) (contents writer') result

@@ -1,5 +1,5 @@
 //! What a portmapper is asked, and the call that asks it.
-ghost use Rattle.std.specs.Prelude.{◌≡◌, ◌⊎◌, OnOk, IfErr};
+ghost use Rattle.std.specs.Prelude.{◌≡◌, ◌⊎◌, OnOk, IfOk, IfErr};
 ghost use Rattle.rb_xdr.specs.Puts.{Appends as Adds};
 ghost use Rattle.rb_show.specs.Asks.{of_portmapper, procedure_of, head_of, call_of, arguments_of, netid_text_of, rpcb_arguments, marked_call, Writes};
 
@@ -194,26 +194,55 @@ fn put_ask(ask: &Ask, xid: u32, out: &mut Kept, meter: &mut Meter) -> Result<(),
     put_arguments(ask.question, out, meter)
 }
 
-/// Writes the marked call that asks, in one fragment (RFC 5531 section 11), and nothing else. The only faults are
-/// `Memory` where an allocation is refused, and `Write` where the writer fails.
+/// The call that asks, in memory.
+fn call_in_memory(alloc: Global, ask: &Ask, xid: u32, meter: &mut Meter) -> Result<Kept, InfoFault>
+    ensures call { IfOk result (λ call. call.bytes ≡ call_of ask.now xid) }
+    ensures cap { IfOk result (λ call. call.cap ≡ 1024) }
+    ensures tie { IfOk result (λ call. meter.new.tie ≡ call.tie) }
+    ensures faults { IfErr result (λ fault. fault ≡ InfoFault.Memory) }
+{
+    let Ok(mut call) = Kept::new(alloc, LONGEST_QUESTION, meter) else {
+        return Err(InfoFault::Memory);
+    };
+    // there is room for every call
+    if put_ask(ask, xid, &mut call, meter).is_err() {
+        return Err(InfoFault::Memory);
+    }
+    Ok(call)
+}
+
+/// Writes the call that asks, as a datagram has it, and nothing else. The only faults are `Memory` where an allocation is
+/// refused, and `Write` where the writer fails.
 pub fn write_call<W: Write>(
     alloc: Global,
     ask: &Ask,
     xid: u32,
     writer: &mut W,
 ) -> Result<(), InfoFault>
-    ensures ok { OnOk result
-        (Writes W.contents writer.old writer.new (marked_call ask.now xid)) }
+    ensures ok { OnOk result (Writes W.contents writer.old writer.new (call_of ask.now xid)) }
     ensures faults { IfErr result (λ fault. (fault ≡ InfoFault.Memory) ⊎ (fault ≡ InfoFault.Write)) }
 {
     let mut meter = Meter::new();
-    let Ok(mut call) = Kept::new(alloc, LONGEST_QUESTION, &mut meter) else {
-        return Err(InfoFault::Memory);
-    };
-    // there is room for every call
-    if put_ask(ask, xid, &mut call, &mut meter).is_err() {
-        return Err(InfoFault::Memory);
+    let call = call_in_memory(alloc, ask, xid, &mut meter)?;
+    let len = call.len(&mut meter);
+    if writer.write_all(call.lend(0..len, &mut meter)).is_err() {
+        return Err(InfoFault::Write);
     }
+    Ok(())
+}
+
+/// Writes the same as a stream has it: marked, in one fragment (RFC 5531 section 11).
+pub fn write_marked_call<W: Write>(
+    alloc: Global,
+    ask: &Ask,
+    xid: u32,
+    writer: &mut W,
+) -> Result<(), InfoFault>
+    ensures ok { OnOk result (Writes W.contents writer.old writer.new (marked_call ask.now xid)) }
+    ensures faults { IfErr result (λ fault. (fault ≡ InfoFault.Memory) ⊎ (fault ≡ InfoFault.Write)) }
+{
+    let mut meter = Meter::new();
+    let call = call_in_memory(alloc, ask, xid, &mut meter)?;
     let len = call.len(&mut meter);
     let header = fragment_header(len, true);
     let bytes = call.lend(0..len, &mut meter);

@@ -2,7 +2,7 @@
 ghost use Rattle.std.specs.Prelude.{◌≡◌, List, [], ◌∷◌, ℕ};
 ghost use Rattle.rb_ask.specs.Telling.{tell, Shows, Takes, WritesOnly};
 ghost use Rattle.rb_show.specs.Lines.{heading};
-ghost use Rattle.rb_show.specs.Replies.{tell_list, WritesSummary, tell_summary, tell_columns, tell_table, tell_port, address_in, tell_address, tell_ready, tell_removed, removed_line, tell_unset, tell_results, is_success, by_head, IsShown};
+ghost use Rattle.rb_show.specs.Replies.{tell_list, WritesSummary, tell_summary, tell_columns, tell_table, tell_port, address_in, tell_address, tell_ready, tell_removed, removed_line, tell_unset, tell_results, is_success, by_head, tell_reply, IsDatagramShown, IsShown};
 
 use crate::ask::{Ask, Question};
 use crate::form::Form;
@@ -11,7 +11,9 @@ use crate::rows::AsRow;
 use crate::statistics::show_statistics;
 use crate::summary::items_summary;
 use rb_arguments::{Mapping, Rpcb};
-use rb_ask::{ByteSource, InfoFault, Record, Style, show_list, take_head, take_item, take_list};
+use rb_ask::{
+    ByteSource, HeldBytes, InfoFault, Record, Style, show_list, take_head, take_item, take_list,
+};
 use rb_rpc::{ReplyHead, ReplyStatus};
 use rb_uaddr::Uaddr;
 use rb_xdr::{Text, Xdr};
@@ -305,6 +307,23 @@ fn show_answer<B: ByteSource, W: Write>(
     show_results(alloc, form, question, source, at, writer)
 }
 
+/// Shows a reply from the place at which the record stands.
+fn show_record<B: ByteSource, W: Write>(
+    alloc: Global,
+    ask: &Ask,
+    form: Form<'_>,
+    xid: u32,
+    source: &mut B,
+    at: &mut Record,
+    writer: &mut W,
+) -> Result<Shown, InfoFault>
+    ensures { Shows (tell_reply ask.now form.entry xid) result
+        B.left source.old source.new at.old at.new W.contents writer.old writer.new }
+{
+    let head = take_head(alloc, source, at)?;
+    show_answer(alloc, form, ask.question, xid, head, source, at, writer)
+}
+
 /// Reads the marked reply to the call with this xid, and writes what it tells in this form, a line for each row as it
 /// comes.
 ///
@@ -331,15 +350,23 @@ pub fn show_reply<B: ByteSource, W: Write>(
         B.left source.old source.new W.contents writer.old writer.new }
 {
     let mut at = Record::new();
-    let head = take_head(alloc, source, &mut at)?;
-    show_answer(
-        alloc,
-        form,
-        ask.question,
-        xid,
-        head,
-        source,
-        &mut at,
-        writer,
-    )
+    show_record(alloc, ask, form, xid, source, &mut at, writer)
+}
+
+/// Reads the datagram that is the reply to the call with this xid, without marks, and writes what it tells. Its bytes are
+/// there, so no fault is `Read`; the others are those of `show_reply`.
+pub fn show_datagram<W: Write>(
+    alloc: Global,
+    ask: &Ask,
+    form: Form<'_>,
+    xid: u32,
+    bytes: &[u8],
+    writer: &mut W,
+) -> Result<Shown, InfoFault>
+    ensures { IsDatagramShown ask.now form.entry xid bytes.now result
+        W.contents writer.old writer.new }
+{
+    let mut source = HeldBytes::new(bytes);
+    let mut at = Record::whole(bytes);
+    show_record(alloc, ask, form, xid, &mut source, &mut at, writer)
 }

@@ -8,7 +8,7 @@ use Rattle.rb_show.specs.declared.show.Shown.{Shown}
 use Rattle.rb_plans.specs.declared.ending.Ending.{Ending}
 use Rattle.rb_plans.specs.declared.ending.Notices.{Notices}
 use Rattle.rb_plans.specs.declared.fault.Fault.{Fault}
-use Rattle.rb_plans.specs.declared.words.Words.{Words}
+use Rattle.rb_plans.specs.declared.invocation.Invocation.{Invocation}
 use Rattle.rb_plans.specs.Ending.{notice_lines, status_of, answer_lines, IsNothing, Says}
 use Rattle.rb_plans.specs.Plans.{plan_question}
 use Rattle.rb_plans.specs.Told.{Asks}
@@ -27,7 +27,7 @@ OfInput plan Holds = OfSource (plan_question plan) Holds
 
 -- Where the words name standard input and its text is known, the answer is what the reply in it tells. Of an answer
 -- over sockets nothing is said.
-abbrev pub Answers : {I O : Type 0} → (I → Option (List ℕ)) → (O → Option (List ℕ)) → Words → I → O → O → Result Shown Fault → Type 0
+abbrev pub Answers : {I O : Type 0} → (I → Option (List ℕ)) → (O → Option (List ℕ)) → Invocation → I → O → O → Result Shown Fault → Type 0
 Answers remaining contents words input output output' answer =
     OfInput words.request.plan (λ question. Asks remaining contents words question input output output' answer)
 
@@ -36,7 +36,7 @@ abbrev pub no_notices : Notices
 no_notices = record { answered = None; is_old = false }
 
 -- so it is of a reply on standard input
-abbrev pub IsSilent : Words → Notices → Type 0
+abbrev pub IsSilent : Invocation → Notices → Type 0
 IsSilent words notices = OfInput words.request.plan (λ question. notices ≡ no_notices)
 
 -- ---- the end

@@ -5,11 +5,11 @@ ghost use Rattle.rpcinfo.specs.Running.{no_notices};
 
 use crate::hosts::{addresses_of, here};
 use crate::net::{Peer, ask_datagram, ask_stream};
-use rb_address::Transport;
+use rb_address::{Family, Transport};
 use rb_course::{Course, Place, Stage, asked, begin, called_at, fallback, show_lack};
 use rb_plans::{
-    FIRST_XID, Fault, Notices, Words, aim_of, course_end, falls_back, follow, is_asked,
-    is_unanswered, none_asked, notices_at,
+    FIRST_XID, Fault, Invocation, Notices, aim_of, course_end, falls_back, family_of, follow,
+    is_asked, is_unanswered, none_asked, notices_at,
 };
 use rb_show::{Ask, Form, InfoFault, Question, Shown};
 use rb_words::Way;
@@ -20,6 +20,25 @@ use std::rt::Clock;
 
 /// The answer to what was asked, with what there is to notice.
 pub type Answered = (Result<Shown, Fault>, Notices);
+
+/// What is asked of a host.
+#[derive(Clone, Copy, Debug)]
+enum Errand<'a> {
+    /// Its portmapper is asked this.
+    Question(Question),
+    /// Procedure 0 of a program is called, in the version that is named or in each that it has.
+    Course(&'a Course, Option<u32>),
+}
+
+impl Errand<'_> {
+    /// The family of the addresses at which it is asked; none where each is.
+    fn family(&self) -> Option<Family> {
+        match self {
+            Errand::Question(_) => None,
+            Errand::Course(course, _) => family_of(course.way),
+        }
+    }
+}
 
 /// More questions than a course has.
 const MOST_QUESTIONS: u32 = 1024;
@@ -42,7 +61,7 @@ pub fn silently(answer: Result<Shown, Fault>) -> Answered
 fn ask_portmapper<N: Net + Clock, O: Write>(
     alloc: Global,
     net: &N,
-    words: &Words<'_, '_>,
+    words: &Invocation<'_, '_>,
     peer: Peer<'_>,
     question: Question,
     output: &mut O,
@@ -79,7 +98,7 @@ fn ask_portmapper<N: Net + Clock, O: Write>(
 pub fn ask_here<N: Net + Clock, O: Write>(
     alloc: Global,
     net: &N,
-    words: &Words<'_, '_>,
+    words: &Invocation<'_, '_>,
     question: Question,
     output: &mut O,
 ) -> Answered {
@@ -101,31 +120,6 @@ pub fn ask_here<N: Net + Clock, O: Write>(
         is_old,
     };
     (answer, notices)
-}
-
-/// Asks the portmapper of the host that the words name, at each of its addresses until one answers.
-pub fn ask_named<N: Net + Clock, O: Write>(
-    alloc: Global,
-    net: &N,
-    words: &Words<'_, '_>,
-    question: Question,
-    output: &mut O,
-) -> Answered {
-    let addresses = match addresses_of(alloc, net, words.host, words.request.port) {
-        Ok(addresses) => addresses,
-        Err(fault) => return silently(Err(fault)),
-    };
-    let mut last = silently(Err(Fault::NoHost));
-    for address in &addresses {
-        let peer = Peer::Host(*address);
-        let (answer, is_old) = ask_portmapper(alloc, net, words, peer, question, output);
-        let notices = notices_at(address.ip(), addresses.len(), answer, is_old);
-        last = (answer, notices);
-        if !is_unanswered(answer) {
-            break;
-        }
-    }
-    last
 }
 
 fn ask_at<N: Net + Clock, O: Write>(
@@ -192,26 +186,46 @@ fn run_course<N: Net + Clock, O: Write>(
     course_end(course.prog, FIRST_XID, stage)
 }
 
-/// Calls procedure 0 of a program on the host that the words name, at each of its addresses until one answers.
-fn ping_named<N: Net + Clock, O: Write>(
+/// Does an errand at one address of a host, and says whether the portmapper was asked by version 2 in place of 3.
+fn run_errand<N: Net + Clock, O: Write>(
     alloc: Global,
     net: &N,
-    words: &Words<'_, '_>,
-    course: &Course,
-    vers: Option<u32>,
+    words: &Invocation<'_, '_>,
+    errand: Errand<'_>,
+    address: SocketAddr,
+    output: &mut O,
+) -> (Result<Shown, Fault>, bool) {
+    match errand {
+        Errand::Question(question) => {
+            ask_portmapper(alloc, net, words, Peer::Host(address), question, output)
+        }
+        Errand::Course(course, vers) => {
+            let mut is_old = false;
+            let answer = run_course(alloc, net, address, course, vers, &mut is_old, output);
+            (answer, is_old)
+        }
+    }
+}
+
+/// Does an errand on the host that the words name, at each of its addresses until one answers.
+fn ask_each<N: Net + Clock, O: Write>(
+    alloc: Global,
+    net: &N,
+    words: &Invocation<'_, '_>,
+    errand: Errand<'_>,
     output: &mut O,
 ) -> Answered {
     let addresses = match addresses_of(alloc, net, words.host, words.request.port) {
         Ok(addresses) => addresses,
         Err(fault) => return silently(Err(fault)),
     };
-    let mut last = silently(Err(none_asked(course.way, addresses.len())));
+    let family = errand.family();
+    let mut last = silently(Err(none_asked(family, addresses.len())));
     for address in &addresses {
-        if !is_asked(course.way, *address) {
+        if !is_asked(family, *address) {
             continue;
         }
-        let mut is_old = false;
-        let answer = run_course(alloc, net, *address, course, vers, &mut is_old, output);
+        let (answer, is_old) = run_errand(alloc, net, words, errand, *address, output);
         let notices = notices_at(address.ip(), addresses.len(), answer, is_old);
         last = (answer, notices);
         if !is_unanswered(answer) {
@@ -221,11 +235,22 @@ fn ping_named<N: Net + Clock, O: Write>(
     last
 }
 
+/// Asks the portmapper of the host that the words name.
+pub fn ask_named<N: Net + Clock, O: Write>(
+    alloc: Global,
+    net: &N,
+    words: &Invocation<'_, '_>,
+    question: Question,
+    output: &mut O,
+) -> Answered {
+    ask_each(alloc, net, words, Errand::Question(question), output)
+}
+
 /// Calls procedure 0 of a program.
 pub fn ping<N: Net + Clock, O: Write>(
     alloc: Global,
     net: &N,
-    words: &Words<'_, '_>,
+    words: &Invocation<'_, '_>,
     way: Way,
     prog: u32,
     vers: Option<u32>,
@@ -236,14 +261,15 @@ pub fn ping<N: Net + Clock, O: Write>(
         prog,
         uid: words.request.uid,
     };
+    let errand = Errand::Course(&course, vers);
     match way {
         Way::Address(..) => {
             let portmapper = here(words.request.port);
-            let mut is_old = false;
-            silently(run_course(alloc, net, portmapper, &course, vers, &mut is_old, output))
+            let (answer, _) = run_errand(alloc, net, words, errand, portmapper, output);
+            silently(answer)
         }
-        Way::Getport(_) | Way::Getaddr(_) | Way::Port(..) => ping_named(
-            alloc, net, words, &course, vers, output,
-        ),
+        Way::Getport(_) | Way::Getaddr(_) | Way::Port(..) => {
+            ask_each(alloc, net, words, errand, output)
+        }
     }
 }

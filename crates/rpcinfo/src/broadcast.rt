@@ -1,8 +1,8 @@
 //! Calls that the portmappers of networks are asked to make.
-use crate::net::{HEADER, LONGEST_DATAGRAM, marked};
+use crate::net::LONGEST_DATAGRAM;
 use crate::networks::networks_of;
-use rb_plans::{FIRST_XID, Fault, WAITS, Words, call_of, wait_left};
-use rb_show::{Form, HeldBytes, InfoFault, Question, Shown, show_reply};
+use rb_plans::{FIRST_XID, Fault, Invocation, WAITS, call_of, wait_left};
+use rb_show::{Form, InfoFault, Question, Shown, show_datagram};
 use std::alloc::Global;
 use std::io;
 use std::io::{ErrorKind, Write};
@@ -51,22 +51,13 @@ fn next_answer<C: Clock>(
 /// The port at which a datagram says that the program answered; none where it is no such answer.
 fn port_in(
     alloc: Global,
-    words: &Words<'_, '_>,
+    words: &Invocation<'_, '_>,
     question: Question,
     datagram: &[u8],
 ) -> Option<u32> {
-    let record = marked(alloc, datagram).ok()?;
-    let mut nothing = Vec::new(alloc);
     let ask = words.ask(question);
-    let mut source = HeldBytes::new(&record);
-    match show_reply(
-        alloc,
-        &ask,
-        Form::Plain,
-        FIRST_XID,
-        &mut source,
-        &mut nothing,
-    ) {
+    let mut nothing = Vec::new(alloc);
+    match show_datagram(alloc, &ask, Form::Plain, FIRST_XID, datagram, &mut nothing) {
         Ok(Shown::Port(port)) => Some(port),
         Ok(_) | Err(_) => None,
     }
@@ -85,7 +76,7 @@ fn show_responder<O: Write>(host: IpAddr, port: u32, output: &mut O) -> Result<(
 fn show_answers<C: Clock, O: Write>(
     alloc: Global,
     clock: &C,
-    words: &Words<'_, '_>,
+    words: &Invocation<'_, '_>,
     question: Question,
     socket: &UdpSocket,
     begun: Instant,
@@ -121,7 +112,7 @@ fn show_answers<C: Clock, O: Write>(
 pub fn broadcast<N: Net + Clock + Files, O: Write>(
     alloc: Global,
     net: &N,
-    words: &Words<'_, '_>,
+    words: &Invocation<'_, '_>,
     prog: u32,
     vers: u32,
     output: &mut O,
@@ -129,8 +120,7 @@ pub fn broadcast<N: Net + Clock + Files, O: Write>(
     let question = Question::Callit(prog, vers);
     let call = call_of(alloc, &words.ask(question), FIRST_XID)?;
     let networks = networks_of(alloc, net, words.network)?;
-    let call = call.get(HEADER..).unwrap_or(&[]);
-    let Some(socket) = call_all(net, &networks, words.request.port, call) else {
+    let Some(socket) = call_all(net, &networks, words.request.port, &call) else {
         return Err(Fault::NoConnection);
     };
     let Ok(begun) = Instant::now(net) else {

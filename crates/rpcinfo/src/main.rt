@@ -5,6 +5,7 @@ ghost use Rattle.std.specs.Prelude.{◌≤◌, IfErr};
 
 mod asking;
 mod broadcast;
+mod command_line;
 mod files;
 mod hosts;
 mod net;
@@ -12,7 +13,6 @@ mod networks;
 mod patient;
 mod programs;
 mod run;
-mod words;
 
 use rb_plans::{Fault, explain, refuse_text};
 use rb_show::InfoFault;

@@ -1,8 +1,10 @@
 //! Calls over TCP, UDP and sockets of this machine.
 use crate::patient::{Patient, Stream};
-use rb_plans::{Fault, WAITS, call_of, host_fault, reply_fault, socket_fault, wait_left};
-use rb_show::{Ask, Form, HeldBytes, InfoFault, ReadBytes, Shown, show_reply};
-use std::alloc::{AllocError, Global};
+use rb_plans::{
+    Fault, WAITS, call_of, host_fault, marked_call_of, reply_fault, socket_fault, wait_left,
+};
+use rb_show::{Ask, Form, InfoFault, ReadBytes, Shown, show_datagram, show_reply};
+use std::alloc::Global;
 use std::io;
 use std::io::{BufRead, BufReader, ErrorKind, Read, Write};
 use std::net::{IpAddr, Ipv4Addr, Ipv6Addr, Net, SocketAddr, TcpStream, UdpSocket};
@@ -12,12 +14,6 @@ use std::time::{Duration, Instant};
 
 /// No datagram has more bytes.
 pub const LONGEST_DATAGRAM: usize = 65_536;
-
-/// The header of the only fragment of a record.
-const LAST: u32 = 1 << 31;
-
-/// How many bytes it has.
-pub const HEADER: usize = 4;
 
 /// Where a call goes over a connection.
 #[derive(Clone, Copy, Debug)]
@@ -107,20 +103,10 @@ pub fn ask_stream<N: Net + Clock, W: Write>(
     xid: u32,
     output: &mut W,
 ) -> Result<Shown, Fault> {
-    let call = call_of(alloc, ask, xid)?;
+    let call = marked_call_of(alloc, ask, xid)?;
     let mut stream = open(net, peer)?;
     send(&call, &mut stream)?;
     show_stream(alloc, stream, ask, form, xid, output)
-}
-
-/// The record that a datagram is, in one fragment.
-pub fn marked(alloc: Global, datagram: &[u8]) -> Result<Vec<u8>, AllocError> {
-    let len = u32::try_from(datagram.len()).unwrap_or(u32::MAX);
-    let header = (LAST | len).to_be_bytes();
-    let mut record = Vec::new(alloc);
-    record.extend_from_slice(&header)?;
-    record.extend_from_slice(datagram)?;
-    Ok(record)
 }
 
 /// A socket that hears one address alone.
@@ -175,22 +161,6 @@ fn exchange<C: Clock>(
     }
 }
 
-/// Shows the reply that a datagram is.
-fn show_datagram<W: Write>(
-    alloc: Global,
-    datagram: &[u8],
-    ask: &Ask,
-    form: Form<'_>,
-    xid: u32,
-    output: &mut W,
-) -> Result<Shown, Fault> {
-    let Ok(record) = marked(alloc, datagram) else {
-        return Err(Fault::Info(InfoFault::Memory));
-    };
-    let mut source = HeldBytes::new(&record);
-    show_reply(alloc, ask, form, xid, &mut source, output).map_err(Fault::Info)
-}
-
 /// Asks by one datagram, and shows the reply.
 pub fn ask_datagram<N: Net + Clock, W: Write>(
     alloc: Global,
@@ -205,9 +175,6 @@ pub fn ask_datagram<N: Net + Clock, W: Write>(
     let Ok(socket) = socket_to(net, address) else {
         return Err(Fault::NoConnection);
     };
-    let Some(message) = call.get(HEADER..) else {
-        return Err(Fault::NoConnection);
-    };
-    let datagram = exchange(alloc, net, &socket, message)?;
-    show_datagram(alloc, &datagram, ask, form, xid, output)
+    let datagram = exchange(alloc, net, &socket, &call)?;
+    show_datagram(alloc, ask, form, xid, &datagram, output).map_err(Fault::Info)
 }

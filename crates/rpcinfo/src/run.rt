@@ -5,11 +5,9 @@ ghost use Rattle.rpcinfo.specs.Running.{Answers, IsExplained, IsNoticed, IsSilen
 
 use crate::asking::{Answered, ask_here, ask_named, ping, silently};
 use crate::broadcast::broadcast;
+use crate::command_line::{matches_of, programs_path, read_matches, show};
 use crate::programs::services_at;
-use crate::words::{matches_of, programs_path, read_matches, show};
-use clap::ArgMatches;
-use rb_names::Service;
-use rb_plans::{Ending, Fault, Words, ask_input, conclude, explain, flushed, plan_question};
+use rb_plans::{Ending, Fault, Invocation, ask_input, conclude, explain, flushed, plan_question};
 use rb_words::{Plan, Source};
 use std::alloc::Global;
 use std::convert::AsStr;
@@ -21,7 +19,7 @@ use std::rt::{Clock, Files};
 fn carry_out<N: Net + Clock + Files, I: Read, O: Write>(
     alloc: Global,
     net: &N,
-    words: &Words<'_, '_>,
+    words: &Invocation<'_, '_>,
     input: &mut I,
     output: &mut O,
 ) -> Answered
@@ -42,7 +40,7 @@ fn carry_out<N: Net + Clock + Files, I: Read, O: Write>(
 fn carry_course<N: Net + Clock + Files, O: Write>(
     alloc: Global,
     net: &N,
-    words: &Words<'_, '_>,
+    words: &Invocation<'_, '_>,
     output: &mut O,
 ) -> Answered {
     match words.request.plan {
@@ -59,7 +57,7 @@ fn carry_course<N: Net + Clock + Files, O: Write>(
 fn run_words<N: Net + Clock + Files, I: Read, O: Write, E: Write>(
     alloc: Global,
     net: &N,
-    words: &Words<'_, '_>,
+    words: &Invocation<'_, '_>,
     input: &mut I,
     output: &mut O,
     faults: &mut E,
@@ -72,52 +70,6 @@ fn run_words<N: Net + Clock + Files, I: Read, O: Write, E: Write>(
     let (answer, notices) = carry_out(alloc, net, words, input, output);
     let answer = flushed(answer, output);
     ((answer, notices), conclude(answer, notices, faults))
-}
-
-/// Runs the command that the words' shape names, where programs have these names.
-fn run_named<N: Net + Clock + Files, I: Read, O: Write, E: Write>(
-    alloc: Global,
-    net: &N,
-    matches: &ArgMatches<'_>,
-    services: &[Service],
-    input: &mut I,
-    output: &mut O,
-    faults: &mut E,
-) -> Ending
-    ensures status { result.status ≤ 2 }
-    ensures quiet { result.status ≡ 0 → IsNoticed E.contents faults.old faults.new result }
-    ensures failed { result.status ≡ 1 → IsExplained E.contents faults.old faults.new result }
-    ensures unread { result.status ≡ 2 → input.new ≡ input.old }
-    ensures unwritten { result.status ≡ 2 → output.new ≡ output.old }
-{
-    match read_matches(alloc, matches, services, faults) {
-        Ok(words) => {
-            let (_answer, ending) = run_words(alloc, net, &words, input, output, faults);
-            ending
-        }
-        Err(ending) => ending,
-    }
-}
-
-/// Runs the command that the words' shape names.
-fn run_matches<N: Net + Clock + Files, I: Read, O: Write, E: Write>(
-    alloc: Global,
-    net: &N,
-    matches: &ArgMatches<'_>,
-    input: &mut I,
-    output: &mut O,
-    faults: &mut E,
-) -> Ending
-    ensures status { result.status ≤ 2 }
-    ensures quiet { result.status ≡ 0 → IsNoticed E.contents faults.old faults.new result }
-    ensures failed { result.status ≡ 1 → IsExplained E.contents faults.old faults.new result }
-    ensures unread { result.status ≡ 2 → input.new ≡ input.old }
-    ensures unwritten { result.status ≡ 2 → output.new ≡ output.old }
-{
-    match services_at(alloc, net, programs_path(matches)) {
-        Ok(services) => run_named(alloc, net, matches, &services, input, output, faults),
-        Err(fault) => explain(Fault::Info(fault), faults),
-    }
 }
 
 /// Runs the command that the words name, and answers how it ended, with its exit status.
@@ -139,8 +91,19 @@ pub fn run_info<N: Net + Clock + Files, S: AsStr, I: Read, O: Write, E: Write>(
     ensures unread { result.status ≡ 2 → input.new ≡ input.old }
     ensures unwritten { result.status ≡ 2 → output.new ≡ output.old }
 {
-    match matches_of(alloc, words) {
-        Ok(matches) => run_matches(alloc, net, &matches, input, output, faults),
-        Err(error) => show(&error, output, faults),
+    let matches = match matches_of(alloc, words) {
+        Ok(matches) => matches,
+        Err(error) => return show(&error, output, faults),
+    };
+    let services = match services_at(alloc, net, programs_path(&matches)) {
+        Ok(services) => services,
+        Err(fault) => return explain(Fault::Info(fault), faults),
+    };
+    match read_matches(alloc, &matches, &services, faults) {
+        Ok(words) => {
+            let (_answer, ending) = run_words(alloc, net, &words, input, output, faults);
+            ending
+        }
+        Err(ending) => ending,
     }
 }

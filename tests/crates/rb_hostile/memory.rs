@@ -7,7 +7,7 @@ use rb_address::{Host, Peer};
 use rb_core::{CoreFault, Metered, NoMemory};
 use rb_lines::{ReadFault, read_events};
 use rb_replay::{Event, Output, replay};
-use rb_show::{Ask, Form, HeldBytes, InfoFault, Question, Shown, show_reply, write_call};
+use rb_show::{Ask, Form, HeldBytes, InfoFault, Question, Shown, show_reply, write_marked_call};
 use std::alloc::{AllocError, Global};
 use std::process::Abort;
 
@@ -107,7 +107,7 @@ const CALL: &[u8] =
 #[test]
 fn refused_memory_of_a_call(rt: HostRuntime) {
     let mut room = [0; 44];
-    let is_right = match write_call(rt.alloc(), &ASK, 1, &mut room.as_mut_slice()) {
+    let is_right = match write_marked_call(rt.alloc(), &ASK, 1, &mut room.as_mut_slice()) {
         Ok(()) => room.as_slice() == CALL,
         Err(fault) => fault == InfoFault::Memory && room == [0; 44],
     };

@@ -1,4 +1,7 @@
-use rb_show::{Ask, Form, HeldBytes, Question, show_reply, write_call};
+use rb_show::{
+    Ask, Form, HeldBytes, InfoFault, Question, Shown, show_datagram, show_reply, write_call,
+    write_marked_call,
+};
 use std::test::Fail;
 
 /// A question of nobody.
@@ -12,10 +15,29 @@ fn of_nobody(question: Question) -> Ask {
 #[test]
 fn write_call_has_memory(rt: HostRuntime) -> Result<(), Fail> {
     let mut call = Vec::new(rt.alloc());
-    write_call(rt.alloc(), &of_nobody(Question::Pmap), 1, &mut call).map_err(|_| "refused")?;
+    let ask = of_nobody(Question::Pmap);
+    write_marked_call(rt.alloc(), &ask, 1, &mut call).map_err(|_| "refused")?;
     let dump =
         b"\x80\0\0\x28\0\0\0\x01\0\0\0\0\0\0\0\x02\0\x01\x86\xa0\0\0\0\x02\0\0\0\x04\0\0\0\0\0\0\0\0\0\0\0\0\0\0\0\0";
     assert_eq!(rt; call.as_slice(), dump.as_slice());
+    let mut datagram = Vec::new(rt.alloc());
+    write_call(rt.alloc(), &ask, 1, &mut datagram).map_err(|_| "refused")?;
+    assert!(rt; dump.get(4..) == Some(datagram.as_slice()));
+    Ok(())
+}
+
+/// A datagram is a whole record: the port of a GETPORT is read, and a byte less is no reply.
+#[test]
+fn datagram_is_a_record(rt: HostRuntime) -> Result<(), Fail> {
+    let reply = b"\0\0\0\x01\0\0\0\x01\0\0\0\0\0\0\0\0\0\0\0\0\0\0\0\0\0\0\x08\x01".as_slice();
+    let ask = of_nobody(Question::Port(6, 100_003, 3));
+    let mut nothing = Vec::new(rt.alloc());
+    let shown = show_datagram(rt.alloc(), &ask, Form::Plain, 1, reply, &mut nothing);
+    assert!(rt; shown == Ok(Shown::Port(2049)));
+    let cut = &reply[..27];
+    let shown = show_datagram(rt.alloc(), &ask, Form::Plain, 1, cut, &mut nothing);
+    assert!(rt; shown == Err(InfoFault::CutOff));
+    assert!(rt; nothing.is_empty());
     Ok(())
 }
 

@@ -3,7 +3,10 @@
 use rb_address::{Host, Transport};
 use rb_course::{Aim, Answer, Course, End, Stage, asked, begin, called_at, next};
 use rb_daemon::{Daemon, Limits, LocalSocket, Logged, Settings, Terms};
-use rb_show::{Ask, Form, HeldBytes, InfoFault, Shown, show_reply, write_call};
+use rb_show::{
+    Ask, Form, HeldBytes, InfoFault, Shown, show_datagram, show_reply, write_call,
+    write_marked_call,
+};
 use std::io::{Read, Write};
 use std::net::{Ipv4Addr, Ipv6Addr, SocketAddr, TcpStream, UdpSocket};
 
@@ -21,9 +24,6 @@ const WAIT: u64 = 20;
 
 /// The most questions that a course has here.
 const QUESTIONS: u32 = 16;
-
-/// The header of a record that is one fragment.
-const LAST: u32 = 1 << 31;
 
 pub fn portmapper() -> SocketAddr {
     SocketAddr::from((Ipv4Addr::LOCALHOST, PORT))
@@ -122,7 +122,7 @@ impl<'r, 'f> Client<'r, 'f> {
         xid: u32,
     ) -> Option<Result<Shown, InfoFault>> {
         let mut call = Vec::new(self.rt.alloc());
-        write_call(self.rt.alloc(), ask, xid, &mut call).ok()?;
+        write_marked_call(self.rt.alloc(), ask, xid, &mut call).ok()?;
         stream.write_all(&call).ok()?;
         let mut got = Vec::new(self.rt.alloc());
         let mut room = [0; 1024];
@@ -147,8 +147,11 @@ impl<'r, 'f> Client<'r, 'f> {
     ) -> Option<Result<Shown, InfoFault>> {
         let caller = Caller::toward(self.rt, address)?;
         caller.ask(self.rt, ask, xid, address)?;
-        let record = caller.receive(self.rt, daemon)?;
-        self.show(ask, xid, &record)
+        let reply = caller.receive(self.rt, daemon)?;
+        let mut lines = Vec::new(self.rt.alloc());
+        let answer = show_datagram(self.rt.alloc(), ask, self.form, xid, &reply, &mut lines);
+        self.shown.extend_from_slice(&lines).ok()?;
+        Some(answer)
     }
 
     /// Asks at a place of a host.
@@ -244,7 +247,7 @@ impl Caller {
     pub fn ask(&self, rt: &HostRuntime, ask: &Ask, xid: u32, to: SocketAddr) -> Option<()> {
         let mut call = Vec::new(rt.alloc());
         write_call(rt.alloc(), ask, xid, &mut call).ok()?;
-        self.socket.send_to(call.get(4..)?, to).ok()?;
+        self.socket.send_to(&call, to).ok()?;
         Some(())
     }
 
@@ -265,7 +268,7 @@ impl Caller {
         None
     }
 
-    /// Takes turns until a datagram came, and makes a record of it.
+    /// Takes turns until a datagram came.
     pub fn receive(
         &self,
         rt: &HostRuntime,
@@ -275,11 +278,9 @@ impl Caller {
         for _ in 0..TURNS {
             daemon.turn(rt, Some(WAIT)).ok()?;
             if let Ok((len, _)) = self.socket.recv_from(&mut room) {
-                let header = LAST | u32::try_from(len).ok()?;
-                let mut record = Vec::new(rt.alloc());
-                record.extend_from_slice(&header.to_be_bytes()).ok()?;
-                record.extend_from_slice(room.get(..len)?).ok()?;
-                return Some(record);
+                let mut datagram = Vec::new(rt.alloc());
+                datagram.extend_from_slice(room.get(..len)?).ok()?;
+                return Some(datagram);
             }
         }
         None

@@ -3,7 +3,7 @@ use crate::turns::{daemon_of, receive};
 use rb_address::Transport;
 use rb_course::{Aim, Answer, Course, End, Stage, Step, asked, begin, next};
 use rb_daemon::Daemon;
-use rb_show::{Form, HeldBytes, InfoFault, Shown, show_reply, write_call};
+use rb_show::{Form, HeldBytes, InfoFault, Shown, show_reply, write_marked_call};
 use rb_words::Way;
 use std::io::Write;
 use std::net::{Ipv4Addr, SocketAddr, TcpStream};
@@ -25,7 +25,7 @@ fn step(
 ) -> Option<Step> {
     let (_, ask) = asked(course, stage)?;
     let mut call = Vec::new(rt.alloc());
-    write_call(rt.alloc(), &ask, xid, &mut call).ok()?;
+    write_marked_call(rt.alloc(), &ask, xid, &mut call).ok()?;
     let mut stream = TcpStream::connect(rt, SocketAddr::from((Ipv4Addr::LOCALHOST, PORT))).ok()?;
     stream.set_nonblocking(true).ok()?;
     stream.write_all(&call).ok()?;

@@ -3,7 +3,7 @@ use crate::client::{Caller, Client, LOCAL, daemon_everywhere, portmapper, portma
 use rb_address::Netid;
 use rb_daemon::Daemon;
 use rb_names::{Service, read_services};
-use rb_show::{Ask, Form, HeldBytes, Question, Shown, show_reply};
+use rb_show::{Ask, Form, Question, Shown, show_datagram};
 use std::net::{Ipv4Addr, SocketAddr};
 use std::os::unix::net::UnixStream;
 use std::test::Fail;
@@ -134,10 +134,9 @@ fn called_through(rt: &HostRuntime) -> Option<Shown> {
     caller.ask(rt, &ask, 1, portmapper())?;
     let (xid, sender) = target.first_word(rt, &mut daemon)?;
     target.send(rt, &[xid, 1, 0, 0, 0, 0], sender)?;
-    let record = caller.receive(rt, &mut daemon)?;
+    let reply = caller.receive(rt, &mut daemon)?;
     let mut nothing = Vec::new(rt.alloc());
-    let mut source = HeldBytes::new(&record);
-    show_reply(rt.alloc(), &ask, Form::Plain, 1, &mut source, &mut nothing).ok()
+    show_datagram(rt.alloc(), &ask, Form::Plain, 1, &reply, &mut nothing).ok()
 }
 
 /// `-b 200001 1`, of one host: the daemon forwards the call, and its answer names the program's port.

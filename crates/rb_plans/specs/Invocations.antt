@@ -23,11 +23,11 @@ use Rattle.rb_show.specs.declared.ask.Question.{Question}
 use Rattle.rb_show.specs.declared.form.Form.{Form}
 use Rattle.rb_show.specs.declared.form.Form.TheVariants.{Plain, Named, Json}
 use Rattle.rb_plans.specs.declared.ending.Ending.{Ending}
-use Rattle.rb_plans.specs.declared.words.Words.{Words}
+use Rattle.rb_plans.specs.declared.invocation.Invocation.{Invocation}
 use Rattle.rb_plans.specs.Ending.{Says}
 
 -- a question of the user that the words name
-abbrev pub ask_of : Words → Question → Ask
+abbrev pub ask_of : Invocation → Question → Ask
 ask_of words question = record { question = question; uid = words.request.uid }
 
 abbrev pub layout_form : Option Layout → Bor (List Service) → Form
@@ -86,7 +86,7 @@ ReadsShape contents shape faults faults' (Err ending) =
     (refusal : Refusal) × ((request_of shape ≡ Err refusal) × Says contents faults faults' ending (refusal_lines shape refusal))
 
 -- The words are what their shape says; a host that is asked has a name.
-pub record AreOf (shape : Shape) (words : Words) : Type 0 where
+pub record AreOf (shape : Shape) (words : Invocation) : Type 0 where
   pub request : request_of shape ≡ Ok words.request
   pub host : words.host.now ≡ first_word shape
   pub named : names_host words.request.plan ≡ true → words.host.now ≢ []

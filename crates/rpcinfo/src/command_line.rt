@@ -1,11 +1,11 @@
-//! The words of the command line.
+//! The command line.
 ghost use Rattle.std.specs.Prelude.{◌≡◌, ◌≤◌, true, IfErr, OnOk};
 ghost use Rattle.rpcinfo.specs.Running.{EndsSaying, EndsUnread};
 
 use clap::error::ErrorKind;
 use clap::{Arg, ArgAction, ArgMatches, Command, Error};
 use rb_names::Service;
-use rb_plans::{Ending, Fault, UNREADABLE, Words, explain, words_of};
+use rb_plans::{Ending, Fault, Invocation, UNREADABLE, explain, read_invocation};
 use rb_show::InfoFault;
 use rb_words::{Flag, Layout, Shape};
 use std::alloc::{AllocError, Global};
@@ -230,7 +230,7 @@ pub fn read_matches<'a, 'n, E: Write>(
     matches: &ArgMatches<'a>,
     services: &'n [Service],
     faults: &mut E,
-) -> Result<Words<'a, 'n>, Ending>
+) -> Result<Invocation<'a, 'n>, Ending>
     ensures read { OnOk result (faults.new ≡ faults.old) }
     ensures refused { IfErr result (EndsSaying E.contents faults.old faults.new) }
 {
@@ -253,5 +253,5 @@ pub fn read_matches<'a, 'n, E: Write>(
         words: matches.get_strs("words").unwrap_or(&[]),
         services,
     };
-    words_of(&shape, faults)
+    read_invocation(&shape, faults)
 }

@@ -2,7 +2,7 @@
 ghost use Rattle.std.specs.Prelude.{◌≡◌, ◌≢◌, true, [], IfErr, IfOk, OnOk};
 ghost use Rattle.rb_words.specs.Refusals.{refusal_lines};
 ghost use Rattle.rb_plans.specs.Ending.{Says};
-ghost use Rattle.rb_plans.specs.Words.{ask_of, first_word, form_of, is_at_host, is_named, names_host, AreOf, IsNetworkOf, ReadsShape};
+ghost use Rattle.rb_plans.specs.Invocations.{ask_of, first_word, form_of, is_at_host, is_named, names_host, AreOf, IsNetworkOf, ReadsShape};
 
 use crate::ending::{Ending, UNREADABLE};
 use rb_names::Service;
@@ -16,7 +16,7 @@ use std::net::Ipv4Addr;
 
 /// The words of a command line, read.
 #[derive(Clone, Copy, Debug)]
-pub struct Words<'a, 'n> {
+pub struct Invocation<'a, 'n> {
     /// What they ask for.
     pub request: Request,
     /// The first word that belongs to no option, or nothing.
@@ -29,7 +29,7 @@ pub struct Words<'a, 'n> {
     pub form: Form<'n>,
 }
 
-impl Words<'_, '_> {
+impl Invocation<'_, '_> {
     /// A question of the user that the words name.
     pub fn ask(&self, question: Question) -> Ask
         ensures { result ≡ ask_of self.now question }
@@ -154,10 +154,10 @@ fn read_host<'a, E: Write>(
 }
 
 /// The words of a command line by their shape. What can't be read is named, and then the `Err` says how the command ended.
-pub fn words_of<'a, 'n, E: Write>(
+pub fn read_invocation<'a, 'n, E: Write>(
     shape: &Shape<'_, 'a, 'n>,
     faults: &mut E,
-) -> Result<Words<'a, 'n>, Ending>
+) -> Result<Invocation<'a, 'n>, Ending>
     ensures exact { IfOk result (AreOf shape.now) }
     ensures read { OnOk result (faults.new ≡ faults.old) }
     ensures refused { IfErr result (λ ending. ending.status ≡ 2) }
@@ -165,7 +165,7 @@ pub fn words_of<'a, 'n, E: Write>(
     let request = read_shape(shape, faults)?;
     let host = read_host(shape, request.plan, faults)?;
     let network = read_network(shape, faults)?;
-    Ok(Words {
+    Ok(Invocation {
         request,
         host,
         local: shape.local,
