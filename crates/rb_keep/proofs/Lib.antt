@@ -4,3 +4,4 @@ pub mod Walks
 pub mod Turns
 pub mod KeptLaws
 pub mod TextLaws
+pub mod OnLiterals

@@ -1,0 +1,11 @@
+use Rattle.std.specs.Prelude.{⊤}
+use Rattle.rb_lines.proofs.OnLiterals.{rb_lines_on_literals}
+use Rattle.rb_arguments.proofs.OnLiterals.{rb_arguments_on_literals}
+use Rattle.rb_proto.proofs.OnLiterals.{rb_proto_on_literals}
+use Rattle.rb_keep.specs.Reading.{is_this_machine, row_asked, row_set, kept_row, kept_line, rows_from, read}
+
+-- What is unfolded to compute the definitions of this crate, and of those below, on literals.
+unfoldable pub rb_keep_on_literals : ⊤
+unfolding rb_lines_on_literals rb_arguments_on_literals rb_proto_on_literals
+    is_this_machine row_asked row_set kept_row kept_line rows_from read
+rb_keep_on_literals = tt
