@@ -1,4 +1,4 @@
-pub mod Faults
-pub mod Settings
-pub mod Starts
+pub mod Options
+pub mod Serving
 pub mod Wanted
+pub mod Faults

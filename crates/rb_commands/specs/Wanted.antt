@@ -1,9 +1,8 @@
 -- What is wrong with the value of an option, and what is wanted there.
 use Rattle.std.specs.Prelude.{ℕ, ◌==◌, nat_lt, Bool, false, if◌then◌else◌, List, ◌++◌, codes, bytes_eq, Option, Some, None}
-use Rattle.rb_lines.specs.declared.options.Valued.{Valued}
-use Rattle.rb_lines.specs.declared.options.Valued.TheVariants.{Announce, Bind, From, Local, LocalMode, Port, Conns, Rows, Forwards, UdpLists, ForwardFor, ReplayForwardFor, UdpRate, Xid, Now, Turns, RecordLimit, Keep, Log}
-use Rattle.rb_lines.specs.declared.serving.Keep as kept
-use Rattle.rb_lines.specs.declared.serving.Record.{Record}
+use Rattle.std.specs.Borrow.{Bor}
+use Rattle.rb_commands.specs.declared.options.Valued.{Valued}
+use Rattle.rb_commands.specs.declared.options.Valued.TheVariants.{Announce, Bind, From, Local, LocalMode, Port, Conns, Rows, Forwards, UdpLists, ForwardFor, ReplayForwardFor, UdpRate, Xid, Now, Turns, RecordLimit, Keep, Log}
 use Rattle.rb_commands.specs.declared.wanted.BadValue.{BadValue}
 
 -- the name of an option, behind its two dashes
@@ -81,7 +80,7 @@ bad_value_text bad =
 
 -- ---- values that do not go together
 
--- whether rows are kept in the file of the record, which a start removes
-abbrev pub is_the_record : kept.Keep → Option Record → Bool
+-- whether the file at a path, in which rows are kept, is that of the record, which a start removes
+abbrev pub is_the_record : List ℕ → Option (Bor (List ℕ)) → Bool
 is_the_record keep None = false
-is_the_record keep (Some recorded) = bytes_eq keep.path.now recorded.path.now
+is_the_record keep (Some path) = bytes_eq keep path.now

@@ -2,40 +2,27 @@
 ghost use Rattle.std.specs.Prelude.{◌≡◌, ◌≤◌, IfErr};
 ghost use Rattle.rb_commands.specs.Wanted.{is_the_record};
 
-use crate::options::command;
+use crate::command::command;
+use crate::options::{ReplayTexts, Valued, read_beginning};
+use crate::serving::{Serve, ServeTexts, read_serve};
 use crate::wanted::{BadValue, option_name, wanted_text};
 use clap::error::ErrorKind;
 use clap::{ArgMatches, Error};
-use rb_lines::{
-    Beginning, Fault, Keep, Record, ReplayTexts, ServeFault, ServeTexts, Service, Valued, explain,
-    read_beginning, read_service,
-};
+use rb_lines::{Beginning, Fault, explain};
+use rb_sockets::open_files;
 use std::alloc::Global;
 use std::convert::AsStr;
 use std::io::Write;
 
 /// What a command line asks for.
-#[derive(Debug, Drop)]
+#[derive(Drop)]
 pub enum Words<'a> {
     /// The daemon.
-    Serve(Service<'a>),
+    Serve(Serve<'a>),
     /// A replay whose outputs are printed.
     Replay(Beginning),
     /// A replay whose outputs are compared with those of its input.
     Check(Beginning),
-}
-
-/// Why words are not read.
-#[derive(Debug, Drop)]
-enum Unread<'a> {
-    BadValue(BadValue<'a>),
-    NoMemory,
-}
-
-impl<'a> From<BadValue<'a>> for Unread<'a> {
-    fn from(bad: BadValue<'a>) -> Unread<'a> {
-        Unread::BadValue(bad)
-    }
 }
 
 /// What the words ask for, the program's own name first. Where nothing is to be run, what there is to say was
@@ -54,7 +41,7 @@ pub fn read_words<'a, S: AsStr, O: Write, E: Write>(
         Err(_) => return Err(explain(Fault::NoMemory, faults).status),
     };
     match command.try_get_matches_from(words) {
-        Ok(matches) => read_matches(alloc, &matches, faults),
+        Ok(matches) => read_matches(&matches, faults),
         Err(error) => Err(show(&error, output, faults)),
     }
 }
@@ -76,27 +63,22 @@ fn show<O: Write, E: Write>(error: &Error, output: &mut O, faults: &mut E) -> u8
     0
 }
 
-fn read_matches<'a, E: Write>(
-    alloc: Global,
-    matches: &ArgMatches<'a>,
-    faults: &mut E,
-) -> Result<Words<'a>, u8>
+fn read_matches<'a, E: Write>(matches: &ArgMatches<'a>, faults: &mut E) -> Result<Words<'a>, u8>
     ensures { IfErr result (λ status. status ≤ 2) }
 {
-    match words_of(alloc, matches) {
+    match words_of(matches) {
         Ok(words) => Ok(words),
-        Err(Unread::BadValue(bad)) => {
+        Err(bad) => {
             let _ = writeln!(faults, "{bad}");
             Err(2)
         }
-        Err(Unread::NoMemory) => Err(explain(Fault::NoMemory, faults).status),
     }
 }
 
 /// What the matches ask for. `command` takes no words without one of its two commands, so the last case never comes.
-fn words_of<'a>(alloc: Global, matches: &ArgMatches<'a>) -> Result<Words<'a>, Unread<'a>> {
+fn words_of<'a>(matches: &ArgMatches<'a>) -> Result<Words<'a>, BadValue<'a>> {
     if let Some(serve) = matches.subcommand_matches("serve") {
-        return Ok(Words::Serve(service_of(alloc, serve)?));
+        return Ok(Words::Serve(serve_of(serve)?));
     }
     if let Some(replay) = matches.subcommand_matches("replay") {
         let beginning = beginning_of(replay)?;
@@ -106,15 +88,15 @@ fn words_of<'a>(alloc: Global, matches: &ArgMatches<'a>) -> Result<Words<'a>, Un
             Words::Replay(beginning)
         });
     }
-    Err(Unread::BadValue(BadValue {
+    Err(BadValue {
         option: "help",
         value: "",
         wanted: "a command",
-    }))
+    })
 }
 
-/// What is served.
-fn service_of<'a>(alloc: Global, matches: &ArgMatches<'a>) -> Result<Service<'a>, Unread<'a>> {
+/// What `serve` is asked for.
+fn serve_of<'a>(matches: &ArgMatches<'a>) -> Result<Serve<'a>, BadValue<'a>> {
     let texts = ServeTexts {
         announce: matches.get_strs("announce").unwrap_or(&[]),
         bind: matches.get_strs("bind").unwrap_or(&[]),
@@ -130,42 +112,37 @@ fn service_of<'a>(alloc: Global, matches: &ArgMatches<'a>) -> Result<Service<'a>
         udp_lists: text_of(matches, "udp-lists"),
         forward_for: text_of(matches, "forward-for"),
         udp_rate: matches.get_str("udp-rate"),
-        turns: text_of(matches, "turns"),
         record_path: matches.get_str("record"),
         record_limit: text_of(matches, "record-limit"),
         keep: matches.get_str("keep"),
         keep_check: matches.get_flag("keep-check"),
         log: matches.get_str("log"),
+        turns: text_of(matches, "turns"),
     };
-    match read_service(alloc, &texts) {
-        Ok(service) => match kept_in_the_record(&service) {
-            Some(bad) => Err(Unread::BadValue(bad)),
-            None => Ok(service),
-        },
-        Err(ServeFault::BadValue(bad)) => Err(Unread::BadValue(bad_value(bad, matches))),
-        Err(ServeFault::NoMemory) => Err(Unread::NoMemory),
+    match read_serve(&texts, open_files()) {
+        Ok(serve) => unless_kept_in_the_record(serve),
+        Err(bad) => Err(bad_value(bad, matches)),
     }
 }
 
-/// What is wrong where the rows are to be kept in the file of the record: a start would remove them.
-fn kept_in_the_record<'a>(service: &Service<'a>) -> Option<BadValue<'a>> {
-    let keep = service.keep.as_ref()?;
-    if !is_the_record(keep, &service.recorded) {
-        return None;
+/// What is asked for, unless the rows are to be kept in the file of the record: a start would remove them.
+fn unless_kept_in_the_record<'a>(serve: Serve<'a>) -> Result<Serve<'a>, BadValue<'a>> {
+    match serve.settings.keep {
+        Some(path) if is_the_record(path, serve.record_path) => Err(BadValue {
+            option: "keep",
+            value: path,
+            wanted: "another file than that of --record",
+        }),
+        _ => Ok(serve),
     }
-    Some(BadValue {
-        option: "keep",
-        value: keep.path,
-        wanted: "another file than that of --record",
-    })
 }
 
-/// Whether rows are kept in the file of the record.
-fn is_the_record(keep: &Keep<'_>, recorded: &Option<Record<'_>>) -> bool
-    ensures { result ≡ is_the_record keep.now recorded.now }
+/// Whether the file at this path, in which rows are kept, is that of the record.
+fn is_the_record(keep: &str, record_path: Option<&str>) -> bool
+    ensures { result ≡ is_the_record keep.now record_path.entry }
 {
-    match recorded {
-        Some(record) => keep.path == record.path,
+    match record_path {
+        Some(path) => keep == path,
         None => false,
     }
 }

@@ -1,18 +1,14 @@
-//! The words of `rpcbind`'s command line: its commands and their options, and what they ask for; and what `serve` says
-//! of its start and of its end.
+//! The words of `rpcbind`'s command line: its commands and their options, and what they ask for.
 #![tactic(auto)]
 
 mod arguments;
-mod keep;
+mod command;
 mod options;
-mod service;
-mod settings;
-mod start;
+mod serving;
 mod wanted;
 mod words;
 
 pub use arguments::{Words, read_words};
-pub use keep::{read_keep, say_keep_fault, say_left_out};
-pub use service::{explain_fault, make_record, say_start};
-pub use settings::settings_of;
+pub use options::{ReplayTexts, Valued, read_beginning};
+pub use serving::{Serve, ServeTexts, read_serve, serve_default};
 pub use words::command_words;

@@ -1,255 +1,294 @@
-//! The commands of the program and their options, as `--help` shows them.
-use clap::{Arg, ArgAction, Command};
-use rb_lines::{Valued, serve_default};
-use std::alloc::{AllocError, Global};
+//! What the values of the options of `replay` mean, and those that `serve` has too.
+ghost use Rattle.std.specs.Prelude.{◌≡◌, ◌^◌};
+ghost use Rattle.std.specs.List.{list_all};
+ghost use Rattle.rb_address.specs.Reading.{number_below};
+ghost use Rattle.rb_address.specs.Networks.{plain_host_of};
+ghost use Rattle.rb_lines.specs.Paths.{is_quotable};
+ghost use Rattle.rb_commands.specs.Options.{value_of, with_host, announce_at, announced_of, read_local, local_address, port, limits_of, udp_lists, forward_for, forwarding_of, beginning_of};
 
-const VERSION: &str = "0.2.0";
+use rb_address::{Host, number_below};
+use rb_lines::Beginning;
+use rb_model::Limits;
+use rb_proto::{Announced, Forwarding, Listener, Terms};
+use rb_uaddr::AddressText;
 
-/// What the help says of `--udp-lists`.
-const UDP_LISTS: &str =
-    "To whom replies over UDP may have more than twice the bytes of their calls: local, to this machine alone, or all";
+/// The longest path of a local socket, in bytes.
+const LONGEST_PATH: usize = 107;
 
-/// An option with a value. clap takes each value as a text; what is a number and what an address is said in rb_lines.
-fn option<'a>(alloc: Global, name: &'a str, value: &'a str, help: &'a str) -> Arg<'a> {
-    Arg::new(alloc, name)
-        .long(name)
-        .value_name(value)
-        .help(help)
+/// No host of either family.
+const UNANNOUNCED: Announced = Announced {
+    inet: None,
+    inet6: None,
+};
+
+/// An option that has a value.
+#[derive(Clone, Copy, Debug, PartialEq, Eq)]
+pub enum Valued {
+    /// The value of `--announce` at this place, from 0. None may stand at place 2.
+    Announce(usize),
+    /// The value of `--bind` at this place, from 0. None may stand at place 16.
+    Bind(usize),
+    /// The value of `--from` at this place, from 0. None may stand at place 16.
+    From(usize),
+    /// `--local PATH`
+    Local,
+    /// `--local-mode MODE`
+    LocalMode,
+    /// `--conns N`
+    Conns,
+    /// `--rows N`
+    Rows,
+    /// `--forwards N`
+    Forwards,
+    /// `--udp-lists WHOM`
+    UdpLists,
+    /// `--forward-for WHOM` of `serve`.
+    ForwardFor,
+    /// `--forward-for WHOM` of `replay`, which has one word more.
+    ReplayForwardFor,
+    /// `--udp-rate N`
+    UdpRate,
+    /// `--port N`
+    Port,
+    /// `--xid N`
+    Xid,
+    /// `--now MS`
+    Now,
+    /// `--turns N`
+    Turns,
+    /// `--record-limit N`
+    RecordLimit,
+    /// `--keep FILE`
+    Keep,
+    /// `--log WHAT`
+    Log,
 }
 
-/// The program with its commands.
-pub fn command<'a>(alloc: Global) -> Result<Command<'a>, AllocError> {
-    Command::new(alloc, "rpcbind")
-        .version(VERSION)
-        .about("Tells ONC RPC clients at which address a program listens (RFC 1833)")
-        .subcommand_required(true)
-        .subcommand(serve(alloc)?)?
-        .subcommand(replay(alloc)?)
+/// The values of the options of `replay`, as texts.
+#[derive(Clone, Copy, Debug, PartialEq, Eq)]
+pub struct ReplayTexts<'m, 'a> {
+    /// At most one host of each family: an IPv4 address in dotted decimal form without leading zeros, and an IPv6 address
+    /// without brackets. A family of which one is given is served.
+    pub announce: &'m [&'a str],
+    /// A path of 1 to 107 bytes, without control characters and quotes.
+    pub local: Option<&'a str>,
+    /// A number of 64 bits, as the next two; which of them are good limits is for the core.
+    pub conns: &'a str,
+    /// The most rows.
+    pub rows: &'a str,
+    /// The most forwarded calls at a time.
+    pub forwards: &'a str,
+    /// From 1 to 65535.
+    pub port: &'a str,
+    /// The xid of the first forwarded call, of 32 bits.
+    pub xid: &'a str,
+    /// The first moment, in milliseconds since the start of 1970.
+    pub moment: &'a str,
+    /// `all` or `local`.
+    pub udp_lists: &'a str,
+    /// `any`, `all` or `local`.
+    pub forward_for: &'a str,
+    /// Whether `--steps` is given.
+    pub steps: bool,
 }
 
-fn serve<'a>(alloc: Global) -> Result<Command<'a>, AllocError> {
-    let bind = option(
-        alloc,
-        "bind",
-        "HOST",
-        "Address to listen on over TCP and UDP, 0.0.0.0 for all of IPv4, :: for all; may be given up to 16 times",
-    )
-    .action(ArgAction::Append)
-    .default_value(serve_default(Valued::Bind(0)));
-    let command = Command::new(alloc, "serve")
-        .version(VERSION)
-        .about("Listens over TCP and UDP, and serves until it is stopped")
-        .arg(bind)?
-        .arg(from(alloc))?
-        .arg(announce(
-            alloc,
-            "Address that answers show for 0.0.0.0 or :: where none was asked, once for each family [default: the first --bind]",
-        ))?;
-    let command = besides(alloc, command)?;
-    let command = recorded(alloc, command)?;
-    let command = kept(alloc, command)?;
-    let command = limited(
-        alloc,
-        command,
-        serve_default(Valued::Port),
-        serve_default(Valued::Conns),
-        serve_default(Valued::Rows),
-        serve_default(Valued::Forwards),
-    )?;
-    let command = on_terms(alloc, command)?;
-    command.arg(option(
-        alloc,
-        "turns",
-        "N",
-        "End after N turns of at most 100 milliseconds; 0 never ends",
-    )
-    .default_value(serve_default(Valued::Turns)))
+/// A number of 64 bits in decimal digits alone, leading zeros allowed. A sign is no digit.
+pub(crate) fn number(option: Valued, text: &str) -> Result<u64, Valued>
+    ensures { result ≡ value_of option (number_below (2 ^ 64) text.now) }
+{
+    number_below(text.as_bytes()).ok_or(option)
 }
 
-/// On which terms `serve` serves.
-fn on_terms<'a>(alloc: Global, command: Command<'a>) -> Result<Command<'a>, AllocError> {
-    command
-        .arg(option(alloc, "udp-lists", "WHOM", UDP_LISTS).default_value(serve_default(
-            Valued::UdpLists,
-        )))?
-        .arg(option(
-            alloc,
-            "forward-for",
-            "WHOM",
-            "For whom calls are forwarded where --forwards is above 0: local, for this machine alone, or all",
-        )
-        .default_value(serve_default(Valued::ForwardFor)))?
-        .arg(option(
-            alloc,
-            "udp-rate",
-            "N[,M]",
-            "Most datagrams a second, 1 to 1000, that are served of one network of others, IPv4 /24 or IPv6 /56, and of one host [default: any number]",
-        ))
+/// A host of IPv4 or IPv6, none of IPv4 in IPv6's form.
+pub(crate) fn read_host(option: Valued, text: &str) -> Result<Host, Valued>
+    ensures { result ≡ value_of option (plain_host_of text.now) }
+{
+    Host::read(text.as_bytes()).ok_or(option)
 }
 
-/// Whom `serve` serves.
-fn from<'a>(alloc: Global) -> Arg<'a> {
-    option(
-        alloc,
-        "from",
-        "NETWORK",
-        "Serve hosts of this network alone, as 192.0.2.0/24, beside the loopback and the local socket; may be given up to 16 times",
-    )
-    .action(ArgAction::Append)
+/// The announced hosts and one more, of a family that has none yet.
+fn with_host(announced: Announced, host: Host) -> Option<Announced>
+    ensures { result ≡ with_host announced host }
+{
+    match host {
+        Host::V4(octets) => {
+            if announced.inet.is_some() {
+                return None;
+            }
+            Some(Announced {
+                inet: Some(octets),
+                inet6: announced.inet6,
+            })
+        }
+        Host::V6(octets) => {
+            if announced.inet6.is_some() {
+                return None;
+            }
+            Some(Announced {
+                inet: announced.inet,
+                inet6: Some(octets),
+            })
+        }
+    }
 }
 
-/// What `serve` listens on besides.
-fn besides<'a>(alloc: Global, command: Command<'a>) -> Result<Command<'a>, AllocError> {
-    let loopback6 = Arg::new(alloc, "loopback6")
-        .long("loopback6")
-        .help("Listen on ::1 too, as with --bind ::1")
-        .action(ArgAction::SetTrue);
-    let believe_claims = Arg::new(alloc, "believe-claims")
-        .long("believe-claims")
-        .help(
-            "Believe credentials of callers from the loopback, the announced addresses and the local socket",
-        )
-        .action(ArgAction::SetTrue);
-    command
-        .arg(option(
-            alloc,
-            "local",
-            "PATH",
-            "Listen on a stream socket at PATH too",
-        ))?
-        .arg(option(
-            alloc,
-            "local-mode",
-            "MODE",
-            "Mode of the local socket's file, in octal digits; its callers are root where that lets in root alone",
-        )
-        .default_value(serve_default(Valued::LocalMode)))?
-        .arg(loopback6)?
-        .arg(believe_claims)
+/// The announced hosts and that of `--announce` at a place.
+fn announce_at(place: usize, announced: Announced, text: &str) -> Result<Announced, Valued>
+    ensures { result ≡ announce_at place announced text.now }
+{
+    let host = read_host(Valued::Announce(place), text)?;
+    with_host(announced, host).ok_or(Valued::Announce(place))
 }
 
-/// Where `serve` records its events.
-fn recorded<'a>(alloc: Global, command: Command<'a>) -> Result<Command<'a>, AllocError> {
-    command
-        .arg(option(
-            alloc,
-            "record",
-            "FILE",
-            "Record events and what each gives in FILE, for 'replay --check'",
-        ))?
-        .arg(option(
-            alloc,
-            "record-limit",
-            "N",
-            "Most bytes of the record, 1000 to 16777216; it takes as much memory",
-        )
-        .default_value(serve_default(Valued::RecordLimit)))
+/// The announced hosts: at most one of each family.
+pub(crate) fn read_announced(texts: &[&str]) -> Result<Announced, Valued>
+    ensures { result ≡ announced_of texts.now }
+{
+    match texts {
+        [] => Ok(UNANNOUNCED),
+        [text] => announce_at(0, UNANNOUNCED, text),
+        [first, second] => {
+            let one = announce_at(0, UNANNOUNCED, first)?;
+            announce_at(1, one, second)
+        }
+        [first, second, ..] => {
+            let one = announce_at(0, UNANNOUNCED, first)?;
+            let _both = announce_at(1, one, second)?;
+            Err(Valued::Announce(2))
+        }
+    }
 }
 
-/// What `serve` keeps over a restart, and what it tells while it serves.
-fn kept<'a>(alloc: Global, command: Command<'a>) -> Result<Command<'a>, AllocError> {
-    let keep_check = Arg::new(alloc, "keep-check")
-        .long("keep-check")
-        .help("Leave out kept rows of this host at whose port nobody answers")
-        .requires_arg("keep")?
-        .action(ArgAction::SetTrue);
-    command
-        .arg(option(
-            alloc,
-            "keep",
-            "FILE",
-            "Keep the rows in FILE, and set those that are in it at the start",
-        ))?
-        .arg(keep_check)?
-        .arg(option(
-            alloc,
-            "log",
-            "WHAT",
-            "Tell on standard error of changes: changes, or of refused calls and closed connections too: all [default: nothing]",
-        ))
+/// Whether each byte may stand in the path of a local socket: no control character, and no quote, so that the path can
+/// stand in quotes in a line.
+fn is_quotable(text: &str) -> bool
+    ensures { result ≡ list_all is_quotable text.now }
+{
+    text.bytes().all(|b| b >= 32 && b != b'\'')
 }
 
-fn replay<'a>(alloc: Global) -> Result<Command<'a>, AllocError> {
-    let command = Command::new(alloc, "replay")
-        .version(VERSION)
-        .about("Runs event lines of standard input, without sockets, and prints what each gives")
-        .arg(announce(
-            alloc,
-            "Address that answers show for 0.0.0.0 or :: where none was asked; each family of which one is given is served",
-        )
-        .default_value("192.0.2.1"))?
-        .arg(option(
-            alloc,
-            "local",
-            "PATH",
-            "Path of the local socket that answers show",
-        ))?;
-    let steps = Arg::new(alloc, "steps")
-        .long("steps")
-        .help("Tell in a last line how many counted steps the run took, and how many it may")
-        .action(ArgAction::SetTrue);
-    let check = Arg::new(alloc, "check")
-        .long("check")
-        .help(
-            "Compare what each event gives with the '#> ' lines of the input, and print no outputs",
-        )
-        .conflicts_with("steps")?
-        .action(ArgAction::SetTrue);
-    limited(alloc, command, "111", "4", "300", "4")?
-        .arg(check)?
-        .arg(steps)?
-        .arg(option(alloc, "xid", "N", "Xid of the first forwarded call").default_value("1000"))?
-        .arg(option(
-            alloc,
-            "now",
-            "MS",
-            "First moment, in milliseconds since the start of 1970",
-        )
-        .default_value("0"))?
-        .arg(option(alloc, "udp-lists", "WHOM", UDP_LISTS).default_value("all"))?
-        .arg(option(
-            alloc,
-            "forward-for",
-            "WHOM",
-            "For whom calls are forwarded: any, to other hosts too; all; or local, for this machine alone",
-        )
-        .default_value("any"))
+/// The path of the local socket. One of no bytes or of more than 107 names no socket.
+pub(crate) fn read_local<'a>(text: Option<&'a str>) -> Result<Option<&'a str>, Valued>
+    ensures { result ≡ read_local text.entry }
+{
+    let Some(path) = text else {
+        return Ok(None);
+    };
+    if path.is_empty() || path.len() > LONGEST_PATH || !is_quotable(path) {
+        return Err(Valued::Local);
+    }
+    Ok(Some(path))
 }
 
-fn announce<'a>(alloc: Global, help: &'a str) -> Arg<'a> {
-    option(alloc, "announce", "HOST", help).action(ArgAction::Append)
+/// The same, as the address of the local socket.
+fn read_local_address(text: Option<&str>) -> Result<Option<AddressText>, Valued>
+    ensures { result ≡ local_address text.entry }
+{
+    let Some(path) = read_local(text)? else {
+        return Ok(None);
+    };
+    Ok(Some(AddressText::new(path.as_bytes())))
 }
 
-/// The options that both commands have. The defaults are those of `--port`, `--conns`, `--rows` and `--forwards`.
-fn limited<'a>(
-    alloc: Global,
-    command: Command<'a>,
-    port: &'a str,
-    conns: &'a str,
-    rows: &'a str,
-    forwards: &'a str,
-) -> Result<Command<'a>, AllocError> {
-    command
-        .arg(option(alloc, "port", "PORT", "TCP and UDP port, 1 to 65535").default_value(port))?
-        .arg(option(
-            alloc,
-            "conns",
-            "N",
-            "Most TCP connections at a time, 1 to 256",
-        )
-        .default_value(conns))?
-        .arg(option(
-            alloc,
-            "rows",
-            "N",
-            "Most rows, to 4096; at least two more than those of the portmapper",
-        )
-        .default_value(rows))?
-        .arg(option(
-            alloc,
-            "forwards",
-            "N",
-            "Most forwarded calls at a time, 0 to 64",
-        )
-        .default_value(forwards))
+/// A number of 32 bits.
+#[tactic(auto, unfolding(rb_address::specs::Reading::number_below))]
+fn number32(option: Valued, text: &str) -> Result<u32, Valued>
+    ensures { result ≡ value_of option (number_below (2 ^ 32) text.now) }
+{
+    let n = number(option, text)?;
+    if n < 0x1_0000_0000 {
+        Ok(n as u32)
+    } else {
+        Err(option)
+    }
+}
+
+/// A port from 1 to 65535. `Port` where the text is none.
+#[tactic(auto, unfolding(rb_address::specs::Reading::number_below))]
+pub(crate) fn read_port(text: &str) -> Result<u16, Valued>
+    ensures { result ≡ value_of Valued.Port (port text.now) }
+{
+    let n = number(Valued::Port, text)?;
+    if 1 <= n && n < 0x1_0000 {
+        Ok(n as u16)
+    } else {
+        Err(Valued::Port)
+    }
+}
+
+/// Limits, whatever their ranges. The first option whose text is no number of 64 bits where one is none.
+pub(crate) fn read_limits(conns: &str, rows: &str, forwards: &str) -> Result<Limits, Valued>
+    ensures { result ≡ limits_of conns.now rows.now forwards.now }
+{
+    let conns = number(Valued::Conns, conns)?;
+    let rows = number(Valued::Rows, rows)?;
+    let forwards = number(Valued::Forwards, forwards)?;
+    Ok(Limits {
+        conns: conns as usize,
+        rows: rows as usize,
+        forwards: forwards as usize,
+    })
+}
+
+/// Whether a reply over UDP may be long to whomever: `all`, or `local`, where it may be to callers of this machine alone.
+pub(crate) fn read_udp_lists(text: &str) -> Result<bool, Valued>
+    ensures { result ≡ value_of Valued.UdpLists (udp_lists text.now) }
+{
+    match text {
+        "all" => Ok(true),
+        "local" => Ok(false),
+        _ => Err(Valued::UdpLists),
+    }
+}
+
+/// For whom calls are forwarded by `serve`: `all`, or `local`, for callers of this machine alone.
+pub(crate) fn read_forward_for(text: &str) -> Result<Forwarding, Valued>
+    ensures { result ≡ value_of Valued.ForwardFor (forward_for text.now) }
+{
+    match text {
+        "all" => Ok(Forwarding::ForAll),
+        "local" => Ok(Forwarding::ForLocal),
+        _ => Err(Valued::ForwardFor),
+    }
+}
+
+/// The same of `replay`, which also has `any`: for whomever, to programs of other hosts too.
+fn read_forwarding(text: &str) -> Result<Forwarding, Valued>
+    ensures { result ≡ value_of Valued.ReplayForwardFor (forwarding_of text.now) }
+{
+    match text {
+        "any" => Ok(Forwarding::Anywhere),
+        "all" => Ok(Forwarding::ForAll),
+        "local" => Ok(Forwarding::ForLocal),
+        _ => Err(Valued::ReplayForwardFor),
+    }
+}
+
+/// What a replay begins with, or the first option whose value can't be read, in the order of the fields.
+pub fn read_beginning(texts: &ReplayTexts<'_, '_>) -> Result<Beginning, Valued>
+    ensures { result ≡ beginning_of texts.now }
+{
+    let announced = read_announced(texts.announce)?;
+    let local = read_local_address(texts.local)?;
+    let limits = read_limits(texts.conns, texts.rows, texts.forwards)?;
+    let port = read_port(texts.port)?;
+    let first_xid = number32(Valued::Xid, texts.xid)?;
+    let moment = number(Valued::Now, texts.moment)?;
+    let long_replies = read_udp_lists(texts.udp_lists)?;
+    let forwarding = read_forwarding(texts.forward_for)?;
+    Ok(Beginning {
+        limits,
+        listener: Listener {
+            announced,
+            port,
+            local,
+            terms: Terms {
+                long_replies,
+                forwarding,
+            },
+        },
+        first_xid,
+        moment,
+        steps: texts.steps,
+    })
 }

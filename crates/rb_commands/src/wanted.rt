@@ -2,7 +2,8 @@
 ghost use Rattle.std.specs.Prelude.{◌≡◌};
 ghost use Rattle.rb_commands.specs.Wanted.{option_name, wanted_text, announced_text, bound_text, served_text};
 
-use rb_lines::{MOST_HOSTS, MOST_NETWORKS, Valued};
+use crate::options::Valued;
+use rb_sockets::MOST;
 use std::fmt;
 use std::fmt::{Display, Formatter};
 
@@ -106,7 +107,7 @@ fn announced_text(place: usize) -> &'static str
 fn bound_text(place: usize) -> &'static str
     ensures { result.now ≡ bound_text place }
 {
-    if place < MOST_HOSTS {
+    if place < MOST {
         ADDRESS
     } else {
         "no more than 16 addresses"
@@ -116,7 +117,7 @@ fn bound_text(place: usize) -> &'static str
 fn served_text(place: usize) -> &'static str
     ensures { result.now ≡ served_text place }
 {
-    if place < MOST_NETWORKS {
+    if place < MOST {
         NETWORK
     } else {
         "no more than 16 networks"

@@ -57,7 +57,7 @@ impl<'a, R: Clock> Daemon<'a, R> {
             alloc,
             limits,
             listener,
-            settings.record,
+            settings.record_limit,
             settings.log,
             read_clocks(clock),
         )?;
@@ -68,7 +68,7 @@ impl<'a, R: Clock> Daemon<'a, R> {
             Ok(poll) => poll,
             Err(error) => return Err(DaemonFault::Socket(Step::Prepare.failed(error))),
         };
-        let sockets = match Sockets::bind(alloc, host, &settings.addresses()) {
+        let sockets = match Sockets::bind(alloc, host, settings) {
             Ok(sockets) => sockets,
             Err(BindFault::Memory(error)) => return Err(DaemonFault::Memory(error)),
             Err(BindFault::Socket(fault)) => return Err(DaemonFault::Socket(fault)),
@@ -226,7 +226,7 @@ fn places_of(settings: &Settings<'_>, sockets: &Sockets) -> (usize, Option<Short
     let limit = settings.open_files;
     let others = sockets
         .count_descriptors()
-        .saturating_add(u64::from(settings.record > 0))
+        .saturating_add(u64::from(settings.record_limit > 0))
         .saturating_add(TABLE);
     let places = place_count(asked, limit, others);
     if places == asked {

@@ -5,6 +5,5 @@ pub mod Words
 pub mod HexWords
 pub mod LineWords
 pub mod Recorded
-pub mod Binds
 pub mod Written
 pub mod OnLiterals

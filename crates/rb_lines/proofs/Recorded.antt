@@ -43,7 +43,7 @@ use Rattle.rb_lines.specs.Lines.Line.{Skipped, Happens}
 use Rattle.rb_lines.specs.LineLaws.{event_in, has_bad}
 use Rattle.rb_lines.specs.LineGrammar.{Spells, SpellsNumber, SpellsByte, SpellsBytes, SpellsHex, ◌␣◌, SpellsEvent}
 use Rattle.rb_lines.specs.OutputLines.{output_line_in, output_lines_in, output_lines}
-use Rattle.rb_lines.specs.Options.{is_quotable, is_path}
+use Rattle.rb_lines.specs.Paths.{is_quotable, is_path}
 use Rattle.rb_lines.specs.RecordLaws.{Fits, AreBytes, HasLine, HasPath, ReadsAs, RecordsAreRead, EndedRecordsAreRead}
 use Rattle.rb_lines.proofs.LineLaws.{reads_the_events}
 use Rattle.rb_lines.proofs.LineWords.{line_of, skipped_say_nothing}

@@ -8,5 +8,4 @@ pub mod LineLaws
 pub mod LineGrammar
 pub mod OutputLines
 pub mod RecordLaws
-pub mod Options
-pub mod Serving
+pub mod Paths

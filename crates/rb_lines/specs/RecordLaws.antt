@@ -11,7 +11,7 @@ use Rattle.rb_model.specs.Step.Event.{Datagram, Open, Bytes, Pending, Gave, Clos
 use Rattle.rb_record.specs.Entries.{run_entries, run_text, options_text}
 use Rattle.rb_record.specs.Tapes.{HasFirst}
 use Rattle.rb_lines.specs.Lines.{longest_input, read}
-use Rattle.rb_lines.specs.Options.{is_path}
+use Rattle.rb_lines.specs.Paths.{is_path}
 use Rattle.rb_lines.specs.OutputLines.{output_lines_in, output_lines}
 
 -- ---- what has a line: numbers of 64 bits, bytes, callers and peers

@@ -24,9 +24,10 @@ use Rattle.rb_proto.specs.declared.listener.Announced.{Announced}
 use Rattle.rb_proto.specs.declared.listener.Forwarding.{Forwarding}
 use Rattle.rb_proto.specs.declared.listener.Forwarding.TheVariants.{Anywhere, ForAll, ForLocal}
 use Rattle.rb_names.specs.Services.{borrowed_texts}
-use Rattle.rb_lines.specs.declared.options.Valued.{Valued}
-use Rattle.rb_lines.specs.declared.options.Valued.TheVariants.{Announce, Local}
-use Rattle.rb_lines.specs.Options.{◌>>=◌, value_of, unannounced, with_host, announce_at, announced_of, is_quotable, is_path, read_local, local_address, unless_zero, port, udp_lists, forwarding_of}
+use Rattle.rb_lines.specs.Paths.{is_quotable, is_path}
+use Rattle.rb_commands.specs.declared.options.Valued.{Valued}
+use Rattle.rb_commands.specs.declared.options.Valued.TheVariants.{Announce, Local}
+use Rattle.rb_commands.specs.Options.{◌>>=◌, value_of, unannounced, with_host, announce_at, announced_of, read_local, local_address, unless_zero, port, udp_lists, forwarding_of}
 use Rattle.rb_promises.specs.WordForms.{SpellsWithin, SpellsPort, MayHave}
 use Rattle.rb_promises.specs.OptionTexts.{SpellsInet6, SpellsHost, SpellEach, hosts_of_families, Announces, IsSocketPath, SpellsPath, lists_text, whom_text}
 

@@ -2,11 +2,11 @@
 use Rattle.std.proofs.Common.{◌≡◌, ◌<◌, ◌-◌, ◌^◌, ℕ, List, Ok, refl, sym, ap, subst, lit<}
 use Rattle.rb_address.specs.Reading.{number_below}
 use Rattle.rb_model.specs.declared.types.Limits.{Limits}
-use Rattle.rb_lines.specs.declared.options.Beginning.{Beginning}
-use Rattle.rb_lines.specs.declared.options.ReplayTexts.{ReplayTexts}
-use Rattle.rb_lines.specs.declared.options.Valued.{Valued}
-use Rattle.rb_lines.specs.declared.options.Valued.TheVariants.{Conns, Rows, Forwards, UdpLists, ReplayForwardFor, Port, Xid, Now}
-use Rattle.rb_lines.specs.Options.{value_of, announced_of, local_address, limits_of, port, udp_lists, forwarding_of, beginning_of}
+use Rattle.rb_lines.specs.declared.beginning.Beginning.{Beginning}
+use Rattle.rb_commands.specs.declared.options.ReplayTexts.{ReplayTexts}
+use Rattle.rb_commands.specs.declared.options.Valued.{Valued}
+use Rattle.rb_commands.specs.declared.options.Valued.TheVariants.{Conns, Rows, Forwards, UdpLists, ReplayForwardFor, Port, Xid, Now}
+use Rattle.rb_commands.specs.Options.{value_of, announced_of, local_address, limits_of, port, udp_lists, forwarding_of, beginning_of}
 use Rattle.rb_promises.specs.WordForms.{SpellsWithin}
 use Rattle.rb_promises.specs.OptionTexts.{SpellsLong}
 use Rattle.rb_promises.specs.ReplayOptions.{IsBeginning, BeginningsAreSpelled}

@@ -1,24 +1,24 @@
--- Which values of the options of `serve` give which service.
+-- What the values of the options of `serve` ask for.
 use Rattle.std.specs.Prelude.{option_map}
 use Rattle.std.specs.Borrow.{Bor}
 use Rattle.std.proofs.Common.{◌≡◌, ◌≢◌, ◌<◌, ◌≤◌, ◌+◌, ◌^◌, ℕ, Bool, true, false, cond, eqb, List, length, Option, Some, None, Result, Ok, Err, refl, sym, ap, subst, ◌∙◌, arith, lit<}
 use Rattle.std.proofs.lemmas.Bool.{eqb-false, ne_eqb}
-use Rattle.rb_address.specs.declared.host.Host.{Host}
-use Rattle.rb_address.specs.declared.network.Network.{Network}
 use Rattle.rb_address.specs.Reading.{number_below}
-use Rattle.rb_proto.specs.declared.listener.Announced.{Announced}
 use Rattle.rb_proto.specs.declared.listener.Forwarding.TheVariants.{Anywhere}
 use Rattle.rb_proto.specs.declared.listener.Terms.{Terms}
-use Rattle.rb_lines.specs.declared.options.Valued.{Valued}
-use Rattle.rb_lines.specs.declared.options.Valued.TheVariants.{LocalMode, Port, UdpLists, ForwardFor, Turns, RecordLimit}
-use Rattle.rb_lines.specs.declared.options.Valued.TheVariants as valueds
-use Rattle.rb_lines.specs.declared.serving.Keep as kept
-use Rattle.rb_lines.specs.declared.serving.Record.{Record}
-use Rattle.rb_lines.specs.declared.serving.ServeTexts.{ServeTexts}
-use Rattle.rb_lines.specs.Options.{value_of, announced_of, is_path, read_local, limits_of, port, udp_lists, forward_for}
-use Rattle.rb_lines.specs.Serving.{hosts_from, networks_from, read_mode, udp_rate, terms_of, record_limit, keep_of, log_of, Service, rest_of, service_of}
-use Rattle.rb_promises.specs.OptionTexts.{IsSocketPath, lists_text, whom_text}
-use Rattle.rb_promises.specs.ServeOptions.{WhereGiven, IsService, ServicesAreSpelled}
+use Rattle.rb_lines.specs.Paths.{is_path}
+use Rattle.rb_sockets.specs.declared.settings.LocalSocket.{LocalSocket}
+use Rattle.rb_sockets.specs.declared.settings.Settings.{Settings}
+use Rattle.rb_commands.specs.declared.options.Valued.{Valued}
+use Rattle.rb_commands.specs.declared.options.Valued.TheVariants.{LocalMode, Port, UdpLists, ForwardFor, Turns, RecordLimit}
+use Rattle.rb_commands.specs.declared.options.Valued.TheVariants as valueds
+use Rattle.rb_commands.specs.declared.serving.ServeTexts.{ServeTexts}
+use Rattle.rb_commands.specs.declared.serving.Serve.{Serve}
+use Rattle.rb_commands.specs.Options.{value_of, announced_of, read_local, limits_of, port, udp_lists, forward_for}
+use Rattle.rb_commands.specs.Serving.{hosts_from, networks_from, read_mode, local_of, udp_rate, terms_of, record_limit, limit_at, recorded_of, keep_of, log_of, settings_of, serve_of}
+use Rattle.rb_promises.specs.OptionTexts.{IsSocketPath, SpellsMode, lists_text, whom_text}
+use Rattle.rb_promises.specs.WordForms.{SpellsWithin}
+use Rattle.rb_promises.specs.ServeOptions.{WhereGiven, RecordsUpTo, AreSettings, IsServe, ServicesAreSpelled}
 use Rattle.rb_promises.proofs.OptionValues.{bound, followed, same_Ok, valued, port_is, port_of, announced_is, announced_read, path_is, path_of, lists_is, lists_of}
 use Rattle.rb_promises.proofs.ReadBeginnings.{number_is, number_of, AreLimits, limits_are, limits_read}
 use Rattle.rb_promises.proofs.ServeValues.{hosts_are, hosts_read, networks_are, networks_read, mode_is, mode_of, between_is, between_of, udp_rate_is, udp_rate_of, served_is, served_of, log_is, log_read}
@@ -37,22 +37,74 @@ local_read : (option path : Option (Bor (List ℕ))) → path ≡ option → Whe
 local_read None path same p = ap Ok (sym same)
 local_read (Some text) path same p = rw (path_of text.now p) (ap Ok (sym same))
 
-abbrev keep_at : Bool → Option (Bor (List ℕ)) → Option kept.Keep
-keep_at is_checked option = option_map (λ path. record { path = path; is_checked = is_checked }) option
+abbrev socket_at : ℕ → Option (Bor (List ℕ)) → Option LocalSocket
+socket_at mode option = option_map (λ path. record { path = path; mode = mode }) option
 
-keep_is : (option : Option (Bor (List ℕ))) (is_checked : Bool) (keep : Option kept.Keep) → keep_of option is_checked ≡ Ok keep → (keep ≡ keep_at is_checked option) × WhereGiven (λ path. 0 < length path) option
-keep_is None is_checked keep h = (sym (same_Ok _ _ h), tt)
-keep_is (Some text) is_checked keep h = by (eqb (length text.now) 0) refl h
+record IsSocket (option : Option (Bor (List ℕ))) (text : List ℕ) (socket : Option LocalSocket) : Type 0 where
+  mode : ℕ
+  spelled : SpellsMode mode text
+  made : socket ≡ socket_at mode option
+  path : WhereGiven IsSocketPath option
+
+socket_is : (option : Option (Bor (List ℕ))) (text : List ℕ) (socket : Option LocalSocket) → local_of option text ≡ Ok socket → IsSocket option text socket
+socket_is option text socket h =
+    let (path, read1, rest) = bound (read_local option) _ socket h in
+    let (bits, read2, made) = bound (value_of LocalMode (read_mode text)) _ socket rest in
+    let (same, held) = local_kept option path read1 in
+    record {
+      mode = bits;
+      spelled = mode_is text bits (valued LocalMode (read_mode text) bits read2);
+      made = sym (same_Ok _ _ made) ∙ ap (socket_at bits) same;
+      path = held;
+    }
+
+socket_read : (option : Option (Bor (List ℕ))) (text : List ℕ) (socket : Option LocalSocket) → IsSocket option text socket → local_of option text ≡ Ok socket
+socket_read option text socket s =
+    followed (read_local option) _ option socket (local_read option option refl s.path)
+    (followed (value_of LocalMode (read_mode text)) _ s.mode socket (ap (value_of LocalMode) (mode_of text s.mode s.spelled)) (ap Ok (sym s.made)))
+
+keep_is : (option keep : Option (Bor (List ℕ))) → keep_of option ≡ Ok keep → (keep ≡ option) × WhereGiven (λ path. 0 < length path) option
+keep_is None keep h = (sym (same_Ok _ _ h), tt)
+keep_is (Some text) keep h = by (eqb (length text.now) 0) refl h
   where
-    by : (b : Bool) → eqb (length text.now) 0 ≡ b → cond b (Err valueds.Keep) (Ok (keep_at is_checked (Some text))) ≡ Ok keep → (keep ≡ keep_at is_checked (Some text)) × (0 < length text.now)
+    by : (b : Bool) → eqb (length text.now) 0 ≡ b → cond b (Err valueds.Keep) (Ok (Some text)) ≡ Ok keep → (keep ≡ Some text) × (0 < length text.now)
     by true none h = absurd cc
     by false some h = let filled = eqb-false (length text.now) 0 some in (sym (same_Ok _ _ h), omega (arith, filled))
 
-keep_read : (option : Option (Bor (List ℕ))) (is_checked : Bool) (keep : Option kept.Keep) → keep ≡ keep_at is_checked option → WhereGiven (λ path. 0 < length path) option → keep_of option is_checked ≡ Ok keep
-keep_read None is_checked keep same p = ap Ok (sym same)
-keep_read (Some text) is_checked keep same p =
+keep_read : (option keep : Option (Bor (List ℕ))) → keep ≡ option → WhereGiven (λ path. 0 < length path) option → keep_of option ≡ Ok keep
+keep_read None keep same p = ap Ok (sym same)
+keep_read (Some text) keep same p =
     let some : eqb (length text.now) 0 ≡ false = ne_eqb (length text.now) 0 (λ e. omega (arith, e, p)) in
-    ap (λ (b : Bool). cond b (Err valueds.Keep) (Ok (keep_at is_checked (Some text)))) some ∙ ap Ok (sym same)
+    ap (λ (b : Bool). cond b (Err valueds.Keep) (Ok (Some text))) some ∙ ap Ok (sym same)
+
+-- ---- the record
+
+limit_is : (bytes limit : ℕ) (option : Option (Bor (List ℕ))) → limit_at limit option ≡ bytes → RecordsUpTo bytes limit option
+limit_is bytes limit None h = sym h
+limit_is bytes limit (Some path) h = sym h
+
+limit_of : (bytes limit : ℕ) (option : Option (Bor (List ℕ))) → RecordsUpTo bytes limit option → limit_at limit option ≡ bytes
+limit_of bytes limit None h = sym h
+limit_of bytes limit (Some path) h = sym h
+
+record IsRecorded (option : Option (Bor (List ℕ))) (text : List ℕ) (bytes : ℕ) : Type 0 where
+  limit : ℕ
+  spelled : SpellsWithin 1000 16777216 limit text
+  made : RecordsUpTo bytes limit option
+
+recorded_is : (option : Option (Bor (List ℕ))) (text : List ℕ) (bytes : ℕ) → recorded_of option text ≡ Ok bytes → IsRecorded option text bytes
+recorded_is option text bytes h =
+    let (limit, read, made) = bound (value_of RecordLimit (record_limit text)) _ bytes h in
+    record {
+      limit = limit;
+      spelled = between_is 1000 16777216 limit text (valued RecordLimit (record_limit text) limit read);
+      made = limit_is bytes limit option (same_Ok _ _ made);
+    }
+
+recorded_read : (option : Option (Bor (List ℕ))) (text : List ℕ) (bytes : ℕ) → IsRecorded option text bytes → recorded_of option text ≡ Ok bytes
+recorded_read option text bytes r =
+    followed (value_of RecordLimit (record_limit text)) _ r.limit bytes (ap (value_of RecordLimit) (between_of 1000 16777216 r.limit text (lit< tt) r.spelled))
+    (ap Ok (limit_of bytes r.limit option r.made))
 
 -- ---- the terms
 
@@ -74,93 +126,102 @@ terms_read lists whom terms a =
     followed (value_of UdpLists (udp_lists lists)) _ terms.long_replies terms (ap (value_of UdpLists) (lists_of lists terms.long_replies a.long))
     (followed (value_of ForwardFor (forward_for whom)) _ terms.forwarding terms (ap (value_of ForwardFor) (served_of whom terms.forwarding a.served)) refl)
 
--- ---- the service
+-- ---- the settings
 
 from_start : (n : ℕ) → 0 + n ≤ 16 → n ≤ 16
 from_start n few = omega (arith, few)
 
-abbrev recorded_at : ℕ → Option (Bor (List ℕ)) → Option Record
-recorded_at limit option = option_map (λ path. record { path = path; limit = limit }) option
-
-rest_is : (texts : ServeTexts) (given : Announced) (hosts : List Host) (networks : List Network) (service : Service) → announced_of texts.announce.now ≡ Ok given → hosts_from 0 texts.bind.now ≡ Ok hosts → networks_from 0 texts.from.now ≡ Ok networks
-    → rest_of given hosts networks texts ≡ Ok service → IsService texts service
-rest_is texts given hosts networks service is_given are_hosts are_networks h =
-    let (path, read1, rest1) = bound (read_local texts.local) _ service h in
-    let (bits, read2, rest2) = bound (value_of LocalMode (read_mode texts.local_mode.now)) _ service rest1 in
-    let (listens, read3, rest3) = bound (value_of Port (port texts.port.now)) _ service rest2 in
-    let (most, read4, rest4) = bound (limits_of texts.conns.now texts.rows.now texts.forwards.now) _ service rest3 in
-    let (terms, read5, rest5) = bound (terms_of texts.udp_lists.now texts.forward_for.now) _ service rest4 in
-    let (rate, read6, rest6) = bound (udp_rate texts.udp_rate) _ service rest5 in
-    let (ends, read7, rest7) = bound (value_of Turns (number_below (2 ^ 64) texts.turns.now)) _ service rest6 in
-    let (bytes, read8, rest8) = bound (value_of RecordLimit (record_limit texts.record_limit.now)) _ service rest7 in
-    let (keeps, read9, rest9) = bound (keep_of texts.keep texts.keep_check) _ service rest8 in
-    let (tells, read10, made) = bound (log_of texts.log) _ service rest9 in
-    let placed = hosts_are texts.bind.now hosts are_hosts in
-    let within = networks_are texts.from.now networks are_networks in
-    let (local, local_path) = local_kept texts.local path read1 in
-    let limits = limits_are texts.conns.now texts.rows.now texts.forwards.now most read4 in
-    let on = terms_are texts.udp_lists.now texts.forward_for.now terms read5 in
-    let (keep, keep_path) = keep_is texts.keep texts.keep_check keeps read9 in
-    subst (IsService texts) (same_Ok _ _ made) (record {
-      hosts = placed.each;
+settings_are : (open_files : ℕ) (texts : ServeTexts) (settings : Settings) → settings_of open_files texts ≡ Ok settings → AreSettings open_files texts settings
+settings_are open_files texts settings h =
+    let (given, read1, rest1) = bound (announced_of texts.announce.now) _ settings h in
+    let (hosts, read2, rest2) = bound (hosts_from 0 texts.bind.now) _ settings rest1 in
+    let (networks, read3, rest3) = bound (networks_from 0 texts.from.now) _ settings rest2 in
+    let (socket, read4, rest4) = bound (local_of texts.local texts.local_mode.now) _ settings rest3 in
+    let (listens, read5, rest5) = bound (value_of Port (port texts.port.now)) _ settings rest4 in
+    let (most, read6, rest6) = bound (limits_of texts.conns.now texts.rows.now texts.forwards.now) _ settings rest5 in
+    let (terms, read7, rest7) = bound (terms_of texts.udp_lists.now texts.forward_for.now) _ settings rest6 in
+    let (rate, read8, rest8) = bound (udp_rate texts.udp_rate) _ settings rest7 in
+    let (bytes, read9, rest9) = bound (recorded_of texts.record_path texts.record_limit.now) _ settings rest8 in
+    let (keeps, read10, rest10) = bound (keep_of texts.keep) _ settings rest9 in
+    let (tells, read11, made) = bound (log_of texts.log) _ settings rest10 in
+    let placed = hosts_are texts.bind.now hosts read2 in
+    let within = networks_are texts.from.now networks read3 in
+    let local = socket_is texts.local texts.local_mode.now socket read4 in
+    let limits = limits_are texts.conns.now texts.rows.now texts.forwards.now most read6 in
+    let on = terms_are texts.udp_lists.now texts.forward_for.now terms read7 in
+    let recorded = recorded_is texts.record_path texts.record_limit.now bytes read9 in
+    let (keep, keep_path) = keep_is texts.keep keeps read10 in
+    subst (AreSettings open_files texts) (same_Ok _ _ made) (record {
+      bind = placed.each;
       few_hosts = from_start (length texts.bind.now) placed.few;
-      networks = within.each;
+      from = within.each;
       few_networks = from_start (length texts.from.now) within.few;
       loopback6 = refl;
-      local = local;
-      local_path = local_path;
-      local_mode = mode_is texts.local_mode.now bits (valued LocalMode (read_mode texts.local_mode.now) bits read2);
+      mode = local.mode;
+      local_mode = local.spelled;
+      local = local.made;
+      local_path = local.path;
       believe_claims = refl;
-      announce = announced_is texts.announce.now given is_given;
-      port = port_is texts.port.now listens (valued Port (port texts.port.now) listens read3);
+      announce = announced_is texts.announce.now given read1;
+      port = port_is texts.port.now listens (valued Port (port texts.port.now) listens read5);
       conns = limits.conns_are;
       rows = limits.rows_are;
       forwards = limits.forwards_are;
       udp_lists = on.long;
       forward_for = on.served.0;
       not_anywhere = on.served.1;
-      udp_rate = udp_rate_is texts.udp_rate rate read6;
-      turns = number_is (2 ^ 64) Turns texts.turns.now ends (lit< tt) read7;
-      limit = bytes;
-      record_limit = between_is 1000 16777216 bytes texts.record_limit.now (valued RecordLimit (record_limit texts.record_limit.now) bytes read8);
-      recorded = refl;
+      udp_rate = udp_rate_is texts.udp_rate rate read8;
+      limit = recorded.limit;
+      record_limit = recorded.spelled;
+      recorded = recorded.made;
       keep = keep;
       keep_path = keep_path;
-      log = log_is texts.log tells read10;
+      log = log_is texts.log tells read11;
+      of_files = refl;
     })
 
-service_is : (texts : ServeTexts) (service : Service) → service_of texts ≡ Ok service → IsService texts service
-service_is texts service h =
-    let (given, read1, rest1) = bound (announced_of texts.announce.now) _ service h in
-    let (hosts, read2, rest2) = bound (hosts_from 0 texts.bind.now) _ service rest1 in
-    let (networks, read3, rest3) = bound (networks_from 0 texts.from.now) _ service rest2 in
-    rest_is texts given hosts networks service read1 read2 read3 rest3
+settings_read : (open_files : ℕ) (texts : ServeTexts) (settings : Settings) → AreSettings open_files texts settings → settings_of open_files texts ≡ Ok settings
+settings_read open_files texts settings s =
+    let limits : AreLimits texts.conns.now texts.rows.now texts.forwards.now settings.limits = record { conns_are = s.conns; rows_are = s.rows; forwards_are = s.forwards } in
+    let on : AreTerms texts.udp_lists.now texts.forward_for.now settings.terms = record { long = s.udp_lists; served = (s.forward_for, s.not_anywhere) } in
+    let local : IsSocket texts.local texts.local_mode.now settings.local = record { mode = s.mode; spelled = s.local_mode; made = s.local; path = s.local_path } in
+    let recorded : IsRecorded texts.record_path texts.record_limit.now settings.record_limit = record { limit = s.limit; spelled = s.record_limit; made = s.recorded } in
+    let whole : ◌≡◌ {A = Result Settings Valued} (Ok (record settings { loopback6 = texts.loopback6; believe_claims = texts.believe_claims; open_files = open_files })) (Ok settings) =
+    ap (λ (b : Bool). Ok (record settings { loopback6 = b; believe_claims = texts.believe_claims; open_files = open_files })) (sym s.loopback6)
+    ∙ ap (λ (b : Bool). Ok (record settings { believe_claims = b; open_files = open_files })) (sym s.believe_claims)
+    ∙ ap (λ (n : ℕ). Ok (record settings { open_files = n })) (sym s.of_files) in
+    followed (announced_of texts.announce.now) _ settings.announce settings (announced_read texts.announce.now settings.announce s.announce)
+    (followed (hosts_from 0 texts.bind.now) _ settings.bind settings (hosts_read texts.bind.now settings.bind (record { each = s.bind; few = let few = s.few_hosts in omega (arith, few) }))
+    (followed (networks_from 0 texts.from.now) _ settings.from settings (networks_read texts.from.now settings.from (record { each = s.from; few = let few = s.few_networks in omega (arith, few) }))
+    (followed (local_of texts.local texts.local_mode.now) _ settings.local settings (socket_read texts.local texts.local_mode.now settings.local local)
+    (followed (value_of Port (port texts.port.now)) _ settings.port settings (ap (value_of Port) (port_of texts.port.now settings.port s.port))
+    (followed (limits_of texts.conns.now texts.rows.now texts.forwards.now) _ settings.limits settings (limits_read texts.conns.now texts.rows.now texts.forwards.now settings.limits limits)
+    (followed (terms_of texts.udp_lists.now texts.forward_for.now) _ settings.terms settings (terms_read texts.udp_lists.now texts.forward_for.now settings.terms on)
+    (followed (udp_rate texts.udp_rate) _ settings.udp_rate settings (udp_rate_of texts.udp_rate settings.udp_rate s.udp_rate)
+    (followed (recorded_of texts.record_path texts.record_limit.now) _ settings.record_limit settings (recorded_read texts.record_path texts.record_limit.now settings.record_limit recorded)
+    (followed (keep_of texts.keep) _ settings.keep settings (keep_read texts.keep settings.keep s.keep s.keep_path)
+    (followed (log_of texts.log) _ settings.log settings (log_read texts.log settings.log s.log) whole))))))))))
 
-rest_read : (texts : ServeTexts) (service : Service) → IsService texts service → rest_of service.announce service.hosts service.networks texts ≡ Ok service
-rest_read texts service s =
-    let limits : AreLimits texts.conns.now texts.rows.now texts.forwards.now service.limits = record { conns_are = s.conns; rows_are = s.rows; forwards_are = s.forwards } in
-    let on : AreTerms texts.udp_lists.now texts.forward_for.now service.terms = record { long = s.udp_lists; served = (s.forward_for, s.not_anywhere) } in
-    let taken = recorded_at s.limit texts.record_path in
-    let whole : ◌≡◌ {A = Result Service Valued} (Ok (record service { loopback6 = texts.loopback6; believe_claims = texts.believe_claims; recorded = taken })) (Ok service) =
-    ap (λ (b : Bool). Ok (record service { loopback6 = b; believe_claims = texts.believe_claims; recorded = taken })) (sym s.loopback6)
-    ∙ ap (λ (b : Bool). Ok (record service { believe_claims = b; recorded = taken })) (sym s.believe_claims)
-    ∙ ap (λ (r : Option Record). Ok (record service { recorded = r })) (sym s.recorded) in
-    followed (read_local texts.local) _ service.local service (local_read texts.local service.local s.local s.local_path)
-    (followed (value_of LocalMode (read_mode texts.local_mode.now)) _ service.local_mode service (ap (value_of LocalMode) (mode_of texts.local_mode.now service.local_mode s.local_mode))
-    (followed (value_of Port (port texts.port.now)) _ service.port service (ap (value_of Port) (port_of texts.port.now service.port s.port))
-    (followed (limits_of texts.conns.now texts.rows.now texts.forwards.now) _ service.limits service (limits_read texts.conns.now texts.rows.now texts.forwards.now service.limits limits)
-    (followed (terms_of texts.udp_lists.now texts.forward_for.now) _ service.terms service (terms_read texts.udp_lists.now texts.forward_for.now service.terms on)
-    (followed (udp_rate texts.udp_rate) _ service.udp_rate service (udp_rate_of texts.udp_rate service.udp_rate s.udp_rate)
-    (followed (value_of Turns (number_below (2 ^ 64) texts.turns.now)) _ service.turns service (number_of (2 ^ 64) Turns texts.turns.now service.turns (lit< tt) s.turns)
-    (followed (value_of RecordLimit (record_limit texts.record_limit.now)) _ s.limit service (ap (value_of RecordLimit) (between_of 1000 16777216 s.limit texts.record_limit.now (lit< tt) s.record_limit))
-    (followed (keep_of texts.keep texts.keep_check) _ service.keep service (keep_read texts.keep texts.keep_check service.keep s.keep s.keep_path)
-    (followed (log_of texts.log) _ service.log service (log_read texts.log service.log s.log) whole)))))))))
+-- ---- and what is beside them
 
-service_read : (texts : ServeTexts) (service : Service) → IsService texts service → service_of texts ≡ Ok service
-service_read texts service s =
-    followed (announced_of texts.announce.now) _ service.announce service (announced_read texts.announce.now service.announce s.announce)
-    (followed (hosts_from 0 texts.bind.now) _ service.hosts service (hosts_read texts.bind.now service.hosts (record { each = s.hosts; few = let few = s.few_hosts in omega (arith, few) }))
-    (followed (networks_from 0 texts.from.now) _ service.networks service (networks_read texts.from.now service.networks (record { each = s.networks; few = let few = s.few_networks in omega (arith, few) })) (rest_read texts service s)))
+serve_is : (open_files : ℕ) (texts : ServeTexts) (serve : Serve) → serve_of open_files texts ≡ Ok serve → IsServe open_files texts serve
+serve_is open_files texts serve h =
+    let (settings, read1, rest) = bound (settings_of open_files texts) _ serve h in
+    let (ends, read2, made) = bound (value_of Turns (number_below (2 ^ 64) texts.turns.now)) _ serve rest in
+    subst (IsServe open_files texts) (same_Ok _ _ made) (record {
+      settings = settings_are open_files texts settings read1;
+      record_path = refl;
+      keep_check = refl;
+      turns = number_is (2 ^ 64) Turns texts.turns.now ends (lit< tt) read2;
+    })
+
+serve_read : (open_files : ℕ) (texts : ServeTexts) (serve : Serve) → IsServe open_files texts serve → serve_of open_files texts ≡ Ok serve
+serve_read open_files texts serve s =
+    let whole : ◌≡◌ {A = Result Serve Valued} (Ok (record serve { record_path = texts.record_path; keep_check = texts.keep_check })) (Ok serve) =
+    ap (λ (path : Option (Bor (List ℕ))). Ok (record serve { record_path = path; keep_check = texts.keep_check })) (sym s.record_path)
+    ∙ ap (λ (b : Bool). Ok (record serve { keep_check = b })) (sym s.keep_check) in
+    followed (settings_of open_files texts) _ serve.settings serve (settings_read open_files texts serve.settings s.settings)
+    (followed (value_of Turns (number_below (2 ^ 64) texts.turns.now)) _ serve.turns serve (number_of (2 ^ 64) Turns texts.turns.now serve.turns (lit< tt) s.turns) whole)
 
 pub services_are_spelled : ServicesAreSpelled
-services_are_spelled texts service = (service_is texts service, service_read texts service)
+services_are_spelled open_files texts serve = (serve_is open_files texts serve, serve_read open_files texts serve)

@@ -26,13 +26,13 @@ use Rattle.rb_address.proofs.Words as words
 use Rattle.rb_proto.specs.declared.listener.Forwarding.{Forwarding}
 use Rattle.rb_proto.specs.declared.listener.Forwarding.TheVariants.{Anywhere, ForAll, ForLocal}
 use Rattle.rb_names.specs.Services.{borrowed_texts}
-use Rattle.rb_lines.specs.declared.options.Valued.{Valued}
-use Rattle.rb_lines.specs.declared.options.Valued.TheVariants as valueds
-use Rattle.rb_lines.specs.declared.serving.UdpRate.{UdpRate}
-use Rattle.rb_lines.specs.declared.serving.Log.{Log}
-use Rattle.rb_lines.specs.declared.serving.Log.TheVariants.{Nothing, Changes, All as Everything}
-use Rattle.rb_lines.specs.Options.{value_of, forward_for}
-use Rattle.rb_lines.specs.Serving.{host_at, network_at as network_at_place, values_from, is_octal, read_mode, if_between, rate_number, rate_of_parts, rate_of, udp_rate, log_named, log_of}
+use Rattle.rb_commands.specs.declared.options.Valued.{Valued}
+use Rattle.rb_commands.specs.declared.options.Valued.TheVariants as valueds
+use Rattle.rb_policy.specs.declared.brake.Rate.{Rate}
+use Rattle.rb_sockets.specs.declared.settings.Logged.{Logged}
+use Rattle.rb_sockets.specs.declared.settings.Logged.TheVariants.{Nothing, Changes, All as Everything}
+use Rattle.rb_commands.specs.Options.{value_of, forward_for}
+use Rattle.rb_commands.specs.Serving.{host_at, network_at as network_at_place, values_from, is_octal, read_mode, if_between, rate_number, rate_of_parts, rate_of, udp_rate, log_named, log_of}
 use Rattle.rb_promises.specs.WordForms.{SpellsWithin, MayHave}
 use Rattle.rb_promises.specs.OptionTexts.{SpellsHost, SpellEach, SpellsNetwork, SpellsMode, whom_text, SpellsRate, SpellsLog}
 use Rattle.rb_promises.specs.OptionTexts.SpellsNetwork.{OfOneHost, WithLength}
@@ -355,25 +355,25 @@ rate_number_of n text s = ap (value_of valueds.UdpRate) (between_of 1 1000 n tex
 rate_number_is : (n : ℕ) (text : List ℕ) → value_of valueds.UdpRate (rate_number text) ≡ Ok n → SpellsWithin 1 1000 n text
 rate_number_is n text h = between_is 1 1000 n text (valued valueds.UdpRate (rate_number text) n h)
 
-rate_is : (text : List ℕ) (rate : UdpRate) → rate_of text ≡ Ok rate → SpellsRate rate text
+rate_is : (text : List ℕ) (rate : Rate) → rate_of text ≡ Ok rate → SpellsRate rate text
 rate_is text rate h = by (cut 44 text) refl h
   where
     by : (o : Option (List ℕ × List ℕ)) → cut 44 text ≡ o → rate_of_parts o text ≡ Ok rate → SpellsRate rate text
     by None is h =
         let (most, read, made) = bound (value_of valueds.UdpRate (rate_number text)) _ rate h in
-        subst (λ (r : UdpRate). SpellsRate r text) (same_Ok _ _ made) (OneNumber (rate_number_is most text read) refl)
+        subst (λ (r : Rate). SpellsRate r text) (same_Ok _ _ made) (OneNumber (rate_number_is most text read) refl)
     by (Some parts) is h =
         let (of_network, read1, rest) = bound (value_of valueds.UdpRate (rate_number parts.0)) _ rate h in
         let (of_host, read2, made) = bound (value_of valueds.UdpRate (rate_number parts.1)) _ rate rest in
         let whole = words.cut_is 44 text parts.0 parts.1 is ∙ sym (append_assoc parts.0 (codes ",") parts.1) in
-        subst (λ (r : UdpRate). SpellsRate r text) (same_Ok _ _ made) (TwoNumbers parts.0 parts.1 whole (rate_number_is of_network parts.0 read1) (rate_number_is of_host parts.1 read2))
+        subst (λ (r : Rate). SpellsRate r text) (same_Ok _ _ made) (TwoNumbers parts.0 parts.1 whole (rate_number_is of_network parts.0 read1) (rate_number_is of_host parts.1 read2))
 
 no_comma : (least most n : ℕ) (text : List ℕ) → SpellsWithin least most n text → IsWithout 44 text
 no_comma least most n text s = words.numeral_without 44 text s.digits.1 (λ l h. omega arith)
 
-rate_read : (text : List ℕ) (rate : UdpRate) → SpellsRate rate text → rate_of text ≡ Ok rate
+rate_read : (text : List ℕ) (rate : Rate) → SpellsRate rate text → rate_of text ≡ Ok rate
 rate_read text rate (OneNumber s same) =
-    let made : ◌≡◌ {A = Result UdpRate Valued} (Ok (record { network = rate.network; host = rate.network })) (Ok rate) = ap (λ (n : ℕ). Ok (record { network = rate.network; host = n })) (sym same) in
+    let made : ◌≡◌ {A = Result Rate Valued} (Ok (record { network = rate.network; host = rate.network })) (Ok rate) = ap (λ (n : ℕ). Ok (record { network = rate.network; host = n })) (sym same) in
     ap (λ (o : Option (List ℕ × List ℕ)). rate_of_parts o text) (not_cut 44 text (no_comma 1 1000 rate.network text s))
     ∙ followed (value_of valueds.UdpRate (rate_number text)) _ rate.network rate (rate_number_of rate.network text s) made
 rate_read text rate (TwoNumbers first second text_is s1 s2) =
@@ -382,13 +382,13 @@ rate_read text rate (TwoNumbers first second text_is s1 s2) =
     ∙ followed (value_of valueds.UdpRate (rate_number first)) _ rate.network rate (rate_number_of rate.network first s1)
     (followed (value_of valueds.UdpRate (rate_number second)) _ rate.host rate (rate_number_of rate.host second s2) refl)
 
-pub udp_rate_is : (option : Option (Bor (List ℕ))) (rate : Option UdpRate) → udp_rate option ≡ Ok rate → MayHave SpellsRate rate option
-udp_rate_is None rate h = subst (λ (r : Option UdpRate). MayHave SpellsRate r None) (same_Ok _ _ h) refl
+pub udp_rate_is : (option : Option (Bor (List ℕ))) (rate : Option Rate) → udp_rate option ≡ Ok rate → MayHave SpellsRate rate option
+udp_rate_is None rate h = subst (λ (r : Option Rate). MayHave SpellsRate r None) (same_Ok _ _ h) refl
 udp_rate_is (Some text) rate h =
     let (found, read, made) = bound (rate_of text.now) _ rate h in
-    subst (λ (r : Option UdpRate). MayHave SpellsRate r (Some text)) (same_Ok _ _ made) (rate_is text.now found read)
+    subst (λ (r : Option Rate). MayHave SpellsRate r (Some text)) (same_Ok _ _ made) (rate_is text.now found read)
 
-pub udp_rate_of : (option : Option (Bor (List ℕ))) (rate : Option UdpRate) → MayHave SpellsRate rate option → udp_rate option ≡ Ok rate
+pub udp_rate_of : (option : Option (Bor (List ℕ))) (rate : Option Rate) → MayHave SpellsRate rate option → udp_rate option ≡ Ok rate
 udp_rate_of option None h = ap udp_rate h
 udp_rate_of None (Some rate) h = absurd h
 udp_rate_of (Some text) (Some rate) h = followed (rate_of text.now) _ rate (Some rate) (rate_read text.now rate h) refl
@@ -413,18 +413,18 @@ served_of text Anywhere h = absurd (h.1 refl)
 served_of text ForAll h = ap forward_for h.0
 served_of text ForLocal h = ap forward_for h.0
 
-log_named_is : (text : List ℕ) (log : Log) → log_named text ≡ Some log → SpellsLog log text
+log_named_is : (text : List ℕ) (log : Logged) → log_named text ≡ Some log → SpellsLog log text
 log_named_is text log =
-    let P : Log → Type 0 = λ log. SpellsLog log text in
+    let P : Logged → Type 0 = λ log. SpellsLog log text in
     let at : (name : List ℕ) → bytes_eq text name ≡ true → text ≡ name = λ name e. (bytes_eq-Decides text name).0 e in
     one_of P (bytes_eq text (codes "changes")) Changes log _ (at (codes "changes"))
     (one_of P (bytes_eq text (codes "all")) Everything log _ (at (codes "all")) (λ is. absurd (none-some log is)))
 
-pub log_is : (option : Option (Bor (List ℕ))) (log : Log) → log_of option ≡ Ok log → IsLog log option
+pub log_is : (option : Option (Bor (List ℕ))) (log : Logged) → log_of option ≡ Ok log → IsLog log option
 log_is None log h = sym (same_Ok _ _ h)
 log_is (Some text) log h = log_named_is text.now log (valued valueds.Log (log_named text.now) log h)
 
-pub log_read : (option : Option (Bor (List ℕ))) (log : Log) → IsLog log option → log_of option ≡ Ok log
+pub log_read : (option : Option (Bor (List ℕ))) (log : Logged) → IsLog log option → log_of option ≡ Ok log
 log_read None log h = ap Ok (sym h)
 log_read (Some text) Nothing h = absurd h
 log_read (Some text) Changes h = ap (λ (t : List ℕ). value_of valueds.Log (log_named t)) h

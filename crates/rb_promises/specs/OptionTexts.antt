@@ -11,9 +11,9 @@ use Rattle.rb_address.specs.Networks.{bits_of}
 use Rattle.rb_proto.specs.declared.listener.Announced.{Announced}
 use Rattle.rb_proto.specs.declared.listener.Forwarding.{Forwarding}
 use Rattle.rb_proto.specs.declared.listener.Forwarding.TheVariants.{Anywhere, ForAll, ForLocal}
-use Rattle.rb_lines.specs.declared.serving.Log.{Log}
-use Rattle.rb_lines.specs.declared.serving.Log.TheVariants.{Nothing, Changes, All as Everything}
-use Rattle.rb_lines.specs.declared.serving.UdpRate.{UdpRate}
+use Rattle.rb_policy.specs.declared.brake.Rate.{Rate}
+use Rattle.rb_sockets.specs.declared.settings.Logged.{Logged}
+use Rattle.rb_sockets.specs.declared.settings.Logged.TheVariants.{Nothing, Changes, All as Everything}
 use Rattle.rb_promises.specs.WordForms.{SpellsWithin}
 
 -- ---- numbers
@@ -95,12 +95,12 @@ whom_text ForAll = codes "all"
 whom_text ForLocal = codes "local"
 
 -- two numbers with a comma between them, of a network and of a host, or one that is both
-pub data SpellsRate (rate : UdpRate) (text : List ℕ) : Type 0 where
+pub data SpellsRate (rate : Rate) (text : List ℕ) : Type 0 where
   OneNumber : SpellsWithin 1 1000 rate.network text → rate.host ≡ rate.network → SpellsRate rate text
   TwoNumbers : (first second : List ℕ) → text ≡ first ++ codes "," ++ second
       → SpellsWithin 1 1000 rate.network first → SpellsWithin 1 1000 rate.host second → SpellsRate rate text
 
-abbrev pub SpellsLog : Log → List ℕ → Type 0
+abbrev pub SpellsLog : Logged → List ℕ → Type 0
 SpellsLog Nothing text = ⊥
 SpellsLog Changes text = text ≡ codes "changes"
 SpellsLog Everything text = text ≡ codes "all"

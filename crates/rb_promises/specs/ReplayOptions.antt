@@ -1,9 +1,9 @@
 -- Which values of the options of `replay` give which beginning.
 use Rattle.std.specs.Prelude.{◌≡◌, ◌↔◌, Ok}
 use Rattle.rb_names.specs.Services.{borrowed_texts}
-use Rattle.rb_lines.specs.declared.options.Beginning.{Beginning}
-use Rattle.rb_lines.specs.declared.options.ReplayTexts.{ReplayTexts}
-use Rattle.rb_lines.specs.Options.{beginning_of}
+use Rattle.rb_lines.specs.declared.beginning.Beginning.{Beginning}
+use Rattle.rb_commands.specs.declared.options.ReplayTexts.{ReplayTexts}
+use Rattle.rb_commands.specs.Options.{beginning_of}
 use Rattle.rb_promises.specs.WordForms.{SpellsNumber, SpellsPort, MayHave}
 use Rattle.rb_promises.specs.OptionTexts.{SpellsLong, Announces, SpellsPath, lists_text, whom_text}
 

@@ -1,52 +1,70 @@
--- Which values of the options of `serve` give which service.
+-- What the values of the options of `serve` ask for.
 use Rattle.std.specs.Prelude.{◌≡◌, ◌≢◌, ◌↔◌, ⊤, ℕ, ◌<◌, ◌≤◌, List, length, Option, Some, None, option_map, Ok}
 use Rattle.std.specs.Borrow.{Bor}
 use Rattle.rb_names.specs.Services.{borrowed_texts}
 use Rattle.rb_proto.specs.declared.listener.Forwarding.TheVariants.{Anywhere}
-use Rattle.rb_lines.specs.declared.serving.Log.{Log}
-use Rattle.rb_lines.specs.declared.serving.Log.TheVariants.{Nothing}
-use Rattle.rb_lines.specs.declared.serving.ServeTexts.{ServeTexts}
-use Rattle.rb_lines.specs.Serving.{Service, service_of}
+use Rattle.rb_sockets.specs.declared.settings.Logged.{Logged}
+use Rattle.rb_sockets.specs.declared.settings.Logged.TheVariants.{Nothing}
+use Rattle.rb_sockets.specs.declared.settings.Settings.{Settings}
+use Rattle.rb_commands.specs.declared.serving.ServeTexts.{ServeTexts}
+use Rattle.rb_commands.specs.declared.serving.Serve.{Serve}
+use Rattle.rb_commands.specs.Serving.{serve_of}
 use Rattle.rb_promises.specs.WordForms.{SpellsWithin, SpellsPort, MayHave}
 use Rattle.rb_promises.specs.OptionTexts.{SpellsLong, SpellsHost, SpellEach, Announces, SpellsNetwork, IsSocketPath, SpellsMode, lists_text, whom_text, SpellsRate, SpellsLog}
 
--- of the value of an option, where it is given
+-- of the value of an option, if it is given
 abbrev pub WhereGiven : (List ℕ → Type 0) → Option (Bor (List ℕ)) → Type 0
 WhereGiven Holds None = ⊤
 WhereGiven Holds (Some text) = Holds text.now
 
--- Nothing is told where the option is not given.
-abbrev pub IsLog : Log → Option (Bor (List ℕ)) → Type 0
+-- The log has no lines if the option is not given.
+abbrev pub IsLog : Logged → Option (Bor (List ℕ)) → Type 0
 IsLog log None = log ≡ Nothing
 IsLog log (Some text) = SpellsLog log text.now
 
-pub record IsService (texts : ServeTexts) (service : Service) : Type 0 where
-  pub hosts : SpellEach SpellsHost service.hosts (borrowed_texts texts.bind.now)
+-- Up to a limit, or 0 bytes if no file is given.
+abbrev pub RecordsUpTo : ℕ → ℕ → Option (Bor (List ℕ)) → Type 0
+RecordsUpTo bytes limit None = bytes ≡ 0
+RecordsUpTo bytes limit (Some path) = bytes ≡ limit
+
+-- Each option sets its own field, and no other. The limit of open files is the system's.
+pub record AreSettings (open_files : ℕ) (texts : ServeTexts) (settings : Settings) : Type 0 where
+  pub bind : SpellEach SpellsHost settings.bind (borrowed_texts texts.bind.now)
   pub few_hosts : length texts.bind.now ≤ 16
-  pub networks : SpellEach SpellsNetwork service.networks (borrowed_texts texts.from.now)
+  pub from : SpellEach SpellsNetwork settings.from (borrowed_texts texts.from.now)
   pub few_networks : length texts.from.now ≤ 16
-  pub loopback6 : service.loopback6 ≡ texts.loopback6
-  pub local : service.local ≡ texts.local
+  pub loopback6 : settings.loopback6 ≡ texts.loopback6
+  pub mode : ℕ
+  pub local_mode : SpellsMode mode texts.local_mode.now
+  pub local : settings.local ≡ option_map (λ path. record { path = path; mode = mode }) texts.local
   pub local_path : WhereGiven IsSocketPath texts.local
-  pub local_mode : SpellsMode service.local_mode texts.local_mode.now
-  pub believe_claims : service.believe_claims ≡ texts.believe_claims
-  pub announce : Announces service.announce (borrowed_texts texts.announce.now)
-  pub port : SpellsPort service.port texts.port.now
-  pub conns : SpellsLong service.limits.conns texts.conns.now
-  pub rows : SpellsLong service.limits.rows texts.rows.now
-  pub forwards : SpellsLong service.limits.forwards texts.forwards.now
-  pub udp_lists : texts.udp_lists.now ≡ lists_text service.terms.long_replies
-  pub forward_for : texts.forward_for.now ≡ whom_text service.terms.forwarding
-  pub not_anywhere : service.terms.forwarding ≢ Anywhere
-  pub udp_rate : MayHave SpellsRate service.udp_rate texts.udp_rate
-  pub turns : SpellsLong service.turns texts.turns.now
+  pub believe_claims : settings.believe_claims ≡ texts.believe_claims
+  pub announce : Announces settings.announce (borrowed_texts texts.announce.now)
+  pub port : SpellsPort settings.port texts.port.now
+  pub conns : SpellsLong settings.limits.conns texts.conns.now
+  pub rows : SpellsLong settings.limits.rows texts.rows.now
+  pub forwards : SpellsLong settings.limits.forwards texts.forwards.now
+  pub udp_lists : texts.udp_lists.now ≡ lists_text settings.terms.long_replies
+  pub forward_for : texts.forward_for.now ≡ whom_text settings.terms.forwarding
+  pub not_anywhere : settings.terms.forwarding ≢ Anywhere
+  pub udp_rate : MayHave SpellsRate settings.udp_rate texts.udp_rate
   pub limit : ℕ
   pub record_limit : SpellsWithin 1000 16777216 limit texts.record_limit.now
-  pub recorded : service.recorded ≡ option_map (λ path. record { path = path; limit = limit }) texts.record_path
-  pub keep : service.keep ≡ option_map (λ path. record { path = path; is_checked = texts.keep_check }) texts.keep
+  pub recorded : RecordsUpTo settings.record_limit limit texts.record_path
+  pub keep : settings.keep ≡ texts.keep
   pub keep_path : WhereGiven (λ path. 0 < length path) texts.keep
-  pub log : IsLog service.log texts.log
+  pub log : IsLog settings.log texts.log
+  pub of_files : settings.open_files ≡ open_files
 
--- There is a service exactly where each value spells its part of it, and else one of them can't be read.
+-- What is beside the settings is asked for in the same way.
+pub record IsServe (open_files : ℕ) (texts : ServeTexts) (serve : Serve) : Type 0 where
+  pub settings : AreSettings open_files texts serve.settings
+  pub record_path : serve.record_path ≡ texts.record_path
+  pub keep_check : serve.keep_check ≡ texts.keep_check
+  pub turns : SpellsLong serve.turns texts.turns.now
+
+-- `serve` is asked for this exactly where each value spells its part of it, and else one of them can't be read.
 abbrev pub ServicesAreSpelled : Type 0
-ServicesAreSpelled = (texts : ServeTexts) (service : Service) → (service_of texts ≡ Ok service) ↔ IsService texts service
+ServicesAreSpelled =
+    (open_files : ℕ) (texts : ServeTexts) (serve : Serve)
+    → (serve_of open_files texts ≡ Ok serve) ↔ IsServe open_files texts serve

@@ -10,7 +10,7 @@ use Rattle.rb_model.specs.Step.{Event, Output, run}
 use Rattle.rb_record.specs.Printing.{output_text}
 use Rattle.rb_lines.specs.declared.lines.ReadFault.{ReadFault}
 use Rattle.rb_replay.specs.declared.checking.Agreement.{Agreement}
-use Rattle.rb_lines.specs.declared.options.Beginning.{Beginning}
+use Rattle.rb_lines.specs.declared.beginning.Beginning.{Beginning}
 use Rattle.rb_lines.specs.declared.faults.Ending.{Ending}
 use Rattle.rb_lines.specs.declared.faults.Fault.{Fault}
 use Rattle.rb_lines.specs.declared.faults.Fault.TheVariants.{NotText, Lines, NoMemory, BadLimits, SocketFailed, ReadFailed, WriteFailed, NoOutputs, Differs, Lacks}

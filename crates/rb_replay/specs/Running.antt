@@ -12,7 +12,7 @@ use Rattle.rb_core.specs.CallCosts.{making_cost}
 use Rattle.rb_core.specs.Events.{count_shown}
 use Rattle.rb_core.specs.StandsFor.{Held, StandsFor}
 use Rattle.rb_lines.specs.declared.lines.ReadFault.{ReadFault}
-use Rattle.rb_lines.specs.declared.options.Beginning.{Beginning}
+use Rattle.rb_lines.specs.declared.beginning.Beginning.{Beginning}
 use Rattle.rb_lines.specs.declared.faults.Fault.{Fault}
 use Rattle.rb_lines.specs.declared.faults.Ending.{Ending}
 use Rattle.rb_lines.specs.declared.faults.Fault.TheVariants.{NotText, Lines, NoMemory, BadLimits, SocketFailed, ReadFailed, WriteFailed, NoOutputs, Differs, Lacks}

@@ -3,7 +3,7 @@ use Rattle.std.specs.Prelude.{ℕ, nat_le, if◌then◌else◌, List, length, Op
 use Rattle.rb_policy.specs.Addresses.{announced_inet, announced_inet6}
 use Rattle.rb_proto.specs.declared.listener.Announced.{Announced}
 use Rattle.rb_proto.specs.declared.listener.Listener.{Listener}
-use Rattle.rb_sockets.specs.declared.addresses.LocalSocket.{LocalSocket}
+use Rattle.rb_sockets.specs.declared.settings.LocalSocket.{LocalSocket}
 use Rattle.rb_sockets.specs.declared.settings.Settings.{Settings}
 
 -- the path of the local socket; one of more than 128 bytes names none
@@ -14,8 +14,8 @@ path_of (Some local) = if nat_le (length local.path.now) 128 then Some local.pat
 -- the host of each family that is served
 abbrev pub announced_by : Settings → Announced
 announced_by s = record {
-  inet = announced_inet s.announce s.hosts.now;
-  inet6 = announced_inet6 s.announce6 s.hosts.now s.loopback6;
+  inet = announced_inet s.announce.inet s.bind;
+  inet6 = announced_inet6 s.announce.inet6 s.bind s.loopback6;
 }
 
 abbrev pub listener_of : Settings → Listener

@@ -2,10 +2,10 @@
 //! ends. Nothing here knows the core.
 #![tactic(auto)]
 
-mod addresses;
 mod calls;
 mod descriptors;
 mod faults;
+mod few;
 mod listener;
 mod local;
 mod settings;
@@ -14,12 +14,12 @@ mod stream;
 mod tables;
 mod watched;
 
-pub use addresses::{Addresses, LocalSocket};
 pub use calls::{CallSocket, CallSockets, ForwardSocket, ForwardSockets};
 pub use descriptors::{Shortage, open_files};
 pub use faults::{BindFault, DaemonFault, SocketFault, Step};
+pub use few::{Few, MOST};
 pub use listener::{Ends, Listener, Visitor};
-pub use settings::{Logged, Settings};
+pub use settings::{LocalSocket, Logged, Settings};
 pub use sockets::{Shown, Sockets};
 pub use stream::{Incoming, Outgoing, Stream};
 pub use tables::Table;

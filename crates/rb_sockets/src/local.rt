@@ -2,7 +2,7 @@
 ghost use Rattle.std.specs.Prelude.{◌≡◌, IsTrue, IfOk};
 ghost use Rattle.rb_policy.specs.Trusts.{lets_in_root_alone};
 
-use crate::addresses::LocalSocket;
+use crate::settings::LocalSocket;
 use mio::net::{UnixListener, UnixStream};
 use rb_policy::{
     Entrance, FileAction, FileState, entrance_of, file_action, is_nothing_there, obstacle_text,

@@ -2,12 +2,22 @@
 ghost use Rattle.std.specs.Prelude.{◌≡◌};
 ghost use Rattle.rb_sockets.specs.Settings.{path_of};
 
-use crate::addresses::{Addresses, LocalSocket};
+use crate::few::Few;
 use rb_address::{Host, Network};
 use rb_model::Limits;
 use rb_policy::{Rate, announced_inet, announced_inet6};
 use rb_proto::{Announced, Listener, Terms};
 use rb_uaddr::{AddressText, MAX_KEPT};
+
+/// A stream socket in the file system.
+#[derive(Clone, Copy, Debug, PartialEq, Eq)]
+pub struct LocalSocket<'a> {
+    /// At most 107 bytes.
+    pub path: &'a str,
+    /// The mode of its file: whoever may write to it may connect. Where that is root and its owner alone, and was so from
+    /// the start, callers are root.
+    pub mode: u32,
+}
 
 /// What a daemon has lines of in its log.
 #[derive(Clone, Copy, Debug, PartialEq, Eq)]
@@ -20,67 +30,54 @@ pub enum Logged {
     All,
 }
 
-/// What a daemon is started with.
-#[derive(Clone, Copy, Debug, PartialEq, Eq)]
+/// What a daemon is started with. A field has the name of its option of `serve`.
+#[derive(Drop)]
 pub struct Settings<'a> {
     /// The hosts to listen on over TCP and UDP; :: is every host of both families. Forwarded calls go out from the first
     /// of their family.
-    pub hosts: &'a [Host],
+    pub bind: Few<Host>,
     /// The networks whose hosts may ask, beside this machine; with none everybody may.
-    pub networks: &'a [Network],
-    /// Whether to listen on ::1 besides.
+    pub from: Few<Network>,
+    /// Whether to listen on ::1 also.
     pub loopback6: bool,
-    /// The local socket to listen on besides, if any.
+    /// The local socket to listen on also, if any.
     pub local: Option<LocalSocket<'a>>,
     /// Whether callers are believed what they claim: who is local is by its address, and whose it is by its credential.
-    pub are_claims_believed: bool,
-    /// The host of IPv4 that is told where none was asked and a program listens on every one, if one is given.
-    pub announce: Option<[u8; 4]>,
-    /// The same of IPv6.
-    pub announce6: Option<[u8; 16]>,
+    pub believe_claims: bool,
+    /// Of each family the host that is told if none was asked and a program listens on every one, if one is given.
+    pub announce: Announced,
     /// The port of TCP and UDP.
     pub port: u16,
     /// How many connections, rows and forwarded calls there may be.
     pub limits: Limits,
     /// On which terms callers are served.
     pub terms: Terms,
-    /// How many datagrams of strangers are served in a second, where that is limited.
+    /// How many datagrams of strangers are served in a second, if that is limited.
     pub udp_rate: Option<Rate>,
-    /// The limit of open files.
-    pub open_files: u64,
     /// The most bytes of a record of its events, its last line among them; 0 records nothing. It takes that much
     /// memory.
-    pub record: usize,
+    pub record_limit: usize,
     /// The path of the file in which the rows are kept that were set, if they are.
     pub keep: Option<&'a str>,
     /// What it has lines of in its log.
     pub log: Logged,
+    /// The limit of open files, which is the system's.
+    pub open_files: u64,
 }
 
-impl<'a> Settings<'a> {
+impl Settings<'_> {
     ghost use Rattle.std.specs.Prelude.{◌≡◌};
     ghost use Rattle.rb_sockets.specs.Settings.{announced_by, listener_of};
-
-    /// Where it listens, and whom it serves and believes there.
-    pub fn addresses(&self) -> Addresses<'a> {
-        Addresses {
-            hosts: self.hosts,
-            networks: self.networks,
-            loopback6: self.loopback6,
-            local: self.local,
-            are_claims_believed: self.are_claims_believed,
-            port: self.port,
-            forwards: self.limits.forwards,
-        }
-    }
 
     /// Which families are served, and the host of each that is told where none was asked.
     pub fn announced(&self) -> Announced
         ensures { result ≡ announced_by self.now }
     {
+        let Announced { inet, inet6 } = self.announce;
+        let hosts = self.bind.as_slice();
         Announced {
-            inet: announced_inet(self.announce, self.hosts),
-            inet6: announced_inet6(self.announce6, self.hosts, self.loopback6),
+            inet: announced_inet(inet, hosts),
+            inet6: announced_inet6(inet6, hosts, self.loopback6),
         }
     }
 

@@ -2,11 +2,11 @@
 ghost use Rattle.std.specs.Prelude.{◌≡◌};
 ghost use Rattle.rb_sockets.specs.Events.{shown_by, family_at, MayBeShown};
 
-use crate::addresses::{Addresses, LocalSocket};
 use crate::calls::{CallSocket, CallSockets, ForwardSocket, ForwardSockets};
 use crate::faults::{BindFault, Step};
 use crate::listener::Listener;
 use crate::local;
+use crate::settings::{LocalSocket, Settings};
 use crate::watched::Watched;
 use mio::net::UnixStream;
 use mio::{Registry, Token};
@@ -65,23 +65,23 @@ pub struct Sockets {
 }
 
 impl Sockets {
-    /// Binds sockets to all of the addresses, or tells the first step that failed: `Memory` where an allocation is
+    /// Binds sockets to all that the settings name, or tells the first step that failed: `Memory` where an allocation is
     /// refused, else `Socket`. The local socket comes last: a second daemon ends at a port that is in use, and leaves
     /// the file alone.
     pub fn bind<R: Files + Net>(
         alloc: Global,
         rt: &R,
-        addresses: &Addresses<'_>,
+        settings: &Settings<'_>,
     ) -> Result<Sockets, BindFault> {
-        let most = addresses.hosts.len().saturating_add(3);
+        let most = settings.bind.len().saturating_add(3);
         let mut inet = Inet {
             listeners: Vec::with_capacity(alloc, most)?,
             calls: Vec::with_capacity(alloc, most)?,
-            port: addresses.port,
-            are_claims_believed: addresses.are_claims_believed,
+            port: settings.port,
+            are_claims_believed: settings.believe_claims,
         };
-        inet.bind_all(rt, addresses)?;
-        let forwards = bind_forwards(rt, addresses)?;
+        inet.bind_all(rt, settings)?;
+        let forwards = bind_forwards(rt, settings)?;
         let Inet {
             mut listeners,
             calls: all,
@@ -89,15 +89,15 @@ impl Sockets {
             are_claims_believed,
         } = inet;
         let mut abstract_name = None;
-        if let Some(local) = &addresses.local {
+        if let Some(local) = &settings.local {
             put(&mut listeners, bind_local(rt, local, are_claims_believed)?)?;
             if takes_abstract_name(port) {
                 abstract_name = local::hold_abstract_name(rt);
             }
         }
-        let mut networks = Vec::with_capacity(alloc, addresses.networks.len())?;
-        networks.extend_from_slice(addresses.networks)?;
-        let ways_back = WaysBack::new(alloc, addresses.forwards)?;
+        let mut networks = Vec::with_capacity(alloc, settings.from.len())?;
+        networks.extend_from_slice(settings.from.as_slice())?;
+        let ways_back = WaysBack::new(alloc, settings.limits.forwards)?;
         Ok(Sockets {
             calls: CallSockets { all, ways_back },
             forwards,
@@ -258,14 +258,14 @@ struct Inet {
 
 impl Inet {
     /// Binds all of the hosts, of TCP before UDP.
-    fn bind_all<R: Net>(&mut self, rt: &R, addresses: &Addresses<'_>) -> Result<(), BindFault> {
-        let hosts = addresses.hosts;
+    fn bind_all<R: Net>(&mut self, rt: &R, settings: &Settings<'_>) -> Result<(), BindFault> {
+        let hosts = settings.bind.as_slice();
         for host in hosts {
             if is_bound(hosts, *host) {
                 self.bind_tcp(rt, host.plain())?;
             }
         }
-        let is_loopback6 = binds_loopback6(hosts, addresses.loopback6);
+        let is_loopback6 = binds_loopback6(hosts, settings.loopback6);
         if is_loopback6 {
             self.bind_tcp(rt, Host::V6(LOOPBACK6))?;
         }
@@ -304,9 +304,10 @@ fn unless_in_use(bound: Result<(), BindFault>) -> Result<(), BindFault> {
     }
 }
 
-fn bind_forwards<R: Net>(rt: &R, addresses: &Addresses<'_>) -> Result<ForwardSockets, BindFault> {
-    let inet = ForwardSocket::bind(rt, forwards_inet(addresses.hosts))?;
-    let inet6 = match forwards_inet6(addresses.hosts, addresses.loopback6) {
+fn bind_forwards<R: Net>(rt: &R, settings: &Settings<'_>) -> Result<ForwardSockets, BindFault> {
+    let hosts = settings.bind.as_slice();
+    let inet = ForwardSocket::bind(rt, forwards_inet(hosts))?;
+    let inet6 = match forwards_inet6(hosts, settings.loopback6) {
         Some(host) => Some(Watched::new(ForwardSocket::bind(rt, host)?)),
         None => None,
     };

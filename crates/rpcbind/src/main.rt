@@ -3,7 +3,11 @@
 
 ghost use Rattle.std.specs.Prelude.{◌≤◌, IfErr};
 
+mod keep;
+mod record;
 mod service;
+mod start;
+mod telling;
 
 use rb_commands::{Words, command_words, read_words};
 use rb_lines::{Beginning, Fault, explain};
@@ -63,7 +67,7 @@ fn main(rt: HostRuntime) -> ExitCode {
         Err(status) => return ExitCode::from(status),
     };
     let status = match asked(&rt, &words) {
-        Ok(Words::Serve(service)) => run_service(&rt, &service, &mut rt.stderr()),
+        Ok(Words::Serve(serve)) => run_service(&rt, &serve, &mut rt.stderr()),
         Ok(Words::Replay(beginning)) => replay(&rt, &beginning),
         Ok(Words::Check(beginning)) => check(&rt, &beginning),
         Err(status) => status,

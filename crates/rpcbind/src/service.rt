@@ -1,11 +1,11 @@
 //! The command `serve`.
 ghost use Rattle.std.specs.Prelude.{◌≤◌, IfErr};
 
-use rb_commands::{
-    explain_fault, make_record, read_keep, say_keep_fault, say_left_out, say_start, settings_of,
-};
+use crate::keep::{read_keep, say_keep_fault, say_left_out};
+use crate::record::{Recorder, make_record};
+use crate::telling::{explain_fault, say_start};
+use rb_commands::Serve;
 use rb_daemon::{Daemon, DaemonFault, Settings};
-use rb_lines::Service;
 use std::fs::Files;
 use std::io::Write;
 use std::net::Net;
@@ -15,57 +15,33 @@ use std::sync::Wait;
 /// The longest wait of a turn, in milliseconds, where a number of turns is asked for.
 const WAIT: u64 = 100;
 
-/// What is recorded goes to a file, as long as that takes it.
-#[derive(Drop)]
-struct Recorder<F: Write + Drop> {
-    file: Option<F>,
-}
-
-impl<F: Write + Drop> Recorder<F> {
-    /// Writes what was recorded and is not written yet: how the run begins, and what the last turn did. After a fault, which is said once, nothing more is recorded.
-    fn write<R: Clock, E: Write>(&mut self, daemon: &mut Daemon<'_, R>, faults: &mut E) {
-        let Some(file) = &mut self.file else {
-            return;
-        };
-        if let Err(error) = daemon.write_record(file) {
-            let _ = writeln!(faults, "rpcbind: write the record: {error}; it ends here");
-            self.file = None;
-        }
-    }
-}
-
 /// Serves, and says on standard output where it listens. The answer is the exit status: 0 after the last turn, and 1
 /// where the limits are out of their ranges, the rows that were kept can't be read, or memory, a socket, standard
 /// output or the file of the record failed. The error message goes to `faults`, behind a line that says what failed.
-pub fn run_service<R, E>(rt: &R, service: &Service<'_>, faults: &mut E) -> u8
+pub fn run_service<R, E>(rt: &R, serve: &Serve<'_>, faults: &mut E) -> u8
 where
     R: Net + Files + Clock + Wait + AllocGlobal + Print,
     E: Write,
     ensures { result ≤ 1 }
 {
-    let settings = settings_of(service);
-    match begin(rt, service, &settings, faults) {
-        Ok(mut daemon) => serve(rt, &mut daemon, service, &settings, faults),
+    match begin(rt, serve, faults) {
+        Ok(mut daemon) => serve_until_the_end(rt, &mut daemon, serve, faults),
         Err(status) => status,
     }
 }
 
 /// A daemon that has the rows that were kept, which are read before anything listens; those that it has not are said.
-fn begin<'a, R, E>(
-    rt: &'a R,
-    service: &Service<'_>,
-    settings: &Settings<'_>,
-    faults: &mut E,
-) -> Result<Daemon<'a, R>, u8>
+fn begin<'a, R, E>(rt: &'a R, serve: &Serve<'_>, faults: &mut E) -> Result<Daemon<'a, R>, u8>
 where
     R: Net + Files + Clock + AllocGlobal,
     E: Write,
     ensures { IfErr result (λ status. status ≤ 1) }
 {
-    let rows = read_keep(rt, service, settings, faults)?;
+    let settings = &serve.settings;
+    let rows = read_keep(rt, serve, faults)?;
     match Daemon::new(rt.alloc(), rt, rt, settings, &rows) {
         Ok(daemon) => {
-            say_left_out(service, &rows, daemon.left_out(), faults);
+            say_left_out(settings, &rows, daemon.left_out(), faults);
             Ok(daemon)
         }
         Err(fault) => Err(explain_fault(&fault, settings, faults).status),
@@ -73,11 +49,10 @@ where
 }
 
 /// Makes the file of the record, says where the daemon listens, and takes its turns.
-fn serve<R, E>(
+fn serve_until_the_end<R, E>(
     rt: &R,
     daemon: &mut Daemon<'_, R>,
-    service: &Service<'_>,
-    settings: &Settings<'_>,
+    serve: &Serve<'_>,
     faults: &mut E,
 ) -> u8
 where
@@ -85,15 +60,16 @@ where
     E: Write,
     ensures { result ≤ 1 }
 {
-    let mut recorder = match make_record(rt, service, faults) {
-        Ok(file) => Recorder { file },
+    let settings = &serve.settings;
+    let mut recorder = match make_record(rt, serve.record_path, faults) {
+        Ok(recorder) => recorder,
         Err(status) => return status,
     };
-    if let Err(status) = say_start(rt, service, settings, daemon.shortage(), faults) {
+    if let Err(status) = say_start(rt, settings, daemon.shortage(), faults) {
         return status;
     }
     recorder.write(daemon, faults);
-    match take_turns(rt, daemon, service, &mut recorder, faults) {
+    match take_turns(rt, daemon, serve, &mut recorder, faults) {
         Ok(()) => 0,
         Err(fault) => explain_fault(&fault, settings, faults).status,
     }
@@ -104,7 +80,7 @@ where
 fn take_turn<R: Clock + Files, F: Write + Drop, E: Write>(
     rt: &R,
     daemon: &mut Daemon<'_, R>,
-    service: &Service<'_>,
+    settings: &Settings<'_>,
     recorder: &mut Recorder<F>,
     faults: &mut E,
     longest: Option<u64>,
@@ -115,25 +91,26 @@ fn take_turn<R: Clock + Files, F: Write + Drop, E: Write>(
     if let Some(fault) = daemon.take_fault() {
         let _ = writeln!(faults, "rpcbind: {fault}; it is tried again");
     }
-    say_keep_fault(service, daemon.take_keep_fault(), faults);
+    say_keep_fault(settings, daemon.take_keep_fault(), faults);
     turned
 }
 
 fn take_turns<R: Clock + Files + Wait, F: Write + Drop, E: Write>(
     rt: &R,
     daemon: &mut Daemon<'_, R>,
-    service: &Service<'_>,
+    serve: &Serve<'_>,
     recorder: &mut Recorder<F>,
     faults: &mut E,
 ) -> Result<(), DaemonFault> {
-    if service.turns > 0 {
-        for _ in 0..service.turns {
-            take_turn(rt, daemon, service, recorder, faults, Some(WAIT))?;
+    let settings = &serve.settings;
+    if serve.turns > 0 {
+        for _ in 0..serve.turns {
+            take_turn(rt, daemon, settings, recorder, faults, Some(WAIT))?;
         }
         return Ok(());
     }
     for _ in rt.forever() {
-        take_turn(rt, daemon, service, recorder, faults, None)?;
+        take_turn(rt, daemon, settings, recorder, faults, None)?;
     }
     unreachable!()
 }

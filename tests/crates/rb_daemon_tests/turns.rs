@@ -1,7 +1,8 @@
 //! The daemon of a test, whose turns the test itself takes, and whose clocks it sets.
-use rb_address::Host as Address;
+use rb_address::{Host as Address, Network};
 use rb_daemon::{
-    Daemon, DaemonFault, Limits, LocalSocket, Logged, Settings, Shortage, SocketFault, Terms,
+    Announced, Daemon, DaemonFault, Few, Limits, LocalSocket, Logged, Settings, Shortage,
+    SocketFault, Terms,
 };
 use std::cell::Cell;
 use std::fs::Files;
@@ -98,16 +99,27 @@ pub(crate) fn address6() -> SocketAddr {
     SocketAddr::from((Ipv6Addr::LOCALHOST, PORT))
 }
 
+/// Hosts to listen on, at most 16.
+fn all_of(hosts: &[Address]) -> Few<Address> {
+    let mut few = Few::new(HERE[0]);
+    for host in hosts {
+        few.push(*host);
+    }
+    few
+}
+
 /// A daemon that believes what callers claim, with room for so many connections.
-pub(crate) fn plain(hosts: &[Address], conns: usize) -> Settings<'_> {
+pub(crate) fn plain(hosts: &[Address], conns: usize) -> Settings<'static> {
     Settings {
-        hosts,
-        networks: &[],
+        bind: all_of(hosts),
+        from: Few::new(Network::read(b"127.0.0.1").unwrap()),
         loopback6: false,
         local: None,
-        are_claims_believed: true,
-        announce: Some([127, 0, 0, 1]),
-        announce6: None,
+        believe_claims: true,
+        announce: Announced {
+            inet: Some([127, 0, 0, 1]),
+            inet6: None,
+        },
         port: PORT,
         limits: Limits {
             conns,
@@ -116,15 +128,15 @@ pub(crate) fn plain(hosts: &[Address], conns: usize) -> Settings<'_> {
         },
         terms: Terms::OPEN,
         udp_rate: None,
-        open_files: u64::MAX,
-        record: 0,
+        record_limit: 0,
         keep: None,
         log: Logged::Nothing,
+        open_files: u64::MAX,
     }
 }
 
 /// A daemon that listens on [::1] and on the local socket besides.
-pub(crate) fn everywhere(hosts: &[Address], conns: usize) -> Settings<'_> {
+pub(crate) fn everywhere(hosts: &[Address], conns: usize) -> Settings<'static> {
     Settings {
         loopback6: true,
         local: Some(LocalSocket {

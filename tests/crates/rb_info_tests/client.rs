@@ -1,8 +1,8 @@
 //! A client that asks a daemon in the same process. Its sockets never wait, since the daemon's turns are taken by the same
 //! thread.
-use rb_address::{Host, Transport};
+use rb_address::{Host, Network, Transport};
 use rb_course::{Aim, Answer, Course, End, Stage, asked, begin, called_at, next};
-use rb_daemon::{Daemon, Limits, LocalSocket, Logged, Settings, Terms};
+use rb_daemon::{Announced, Daemon, Few, Limits, LocalSocket, Logged, Settings, Terms};
 use rb_show::{
     Ask, Form, HeldBytes, InfoFault, Shown, show_datagram, show_reply, write_call,
     write_marked_call,
@@ -35,17 +35,22 @@ pub fn portmapper6() -> SocketAddr {
 
 /// A daemon on 127.0.0.1, [::1] and the local socket, which forwards calls.
 pub fn daemon_everywhere(rt: &HostRuntime) -> Option<Daemon<'_, HostRuntime>> {
+    let here = Host::V4([127, 0, 0, 1]);
+    let mut bind = Few::new(here);
+    bind.push(here);
     let settings = Settings {
-        hosts: &[Host::V4([127, 0, 0, 1])],
-        networks: &[],
+        bind,
+        from: Few::new(Network::read(b"127.0.0.1")?),
         loopback6: true,
         local: Some(LocalSocket {
             path: LOCAL,
             mode: 0o600,
         }),
-        are_claims_believed: true,
-        announce: None,
-        announce6: None,
+        believe_claims: true,
+        announce: Announced {
+            inet: None,
+            inet6: None,
+        },
         port: PORT,
         limits: Limits {
             conns: 4,
@@ -54,10 +59,10 @@ pub fn daemon_everywhere(rt: &HostRuntime) -> Option<Daemon<'_, HostRuntime>> {
         },
         terms: Terms::OPEN,
         udp_rate: None,
-        open_files: u64::MAX,
-        record: 0,
+        record_limit: 0,
         keep: None,
         log: Logged::Nothing,
+        open_files: u64::MAX,
     };
     Daemon::new(rt.alloc(), rt, rt, &settings, &[]).ok()
 }

@@ -1,7 +1,7 @@
 //! A daemon and a client in one process, on port 20113 of 127.0.0.1. The client never waits: the test itself takes the
 //! daemon's turns.
-use rb_address::Host;
-use rb_daemon::{Daemon, Limits, Logged, Settings, Terms};
+use rb_address::{Host, Network};
+use rb_daemon::{Announced, Daemon, Few, Limits, Logged, Settings, Terms};
 use std::alloc::AllocError;
 use std::io::{Read, Write};
 use std::net::{Ipv4Addr, SocketAddr, TcpStream};
@@ -47,22 +47,27 @@ pub fn daemon_of(rt: &HostRuntime, port: u16, conns: usize) -> Option<Daemon<'_,
         rows: 8,
         forwards: 0,
     };
+    let here = Host::V4([127, 0, 0, 1]);
+    let mut bind = Few::new(here);
+    bind.push(here);
     let settings = Settings {
-        hosts: &[Host::V4([127, 0, 0, 1])],
-        networks: &[],
+        bind,
+        from: Few::new(Network::read(b"127.0.0.1")?),
         loopback6: false,
         local: None,
-        are_claims_believed: true,
-        announce: None,
-        announce6: None,
+        believe_claims: true,
+        announce: Announced {
+            inet: None,
+            inet6: None,
+        },
         port,
         limits,
         terms: Terms::OPEN,
         udp_rate: None,
-        open_files: u64::MAX,
-        record: 0,
+        record_limit: 0,
         keep: None,
         log: Logged::Nothing,
+        open_files: u64::MAX,
     };
     Daemon::new(rt.alloc(), rt, rt, &settings, &[]).ok()
 }

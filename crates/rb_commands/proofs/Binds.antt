@@ -7,9 +7,13 @@ use Rattle.std.proofs.Common.{◌≡◌, ◌≢◌, ◌<◌, ◌≤◌, ◌+◌,
 use Rattle.std.proofs.lemmas.List.{drop_more, drop_all, length_push}
 use Rattle.std.proofs.lemmas.Bool.{cases_lt, and_parts, ltb-true}
 use Rattle.std.proofs.lemmas.Str.Parse.{without_leading_plus_none}
-use Rattle.rb_lines.specs.declared.options.Valued.{Valued}
-use Rattle.rb_lines.specs.Options.{◌>>=◌}
-use Rattle.rb_lines.specs.Serving.{values_from, is_octal, read_mode}
+use Rattle.rb_address.specs.declared.host.Host.TheVariants.{V4}
+use Rattle.rb_address.specs.declared.network.NetworkFault.{NetworkFault}
+use Rattle.rb_address.specs.Hosts.{plain_host}
+use Rattle.rb_address.specs.Networks.{network_at}
+use Rattle.rb_commands.specs.declared.options.Valued.{Valued}
+use Rattle.rb_commands.specs.Options.{◌>>=◌}
+use Rattle.rb_commands.specs.Serving.{values_from, is_octal, read_mode}
 
 -- ---- the values of `--bind`, and of `--from`
 
@@ -51,6 +55,11 @@ module _ {A : Type 0} (value_at : ℕ → List ℕ → Result A Valued) where
   pub ends : (front : List A) (i : ℕ) (texts : List (Bor (List ℕ))) (all : Result (List A) Valued) → length texts ≤ i → with_front front (values_from value_at (length front) (drop i texts)) ≡ all → all ≡ Ok front
   unfolding values_from
   ends front i texts all le h = sym h ∙ ap (λ (ts : List (Bor (List ℕ))). with_front front (values_from value_at (length front) ts)) (drop_all i texts le) ∙ ap Ok (append-nil front)
+
+-- 0.0.0.0 alone is a network
+pub is_network : (fault : NetworkFault) → Err fault ≡ network_at (V4 (0 ∷ 0 ∷ 0 ∷ 0 ∷ [])) 32 → ⊥
+unfolding network_at plain_host
+is_network fault h = absurd cc
 
 -- ---- the mode of the local socket
 

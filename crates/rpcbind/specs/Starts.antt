@@ -4,7 +4,7 @@ use Rattle.std.specs.List.{flat_map}
 use Rattle.rb_address.specs.declared.host.Host.{Host}
 use Rattle.rb_address.specs.Peers.{bare_host_text}
 use Rattle.rb_policy.specs.Addresses.{binds_loopback6}
-use Rattle.rb_sockets.specs.declared.addresses.LocalSocket.{LocalSocket}
+use Rattle.rb_sockets.specs.declared.settings.LocalSocket.{LocalSocket}
 use Rattle.rb_sockets.specs.declared.descriptors.Shortage.{Shortage}
 use Rattle.rb_sockets.specs.declared.settings.Settings.{Settings}
 
@@ -27,8 +27,8 @@ local_line (Some local) = codes "rpcbind: listening on " ++ local.path.now ++ co
 -- the lines of the hosts, in their order, of ::1 and of the local socket
 abbrev pub start_text : Settings → List ℕ
 start_text s =
-    flat_map (host_line s.port) s.hosts.now
-    ++ loopback6_line (binds_loopback6 s.hosts.now s.loopback6) s.port
+    flat_map (host_line s.port) s.bind
+    ++ loopback6_line (binds_loopback6 s.bind s.loopback6) s.port
     ++ local_line s.local
 
 -- ---- before it, on standard error

@@ -3,9 +3,10 @@ ghost use Rattle.std.specs.Prelude.{◌≡◌, IfErr};
 
 use rb_address::Host;
 use rb_check::{Found, OwnHosts, ask_all};
+use rb_commands::Serve;
 use rb_files::{KeptFileFault, read_kept};
 use rb_keep::{KeepFault, read_rows};
-use rb_lines::{Fault, Service, explain, longest_input};
+use rb_lines::{Fault, explain, longest_input};
 use rb_proto::Announced;
 use rb_registry::Row;
 use rb_sockets::Settings;
@@ -45,23 +46,18 @@ fn rows_at<R: Files>(rt: &R, alloc: Global, path: &str) -> Result<Vec<Row>, Keep
 }
 
 /// The rows that were kept, in their order: none where none are to be kept, or nothing is at the path. Those of this
-/// machine at whose port nobody answers are left out and said, where the service checks that. Where the rows can't be
+/// machine at whose port nobody answers are left out and said, if that is asked for. Where the rows can't be
 /// read, or memory is refused, it is said why, and the error is the exit status.
-pub fn read_keep<R, E>(
-    rt: &R,
-    service: &Service<'_>,
-    settings: &Settings<'_>,
-    faults: &mut E,
-) -> Result<Vec<Row>, u8>
+pub fn read_keep<R, E>(rt: &R, serve: &Serve<'_>, faults: &mut E) -> Result<Vec<Row>, u8>
 where
     R: Files + Net + Clock + AllocGlobal,
     E: Write,
     ensures { IfErr result (λ status. status ≡ 1) }
 {
-    let Some(keep) = &service.keep else {
+    let settings = &serve.settings;
+    let Some(path) = settings.keep else {
         return Ok(Vec::new(rt.alloc()));
     };
-    let path = keep.path;
     let rows = match rows_at(rt, rt.alloc(), path) {
         Ok(rows) => rows,
         Err(fault) => {
@@ -69,7 +65,7 @@ where
             return Err(explain(Fault::ReadFailed, faults).status);
         }
     };
-    if !keep.is_checked {
+    if !serve.keep_check {
         return Ok(rows);
     }
     match without_silent(rt, path, settings, rows, faults) {
@@ -112,7 +108,7 @@ fn ask_rows<R: Net + Clock + AllocGlobal>(
         announced.push(Host::V6(octets))?;
     }
     let own = OwnHosts {
-        bound: settings.hosts,
+        bound: settings.bind.as_slice(),
         announced: &announced,
     };
     ask_all(rt, rt.alloc(), rows, own)
@@ -120,25 +116,24 @@ fn ask_rows<R: Net + Clock + AllocGlobal>(
 
 /// Says of the rows at these places that they were not set again.
 pub fn say_left_out<E: Write>(
-    service: &Service<'_>,
+    settings: &Settings<'_>,
     rows: &[Row],
     left_out: &[usize],
     faults: &mut E,
 ) {
-    let Some(keep) = &service.keep else {
+    let Some(path) = settings.keep else {
         return;
     };
     for place in left_out {
         if let Some(row) = rows.get(*place) {
-            say_row(keep.path, row, " can't be set again", faults);
+            say_row(path, row, " can't be set again", faults);
         }
     }
 }
 
 /// Says why the rows could not be written, where that failed.
-pub fn say_keep_fault<E: Write>(service: &Service<'_>, fault: Option<io::Error>, faults: &mut E) {
-    if let (Some(keep), Some(error)) = (&service.keep, fault) {
-        let path = keep.path;
+pub fn say_keep_fault<E: Write>(settings: &Settings<'_>, fault: Option<io::Error>, faults: &mut E) {
+    if let (Some(path), Some(error)) = (settings.keep, fault) {
         let _ = writeln!(
             faults,
             "rpcbind: keep {path}: {error}; it is tried again at the next change"

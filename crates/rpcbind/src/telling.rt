@@ -1,17 +1,14 @@
-//! What `serve` is started with, and what it says of its start and of its end.
+//! What `serve` says of its start and of its end.
 ghost use Rattle.std.specs.Prelude.{◌≡◌, IfErr, OnOk};
-ghost use Rattle.std.specs.Io.KnownBytes.{Appends};
-ghost use Rattle.rb_commands.specs.Faults.{step_front, TellsFault};
+ghost use Rattle.rpcbind.specs.Faults.{WritesFront, HasWritten, fault_front, TellsFault};
 
 use crate::start::{ListeningText, ShortageLine, UnannouncedLine};
 use rb_address::Host;
-use rb_files::new_file;
-use rb_lines::{Ending, Fault, Service, explain, explain_run};
+use rb_lines::{Ending, Fault, explain, explain_run};
 use rb_policy::is_no_address;
 use rb_proto::Announced;
 use rb_sockets::{DaemonFault, LocalSocket, Settings, Shortage, SocketFault, Step};
 use std::fmt::{Display, Formatter};
-use std::fs::Files;
 use std::io::Write;
 use std::{fmt, io};
 
@@ -20,7 +17,6 @@ use std::{fmt, io};
 /// is the exit status.
 pub fn say_start<R: Print, E: Write>(
     rt: &R,
-    service: &Service<'_>,
     settings: &Settings<'_>,
     shortage: Option<Shortage>,
     faults: &mut E,
@@ -29,7 +25,7 @@ pub fn say_start<R: Print, E: Write>(
 {
     say_shortage(shortage, faults);
     say_announced(settings, faults);
-    match print!(rt; "{}", ListeningText(*settings)) {
+    match print!(rt; "{}", ListeningText(settings)) {
         Ok(()) => Ok(()),
         Err(_) => Err(explain(Fault::WriteFailed, faults).status),
     }
@@ -51,28 +47,6 @@ fn say_announced<E: Write>(settings: &Settings<'_>, faults: &mut E) {
 fn say_shortage<E: Write>(shortage: Option<Shortage>, faults: &mut E) {
     if let Some(shortage) = shortage {
         let _ = writeln!(faults, "{}", ShortageLine(shortage));
-    }
-}
-
-/// Makes the file of the record, where one is asked for. Where it can't be made it is said why, and the error is the
-/// exit status.
-pub fn make_record<R: Files, E: Write>(
-    rt: &R,
-    service: &Service<'_>,
-    faults: &mut E,
-) -> Result<Option<R::File>, u8>
-    ensures { IfErr result (λ status. status ≡ 1) }
-{
-    let Some(record) = &service.recorded else {
-        return Ok(None);
-    };
-    let path = record.path;
-    match new_file(rt, path) {
-        Ok(file) => Ok(Some(file)),
-        Err(error) => {
-            let _ = writeln!(faults, "rpcbind: make {path}: {error}");
-            Err(explain(Fault::WriteFailed, faults).status)
-        }
     }
 }
 
@@ -113,7 +87,7 @@ struct StepFront<'a> {
 
 impl Display for StepFront<'_> {
     ghost use Rattle.std.specs.Prelude.{Some};
-    ghost use Rattle.rb_commands.specs.Faults.{step_front};
+    ghost use Rattle.rpcbind.specs.Faults.{step_front};
 
     ghost output = { λ front. Some (step_front front.step front.local) };
 
@@ -134,9 +108,8 @@ fn write_step<E: Write>(
     settings: &Settings<'_>,
     faults: &mut E,
 ) -> io::Result<()>
-    ensures { OnOk result ((front : E)
-        × Appends (E.contents faults.old) (E.contents front)
-        (step_front failed.now.step settings.now.local)) }
+    ensures { OnOk result
+        (HasWritten E.contents faults.old (fault_front failed.now settings.now)) }
 {
     let front = StepFront {
         step: failed.step,
@@ -148,8 +121,7 @@ fn write_step<E: Write>(
 }
 
 fn write_front<E: Write>(front: StepFront<'_>, faults: &mut E) -> io::Result<()>
-    ensures { OnOk result (Appends (E.contents faults.old) (E.contents faults.new)
-        (step_front front.entry.step front.entry.local)) }
+    ensures { OnOk result (WritesFront E.contents faults.old faults.new front.entry) }
 {
     write!(faults, "{front}")
 }

@@ -1,6 +1,5 @@
--- What the values of the options of `replay` mean.
-use Rattle.std.specs.Prelude.{ℕ, ◌^◌, ◌==◌, nat_le, not, Bool, true, false, ◌&&◌, if◌then◌else◌, List, [], ◌∷◌, length, codes, bytes_eq, is_some, Option, Some, None, option_map, Result, Ok, Err}
-use Rattle.std.specs.List.{list_all}
+-- What the values of the options of `replay` mean, and of those that `serve` has too.
+use Rattle.std.specs.Prelude.{ℕ, ◌^◌, ◌==◌, Bool, true, false, if◌then◌else◌, List, [], ◌∷◌, codes, bytes_eq, is_some, Option, Some, None, option_map, Result, Ok, Err}
 use Rattle.std.specs.Borrow.{Bor}
 use Rattle.rb_address.specs.declared.host.Host.{Host}
 use Rattle.rb_address.specs.declared.host.Host.TheVariants.{V4, V6}
@@ -10,10 +9,11 @@ use Rattle.rb_proto.specs.declared.listener.Announced.{Announced}
 use Rattle.rb_proto.specs.declared.listener.Forwarding.{Forwarding}
 use Rattle.rb_proto.specs.declared.listener.Forwarding.TheVariants.{Anywhere, ForAll, ForLocal}
 use Rattle.rb_model.specs.declared.types.Limits.{Limits}
-use Rattle.rb_lines.specs.declared.options.Valued.{Valued}
-use Rattle.rb_lines.specs.declared.options.Valued.TheVariants.{Announce, Local, Conns, Rows, Forwards, UdpLists, ReplayForwardFor, Port, Xid, Now}
-use Rattle.rb_lines.specs.declared.options.ReplayTexts.{ReplayTexts}
-use Rattle.rb_lines.specs.declared.options.Beginning.{Beginning}
+use Rattle.rb_lines.specs.declared.beginning.Beginning.{Beginning}
+use Rattle.rb_lines.specs.Paths.{is_path}
+use Rattle.rb_commands.specs.declared.options.Valued.{Valued}
+use Rattle.rb_commands.specs.declared.options.Valued.TheVariants.{Announce, Local, Conns, Rows, Forwards, UdpLists, ReplayForwardFor, Port, Xid, Now}
+use Rattle.rb_commands.specs.declared.options.ReplayTexts.{ReplayTexts}
 
 -- one after the other, up to the first that can't be read
 infixl 10 ◌>>=◌
@@ -55,14 +55,6 @@ announced_of (first ∷ second ∷ third ∷ more) = do
   Err (Announce 2)
 
 -- ---- the local socket
-
--- no control character, and no quote: so that the path can stand in quotes in a line
-abbrev pub is_quotable : ℕ → Bool
-is_quotable b = nat_le 32 b && not (b == 39)
-
--- a path of 1 to 107 such bytes
-abbrev pub is_path : List ℕ → Bool
-is_path text = not (length text == 0) && nat_le (length text) 107 && list_all is_quotable text
 
 abbrev pub read_local : Option (Bor (List ℕ)) → Result (Option (Bor (List ℕ))) Valued
 read_local None = Ok None

@@ -1,0 +1,18 @@
+use Rattle.std.proofs.Common.{rules, ◌≡◌, [], ◌∷◌, ◌++◌, sym}
+use Rattle.std.proofs.lemmas.Result.{err_from_is_err_and}
+use Rattle.rb_commands.specs.Serving.{network_at}
+use Rattle.rb_commands.proofs.Binds.{goes_on, stops, ends}
+use Rattle.rb_commands.proofs.serving.read_networks.Goals as goal
+
+pub returns-in_err-network : goal.returns-in_err-network
+returns-in_err-network c =
+    let p = err_from_is_err_and c.from_residual.result c.from_residual.ensures.1 in
+    rw (p.1, p.2) (sym (stops network_at c.loop-text.networks c.in_err-network.field-0.0 c.loop-text.text-index c.args.texts.now _ _ c.loop-text-test.true c.len.result c.len.ensures c.in_err-network.ensures.network c.loop-text.invariant))
+
+pub loop-text-preserved : goal.loop-text-preserved
+loop-text-preserved c =
+    let grown : c.push.new.self ≡ c.loop-text.networks ++ c.in_ok-network.network ∷ [] = search rules in
+    rw grown (goes_on network_at c.loop-text.networks c.in_ok-network.network c.loop-text.text-index c.args.texts.now _ _ c.loop-text-test.true c.len.result c.len.ensures c.in_ok-network.ensures.network c.loop-text.invariant)
+
+pub returns : goal.returns
+returns c = sym (ends network_at c.loop-text.networks c.loop-text.text-index c.args.texts.now _ c.loop-text-test.false c.loop-text.invariant)

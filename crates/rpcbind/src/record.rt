@@ -1,0 +1,49 @@
+//! The file in which the events of `serve` are recorded.
+ghost use Rattle.std.specs.Prelude.{◌≡◌, IfErr};
+
+use rb_daemon::Daemon;
+use rb_files::new_file;
+use rb_lines::{Fault, explain};
+use std::fs::Files;
+use std::io::Write;
+use std::rt::Clock;
+
+/// What is recorded goes to a file, as long as that takes it.
+#[derive(Drop)]
+pub struct Recorder<F: Write + Drop> {
+    file: Option<F>,
+}
+
+impl<F: Write + Drop> Recorder<F> {
+    /// Writes what was recorded and is not written yet: how the run begins, and what the last turn did. After a fault,
+    /// which is said once, nothing more is recorded.
+    pub fn write<R: Clock, E: Write>(&mut self, daemon: &mut Daemon<'_, R>, faults: &mut E) {
+        let Some(file) = &mut self.file else {
+            return;
+        };
+        if let Err(error) = daemon.write_record(file) {
+            let _ = writeln!(faults, "rpcbind: write the record: {error}; it ends here");
+            self.file = None;
+        }
+    }
+}
+
+/// Makes the file at the path, if there is one. If it can't be made it is said why, and the error is the exit status.
+pub fn make_record<R: Files, E: Write>(
+    rt: &R,
+    path: Option<&str>,
+    faults: &mut E,
+) -> Result<Recorder<R::File>, u8>
+    ensures { IfErr result (λ status. status ≡ 1) }
+{
+    let Some(path) = path else {
+        return Ok(Recorder { file: None });
+    };
+    match new_file(rt, path) {
+        Ok(file) => Ok(Recorder { file: Some(file) }),
+        Err(error) => {
+            let _ = writeln!(faults, "rpcbind: make {path}: {error}");
+            Err(explain(Fault::WriteFailed, faults).status)
+        }
+    }
+}
