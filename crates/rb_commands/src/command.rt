@@ -186,7 +186,7 @@ fn replay<'a>(alloc: Global) -> Result<Command<'a>, AllocError> {
             "Path of the local socket that answers show",
         ))?;
     let command = limited(alloc, command, "111", "4", "300", "4")?;
-    let command = compared(alloc, command)?;
+    let command = add_check(alloc, command)?;
     command
         .arg(option(alloc, "xid", "N", "Xid of the first forwarded call").default_value("1000"))?
         .arg(option(
@@ -207,7 +207,7 @@ fn replay<'a>(alloc: Global) -> Result<Command<'a>, AllocError> {
 }
 
 /// Whether `replay` compares its outputs, and whether it tells its steps: one of them at most.
-fn compared<'a>(alloc: Global, command: Command<'a>) -> Result<Command<'a>, AllocError> {
+fn add_check<'a>(alloc: Global, command: Command<'a>) -> Result<Command<'a>, AllocError> {
     let steps = Arg::new(alloc, "steps")
         .long("steps")
         .help("Tell in a last line how many counted steps the run took, and how many it may")
