@@ -6,6 +6,7 @@ use Rattle.rb_ask.specs.declared.fault.InfoFault.{InfoFault}
 use Rattle.rb_ask.specs.declared.fault.InfoFault.TheVariants.{Read as ReadFailed, Write, Unreadable, CutOff, TooLong, Refused, TooMany, Memory}
 use Rattle.rb_ask.specs.declared.record.Record.{Record}
 use Rattle.rb_ask.specs.Sources.{Supply}
+use Rattle.rb_ask.specs.Data.{Input, of_stream}
 use Rattle.rb_ask.specs.Telling.{Told, told_lines, HasFinished, HasStopped, HasBegun, Outcome}
 use Rattle.rb_show.specs.declared.form.Form.TheVariants.{Json}
 use Rattle.rb_show.specs.Replies.{tell_bytes}
