@@ -12,4 +12,5 @@ pub mod Looks
 pub mod WorkedHeld
 pub mod Standings
 pub mod Metered
+pub mod MeteredCalls
 pub mod Lending

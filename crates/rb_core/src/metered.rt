@@ -64,7 +64,7 @@ impl Metered {
     ghost use Rattle.rb_core.specs.CallCosts.{deadline_cost, making_cost, sizes_of, PaysForBytes, PaysForPlainRecord, PaysToGive, PaysToGiveInto};
     ghost use Rattle.rb_core.specs.Looks.{rows_shown, StandsAmong, IsAtStart, row_behind, PassesOne, IsAtEnd, slot_count, slots_behind};
     ghost use Rattle.rb_core.specs.Lending.{LendsReply, LendsPending, LendsUnsent, LendsRow};
-    ghost use Rattle.rb_core.specs.Metered.{Does, DoesWithReply, StepsAtMost, StepsWithin, StepsForDatagram, StepsForPlainDatagram, StepsForExchange, StepsForPlainExchange};
+    ghost use Rattle.rb_core.specs.MeteredCalls.{Does, DoesWithReply, StepsAtMost, StepsWithin, StepsForDatagram, StepsForPlainDatagram, StepsForExchange, StepsForPlainExchange};
 
     /// Makes a core, as `Core::new`, and a meter for it that begins at 0. `BadLimits` where a limit is out of its range,
     /// or the rows have no room for the own ones and two more; else `NoMemory` where an allocation is refused.
