@@ -10,7 +10,7 @@ cd "$(dirname "$0")/.." || exit 1
 unset MAKEFLAGS MAKELEVEL
 . tests/machine.sh
 
-tests=(test peers hostile units memory)
+tests=(test peers hostile attacks units memory)
 steps=("${tests[@]}" deb lintian)
 folder=out/release
 notes=$folder/RELEASE
@@ -46,7 +46,8 @@ check_tools() {
     done
     is_left_out lintian || command -v lintian > /dev/null || fail "there is no lintian"
     is_left_out units || command -v debootstrap > /dev/null || fail "there is no debootstrap"
-    is_left_out units && is_left_out peers || [ "$(id -u)" -eq 0 ] || fail "make peers and make units need root"
+    is_left_out units && is_left_out peers && is_left_out attacks || [ "$(id -u)" -eq 0 ] ||
+        fail "make peers, make attacks and make units need root"
 }
 
 # ---- the steps

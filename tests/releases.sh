@@ -178,7 +178,7 @@ run_release_in_part() {
 # Each step can fail.
 run_failing_releases() {
     local step
-    for step in test peers hostile units memory; do
+    for step in test peers hostile attacks units memory; do
         try_release FAULT="$step status"
         is_refused "make $step failed, with status 2"
         judge $? "a release whose $step has a status"

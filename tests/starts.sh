@@ -179,7 +179,7 @@ run_helps() {
     run_help_of '' help version
     run_help_of serve bind from announce local local-mode loopback6 port conns rows forwards udp-lists forward-for \
         udp-rate turns record record-limit keep keep-check log help version
-    run_help_of replay announce port conns rows forwards udp-lists forward-for check steps xid now help version
+    run_help_of replay announce local port conns rows forwards udp-lists forward-for check steps xid now help version
     run_version_of '' rpcbind
     run_version_of serve rpcbind-serve
     run_version_of replay rpcbind-replay
