@@ -1,7 +1,7 @@
 //! A driver of the core: what comes from outside is handed to the core, and what the core owes goes out.
 
 use rb_address::{Peer, Who};
-use rb_core::{CoreFault, Expired, Metered, Outcome, Standing, Told};
+use rb_core::{CoreFault, Expired, Metered, Response, Standing, Told};
 
 /// What comes from outside.
 #[derive(Clone, Copy)]
@@ -26,7 +26,7 @@ pub trait Outside {
     fn opened(&mut self, number: Result<u64, CoreFault>);
     /// The bytes that arrived on a connection and are not taken.
     fn arrived(&self, id: u64) -> &[u8];
-    /// So many of them are taken.
+    /// This many of them are taken.
     fn take(&mut self, id: u64, count: usize);
     /// Bytes go out on a connection.
     fn write(&mut self, id: u64, bytes: &[u8]);
@@ -46,9 +46,9 @@ pub fn drive<O: Outside>(core: &mut Metered, out: &mut O, now: u64, input: Input
         Input::Arrived(id) => serve(core, out, now, id),
         Input::Closed(id) => drop(core.closed(id)),
         Input::Datagram(who, content) => match core.datagram(now, who, content) {
-            Outcome::Reply => out.reply(who, core.udp_reply()),
-            Outcome::Forwarded => send_forwarded(core, out),
-            Outcome::NoCall | Outcome::Silent => {}
+            Response::Reply => out.reply(who, core.udp_reply()),
+            Response::Forwarded => send_forwarded(core, out),
+            Response::NoCall | Response::Silent => {}
         },
         Input::ForwardReply(from, content) => {
             if let Some(told) = core.forward_reply(now, from, content) {
@@ -69,7 +69,7 @@ fn serve<O: Outside>(core: &mut Metered, out: &mut O, now: u64, id: u64) {
         out.take(id, done.taken.count);
         out.write(id, &room[..done.given]);
         match done.standing {
-            Standing::Owing => give(core, out, now, id),
+            Standing::Owing => write_into(core, out, now, id),
             Standing::Idle | Standing::Reading if done.taken.count > 0 => {}
             Standing::Sends => return send_forwarded(core, out),
             _ => return,
@@ -78,9 +78,9 @@ fn serve<O: Outside>(core: &mut Metered, out: &mut O, now: u64, id: u64) {
 }
 
 /// Lets out what a connection owes, as many fragments at a time as the room has place for.
-fn give<O: Outside>(core: &mut Metered, out: &mut O, now: u64, id: u64) {
+fn write_into<O: Outside>(core: &mut Metered, out: &mut O, now: u64, id: u64) {
     let mut room = [0; 4 * 1028];
-    while let Ok(given) = core.give(now, id, &mut room) {
+    while let Ok(given) = core.write_into(now, id, &mut room) {
         out.write(id, &room[..given.count]);
         if given.standing != Standing::Owing {
             return;
@@ -92,7 +92,7 @@ fn give<O: Outside>(core: &mut Metered, out: &mut O, now: u64, id: u64) {
 fn tell<O: Outside>(core: &mut Metered, out: &mut O, now: u64, told: Told) {
     match told {
         Told::TcpReady(id) => {
-            give(core, out, now, id);
+            write_into(core, out, now, id);
             serve(core, out, now, id);
         }
         Told::Datagram(_, who) => out.reply(who, core.udp_reply()),
@@ -105,7 +105,7 @@ fn expire<O: Outside>(core: &mut Metered, out: &mut O, now: u64) {
     loop {
         match core.expire(now) {
             Expired::Ended(told) => tell(core, out, now, told),
-            Expired::ConnectionClosed(_) => {}
+            Expired::ConnectionLost(_) => {}
             Expired::Nothing => return,
         }
     }

@@ -12,11 +12,11 @@ use std::test::Fail;
 enum Sent {
     /// The number of a connection that was accepted, or with what it was refused.
     Number(Result<u64, CoreFault>),
-    /// So many bytes on a connection.
+    /// This many bytes on a connection.
     Bytes(u64, usize),
-    /// A reply of so many bytes to a datagram.
+    /// A reply of this many bytes to a datagram.
     Reply(usize),
-    /// A forwarded call of so many bytes, to this port.
+    /// A forwarded call of this many bytes, to this port.
     Call(u16, usize),
     /// The closing of a connection.
     Closing(u64),
@@ -198,7 +198,7 @@ fn a_connection_is_served(rt: HostRuntime) -> Result<(), Fail> {
     Ok(())
 }
 
-/// A record whose call is forwarded, with another behind it: that waits until the reply came.
+/// A record whose call is forwarded, with another after it: that waits until the reply came.
 #[test]
 fn a_call_is_forwarded(rt: HostRuntime) -> Result<(), Fail> {
     let mut played = Played::new(rt.alloc())?;

@@ -100,7 +100,7 @@ module _ (at : ℕ) (out : IsOutside at) where
   source_without (Inet p) is = peer_text_without p is
   source_without Local is = local_without
 
-  -- the host that was asked stands behind `>`
+  -- the host that was asked stands after `>`
   asked_without : (h : Host) → IsHost h → (62 ≡ at → ⊥) → IsWithout at (asked_text h)
   asked_without h is other = by_known (is_same_host h unknown_host)
     where

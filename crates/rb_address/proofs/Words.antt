@@ -32,7 +32,7 @@ pub bound : {A B : Type 0} (o : Option A) (f : A → Option B) (y : B) → (o >>
 bound (Some x) f y h = (x, refl, h)
 bound None f y h = absurd (none-some y h)
 
--- ---- what stands before a byte, and behind it
+-- ---- what stands before a byte, and after it
 
 place_behind : (at : ℕ) (front back : List ℕ) → IsWithout at front → position_or_len (λ b. eqb b at) (front ++ at ∷ back) ≡ length front
 place_behind at [] back none = rw (eq-eqb at at refl) refl

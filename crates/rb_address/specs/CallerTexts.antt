@@ -43,7 +43,7 @@ claimant_of_parts text (Some parts) = do
   host ← asked parts.1
   Some (record { source = from; asked = host; trust = trusts.Claims })
 
--- a source, and behind `>` the host that was asked
+-- a source, and after `>` the host that was asked
 unfoldable pub claimant : List ℕ → Option Who
 claimant text = claimant_of_parts text (cut 62 text)
 
@@ -54,13 +54,14 @@ who_of_parts text (Some parts) = do
   known ← trust parts.1
   Some (record caller { trust = known })
 
--- the same, and behind `/` whose word there is for it
+-- the same, and after `/` whose word there is for it
 unfoldable pub who : List ℕ → Option Who
 who text = who_of_parts text (cut 47 text)
 
 -- ---- what is read
 
 -- the text is what is printed of this caller
+-- CALLER-1
 pub record SpellsWho (w : Who) (text : List ℕ) : Type 0 where
   pub is_who : IsWho w
   pub text_is : text ≡ who_text w

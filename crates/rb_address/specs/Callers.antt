@@ -17,6 +17,7 @@ use Rattle.rb_address.specs.Netids.{netid_on}
 use Rattle.rb_address.specs.Peers.{IsPeer, bare_host_text, peer_text}
 
 -- the netid of a caller by a transport: over IPv4 or IPv6, or local
+-- NETID-3
 abbrev pub netid_from : Transport → Source → Netid
 netid_from transport (Inet peer) = netid_on transport (family_of peer.host)
 netid_from transport Local = netids.Local
@@ -64,5 +65,6 @@ trust_text trusts.Claims = []
 trust_text (trusts.Local owner) = codes "/" ++ owner_text owner
 trust_text trusts.Stranger = codes "/stranger"
 
+-- CALLER-1
 abbrev pub who_text : Who → List ℕ
 who_text w = source_text w.source ++ asked_text w.asked ++ trust_text w.trust

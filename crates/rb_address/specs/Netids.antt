@@ -7,6 +7,7 @@ use Rattle.rb_address.specs.declared.netid.Transport.TheVariants as transports
 use Rattle.rb_address.specs.declared.netid.Netid.{Netid}
 use Rattle.rb_address.specs.declared.netid.Netid.TheVariants.{Tcp, Udp, Tcp6, Udp6, Local}
 
+-- NETID-1
 abbrev pub netid_text : Netid → List ℕ
 netid_text Tcp = codes "tcp"
 netid_text Udp = codes "udp"
@@ -23,6 +24,7 @@ is_netid Local Local = true
 is_netid _ _ = false
 
 -- the netid of this name
+-- NETID-1
 unfoldable pub netid_named : List ℕ → Option Netid
 netid_named name =
     if bytes_eq name (codes "tcp") then Some Tcp
@@ -32,6 +34,7 @@ netid_named name =
     else if bytes_eq name (codes "local") then Some Local
     else None
 
+-- NETID-2
 abbrev pub netid_on : Transport → Family → Netid
 netid_on transports.Tcp Inet = Tcp
 netid_on transports.Tcp Inet6 = Tcp6
@@ -49,6 +52,7 @@ transport_of Udp = Some transports.Udp
 transport_of Udp6 = Some transports.Udp
 transport_of Local = None
 
+-- NETID-2
 abbrev pub family_of_netid : Netid → Option Family
 family_of_netid Tcp = Some Inet
 family_of_netid Udp = Some Inet
@@ -61,6 +65,7 @@ abbrev pub protocol_of : Transport → ℕ
 protocol_of transports.Tcp = 6
 protocol_of transports.Udp = 17
 
+-- SET-4
 unfoldable pub transport_of_protocol : ℕ → Option Transport
 transport_of_protocol protocol =
     if protocol == 6 then Some transports.Tcp

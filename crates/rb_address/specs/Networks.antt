@@ -21,7 +21,7 @@ bits_of octets = flat_map octet_bits octets
 
 -- ---- networks
 
--- the first so many bits are the same
+-- the first this many bits are the same
 abbrev pub is_same_front : ℕ → List ℕ → List ℕ → Bool
 is_same_front length a b = bytes_eq (take length (bits_of a)) (take length (bits_of b))
 
@@ -32,10 +32,11 @@ has_front (V6 a) length (V6 b) = is_same_front length a b
 has_front (V4 a) length (V6 b) = false
 has_front (V6 a) length (V4 b) = false
 
+-- NETWORK-1
 abbrev pub has : Network → Host → Bool
 has network host = has_front network.host network.length host
 
--- every bit behind so many is 0
+-- every bit after this many is 0
 abbrev pub is_clear_behind : ℕ → List ℕ → Bool
 is_clear_behind length octets = list_all (λ bit. bit == 0) (drop length (bits_of octets))
 
@@ -43,6 +44,7 @@ abbrev pub is_clear : ℕ → Host → Bool
 is_clear length host = is_clear_behind length (octets_of_host host)
 
 -- the network of a host and a length, or why there is none
+-- NETWORK-2
 unfoldable pub network_at : Host → ℕ → Result Network NetworkFault
 network_at host length =
     if nat_lt (bit_count host) length then Err TooLong
@@ -57,6 +59,7 @@ abbrev pub host_of : List ℕ → Option Host
 host_of text = option_or (option_map V4 (ipv4_host text)) (option_map V6 (ipv6_host text))
 
 -- the same, but none of IPv4 in IPv6's form
+-- HOST-1
 unfoldable pub plain_host_of : List ℕ → Option Host
 plain_host_of text = do
   host ← host_of text
@@ -80,6 +83,7 @@ network_of_parts (Some parts) text = do
   if_ok (network_at host length)
 
 -- a host, a slash and a length in decimal without leading zeros
+-- OPTION-5
 unfoldable pub network_of : List ℕ → Option Network
 network_of text = network_of_parts (cut 47 text) text
 

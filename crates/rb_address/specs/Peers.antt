@@ -12,6 +12,7 @@ use Rattle.rb_address.specs.declared.peer.Peer.{Peer}
 use Rattle.rb_address.specs.Hosts.{IsHost, plain_host}
 
 -- a host ::ffff:a.b.c.d counts as a.b.c.d
+-- MAPPED-1
 abbrev pub peer_at : Host → ℕ → Peer
 peer_at host port = record { host = plain_host host; port = port }
 
@@ -34,5 +35,6 @@ host_text (V4 octets) = ipv4_text octets
 host_text (V6 octets) = codes "[" ++ ipv6_host_text octets ++ codes "]"
 
 -- the host, a colon and the port in decimal
+-- PEER-1
 abbrev pub peer_text : Peer → List ℕ
 peer_text p = host_text p.host ++ codes ":" ++ decimal p.port

@@ -16,7 +16,7 @@ abbrev pub ◌>>=◌ : {A B : Type 0} → Option A → (A → Option B) → Opti
 (Some x) >>= f = f x
 None >>= f = None
 
--- what stands before the first such byte, and what stands behind it
+-- what stands before the first such byte, and what stands after it
 unfoldable pub cut : ℕ → List ℕ → Option (List ℕ × List ℕ)
 cut at text = option_map (λ i. (take i text, drop (i + 1) text)) (position (λ b. b == at) text)
 
@@ -24,6 +24,7 @@ abbrev pub is_digit : ℕ → Bool
 is_digit c = nat_lt (digit_value c) 10
 
 -- a number below the limit, in decimal digits
+-- OPTION-1
 unfoldable pub number_below : ℕ → List ℕ → Option ℕ
 number_below limit text =
     if not (length text == 0) && list_all is_digit text && nat_lt (digits_value 10 text) limit
@@ -45,7 +46,7 @@ ipv4_host text = do
   d ← plain_number 256 third.1
   Some (a ∷ b ∷ c ∷ d ∷ [])
 
--- what stands behind this first byte
+-- what stands after this first byte
 abbrev pub behind : ℕ → List ℕ → Option (List ℕ)
 behind at [] = None
 behind at (first ∷ rest) = if first == at then Some rest else None
@@ -80,6 +81,7 @@ peer text = option_or (ipv4_peer text) (ipv6_peer text)
 -- ---- what is read
 
 -- the text is what is printed of this peer
+-- PEER-1
 pub record SpellsPeer (p : Peer) (text : List ℕ) : Type 0 where
   pub is_peer : IsPeer p
   pub text_is : text ≡ peer_text p

@@ -122,7 +122,7 @@ pub record HostsRead : Type 0 where
 abbrev pub is_in : List ℕ → Host → Option Bool
 is_in text host = option_map (λ network. has network host) (network_of text)
 
--- 2001:db8::/32, with this fifth byte and such others behind it
+-- 2001:db8::/32, with this fifth byte and such others after it
 abbrev pub of_2001_db8 : ℕ → ℕ → Host
 of_2001_db8 fifth others = V6 (32 ∷ 1 ∷ 13 ∷ 184 ∷ fifth ∷ replicate 11 others)
 

@@ -19,7 +19,7 @@ pub struct Network {
 pub enum NetworkFault {
     /// The length is over the bits of the host: 32, or 128.
     TooLong,
-    /// A bit of the host is set behind the length.
+    /// A bit of the host is set after the length.
     BitsBehind,
     /// The host is one of IPv4 in IPv6's form, as which no peer counts.
     Mapped,
@@ -76,7 +76,7 @@ fn bit_count(host: Host) -> u8
     }
 }
 
-/// Whether both begin with the same bits, so many of them.
+/// Whether both begin with the same bits, this many of them.
 fn is_same_front(a: &[u8], b: &[u8], bits: usize) -> bool
     requires { length a.now ≡ length b.now }
     ensures { result ≡ is_same_front bits a.now b.now }
@@ -98,7 +98,7 @@ fn is_same_octet(x: u8, y: u8, bits: usize) -> bool
     u32::from(x) >> (8 - bits) == u32::from(y) >> (8 - bits)
 }
 
-/// Whether no bit is set behind so many.
+/// Whether no bit is set after this many.
 fn is_clear(host: Host, length: u8) -> bool
     ensures { result ≡ is_clear length host }
 {
@@ -120,7 +120,7 @@ fn is_clear_behind(octets: &[u8], bits: usize) -> bool
     }
 }
 
-/// Whether no bit of a byte is set behind so many, at most 8.
+/// Whether no bit of a byte is set after this many, at most 8.
 fn is_octet_clear(x: u8, bits: usize) -> bool
     requires { bits ≤ 8 }
     ensures { result ≡ is_octet_clear bits x }

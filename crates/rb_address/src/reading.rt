@@ -17,7 +17,7 @@ fn place(text: &[u8], at: u8) -> Option<usize>
     text.iter().position(|b| *b == at)
 }
 
-/// What stands before the first such byte, and what stands behind it.
+/// What stands before the first such byte, and what stands after it.
 #[tactic(auto, unfolding(crate::specs::Reading::cut))]
 pub fn cut(text: &[u8], at: u8) -> Option<(&[u8], &[u8])>
     ensures { cut_of result ≡ cut at text.now }
@@ -84,7 +84,7 @@ pub(crate) fn ipv4_host(text: &[u8]) -> Option<[u8; 4]>
     Some([a as u8, b as u8, c as u8, d as u8])
 }
 
-/// What stands behind this first byte.
+/// What stands after this first byte.
 fn behind(text: &[u8], at: u8) -> Option<&[u8]>
     ensures { behind_of result ≡ behind at text.now }
 {
@@ -189,7 +189,7 @@ fn trust(text: &[u8]) -> Option<Trust>
     Some(Trust::Local(Owner::Uid(uid as u32)))
 }
 
-/// A caller of whom nothing is known but what it says: a source, and behind `>` the host that was asked.
+/// A caller of whom nothing is known but what it says: a source, and after `>` the host that was asked.
 #[tactic(auto, unfolding(crate::specs::CallerTexts::claimant))]
 fn claimant(text: &[u8]) -> Option<Who>
     ensures { result ≡ claimant text.now }

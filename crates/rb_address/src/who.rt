@@ -91,7 +91,7 @@ impl fmt::Display for Source {
     }
 }
 
-/// The host that was asked, behind a source.
+/// The host that was asked, after a source.
 #[derive(Clone, Copy)]
 struct AskedText(Host);
 
@@ -110,7 +110,7 @@ impl fmt::Display for AskedText {
     }
 }
 
-/// Whose word there is for a caller, behind the host that was asked.
+/// Whose word there is for a caller, after the host that was asked.
 #[derive(Clone, Copy)]
 struct TrustText(Trust);
 

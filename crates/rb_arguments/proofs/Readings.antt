@@ -63,7 +63,7 @@ module _ {B : Type 0} where
   opaque_again : (limit : ℕ) (next : List ℕ → Reader B) (x : List ℕ) (rest : List ℕ) (y : B) (k : ℕ) → IsContent limit x → next x rest ≡ Ok (y, k) → (read_opaque limit >>= next) (opaque x ++ rest) ≡ Ok (y, length (opaque x) + k)
   opaque_again limit next x rest y k fits = bind_again (read_opaque limit) next (opaque x) rest x y k (opaque_complete limit x rest fits)
 
--- what is behind so many bytes of a spelling
+-- what is after this many bytes of a spelling
 left_over : (bytes text rest : List ℕ) (n : ℕ) → bytes ≡ text ++ rest → length text ≡ n → bytes ≡ text ++ drop n bytes
 left_over bytes text rest n whole size =
     whole ∙ ap (λ (xs : List ℕ). text ++ xs) (sym (drop_at text rest n size) ∙ ap (drop n) (sym whole))
@@ -226,9 +226,9 @@ pub entry_has_form : HasForm entry_form read_entry
 unfolding read_entry
 entry_has_form = then_form (read_opaque 128) (Content 128) _ (Then (Content 32) (Then Number (Then (Content 32) (Content 32)))) (λ bytes. refl) (λ maddr. then_form (read_opaque 32) (Content 32) _ (Then Number (Then (Content 32) (Content 32))) (λ bytes. refl) (λ netid. then_form read_number Number _ (Then (Content 32) (Content 32)) (λ bytes. refl) (λ semantics. then_form (read_opaque 32) (Content 32) _ (Content 32) (λ bytes. refl) (λ protofmly. given_form (read_opaque 32) (Content 32) (λ proto. record { maddr = maddr; netid = netid; semantics = semantics; protofmly = protofmly; proto = proto }) (λ bytes. refl)))))
 
--- ---- a call that is to be forwarded
+-- ---- a call that must be forwarded
 
--- the content of args stands behind 16 bytes
+-- the content of args stands after 16 bytes
 content_in : (a b c : ℕ) (content rest : List ℕ)
     → slice_range (number a ++ (number b ++ (number c ++ (opaque content ++ rest)))) 16 (16 + length content) ≡ content
 content_in a b c content rest =

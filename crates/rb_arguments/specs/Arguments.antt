@@ -15,6 +15,7 @@ use Rattle.rb_arguments.specs.declared.request.Request.TheVariants as requests
 pub use Rattle.rb_arguments.specs.declared.request.Request.{Request}
 
 -- version, number and procedure, under the type of its argument
+-- PROC-1 PROC-2
 abbrev pub procedures : List (ℕ × ℕ × Procedure)
 procedures =
     line 2 0 (Void voids.Null)
@@ -59,11 +60,12 @@ is_known vers proc = is_some (procedure_at vers proc)
 
 -- ---- arguments
 
--- what was read, without where it ends: bytes behind the arguments count for nothing
+-- what was read, without where it ends: bytes after the arguments count for nothing
 abbrev pub value_of : {A : Type 0} → Reading A → Option A
 value_of (Ok read) = Some read.0
 value_of (Err fault) = None
 
+-- ARGS-1
 abbrev pub front : {A : Type 0} → Reader A → List ℕ → Option A
 front reads bytes = value_of (reads bytes)
 
@@ -76,7 +78,7 @@ arguments Uaddr2taddr bytes = option_map requests.Uaddr2taddr (front (read_opaqu
 arguments Taddr2uaddr bytes = option_map requests.Taddr2uaddr (front read_netbuf bytes)
 arguments (Forward kind) bytes = option_map (requests.Forward kind) (front read_remote bytes)
 
--- what the bytes behind the verifier ask for, None where they are unreadable
+-- what the bytes after the verifier ask for, None where they are unreadable
 unfoldable pub request : ℕ → ℕ → List ℕ → Option Request
 request vers proc bytes = option_and_then (λ procedure. arguments procedure bytes) (procedure_at vers proc)
 
@@ -85,6 +87,7 @@ abbrev pub or_garbage : Option Request → Result Request ArgumentFault
 or_garbage (Some request) = Ok request
 or_garbage None = Err GarbageArgs
 
+-- PROC-2
 abbrev pub read_request : ℕ → ℕ → List ℕ → Result Request ArgumentFault
 read_request vers proc bytes = if is_known vers proc then or_garbage (request vers proc bytes) else Err ProcUnavail
 

@@ -9,6 +9,7 @@ use Rattle.rb_arguments.specs.declared.procedure.Procedure.TheVariants as proced
 use Rattle.rb_arguments.specs.declared.request.Request.TheVariants.{Void, Mapping, Rpcb, Uaddr2taddr, Taddr2uaddr, Forward}
 
 -- the bytes begin with a spelling of the value
+-- ARGS-1
 pub record BeginsWith {A : Type 0} (is_value : A → Type 0) (spelling : A → List ℕ) (x : A) (bytes : List ℕ) : Type 0 where
   pub fits : is_value x
   pub rest : List ℕ

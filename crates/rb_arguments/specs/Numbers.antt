@@ -40,6 +40,7 @@ is_procedure (Rpcb a) (Rpcb b) = is_rpcb a b
 is_procedure _ _ = false
 
 -- the number in the table's line of a procedure in a version
+-- QUESTION-1
 unfoldable pub number_of : ℕ → Procedure → Option ℕ
 number_of vers procedure =
     option_map (λ row. row.1) (find (λ row. row.0 == vers && is_procedure row.2 procedure) procedures)

@@ -5,6 +5,7 @@ use Rattle.rb_rpc.specs.Forwarded.{longest_forwarded}
 use Rattle.rb_arguments.specs.declared.remote.RemoteCall.{RemoteCall}
 
 -- prog, vers, proc, args<8800>: of args only the number of its bytes is kept
+-- ARGS-2
 unfoldable pub read_remote : Reader RemoteCall
 read_remote = do
   prog ← read_number
@@ -13,7 +14,8 @@ read_remote = do
   args ← read_opaque longest_forwarded
   give (record { prog = prog; vers = vers; proc = proc; count = length args })
 
--- The content of args. It stands behind three numbers and its own count.
+-- The content of args. It stands after three numbers and its own count.
+-- ARGS-3
 abbrev pub args_of : RemoteCall → List ℕ → List ℕ
 args_of remote arguments = slice_range arguments 16 (16 + remote.count)
 
@@ -23,6 +25,7 @@ pub record HasContent (remote : RemoteCall) (arguments : List ℕ) : Type 0 wher
   pub within : 16 + remote.count ≤ length arguments
 
 -- The bytes begin with a spelling of the argument.
+-- ARGS-2
 pub record SpellsRemote (remote : RemoteCall) (bytes : List ℕ) : Type 0 where
   pub prog : IsNumber remote.prog
   pub vers : IsNumber remote.vers

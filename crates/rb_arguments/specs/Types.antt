@@ -35,6 +35,7 @@ read_mapping = do
 
 -- ---- rpcb: r_prog, r_vers, r_netid<32>, r_addr<128>, r_owner<128>
 
+-- ARGS-6
 pub record IsRpcb (r : Rpcb) : Type 0 where
   pub prog : IsNumber r.prog
   pub vers : IsNumber r.vers
@@ -51,6 +52,7 @@ max_rpcb = max_number + max_number + max_opaque 32 + max_opaque 128 + max_opaque
 abbrev pub rpcb_form : Form
 rpcb_form = Then Number (Then Number (Then (Content 32) (Then (Content 128) (Content 128))))
 
+-- ARGS-6
 unfoldable pub read_rpcb : Reader Rpcb
 read_rpcb = do
   prog ← read_number

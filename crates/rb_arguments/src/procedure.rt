@@ -122,7 +122,7 @@ impl Procedure {
             .map(|row| row.2)
     }
 
-    /// What the bytes ask of the procedure, `None` where its arguments can't be read. Bytes behind them count for nothing.
+    /// What the bytes ask of the procedure, `None` where its arguments can't be read. Bytes after them count for nothing.
     #[tactic(auto, unfolding(crate::specs::Arguments::arguments))]
     pub fn read(self, bytes: &[u8]) -> Option<Request<'_>>
         ensures request { result ≡ arguments self bytes.now }

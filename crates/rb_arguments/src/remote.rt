@@ -1,4 +1,4 @@
-//! Calls that are to be made for a caller (RFC 1833 sections 2.1 and 3.1).
+//! Calls that must be made for a caller (RFC 1833 sections 2.1 and 3.1).
 ghost use Rattle.std.specs.Prelude.{◌≡◌, IfSome};
 ghost use Rattle.rb_arguments.specs.Arguments.{front};
 ghost use Rattle.rb_arguments.specs.Remote.{HasContent, read_remote, args_of};
@@ -6,11 +6,11 @@ ghost use Rattle.rb_arguments.specs.Remote.{HasContent, read_remote, args_of};
 use rb_rpc::LONGEST_FORWARDED;
 use rb_xdr::{Xdr, XdrFault, take_opaque};
 
-/// Where the content of args begins, behind three numbers and its count.
+/// Where the content of args begins, after three numbers and its count.
 const CONTENT: usize = 16;
 
 /// rpcb_rmtcallargs of RFC 1833 section 2.1 and call_args of section 3.1: which procedure of which program is to be
-/// called, and how many bytes of arguments it is to be given, at most 8,800. Those stay where they came.
+/// called, and how many bytes of arguments it must be given, at most 8,800. Those stay where they came.
 #[derive(Clone, Copy, PartialEq, Eq, Debug)]
 pub struct RemoteCall {
     /// The program's number.

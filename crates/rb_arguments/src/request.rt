@@ -22,7 +22,7 @@ pub enum Request<'a> {
     Uaddr2taddr(LentText<'a, 128>),
     /// A transport form, whose universal address is asked for.
     Taddr2uaddr(LentNetbuf<'a>),
-    /// The call that is to be made for the caller.
+    /// The call that must be made for the caller.
     Forward(Kind, RemoteCall),
 }
 
@@ -38,9 +38,9 @@ pub enum ArgumentFault {
 }
 
 /// Reads the arguments of a procedure of version 2, 3 or 4 from the front of the bytes (RFC 1833 sections 2.2 and 3.2).
-/// Bytes behind them count for nothing.
+/// Bytes after them count for nothing.
 ///
-/// `ProcUnavail` comes before `GarbageArgs`. The args of a call that is to be forwarded stay in the bytes.
+/// `ProcUnavail` comes before `GarbageArgs`. The args of a call that must be forwarded stay in the bytes.
 #[tactic(auto, unfolding(crate::specs::Arguments::is_known, crate::specs::Arguments::request))]
 pub fn read_args(vers: u32, proc: u32, bytes: &[u8]) -> Result<Request<'_>, ArgumentFault>
     ensures request { result ≡ read_request vers proc bytes.now }

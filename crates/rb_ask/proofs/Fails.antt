@@ -29,7 +29,7 @@ data_fails known known' at (Refused head) more p = p
 data_fails known known' at TooMany more p = p
 data_fails known known' at Memory more p = p
 
--- behind fragments without data
+-- after fragments without data
 pub ends_behind : {B : Type 0} (left : B → Supply) (source source' : B) (known' : Supply) (at at' : Record) (fault : InfoFault) → Passes left source source' at at' → DataEnds (left source') known' at' fault → DataEnds (left source) known' at fault
 ends_behind left source source' known' at at' Read passes p = p
 ends_behind left source source' known' at at' CutOff passes p = λ bytes read content q. let r = passes bytes read content q in p bytes r.0 content r.1

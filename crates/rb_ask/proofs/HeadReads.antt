@@ -25,12 +25,12 @@ use Rattle.rb_ask.specs.HeadLaws.{IsHead, HeadsAreRead}
 abbrev Front : Type 0 → Type 0
 Front A = List ℕ → Told A
 
--- the head that was read, with the data behind it
+-- the head that was read, with the data after it
 abbrev told_head : Read → List ℕ → Told ReplyHead
 told_head (Some read) content = Done [] read.0 (drop read.1 content)
 told_head None content = Stop [] Unreadable
 
--- behind no lines
+-- after no lines
 no_lines : {A : Type 0} (told : Told A) → add_lines [] told ≡ told
 no_lines (Done more x left) = refl
 no_lines (Stop more fault) = refl
@@ -158,7 +158,7 @@ flavor_told rest p bytes =
     pair_told read_number (read_opaque max_auth_body) (λ _. rest) (drop p bytes)
     ∙ reads_told read_number 4 (λ d. number_at 0 d) (λ (c : ℕ) (d : List ℕ). tell_on (told_by Unreadable (read_opaque max_auth_body d) d) (λ _. rest)) p bytes (omega arith) number_reads
 
--- behind the flavor and the count
+-- after the flavor and the count
 tail_told : {A : Type 0} (rest : Front A) (p q c : ℕ) (bytes : List ℕ) → q ≡ p + 8 → c ≡ number_at (p + 4) bytes
     → cond (ltb (length bytes) q) (Stop [] Unreadable) (tell_on (told_by Unreadable (limited c (drop q bytes)) (drop q bytes)) (λ _. rest))
     ≡ cond (is_over_long p bytes || is_broken p bytes) (Stop [] Unreadable) (rest (drop (auth_end p bytes) bytes))

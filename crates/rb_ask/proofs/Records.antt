@@ -45,7 +45,7 @@ by_flag b c n m bytes rest same size front behind k fuel =
     let len : n - 4 ≡ m = omega (arith, size) in
     rw (same, len, front, behind, fuel) refl
 
--- behind its number the data is that of a fragment of so many bytes, and of those behind it
+-- after its number the data is that of a fragment of this many bytes, and of those after it
 pub data_behind : (n allowed : ℕ) (rest : List ℕ) → n < 2 ^ 32
     → data_of (number n ++ rest) ≡ data_left (record { left = n % 2 ^ 31; last = not (ltb n (2 ^ 31)); allowed = allowed }) rest
 unfolding data_of data_left
@@ -107,7 +107,7 @@ left_some at at' b bytes more same =
 
 -- ---- whether a record ends
 
--- a record of at most so many fragments ends in these bytes
+-- a record of at most this many fragments ends in these bytes
 abbrev whole_in : ℕ → List ℕ → Bool
 whole_in k bytes = is_some (record_of k bytes)
 
@@ -153,7 +153,7 @@ not_cut n m = elim (leb_tells m n) [
   | inr h ↦ ap not (lt-ltb (4 + n) (4 + m) (omega (arith, h.1))) ∙ sym h.0
 ]
 
--- behind its number the record ends with a fragment of so many bytes, or with those behind it
+-- after its number the record ends with a fragment of this many bytes, or with those after it
 pub whole_behind : (n allowed : ℕ) (rest : List ℕ) → n < 2 ^ 32
     → is_whole (number n ++ rest) ≡ ends_in (record { left = n % 2 ^ 31; last = not (ltb n (2 ^ 31)); allowed = allowed }) rest
 unfolding first_record ends_in
@@ -216,13 +216,13 @@ consumed None known' front rest e p = absurd cc
 consumed (Some xs) None front rest e p = absurd p
 consumed (Some xs) (Some ys) front rest e p = let same : rest ≡ xs = cc in (ys, refl, same ∙ p)
 
--- more of what stands behind the front
+-- more of what stands after the front
 take_more : (n k : ℕ) (front rest : List ℕ) → n ≡ length front + k → take n (front ++ rest) ≡ front ++ take k rest
 take_more n k [] rest e = ap (λ (m : ℕ). take m rest) (omega (arith, e))
 take_more n k (b ∷ front) rest e =
     ap (λ (m : ℕ). take m (b ∷ (front ++ rest))) {y = suc (length front + k)} (omega (arith, e)) ∙ ap (λ (xs : List ℕ). b ∷ xs) (take_more (length front + k) k front rest refl)
 
--- some bytes were read, behind which the record says the same of whatever follows
+-- some bytes were read, after which the record says the same of whatever follows
 record More (read front : List ℕ) (at at' : Record) (found : List ℕ) : Type 0 where
   goes_on : (more : List ℕ) → data_left at (front ++ more) ≡ found ++ data_left at' more
   ends_on : (more : List ℕ) → ends_in at (front ++ more) ≡ ends_in at' more
@@ -341,7 +341,7 @@ header_limited known at over more few there input read content p =
       limit_ends input long (over_is input read known at content p ∙ ends_none at (take at.allowed p.rest) over more ∙ none_whole (take at.allowed p.rest) size),
     )
 
--- behind the last fragment
+-- after the last fragment
 pub last_ends : (known : Supply) (at : Record) → at.left ≡ 0 → at.last ≡ true → HasNoData known at CutOff
 last_ends known at over last input read content p = (
   p.content_is ∙ left_over at (take at.allowed p.rest) over last,

@@ -15,12 +15,12 @@ use Rattle.rb_ask.specs.Lists.{tell_items, tell_item, tell_end, greatest_list}
 use Rattle.rb_ask.specs.WholeLists.{take_items, take_end, next_item}
 use Rattle.rb_ask.specs.ListLaws.{ListsAreShown, LongerListsStop, ListsAreTaken}
 
--- behind no lines
+-- after no lines
 no_lines : {A : Type 0} (told : Told A) → add_lines [] told ≡ told
 no_lines (Done more x left) = refl
 no_lines (Stop more fault) = refl
 
--- a value in front of data is taken, and what stands behind it is left
+-- a value in front of data is taken, and what stands after it is left
 pub takes-value : {A : Type 0} (is_value : A → Type 0) (spelling : A → List ℕ) (reads : Reader A) → IsComplete is_value spelling reads
     → (x : A) (rest : List ℕ) (end : InfoFault) → is_value x → take_one reads end (spelling x ++ rest) ≡ Done [] x rest
 unfolding take_one
@@ -53,7 +53,7 @@ module _ {A : Type 0} (is_value : A → Type 0) (spelling : A → List ℕ) (rea
   -- ---- lines
 
   module _ (line : A → List ℕ) (end : InfoFault) where
-    -- what is told of so many items at most, behind those that were shown
+    -- what is told of this many items at most, after those that were shown
     abbrev tells : ℕ → ℕ → List ℕ → Told ℕ
     tells k shown content = tell_items reads line k shown end content
 
@@ -98,7 +98,7 @@ module _ {A : Type 0} (is_value : A → Type 0) (spelling : A → List ℕ) (rea
   -- ---- lists that are taken whole
 
   module _ (end : InfoFault) where
-    -- what is taken of so many items at most, behind those that were taken
+    -- what is taken of this many items at most, after those that were taken
     abbrev takes : ℕ → List A → List ℕ → Told (List A)
     takes k taken content = take_items reads k taken end content
 

@@ -42,7 +42,7 @@ still_cut (Done lines x left) next a b o = record {
 }
 still_cut (Stop lines fault) next a b o = record { lines = o.lines; more = o.more; lines_are = o.lines_are; written = o.written }
 
--- the outcome of the second is that of both, behind the lines of the first
+-- the outcome of the second is that of both, after the lines of the first
 behind_lines : {A : Type 0} (told : Told A) (lines : List (List ℕ)) (input : Input) (known : Supply) (at : Record) (a b c : Option (List ℕ)) (result : Result A InfoFault)
     → Appends a b (lines_text lines) → Outcome told input known at b c result → Outcome (add_lines lines told) input known at a c result
 behind_lines {A} told lines input known at a b c (Ok x) p o = record {

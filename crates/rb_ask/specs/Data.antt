@@ -16,12 +16,14 @@ pub record Input : Type 0 where
 abbrev pub of_stream : List ℕ → Input
 of_stream bytes = record { bytes = bytes; is_marked = true }
 
+-- DATA-6
 abbrev pub of_datagram : List ℕ → Input
 of_datagram bytes = record { bytes = bytes; is_marked = false }
 
 -- ---- what may be read
 
--- at most so many bytes of a record are read
+-- the most bytes of a record that are read
+-- DATA-2
 abbrev pub longest_record : ℕ
 longest_record = 16777216
 
@@ -42,7 +44,8 @@ unfoldable pub is_over : Input → List ℕ → Bool
 is_over input front = if input.is_marked then is_whole front else nat_le (length input.bytes) (length front)
 
 -- What is wrong where more is needed than the data that may be read: the input or its record ends there, or the record
--- goes on behind the bytes that may be read.
+-- goes on after the bytes that may be read.
+-- DATA-3
 unfoldable pub end_of : Input → InfoFault
 end_of input =
     if nat_lt (length input.bytes) longest_record || is_over input (front_of input.bytes) then CutOff else TooLong
@@ -50,6 +53,7 @@ end_of input =
 -- ---- where a reader stands
 
 -- the data that is still to come of a record, before these bytes
+-- DATA-1
 unfoldable pub data_left : Record → List ℕ → List ℕ
 data_left at bytes = if at.last then take at.left bytes else take at.left bytes ++ data_of (drop at.left bytes)
 
@@ -58,7 +62,7 @@ unfoldable pub ends_in : Record → List ℕ → Bool
 ends_in at bytes = nat_le at.left (length bytes) && (at.last || is_whole (drop at.left bytes))
 
 -- Of all bytes of an input these were read, and `rest` is left. Whatever follows those that were read, its data stands
--- behind theirs, and the record ends there, as the record's place says.
+-- after theirs, and the record ends there, as the record's place says.
 pub record HasPassed (input : Input) (read : List ℕ) (known : Supply) (at : Record) (content : List ℕ) : Type 0 where
   pub rest : List ℕ
   pub known_is : known.bytes ≡ Some rest
@@ -73,7 +77,7 @@ abbrev pub EndsInData : Input → List ℕ → Type 0
 EndsInData input read =
     (front : List ℕ) (b : ℕ) → read ≡ front ++ b ∷ [] → data_read input read ≡ data_read input front ++ b ∷ []
 
--- This data of an input's first record is still to come, and nothing behind the data before it was read.
+-- This data of an input's first record is still to come, and nothing after the data before it was read.
 pub record StandsBefore (input : Input) (known : Supply) (at : Record) (content : List ℕ) : Type 0 where
   pub read : List ℕ
   pub passed : HasPassed input read known at content

@@ -26,6 +26,7 @@ accept_stat n =
     else stop Unreadable
 
 -- a verifier of any flavor, and accept_stat
+-- HEAD-1
 abbrev pub read_verifier_and_stat : Reader ((ℕ × List ℕ) × ℕ)
 read_verifier_and_stat = read_pair (read_pair read_number (read_opaque max_auth_body)) read_number
 
@@ -58,5 +59,6 @@ head_with_status xid stat = reply_stat stat >>= λ status. give (record { xid = 
 abbrev pub reply_words : ℕ → ℕ × ℕ → Teller ReplyHead
 reply_words xid w = if w.0 == 1 then head_with_status xid w.1 else stop Unreadable
 
+-- HEAD-1
 unfoldable pub take_head : Teller ReplyHead
 take_head = take_one (read_pair read_number two_numbers) >>= λ (w : ℕ × (ℕ × ℕ)). reply_words w.0 w.1

@@ -7,7 +7,7 @@ use Rattle.rb_ask.specs.Telling.Told.{Done, Stop}
 use Rattle.rb_ask.specs.Lists.{tell_items, greatest_list}
 use Rattle.rb_ask.specs.WholeLists.{take_items}
 
--- A list of at most 4,096 values is told by the line of each, in their order, and what stands behind it is left.
+-- A list of at most 4,096 values is told by the line of each, in their order, and what stands after it is left.
 abbrev pub ListsAreShown : {A : Type 0} → (A → Type 0) → (A → List ℕ) → Reader A → Type 0
 ListsAreShown {A} is_value spelling reads =
     (line : A → List ℕ) (items : List A) (rest : List ℕ) (end : InfoFault)

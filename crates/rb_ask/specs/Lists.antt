@@ -5,7 +5,8 @@ use Rattle.rb_xdr.specs.XdrTypes.{read_optional}
 use Rattle.rb_ask.specs.declared.fault.InfoFault.TheVariants.{TooMany}
 use Rattle.rb_ask.specs.Telling.{Teller, ◌>>=◌, give, stop, tell, take_one}
 
--- at most so many items of a list are shown
+-- the most items of a list that are shown
+-- ITEM-1
 abbrev pub greatest_list : ℕ
 greatest_list = 4096
 
@@ -14,11 +15,12 @@ abbrev pub tell_end : ℕ → Bool → Teller ℕ
 tell_end shown more = if more then stop TooMany else give shown
 
 -- an item's line, and then more; without an item, how many there were
+-- ITEM-2
 abbrev pub tell_item : {A : Type 0} → (A → List ℕ) → ℕ → Teller ℕ → Option A → Teller ℕ
 tell_item line shown more None = give shown
 tell_item line shown more (Some x) = tell (line x ∷ []) >>= λ _. more
 
--- A list of at most so many more items, behind those that were shown: TRUE and the item for each, FALSE at the end.
+-- A list of at most this many more items, after those that were shown: TRUE and the item for each, FALSE at the end.
 unfoldable pub tell_items : {A : Type 0} → Reader A → (A → List ℕ) → ℕ → ℕ → Teller ℕ
 tell_items reads line zero shown = take_one read_bool >>= tell_end shown
 tell_items reads line (suc k) shown = take_one (read_optional reads) >>= tell_item line shown (tell_items reads line k (shown + 1))

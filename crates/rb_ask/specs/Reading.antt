@@ -15,21 +15,21 @@ HasRead left source source' bytes = Consumes (left source).bytes (left source').
 abbrev pub HasFewer : ℕ → Supply → Type 0
 HasFewer n known = (rest : List ℕ) → known.bytes ≡ Some rest → length rest < n
 
--- so many bytes are left, or more
+-- this many bytes are left, or more
 abbrev pub HasMany : ℕ → Supply → Type 0
 HasMany n known = (rest : List ℕ) → known.bytes ≡ Some rest → n ≤ length rest
 
--- the input ends before so many bytes, and before as many as may be read
+-- the input ends before this many bytes, and before as many as may be read
 pub record IsCutWithin (n : ℕ) (known : Supply) (at : Record) : Type 0 where
   pub short : HasFewer n known
   pub allowed : HasFewer at.allowed known
 
--- fewer than so many bytes may be read, and the input has those
+-- fewer than this many bytes may be read, and the input has those
 pub record IsLimitedWithin (n : ℕ) (known : Supply) (at : Record) : Type 0 where
   pub short : at.allowed < n
   pub there : HasMany at.allowed known
 
--- why not so many bytes were read
+-- why not this many bytes were read
 abbrev pub FailsWithin : ℕ → Supply → Supply → Record → InfoFault → Type 0
 FailsWithin n known known' at Read = IsTrue known'.can_fail
 FailsWithin n known known' at CutOff = IsCutWithin n known at

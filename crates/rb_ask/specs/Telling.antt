@@ -12,7 +12,7 @@ pub use Rattle.rb_ask.specs.declared.fault.InfoFault.{InfoFault}
 
 -- ---- what is told
 
--- Lines, and then a value with the data behind it, or the reason why there is none.
+-- Lines, and then a value with the data after it, or the reason why there is none.
 pub data Told (A : Type 0) : Type 0 where
   Done : List (List ℕ) → A → List ℕ → Told A
   Stop : List (List ℕ) → InfoFault → Told A
@@ -21,7 +21,7 @@ pub data Told (A : Type 0) : Type 0 where
 abbrev pub Teller : Type 0 → Type 0
 Teller A = InfoFault → List ℕ → Told A
 
--- behind these lines
+-- after these lines
 abbrev pub add_lines : {A : Type 0} → List (List ℕ) → Told A → Told A
 add_lines lines (Done more x left) = Done (lines ++ more) x left
 add_lines lines (Stop more fault) = Stop (lines ++ more) fault
@@ -46,6 +46,7 @@ abbrev pub tell : List (List ℕ) → Teller (Unit {0})
 tell lines = λ end content. Done lines tt content
 
 -- where more bytes could make a value of it, the data ends too early
+-- DATA-3
 abbrev pub told_by : {A : Type 0} → InfoFault → Reading A → List ℕ → Told A
 told_by end (Ok read) content = Done [] read.0 (drop read.1 content)
 told_by end (Err faults.Short) content = Stop [] end
@@ -54,6 +55,7 @@ told_by end (Err faults.BadBool) content = Stop [] Unreadable
 told_by end (Err faults.BadPadding) content = Stop [] Unreadable
 
 -- a value of XDR
+-- DATA-5
 unfoldable pub take_one : {A : Type 0} → Reader A → Teller A
 take_one reads = λ end content. told_by end (reads content) content
 
@@ -66,7 +68,7 @@ abbrev pub told_lines : {A : Type 0} → Told A → List (List ℕ)
 told_lines (Done lines x left) = lines
 told_lines (Stop lines fault) = lines
 
--- all the lines were written, and the record stands behind what was read
+-- all the lines were written, and the record stands after what was read
 pub record HasFinished {A : Type 0} (told : Told A) (x : A) (input : Input) (known : Supply) (at : Record) (old new : Option (List ℕ)) : Type 0 where
   pub lines : List (List ℕ)
   pub left : List ℕ
@@ -89,6 +91,7 @@ pub record HasBegun {A : Type 0} (told : Told A) (old new : Option (List ℕ)) :
 
 -- What was written before a fault. After one of the writer nothing is known of it. A source that never fails has no
 -- fault of its own.
+-- DATA-4
 abbrev pub AfterFault : {A : Type 0} → Told A → InfoFault → Supply → Option (List ℕ) → Option (List ℕ) → Type 0
 AfterFault told Write known old new = Unit {0}
 AfterFault told Read known old new = HasBegun told old new × IsTrue known.can_fail

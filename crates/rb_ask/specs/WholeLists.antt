@@ -17,7 +17,8 @@ abbrev pub next_item : {A : Type 0} → List A → (List A → Teller (List A)) 
 next_item taken more None = give taken
 next_item taken more (Some x) = more (taken ++ x ∷ [])
 
--- A list of at most so many more items, behind those that were taken: TRUE and the item for each, FALSE at the end.
+-- A list of at most this many more items, after those that were taken: TRUE and the item for each, FALSE at the end.
+-- ITEM-1
 unfoldable pub take_items : {A : Type 0} → Reader A → ℕ → List A → Teller (List A)
 take_items reads zero taken = take_one read_bool >>= take_end taken
 take_items reads (suc k) taken = take_one (read_optional reads) >>= next_item taken (take_items reads k)

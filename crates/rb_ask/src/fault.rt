@@ -17,7 +17,7 @@ pub enum InfoFault {
     /// The reply's data ends before its results do.
     #[error("reply cut off")]
     CutOff,
-    /// The results end behind the 16,777,216 bytes that are read of a reply.
+    /// The results end after the 16,777,216 bytes that are read of a reply.
     #[error("reply too long")]
     TooLong,
     /// The call was refused, as this head says.

@@ -101,7 +101,7 @@ fn reply_stat<B: ByteSource>(
     }
 }
 
-/// Reads the head of a reply (RFC 5531 section 9), and no byte behind it. A verifier may have any flavor and at most 400
+/// Reads the head of a reply (RFC 5531 section 9), and no byte after it. A verifier may have any flavor and at most 400
 /// bytes, and nothing is kept of it.
 ///
 /// `Unreadable` where the data is no reply; the other faults are those of `take_item`.

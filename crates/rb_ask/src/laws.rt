@@ -6,7 +6,7 @@ ghost use Rattle.rb_ask.specs.ListLaws.{ListsAreShown, LongerListsStop, ListsAre
 use rb_xdr::Xdr;
 
 /// What `take_head` takes from the front of a reply's data is the head that `read_reply` says of all the data, and the
-/// data behind it is left; where `read_reply` says none, it is `Unreadable`.
+/// data after it is left; where `read_reply` says none, it is `Unreadable`.
 pub fn heads_are_read()
     ensures { HeadsAreRead }
 {}
@@ -21,7 +21,7 @@ pub fn faults_stay<T: Xdr>()
 }
 
 /// Of data that begins with a list of at most 4,096 values, as RFC 4506 section 4.19 spells it, `show_list` tells the
-/// line of each, in their order, and `take_list` takes these values; what stands behind the list is left. Of a longer
+/// line of each, in their order, and `take_list` takes these values; what stands after the list is left. Of a longer
 /// list the lines of the first 4,096 values are told, and then that there are too many.
 pub fn lists_are_shown<T: Xdr>()
     ensures shown { ListsAreShown T.is_value T.spelling T.reads }

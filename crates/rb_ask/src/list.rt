@@ -47,7 +47,7 @@ pub fn show_item<T: Xdr, S: Style<T>, W: Write>(
 
 /// Reads the items of a list (RFC 4506 section 4.19) and writes each as a line, and returns how many they are.
 ///
-/// `TooMany` at the 4,097th item, behind the lines of the others. The other faults are those of `take_item` and
+/// `TooMany` at the 4,097th item, after the lines of the others. The other faults are those of `take_item` and
 /// `show_item`; before each but `Write` whole lines were written.
 pub fn show_list<T: Xdr, S: Style<T>, B: ByteSource, W: Write>(
     alloc: Global,

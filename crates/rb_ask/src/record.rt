@@ -7,7 +7,7 @@ ghost use Rattle.rb_ask.specs.Reading.{HasRead, FailsWithin, DataEnds, Passes, G
 use crate::fault::InfoFault;
 use crate::source::ByteSource;
 
-/// At most so many bytes of a record are read, its headers among them.
+/// The most bytes of a record that are read, its headers among them.
 const LONGEST_RECORD: u32 = 16_777_216;
 
 /// The highest bit of a header: the fragment is the last of its record.

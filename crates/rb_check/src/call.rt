@@ -11,7 +11,7 @@ fn words(prog: u32, vers: u32) -> [u32; 11] {
 /// How many bytes the header has.
 pub const MARK: usize = 4;
 
-/// The bytes of a NULL call, of which a datagram has those behind the first four.
+/// The bytes of a NULL call, of which a datagram has those after the first four.
 pub fn null_call(prog: u32, vers: u32) -> [u8; 44] {
     let mut bytes = [0; 44];
     for (room, word) in bytes.chunks_exact_mut(4).zip(words(prog, vers)) {

@@ -43,7 +43,7 @@ impl Found {
 
 /// A program that is asked, and the number of its row.
 #[derive(Drop)]
-struct Asked {
+struct AskedProgram {
     number: usize,
     probe: Probe,
 }
@@ -56,7 +56,7 @@ struct Check<'a> {
     own: OwnHosts<'a>,
     /// How many rows were looked at.
     next: usize,
-    places: Vec<Option<Asked>>,
+    places: Vec<Option<AskedProgram>>,
     found: Vec<Found>,
 }
 
@@ -142,7 +142,7 @@ impl Check<'_> {
         match Probe::ask(rt, self.poll.registry(), Token(place), row, target) {
             Ok(probe) => {
                 self.note(number, Found::Silent);
-                let asked = Asked { number, probe };
+                let asked = AskedProgram { number, probe };
                 if let Some(room) = self.places.get_mut(place) {
                     *room = Some(asked);
                 }

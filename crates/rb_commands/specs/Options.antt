@@ -43,6 +43,7 @@ announce_at place announced text = do
   value_of (Announce place) (with_host announced host)
 
 -- at most one of each family
+-- OPTION-4
 abbrev pub announced_of : List (Bor (List ℕ)) → Result Announced Valued
 announced_of [] = Ok unannounced
 announced_of (text ∷ []) = announce_at 0 unannounced text.now
@@ -56,6 +57,7 @@ announced_of (first ∷ second ∷ third ∷ more) = do
 
 -- ---- the local socket
 
+-- OPTION-3
 abbrev pub read_local : Option (Bor (List ℕ)) → Result (Option (Bor (List ℕ))) Valued
 read_local None = Ok None
 read_local (Some text) = if is_path text.now then Ok (Some text) else Err Local
@@ -70,6 +72,7 @@ unless_zero None = None
 unless_zero (Some n) = if n == 0 then None else Some n
 
 -- a port from 1 to 65535
+-- OPTION-1
 abbrev pub port : List ℕ → Option ℕ
 port text = unless_zero (number_below (2 ^ 16) text)
 
@@ -84,6 +87,7 @@ limits_of conns rows forwards = do
 -- ---- the terms
 
 -- whether replies over UDP may be long to strangers
+-- OPTION-7
 abbrev pub udp_lists : List ℕ → Option Bool
 udp_lists text =
     if bytes_eq text (codes "all") then Some true
@@ -91,6 +95,7 @@ udp_lists text =
     else None
 
 -- for whom `serve` forwards calls
+-- OPTION-7
 abbrev pub forward_for : List ℕ → Option Forwarding
 forward_for text =
     if bytes_eq text (codes "all") then Some ForAll
@@ -98,10 +103,12 @@ forward_for text =
     else None
 
 -- the same of a replay, which knows one more
+-- OPTION-7
 abbrev pub forwarding_of : List ℕ → Option Forwarding
 forwarding_of text = if bytes_eq text (codes "any") then Some Anywhere else forward_for text
 
 -- what a replay begins with, or the first option whose value can't be read
+-- OPTION-11
 abbrev pub beginning_of : ReplayTexts → Result Beginning Valued
 beginning_of texts = do
   announced ← announced_of texts.announce.now

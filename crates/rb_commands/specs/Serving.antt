@@ -21,6 +21,7 @@ use Rattle.rb_commands.specs.declared.serving.Serve.{Serve}
 use Rattle.rb_commands.specs.Options.{◌>>=◌, value_of, announced_of, read_local, port, limits_of, udp_lists, forward_for}
 
 -- what stands for an option that is not given
+-- OPTION-10
 abbrev pub default_of : Valued → List ℕ
 default_of (Bind place) = codes "127.0.0.1"
 default_of LocalMode = codes "0600"
@@ -58,9 +59,11 @@ values_from value_at place (text ∷ texts) = do
   others ← values_from value_at (place + 1) texts
   Ok (first ∷ others)
 
+-- OPTION-4
 abbrev pub hosts_from : ℕ → List (Bor (List ℕ)) → Result (List Host) Valued
 hosts_from place texts = values_from host_at place texts
 
+-- OPTION-5
 abbrev pub networks_from : ℕ → List (Bor (List ℕ)) → Result (List Network) Valued
 networks_from place texts = values_from network_at place texts
 
@@ -68,6 +71,7 @@ abbrev pub is_octal : ℕ → Bool
 is_octal c = nat_lt (digit_value c) 8
 
 -- a number below 512 in octal digits: the bits for owner, group and others
+-- OPTION-3
 abbrev pub read_mode : List ℕ → Option ℕ
 read_mode text =
     if not (length text == 0) && list_all is_octal text && nat_lt (digits_value 8 text) 512
@@ -99,7 +103,8 @@ rate_of_parts (Some parts) text = do
   of_host ← value_of UdpRate (rate_number parts.1)
   Ok (record { network = of_network; host = of_host })
 
--- of one network and, behind a comma, of one host
+-- of one network and, after a comma, of one host
+-- OPTION-6
 abbrev pub rate_of : List ℕ → Result Rate Valued
 rate_of text = rate_of_parts (cut 44 text) text
 
@@ -116,6 +121,7 @@ terms_of lists whom = do
   Ok (record { long_replies = long; forwarding = served })
 
 -- in bytes
+-- OPTION-2
 abbrev pub record_limit : List ℕ → Option ℕ
 record_limit text = if_between 1000 16777216 (number_below (2 ^ 64) text)
 
@@ -132,6 +138,7 @@ recorded_of path text = do
 -- ---- the file of kept rows, and the log
 
 -- a path of at least one byte
+-- OPTION-8
 abbrev pub keep_of : Option (Bor (List ℕ)) → Result (Option (Bor (List ℕ))) Valued
 keep_of None = Ok None
 keep_of (Some path) = if length path.now == 0 then Err Keep else Ok (Some path)
@@ -143,6 +150,7 @@ log_named text =
     else None
 
 -- nothing, if it is not given
+-- OPTION-8
 abbrev pub log_of : Option (Bor (List ℕ)) → Result Logged Valued
 log_of None = Ok Nothing
 log_of (Some text) = value_of Log (log_named text.now)
@@ -151,6 +159,7 @@ log_of (Some text) = value_of Log (log_named text.now)
 
 -- What the daemon is started with, or the first option whose value can't be read. Each option sets its own field, and no
 -- other; the limit of open files is none of them.
+-- SETTING-1 OPTION-9
 abbrev pub settings_of : ℕ → ServeTexts → Result Settings Valued
 settings_of open_files texts = do
   announced ← announced_of texts.announce.now
@@ -182,6 +191,7 @@ settings_of open_files texts = do
   })
 
 -- what `serve` is asked for, or the first option whose value can't be read
+-- OPTION-9
 abbrev pub serve_of : ℕ → ServeTexts → Result Serve Valued
 serve_of open_files texts = do
   started ← settings_of open_files texts

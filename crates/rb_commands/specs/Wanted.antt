@@ -5,7 +5,8 @@ use Rattle.rb_commands.specs.declared.options.Valued.{Valued}
 use Rattle.rb_commands.specs.declared.options.Valued.TheVariants.{Announce, Bind, From, Local, LocalMode, Port, Conns, Rows, Forwards, UdpLists, ForwardFor, ReplayForwardFor, UdpRate, Xid, Now, Turns, RecordLimit, Keep, Log}
 use Rattle.rb_commands.specs.declared.wanted.BadValue.{BadValue}
 
--- the name of an option, behind its two dashes
+-- the name of an option, after its two dashes
+-- WORD-1
 abbrev pub option_name : Valued → List ℕ
 option_name (Announce place) = codes "announce"
 option_name (Bind place) = codes "bind"
@@ -51,6 +52,7 @@ network_text = codes "a network as 192.0.2.0/24, with no bit set behind its leng
 abbrev pub served_text : ℕ → List ℕ
 served_text place = if nat_lt place 16 then network_text else codes "no more than 16 networks"
 
+-- WORD-1
 abbrev pub wanted_text : Valued → List ℕ
 wanted_text (Announce place) = announced_text place
 wanted_text (Bind place) = bound_text place
@@ -73,6 +75,7 @@ wanted_text Keep = codes "the path of a file"
 wanted_text Log = codes "changes or all"
 
 -- the line of a value that can't be read
+-- WORD-1
 abbrev pub bad_value_text : BadValue → List ℕ
 bad_value_text bad =
     codes "error: invalid value '" ++ bad.value.now ++ codes "' for '--" ++ bad.option.now ++ codes "': " ++ bad.wanted.now
@@ -81,6 +84,7 @@ bad_value_text bad =
 -- ---- values that do not go together
 
 -- whether the file at a path, in which rows are kept, is that of the record, which a start removes
+-- KEEP-8
 abbrev pub is_the_record : List ℕ → Option (Bor (List ℕ)) → Bool
 is_the_record keep None = false
 is_the_record keep (Some path) = bytes_eq keep path.now

@@ -25,7 +25,7 @@ pub enum Words<'a> {
     Check(Beginning),
 }
 
-/// What the words ask for, the program's own name first. Where nothing is to be run, what there is to say was
+/// What the words ask for, the program's own name first. Where nothing needs to be run, what there is to say was
 /// written, and the exit status is the error: 0 where help or the version went to `output`; 2 where the words can't
 /// be read, and `faults` got the reason; 1 where memory or `output` failed.
 pub fn read_words<'a, S: AsStr, O: Write, E: Write>(
@@ -125,7 +125,7 @@ fn serve_of<'a>(matches: &ArgMatches<'a>) -> Result<Serve<'a>, BadValue<'a>> {
     }
 }
 
-/// What is asked for, unless the rows are to be kept in the file of the record: a start would remove them.
+/// What is asked for, unless the rows must be kept in the file of the record: a start would remove them.
 fn unless_kept_in_the_record<'a>(serve: Serve<'a>) -> Result<Serve<'a>, BadValue<'a>> {
     match serve.settings.keep {
         Some(path) if is_the_record(path, serve.record_path) => Err(BadValue {

@@ -46,10 +46,10 @@ fn serve<'a>(alloc: Global) -> Result<Command<'a>, AllocError> {
             alloc,
             "Address that answers show for 0.0.0.0 or :: where none was asked, once for each family [default: the first --bind]",
         ))?;
-    let command = besides(alloc, command)?;
-    let command = recorded(alloc, command)?;
-    let command = kept(alloc, command)?;
-    let command = limited(
+    let command = add_sockets(alloc, command)?;
+    let command = add_record(alloc, command)?;
+    let command = add_keep(alloc, command)?;
+    let command = add_limits(
         alloc,
         command,
         serve_default(Valued::Port),
@@ -100,7 +100,7 @@ fn from<'a>(alloc: Global) -> Arg<'a> {
 }
 
 /// What `serve` listens on besides.
-fn besides<'a>(alloc: Global, command: Command<'a>) -> Result<Command<'a>, AllocError> {
+fn add_sockets<'a>(alloc: Global, command: Command<'a>) -> Result<Command<'a>, AllocError> {
     let loopback6 = Arg::new(alloc, "loopback6")
         .long("loopback6")
         .help("Listen on ::1 too, as with --bind ::1")
@@ -130,7 +130,7 @@ fn besides<'a>(alloc: Global, command: Command<'a>) -> Result<Command<'a>, Alloc
 }
 
 /// Where `serve` records its events.
-fn recorded<'a>(alloc: Global, command: Command<'a>) -> Result<Command<'a>, AllocError> {
+fn add_record<'a>(alloc: Global, command: Command<'a>) -> Result<Command<'a>, AllocError> {
     command
         .arg(option(
             alloc,
@@ -148,7 +148,7 @@ fn recorded<'a>(alloc: Global, command: Command<'a>) -> Result<Command<'a>, Allo
 }
 
 /// What `serve` keeps over a restart, and what it tells while it serves.
-fn kept<'a>(alloc: Global, command: Command<'a>) -> Result<Command<'a>, AllocError> {
+fn add_keep<'a>(alloc: Global, command: Command<'a>) -> Result<Command<'a>, AllocError> {
     let keep_check = Arg::new(alloc, "keep-check")
         .long("keep-check")
         .help("Leave out kept rows of this host at whose port nobody answers")
@@ -185,7 +185,7 @@ fn replay<'a>(alloc: Global) -> Result<Command<'a>, AllocError> {
             "PATH",
             "Path of the local socket that answers show",
         ))?;
-    let command = limited(alloc, command, "111", "4", "300", "4")?;
+    let command = add_limits(alloc, command, "111", "4", "300", "4")?;
     let command = add_check(alloc, command)?;
     command
         .arg(option(alloc, "xid", "N", "Xid of the first forwarded call").default_value("1000"))?
@@ -227,7 +227,7 @@ fn announce<'a>(alloc: Global, help: &'a str) -> Arg<'a> {
 }
 
 /// The options that both commands have. The defaults are those of `--port`, `--conns`, `--rows` and `--forwards`.
-fn limited<'a>(
+fn add_limits<'a>(
     alloc: Global,
     command: Command<'a>,
     port: &'a str,

@@ -71,7 +71,7 @@ pub(crate) fn option_name(option: Valued) -> &'static str
     }
 }
 
-/// What is wanted as its value. That of `--announce` at a place behind the first may be the second of its family, and those of
+/// What is wanted as its value. That of `--announce` at a place after the first may be the second of its family, and those of
 /// `--bind` and `--from` may be one too many.
 pub(crate) fn wanted_text(option: Valued) -> &'static str
     ensures { result.now ≡ wanted_text option }

@@ -7,8 +7,8 @@ use Rattle.rb_xdr.specs.Pool.{value_at}
 use Rattle.rb_xdr.specs.Search.{key_of}
 use Rattle.rb_forward.proofs.Tables.{some_is}
 use Rattle.rb_connections.specs.declared.slot.Slot.{Slot}
-use Rattle.rb_connections.specs.declared.slot.Wanted.{Wanted}
-use Rattle.rb_connections.specs.declared.slot.Wanted.TheVariants as wanted
+use Rattle.rb_connections.specs.declared.slot.Sought.{Sought}
+use Rattle.rb_connections.specs.declared.slot.Sought.TheVariants as wanted
 use Rattle.rb_connections.specs.Slots.{AreNumbered, HasDistinctNumbers, is_lost_stage, is_by_number, is_wanted_slot}
 use Rattle.rb_connections.proofs.Freed.{any-there-of}
 
@@ -22,7 +22,7 @@ module _ (test : Slot → Bool) (id : ℕ) (only : (s : Slot) → test s ≡ tru
   first_of [] k slot d v t = grind (arith, common_steps, some_is, eqb-true, any-there-of, eq-eqb)
   first_of (e ∷ es) k slot d v t = grind (arith, common_steps, some_is, eqb-true, any-there-of, eq-eqb, first_of es k slot d.1)
 
-pub first_by_hint : (sought : Wanted) (es : List (ℕ × Slot)) (k : ℕ) (slot : Slot) → HasDistinctNumbers (values_of es) → value_at es k ≡ Some slot
+pub first_by_hint : (sought : Sought) (es : List (ℕ × Slot)) (k : ℕ) (slot : Slot) → HasDistinctNumbers (values_of es) → value_at es k ≡ Some slot
     → is_by_number sought ≡ true → is_wanted_slot sought slot ≡ true → key_of (is_wanted_slot sought) es ≡ Some k
 unfolding is_wanted_slot
 first_by_hint (wanted.Live id) es k slot d v number t =

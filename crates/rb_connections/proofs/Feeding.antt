@@ -1,4 +1,4 @@
--- What is read behind the first bytes of a piece.
+-- What is read after the first bytes of a piece.
 use Rattle.std.proofs.Common.{◌≡◌, ◌≤◌, ◌+◌, ◌-◌, ℕ, Bool, true, false, cond, List, [], ◌++◌, length, take, drop, Option, Some, None, refl, sym, ap, subst, ◌∙◌, append_assoc, arith, length-append}
 use Rattle.std.proofs.Math.Seq.{take-add}
 use Rattle.std.proofs.lemmas.List.{take_all, take-append-drop, length-take-le, length-drop, take_at}
@@ -17,7 +17,7 @@ use Rattle.rb_model.specs.Calls.{kept_of}
 use Rattle.rb_connections.specs.Reading.{Fed, Intake, Reader, HasData, IsInside, HasMore, fed_until, StandsBehind}
 use Rattle.rb_connections.specs.StandsFor.{IsReading}
 
--- Behind this front of a piece, where the reading began with the first reader and buffer.
+-- After this front of a piece, where the reading began with the first reader and buffer.
 pub record IsBehind (reader : Reader) (first : Kept) (marks : Marks) (intake : Intake) (kept : Kept) (front : List ℕ) : Type 0 where
   pub inside : (fed : List ℕ) → IsReading reader first fed → IsInside marks intake kept (fed ++ front)
   pub cap : kept.cap ≡ first.cap
@@ -29,7 +29,7 @@ pub record IsBehindRun (marks : Marks) (intake : Intake) (kept : Kept) (ended : 
   pub stands : StandsForFed marks (cond ended [] (before ++ run))
   pub data_is : HasData intake kept (data_of (before ++ run))
 
--- What is taken of a piece, and what stands behind it.
+-- What is taken of a piece, and what stands after it.
 pub record IsTaken (result : Fed) (reader : Reader) (kept : Kept) (fed piece : List ℕ) : Type 0 where
   pub taken : result ≡ fed_until fed piece (first_record (fed ++ piece))
   pub after : StandsBehind reader kept (fed ++ piece) (first_record (fed ++ piece))

@@ -16,7 +16,7 @@ use borrow.Rule.Slice.PartMut.{put_mid}
 
 -- ---- its fragments
 
--- behind k whole fragments stands what follows their data, marked
+-- after k whole fragments stands what follows their data, marked
 pub behind : (k a b : ℕ) (reply : List ℕ) → a ≡ 1028 * k → b ≡ 1024 * k → a < length (marked_reply reply)
     → (drop a (marked_reply reply) ≡ marked_reply (drop b reply)) × (b ≤ length reply)
 behind zero a b reply is_a is_b within = grind arith
@@ -59,7 +59,7 @@ part_shown rest part last is last_is =
           ∙ sym (take_all longest_fragment (marked_reply rest) (omega (arith, longest_is, few, length-short rest few))))
     ]
 
--- so the data that begins at a place of a buffer, and so what is behind it
+-- so the data that begins at a place of a buffer, and so what is after it
 pub held_part : (buffer : List ℕ) (start left count end : ℕ) → left ≡ length buffer - start → count ≡ min left 1024 → end ≡ start + count
     → (slice_range buffer start end ≡ take 1024 (drop start buffer)) × (drop end buffer ≡ drop 1024 (drop start buffer))
 held_part buffer start left count end left_is count_is end_is =
@@ -88,7 +88,7 @@ window_at reply o is within =
     ∙ ap (λ (xs : List ℕ). take longest_fragment (drop (1028 * k) xs)) is
     ∙ ap (λ (xs : List ℕ). take longest_fragment xs) (behind k (1028 * k) (1024 * k) reply refl refl (omega (arith, within, same))).0
 
--- the fragment in which the giving stands: it begins within the reply and has so many bytes, and there is one behind it or not
+-- the fragment in which the giving stands: it begins within the reply and has this many bytes, and there is one after it or not
 record Place (reply shown : List ℕ) (given : ℕ) : Type 0 where
   begins : 1024 * (given / 1028) ≤ length reply
   inside : given % 1028 < length shown
@@ -177,11 +177,11 @@ fragment_few reply shown o g = omega (arith, (place_of reply shown o g).few, lon
 pub fragment_full : (reply : List ℕ) (shown : Kept) (o : Owed) → IsShown reply shown o → 1024 * (o.given / 1028) + 1024 < length reply → length shown.bytes ≡ 1028
 fragment_full reply shown o g more = grind (arith, common_steps, place_of reply shown o g)
 
--- and then there are bytes behind it
+-- and then there are bytes after it
 pub fragment_behind : (reply : List ℕ) (shown : Kept) (o : Owed) → IsShown reply shown o → 1024 * (o.given / 1028) + 1024 < length reply → 1028 * (o.given / 1028) + 1028 < length (marked_reply reply)
 fragment_behind reply shown o g more = grind (arith, common_steps, place_of reply shown o g)
 
--- so many whole fragments are within the marked reply, where their data is within the reply
+-- this many whole fragments are within the marked reply, where their data is within the reply
 pub more_marked : (k : ℕ) (reply : List ℕ) → 1024 * k < length reply → 1028 * k < length (marked_reply reply)
 more_marked zero reply more = omega (arith, some-marked reply)
 more_marked (suc k) reply more =
@@ -189,7 +189,7 @@ more_marked (suc k) reply more =
     let rest = more_marked k (drop fragment_size reply) (omega (arith, more, length-drop fragment_size reply)) in
     omega (arith, rest, length-long reply long)
 
--- the header and the data of a fragment that are written one behind the other
+-- the header and the data of a fragment that are written one after the other
 pub written_fragment : (part header lent room : List ℕ) (last : Bool) → header ≡ fragment_header (length part) last → lent ≡ part → 4 ≤ length room
     → take (4 + length part) (put_mid 4 (4 + length part - 4) (header ++ drop 4 room) lent) ≡ fragment_header (length part) last ++ part
 written_fragment part header lent room last is_header is_part fits =

@@ -5,7 +5,7 @@ use Rattle.std.specs.Option.{option_map}
 use Rattle.rb_xdr.specs.Meter.{Meter, PaysAtMost}
 use Rattle.rb_xdr.specs.Pool.{value_at, HasDistinctKeys}
 use Rattle.rb_registry.specs.Registry.{Registry}
-use Rattle.rb_model.specs.Gives.{given_into_cost}
+use Rattle.rb_model.specs.Gives.{written_into_cost}
 use Rattle.rb_model.specs.declared.types.Standing.{Standing}
 use Rattle.rb_model.specs.declared.types.CoreFault.TheVariants as CoreFault
 use Rattle.rb_model.specs.Costs.{walked, find_cost, given_cost, recount_cost}
@@ -14,8 +14,8 @@ use Rattle.rb_connections.specs.declared.giving.Rest.{Rest}
 use Rattle.rb_connections.specs.declared.giving.Rest.TheVariants as rests
 use Rattle.rb_connections.specs.declared.slot.Slot.{Slot}
 use Rattle.rb_connections.specs.declared.slot.Stage.TheVariants as stages
-use Rattle.rb_connections.specs.declared.slot.Wanted.TheVariants as wanted
-use Rattle.rb_connections.specs.Costs.{row_count, next_cost, slot_given_cost, slot_into_cost, slot_count, look_cost, PaysToGive, PaysToGiveInto}
+use Rattle.rb_connections.specs.declared.slot.Sought.TheVariants as wanted
+use Rattle.rb_connections.specs.Costs.{row_count, next_cost, slot_given_cost, slot_into_cost, slot_count, look_cost, PaysToGive, PaysToWriteInto}
 use Rattle.rb_connections.specs.Slots.{wanted_slot}
 use Rattle.rb_connections.specs.StandsFor.{Table, stamp_of_rest}
 use Rattle.rb_connections.proofs.Evicting.{began_alike}
@@ -42,12 +42,12 @@ module _ (registry : Registry) (id : ℕ) (table : Table) (a b : Meter) where
       rw l.there (subst (λ (o : Option ℕ). PaysAtMost a b (find_cost (slot_count table) + given_cost (walked (is_some o) (row_count registry)) + recount_cost)) same pays)
 
   -- the same into a room
-  pub gone_into_pays : option_map (λ e. e.0) (wanted_slot (wanted.Live id) table.slots) ≡ None → PaysAtMost a b (look_cost table) → PaysToGiveInto table registry id (Err CoreFault.Gone) a b
+  pub gone_into_pays : option_map (λ e. e.0) (wanted_slot (wanted.Live id) table.slots) ≡ None → PaysAtMost a b (look_cost table) → PaysToWriteInto table registry id (Err CoreFault.Gone) a b
   gone_into_pays none pays x z = rw (not_live registry id table.slots x.all z.all none) pays
 
   pub given_into_pays : (n : ℕ) (standing : Standing) (k : ℕ) (slot : Slot) → HasDistinctKeys table.slots → option_map (λ e. e.0) (wanted_slot (wanted.Live id) table.slots) ≡ Some k → value_at table.slots k ≡ Some slot
-      → PaysAtMost a b (look_cost table + slot_into_cost registry slot n + recount_cost) → PaysToGiveInto table registry id (Ok (record { count = n; standing = standing })) a b
+      → PaysAtMost a b (look_cost table + slot_into_cost registry slot n + recount_cost) → PaysToWriteInto table registry id (Ok (record { count = n; standing = standing })) a b
   given_into_pays n standing k slot d h v pays x z =
       let l = live_slot registry id table.slots x.all k slot d z.all h v in
       let same = began_alike registry slot.stage slot.buffer slot.window l.connection.phase l.stands.phase in
-      rw l.there (subst (λ (o : Option ℕ). PaysAtMost a b (find_cost (slot_count table) + given_into_cost (walked (is_some o) (row_count registry)) n + recount_cost)) same pays)
+      rw l.there (subst (λ (o : Option ℕ). PaysAtMost a b (find_cost (slot_count table) + written_into_cost (walked (is_some o) (row_count registry)) n + recount_cost)) same pays)

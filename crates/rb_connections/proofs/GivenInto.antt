@@ -1,4 +1,4 @@
--- A reply that is given into a room: what is pending, and each fragment behind it that fits.
+-- A reply that is given into a room: what is pending, and each fragment after it that fits.
 use Rattle.std.proofs.Common.{◌≡◌, ◌<◌, ◌≤◌, ◌+◌, ◌-◌, ◌*◌, ◌/◌, ◌%◌, ℕ, false, true, nat_le, Option, Some, None, List, [], ◌++◌, length, take, drop, refl, sym, ap, subst, ◌∙◌, inl, inr, arith}
 use Rattle.std.specs.Prelude.{is_some}
 use Rattle.std.proofs.Math.Nat.{mul-le-mul_left, mul-le-mul_right}
@@ -12,7 +12,7 @@ use Rattle.rb_model.specs.State.{Owed, Phase, Connection}
 use Rattle.rb_model.specs.State.Phase.{Owing}
 use Rattle.rb_model.specs.Connections.{longest_fragment, pending_of, phase_when_given, with_given}
 use Rattle.rb_model.specs.Costs.{walked, listed_cost}
-use Rattle.rb_model.specs.Gives.{fitting_of, fitting_in, give_fitting}
+use Rattle.rb_model.specs.Gives.{fitting_of, fitting_in, write_fitting}
 use Rattle.rb_model.proofs.Gives.{count_pending, fits_last, fits_more, fits_none}
 use Rattle.rb_connections.specs.declared.giving.Giving.{Giving}
 use Rattle.rb_connections.specs.declared.slot.Slot.{Slot}
@@ -38,8 +38,8 @@ nothing_fits room registry stage buffer window phase other h = grind arith
 
 -- No byte is given.
 pub none_into : (registry : Registry) (old : Slot) (clock : ℕ) (room : List ℕ) → ((c : Connection) → StandsForConnection registry old c → fitting_in (length room) c.phase ≡ [])
-    → Acts (StandsForConnection registry) (give_fitting clock (length room)) old old (take 0 room)
-unfolding give_fitting with_given
+    → Acts (StandsForConnection registry) (write_fitting clock (length room)) old old (take 0 room)
+unfolding write_fitting with_given
 none_into registry old clock room none = record {
   gives = λ x h. sym (none x h);
   stands = λ x h. rw (none x h) h;
@@ -54,8 +54,8 @@ module _ (registry : Registry) (old new : Slot) (clock n : ℕ) (room : List ℕ
   count_is : (xs : List ℕ) → take n room ≡ xs → length xs ≡ n
   count_is xs is = omega (arith, within, length-take n room, ap (λ (ys : List ℕ). length ys) is)
 
-  pub some_into : Acts (StandsForConnection registry) (give_fitting clock (length room)) old new (take n room)
-  unfolding give_fitting with_given
+  pub some_into : Acts (StandsForConnection registry) (write_fitting clock (length room)) old new (take n room)
+  unfolding write_fitting with_given
   some_into = grind (arith, common_steps, count_is, giving_phase)
 
 -- ---- how far the giving is
@@ -102,7 +102,7 @@ module _ (registry : Registry) (giving : Giving) (buffer : List ℕ) (shown : Ke
         ∙ (behind k (o.given + left) (1024 * k) g.reply at_end refl (omega (arith, marked_more, ap (λ (xs : List ℕ). length xs) g.shows.marked))).0
         ∙ ap (λ (xs : List ℕ). marked_reply xs) (sym rest_at)
 
-    -- it fits, and fragments behind it may
+    -- it fits, and fragments after it may
     pub window_goes_on : (room : ℕ) → left ≤ room → fitting_of room o ≡ drop giving.place shown.bytes ++ fitting_front (room - left) (rest_in registry buffer giving.rest)
     unfolding longest_fragment
     window_goes_on room fits =
@@ -114,11 +114,11 @@ module _ (registry : Registry) (giving : Giving) (buffer : List ℕ) (shown : Ke
         ∙ ap (λ (xs : List ℕ). drop giving.place shown.bytes ++ xs)
         (fitting_behind (room - left) (rest_in registry buffer giving.rest) next (omega (arith, at_end)) (omega (arith, marked_more)) marked_behind)
 
-    -- the reply ends with what is behind the window
+    -- the reply ends with what is after the window
     pub rest_ends : (n : ℕ) → n ≡ length (marked_reply (rest_in registry buffer giving.rest)) → length o.marked ≤ o.given + (left + n)
     rest_ends n is = omega (arith, is, marked_more, length-drop (o.given + left) o.marked, ap (λ (xs : List ℕ). length xs) marked_behind)
 
-    -- or it goes on behind whole fragments of that
+    -- or it goes on after whole fragments of that
     pub rest_goes_on : (after : Kept) (n : ℕ) (next : Giving) → shown.cap ≡ longest_fragment → GoesOnShown registry buffer giving.rest shown after n next
         → IsGiving registry next buffer after (record o { given = o.given + (left + n) })
     unfolding longest_fragment window
@@ -149,7 +149,7 @@ module _ (registry : Registry) (giving : Giving) (buffer : List ℕ) (shown : Ke
           last = s.shows.last ∙ ap (λ (xs : List ℕ). nat_le (length xs) fragment_size) behind_is ∙ shifted (length g.reply) _ (1024 * k) _ (length-drop (1024 * k) g.reply) (omega (arith, whole)) within;
         }
 
--- ---- how the slot goes on behind the window
+-- ---- how the slot goes on after the window
 
 module _ (registry : Registry) (rest : Rest) (n : ℕ) (mid new : Slot) where
   same_slot : (next : Option Giving) → SlotIsBehind registry rest n mid new next → (new.number ≡ mid.number) × (new.who ≡ mid.who) × (new.since ≡ mid.since)

@@ -48,7 +48,7 @@ module _ (slots : Pool Slot) (spare : Pool Buffers) (given conns held : ℕ) (t 
     pub its_buffers : (meter : Meter) → meter.tie ≡ slots.tie → HasBuffers meter.tie slot
     its_buffers meter tie = rw tie (All-value_at (HasBuffers slots.tie) slots.entries k slot t.buffers found)
 
--- a slot whose buffers are empty, behind the others
+-- a slot whose buffers are empty, after the others
 module _ (slots : List Slot) (slot : Slot) (buffer : slot.buffer.bytes ≡ []) (window : slot.window.bytes ≡ []) where
   empty_charge : charge slot ≡ connection_charge
   empty_charge = rw (buffer, window) refl

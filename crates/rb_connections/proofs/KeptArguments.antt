@@ -9,7 +9,7 @@ use Rattle.rb_model.specs.Calls.{longest_kept}
 use Rattle.rb_connections.specs.StandsFor.{buffer_size}
 use Rattle.rb_connections.specs.Reading.{AreKept}
 
--- what fits is there behind the others
+-- what fits is there after the others
 appended : {A E : Type 0} (bytes : List ℕ) (old new : Kept) (r : Result A E) → Puts bytes old.cap old new r → length old.bytes + length bytes ≤ old.cap → Appends bytes old new
 appended bytes old new r p fits = grind arith
 

@@ -8,7 +8,7 @@ use Rattle.rb_model.specs.Calls.{longest_kept, longest_reply}
 use Rattle.rb_model.specs.Connections.{longest_fragment}
 use Rattle.rb_connections.specs.declared.slot.Slot.{Slot}
 use Rattle.rb_connections.specs.declared.slot.Buffers.{Buffers}
-use Rattle.rb_connections.specs.declared.slot.Wanted.TheVariants as wanted
+use Rattle.rb_connections.specs.declared.slot.Sought.TheVariants as wanted
 use Rattle.rb_connections.specs.StandsFor.{buffer_size, charge, held_in, most_charge, IsWithin}
 use Rattle.rb_connections.specs.Slots.{wanted_slot, IsTable, HasBuffers}
 use Rattle.rb_connections.specs.LiveSlots.{live_key, IsLiveSlot}

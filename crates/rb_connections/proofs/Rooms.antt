@@ -1,4 +1,4 @@
--- Which fragments of a reply fit into a room, by the data that is behind.
+-- Which fragments of a reply fit into a room, by the data that follows.
 use Rattle.std.proofs.Common.{◌≡◌, ◌<◌, ◌≤◌, ◌+◌, ◌-◌, ◌*◌, ◌/◌, ℕ, None, List, [], ◌++◌, length, take, drop, refl, sym, ap, ◌∙◌, inl, inr, arith, length-append, append_assoc}
 use Rattle.std.proofs.Math.Nat.{mul-le-mul_right}
 use Rattle.std.proofs.Math.Seq.{take-append-add}
@@ -25,7 +25,7 @@ first_pending : (reply : List ℕ) → pending_of (owed_of reply None 0) ≡ tak
 unfolding pending_of longest_fragment
 first_pending reply = refl
 
--- what fits behind whole fragments is what fits of the rest of the reply
+-- what fits after whole fragments is what fits of the rest of the reply
 pub fitting_behind : (room : ℕ) (rest : List ℕ) (o : Owed) → o.given ≡ longest_fragment * (o.given / longest_fragment) → o.given ≤ length o.marked
     → drop o.given o.marked ≡ marked_reply rest → fitting_of room o ≡ fitting_front room rest
 unfolding fitting_of longest_fragment
@@ -67,7 +67,7 @@ module _ (room : ℕ) (rest : List ℕ) where
       ap (λ (n : ℕ). take n (marked_reply rest)) (all_end room (owed_of rest None 0) (omega (arith, fits)))
       ∙ take_all (length (marked_reply rest)) (marked_reply rest) (omega arith)
 
-  -- the next fragment fits, and there is another one behind it
+  -- the next fragment fits, and there is another one after it
   pub front_more : fragment_size < length rest → longest_fragment ≤ room
       → fitting_front room rest ≡ take longest_fragment (marked_reply rest) ++ fitting_front (room - longest_fragment) (drop fragment_size rest)
   front_more long fits =
@@ -128,7 +128,7 @@ module _ (a k : ℕ) (room sub : List ℕ) (within : a ≤ length room) (k_is : 
               ∙ ap (λ (m : ℕ). fitting_front m reply) (sym size_of_room);
         }
 
-    -- a whole one was, and there is another one behind it
+    -- a whole one was, and there is another one after it
     pub goes_on_room : fragment_size < length rest → longest_fragment ≤ length sub → take longest_fragment sub ≡ take longest_fragment (marked_reply rest)
         → fitting_front (length (put_mid a k room sub)) reply
         ≡ take (a + longest_fragment) (put_mid a k room sub) ++ fitting_front (length (put_mid a k room sub) - (a + longest_fragment)) (drop fragment_size rest)
@@ -143,7 +143,7 @@ module _ (a k : ℕ) (room sub : List ℕ) (within : a ≤ length room) (k_is : 
         ∙ ap (λ (xs : List ℕ). xs ++ fitting_front (length room - a - longest_fragment) (drop fragment_size rest)) (sym (front_of_room longest_fragment fits))
         ∙ ap (λ (m : ℕ). take (a + longest_fragment) (put_mid a k room sub) ++ fitting_front m (drop fragment_size rest)) left
 
--- behind whole fragments the last one ends the reply
+-- after whole fragments the last one ends the reply
 pub ends_count : (a n : ℕ) (reply rest sub : List ℕ) → a ≡ longest_fragment * (a / longest_fragment) → rest ≡ drop (fragment_size * (a / longest_fragment)) reply → 0 < length rest
     → WritesLast rest sub n → a + n ≡ length (marked_reply reply)
 unfolding longest_fragment
@@ -164,7 +164,7 @@ next_alike registry (rests.Held m) (rests.Listed list) same = absurd cc
 next_alike registry (rests.Listed list) (rests.Held n) same = absurd cc
 next_alike registry (rests.Listed list) (rests.Listed other) same = refl
 
--- so many fragments, and one more
+-- this many fragments, and one more
 pub pays_fragment : (a b c : Meter) (j k one more : ℕ) → PaysAtMost a b (j * one) → PaysAtMost b c more → more ≡ one → j + 1 ≤ k → PaysAtMost a c (k * one)
 pays_fragment a b c j k one more before now same few =
     let least : (j + 1) * one ≤ k * one = mul-le-mul_right one few in

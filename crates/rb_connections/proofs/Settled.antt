@@ -16,7 +16,7 @@ use Rattle.rb_model.specs.Calls.{kept_of}
 use Rattle.rb_connections.specs.declared.slot.Slot.{Slot}
 use Rattle.rb_connections.specs.declared.slot.Buffers.{Buffers}
 use Rattle.rb_connections.specs.declared.slot.Stage.TheVariants as stages
-use Rattle.rb_connections.specs.declared.slot.Wanted.TheVariants as wanted
+use Rattle.rb_connections.specs.declared.slot.Sought.TheVariants as wanted
 use Rattle.rb_connections.specs.StandsFor.{IsWithin, Table, StandsForConnection, StandsForConnections}
 use Rattle.rb_registry.specs.Registry.{Registry}
 use Rattle.rb_connections.specs.Slots.{Acts, Shows, AreNumbered, HasBuffers, IsTable, take_piece, arguments_taken, arguments_on, received_whole, is_wanted_slot, wanted_slot}

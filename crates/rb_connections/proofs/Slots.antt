@@ -27,8 +27,8 @@ use Rattle.rb_connections.specs.StandsFor.{buffer_size, IsReading, StandsForConn
 use Rattle.rb_registry.specs.Registry.{Registry}
 use Rattle.rb_connections.specs.declared.slot.Buffers.{Buffers}
 use Rattle.rb_connections.specs.declared.slot.Slot.{Slot}
-use Rattle.rb_connections.specs.declared.slot.Wanted.{Wanted}
-use Rattle.rb_connections.specs.declared.slot.Wanted.TheVariants as wanted
+use Rattle.rb_connections.specs.declared.slot.Sought.{Sought}
+use Rattle.rb_connections.specs.declared.slot.Sought.TheVariants as wanted
 use Rattle.rb_connections.specs.Slots.{Acts, Shows, is_lost_stage, is_wanted_slot, is_wanted, wanted_slot, IsFound, is_numbered, AreNumbered, IsTable, HasBuffers, arguments_taken, arguments_on}
 use Rattle.rb_connections.specs.declared.slot.Stage.{Stage}
 use Rattle.rb_connections.proofs.DueSlots.{due_alike}
@@ -79,11 +79,11 @@ module _ {A B : Type 0} (R : A → B → Type 0) where
 lost_as_stage : (registry : Registry) (stage : Stage) (buffer window : Kept) (phase : Phase) → StandsForPhase registry stage buffer window phase → is_lost_stage stage ≡ is_lost phase
 lost_as_stage registry stage buffer window phase h = grind (arith, common_steps, by_phase registry buffer window)
 
-pub wanted_alike : (registry : Registry) (sought : Wanted) (slot : Slot) (c : Connection) → StandsForConnection registry slot c → is_wanted_slot sought slot ≡ is_wanted sought c
+pub wanted_alike : (registry : Registry) (sought : Sought) (slot : Slot) (c : Connection) → StandsForConnection registry slot c → is_wanted_slot sought slot ≡ is_wanted sought c
 unfolding is_wanted_slot is_wanted is_live
 wanted_alike registry sought slot c h = grind (arith, common_steps, lost_as_stage, due_alike)
 
-module _ (registry : Registry) (sought : Wanted) (entries : List (ℕ × Slot)) (all : List Connection) where
+module _ (registry : Registry) (sought : Sought) (entries : List (ℕ × Slot)) (all : List Connection) where
   pub found_slot : (k : ℕ) (slot : Slot) → HasDistinctKeys entries → AllZip (StandsForConnection registry) (values_of entries) all
       → option_map (λ e. e.0) (wanted_slot sought entries) ≡ Some k → value_at entries k ≡ Some slot → IsFound registry sought all slot
   unfolding wanted_slot
@@ -95,7 +95,7 @@ module _ (registry : Registry) (sought : Wanted) (entries : List (ℕ × Slot)) 
   unfolding wanted_slot
   no_slot z h = not_located (StandsForConnection registry) (is_wanted_slot sought) (is_wanted sought) (wanted_alike registry sought) entries all z h
 
-module _ (sought : Wanted) (entries : List (ℕ × Slot)) (all : List Connection) where
+module _ (sought : Sought) (entries : List (ℕ × Slot)) (all : List Connection) where
   pub slot_is_there : (k : ℕ) → option_map (λ e. e.0) (wanted_slot sought entries) ≡ Some k → value_at entries k ≡ None → ⊥
   unfolding wanted_slot
   slot_is_there k h n = has_key (is_wanted_slot sought) entries k h n

@@ -16,7 +16,7 @@ use Rattle.rb_model.specs.declared.types.Standing.TheVariants as stands
 use Rattle.rb_registry.specs.Registry.{Registry}
 use Rattle.rb_connections.specs.declared.slot.Slot.{Slot}
 use Rattle.rb_connections.specs.declared.slot.Stage.{Stage}
-use Rattle.rb_connections.specs.declared.slot.Wanted.TheVariants as wanted
+use Rattle.rb_connections.specs.declared.slot.Sought.TheVariants as wanted
 use Rattle.rb_connections.specs.StandsFor.{Table, StandsForPhase, StandsForConnection}
 use Rattle.rb_connections.specs.Slots.{phase_like, is_lost_stage, is_idle_stage, is_numbered, wanted_slot, is_wanted_slot, is_wanted, HasDistinctNumbers}
 use Rattle.rb_connections.specs.Standings.{standing_of_slot, IsStanding}

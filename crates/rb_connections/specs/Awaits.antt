@@ -9,8 +9,8 @@ use Rattle.rb_connections.specs.declared.slot.Slot.{Slot}
 use Rattle.rb_connections.specs.declared.slot.Stage.{Stage}
 use Rattle.rb_connections.specs.declared.slot.Stage.TheVariants as stages
 use Rattle.rb_connections.specs.declared.slot.Received.{Received}
-use Rattle.rb_model.specs.declared.served.Outcome.{Outcome}
-use Rattle.rb_model.specs.declared.served.Outcome.TheVariants as outcomes
+use Rattle.rb_model.specs.declared.served.Response.{Response}
+use Rattle.rb_model.specs.declared.served.Response.TheVariants as outcomes
 use Rattle.rb_connections.specs.StandsFor.{Table}
 use Rattle.rb_connections.specs.Slots.{is_idle_stage, StaysTable}
 use Rattle.rb_connections.specs.Listings.{KeepsListing}
@@ -81,7 +81,7 @@ abbrev pub OnlyIsFreed : ℕ → Table → Table → Type 0
 OnlyIsFreed number old new = (id : ℕ) → (id == number) ≡ false → is_free id old ≡ false → is_free id new ≡ false
 
 -- Where a call is forwarded for the connection of this number, which was Idle, it awaits that.
-abbrev pub AwaitsIfForwarded : Outcome → ℕ → Table → Table → Type 0
+abbrev pub AwaitsIfForwarded : Response → ℕ → Table → Table → Type 0
 AwaitsIfForwarded given id old new = given ≡ outcomes.Forwarded → has_idle id old ≡ true → is_free id new ≡ false
 
 -- it is Idle since this moment

@@ -8,7 +8,7 @@ use Rattle.rb_model.specs.declared.types.Standing.{Standing}
 use Rattle.rb_model.specs.Standings.{without_standing}
 use Rattle.rb_model.specs.Connections.{longest_fragment, live_connection}
 use Rattle.rb_model.specs.Costs.{walked, show_cost, listed_cost, given_cost, recount_cost, find_cost, take_cost, swap_cost, gave_cost}
-use Rattle.rb_model.specs.Gives.{given_into_cost, give_into_cost, given_in}
+use Rattle.rb_model.specs.Gives.{written_into_cost, write_into_cost, given_in}
 use Rattle.rb_model.specs.State.{Connections}
 use Rattle.rb_connections.specs.declared.giving.Rest.{Rest}
 use Rattle.rb_connections.specs.declared.giving.Rest.TheVariants as rests
@@ -45,7 +45,7 @@ abbrev pub record_swap_cost : Option EndedRecord → ℕ
 record_swap_cost None = 0
 record_swap_cost (Some ended) = swap_cost
 
--- what it costs to take so many bytes of a piece, and to swap the buffer of the record that ended with them
+-- what it costs to take this many bytes of a piece, and to swap the buffer of the record that ended with them
 abbrev pub received_cost : Received → ℕ
 received_cost got = take_cost got.count + record_swap_cost got.ended
 
@@ -59,7 +59,7 @@ slot_given_cost registry slot = given_cost (walked (is_some (stamp_of_slot slot)
 
 -- what it costs to give n bytes into a room
 abbrev pub slot_into_cost : Registry → Slot → ℕ → ℕ
-slot_into_cost registry slot n = given_into_cost (walked (is_some (stamp_of_slot slot)) (row_count registry)) n
+slot_into_cost registry slot n = written_into_cost (walked (is_some (stamp_of_slot slot)) (row_count registry)) n
 
 -- ---- on the table
 
@@ -81,11 +81,11 @@ PaysToGive table registry id before now =
     → PaysAtMost before now (gave_cost (slot_count table) (row_count registry) (live_connection id x.all))
 
 -- or to give what the result says into a room
-abbrev pub PaysToGiveInto : Table → Registry → ℕ → Result Given CoreFault → Meter → Meter → Type 0
-PaysToGiveInto table registry id result before now =
+abbrev pub PaysToWriteInto : Table → Registry → ℕ → Result Given CoreFault → Meter → Meter → Type 0
+PaysToWriteInto table registry id result before now =
     (x : Connections) → StandsForConnections registry table x
     → PaysAtMost before now
-    (give_into_cost (slot_count table) (row_count registry) (given_in result) (live_connection id x.all))
+    (write_into_cost (slot_count table) (row_count registry) (given_in result) (live_connection id x.all))
 
 -- a piece of bytes is taken on a connection of the table, if it is there
 abbrev pub PaysToTake : Table → Result (Received × Standing) CoreFault → Meter → Meter → Type 0

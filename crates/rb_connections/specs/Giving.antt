@@ -22,7 +22,7 @@ abbrev pub CanMake : Registry → Rest → Type 0
 CanMake registry (rests.Held start) = ⊤
 CanMake registry (rests.Listed list) = CanBeContinued registry list
 
--- What is behind the fragment that is shown can be made, and is something unless that is the last one.
+-- What is after the fragment that is shown can be made, and is something unless that is the last one.
 pub record CanContinueReply (registry : Registry) (buffer : List ℕ) (giving : Giving) : Type 0 where
   pub made : CanMake registry giving.rest
   pub some : giving.last ≡ false → 0 < length (rest_in registry buffer giving.rest)
@@ -132,7 +132,7 @@ pub record WritesFitting (reply : List ℕ) (room : List ℕ) (n : ℕ) : Type 0
   pub fits : n ≤ length room
   pub written : take n room ≡ fitting_front (length room) reply
 
--- Behind n bytes, which are whole fragments of what is behind `rest`, the next fragment is shown, and `giving` is how the
+-- After n bytes, which are whole fragments of what is after `rest`, the next fragment is shown, and `giving` is how the
 -- reply goes on.
 pub record GoesOnShown (registry : Registry) (buffer : List ℕ) (rest : Rest) (before shown : Kept) (n : ℕ) (giving : Giving) : Type 0 where
   pub next : Rest
@@ -142,7 +142,7 @@ pub record GoesOnShown (registry : Registry) (buffer : List ℕ) (rest : Rest) (
   pub stamp : stamp_of_rest next ≡ stamp_of_rest rest
   pub shows : ShowsNext registry buffer next before shown giving
 
--- So the reply goes on behind n bytes, or it has ended with them.
+-- So the reply goes on after n bytes, or it has ended with them.
 abbrev pub GoesOnBehind : Registry → List ℕ → Rest → Kept → Kept → ℕ → Option Giving → Type 0
 GoesOnBehind registry buffer rest before after n None = (n ≡ length (marked_reply (rest_in registry buffer rest))) × (after ≡ before)
 GoesOnBehind registry buffer rest before after n (Some giving) = GoesOnShown registry buffer rest before after n giving

@@ -5,7 +5,7 @@ use Rattle.std.specs.Option.{option_map, option_map_or}
 use Rattle.rb_xdr.specs.Pool.{Pool, value_at}
 use Rattle.rb_xdr.specs.PoolLends.{lends_entry}
 use Rattle.rb_connections.specs.declared.slot.Slot.{Slot}
-use Rattle.rb_connections.specs.declared.slot.Wanted.TheVariants as wanted
+use Rattle.rb_connections.specs.declared.slot.Sought.TheVariants as wanted
 use Rattle.rb_connections.specs.contracts.slot.Slot.{the_row}
 use Rattle.rb_connections.specs.StandsFor.{charge}
 use Rattle.rb_connections.specs.Slots.{wanted_slot}

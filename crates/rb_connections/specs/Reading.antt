@@ -14,7 +14,7 @@ pub use Rattle.rb_connections.specs.declared.reading.Reader.{Reader}
 
 -- ---- a record that is read
 
--- what is returned of a piece behind the bytes `fed`: it is taken up to the end of the first record, with the verdict
+-- what is returned of a piece after the bytes `fed`: it is taken up to the end of the first record, with the verdict
 -- on that, or whole
 abbrev pub fed_until : List ℕ → List ℕ → Option ℕ → Fed
 fed_until fed piece None = record { count = length piece; verdict = None }
@@ -31,14 +31,14 @@ abbrev pub CountsPiece : Reader → Kept → List ℕ → Fed → Type 0
 CountsPiece reader kept piece result =
     (fed : List ℕ) → IsReading reader kept fed → result ≡ fed_until fed piece (first_record (fed ++ piece))
 
--- and there the reader and the buffer stand behind it.
+-- and there the reader and the buffer stand after it.
 abbrev pub ReadsPiece : Reader → Kept → List ℕ → Reader → Kept → Type 0
 ReadsPiece reader kept piece new now =
     (fed : List ℕ) → IsReading reader kept fed → StandsBehind new now (fed ++ piece) (first_record (fed ++ piece))
 
 -- ---- while a piece is taken
 
--- The first bytes of these arguments are kept, and there is room for so many more.
+-- The first bytes of these arguments are kept, and there is room for this many more.
 pub record AreKept (kept : Kept) (room : ℕ) (arguments : List ℕ) : Type 0 where
   pub bytes_are : kept.bytes ≡ take longest_kept arguments
   pub room_is : room + length kept.bytes ≡ longest_kept
@@ -57,12 +57,12 @@ pub record HasData (intake : Intake) (kept : Kept) (content : List ℕ) : Type 0
 abbrev pub TakesData : Intake → Kept → List ℕ → Intake → Kept → Type 0
 TakesData intake kept more new now = (content : List ℕ) → HasData intake kept content → HasData new now (content ++ more)
 
--- In the middle of a piece, behind these bytes of a record.
+-- In the middle of a piece, after these bytes of a record.
 pub record IsInside (marks : Marks) (intake : Intake) (kept : Kept) (fed : List ℕ) : Type 0 where
   pub marks_are : StandsForFed marks fed
   pub data_is : HasData intake kept (data_of fed)
 
--- Behind such bytes of the record, the head and the buffer have their data too.
+-- After such bytes of the record, the head and the buffer have their data too.
 abbrev pub HasMore : Marks → Intake → Kept → List ℕ → Intake → Kept → Type 0
 HasMore marks intake kept run new now =
     (fed : List ℕ) → IsInside marks intake kept fed → HasData new now (data_of (fed ++ run))

@@ -11,7 +11,7 @@ use Rattle.rb_address.specs.declared.who.Who.{Who}
 use Rattle.rb_model.specs.declared.types.CoreFault.{CoreFault}
 use Rattle.rb_model.specs.declared.types.Standing.{Standing}
 use Rattle.rb_model.specs.declared.types.Given.{Given}
-use Rattle.rb_model.specs.Gives.{give_fitting, bytes_given}
+use Rattle.rb_model.specs.Gives.{write_fitting, bytes_given}
 use Rattle.rb_model.specs.Standings.{without_standing}
 use Rattle.rb_model.specs.State.{Phase, Connection, Connections}
 use Rattle.rb_model.specs.Calls.{kept_of}
@@ -25,9 +25,9 @@ use Rattle.rb_connections.specs.declared.slot.EndedRecord.{EndedRecord}
 use Rattle.rb_connections.specs.declared.slot.Received.{Received}
 use Rattle.rb_connections.specs.declared.slot.Stage.{Stage}
 use Rattle.rb_connections.specs.declared.slot.Stage.TheVariants as stages
-use Rattle.rb_connections.specs.declared.slot.Wanted.{Wanted}
+use Rattle.rb_connections.specs.declared.slot.Sought.{Sought}
 use Rattle.rb_connections.specs.declared.slot.WholeRecord.{WholeRecord}
-use Rattle.rb_connections.specs.declared.slot.Wanted.TheVariants as wanted
+use Rattle.rb_connections.specs.declared.slot.Sought.TheVariants as wanted
 use Rattle.rb_connections.specs.declared.slot.Buffers.{Buffers}
 use Rattle.rb_connections.specs.StandsFor.{buffer_size, IsReading, StandsForConnection, Table, StandsForConnections, held_in, AreWithin}
 use Rattle.rb_registry.specs.Registry.{Registry}
@@ -62,10 +62,10 @@ SlotBecomesFrom registry change old new =
 abbrev pub SlotGives : Registry → ℕ → ℕ → Slot → Slot → Type 0
 SlotGives registry clock n old new = Acts (StandsForConnection registry) (give clock n) old new tt
 
--- What is pending, and what is behind that, is given on it, as much as fits into the room, whose first n bytes it is.
-abbrev pub SlotGivesInto : Registry → ℕ → Slot → Slot → List ℕ → ℕ → Type 0
-SlotGivesInto registry clock old new room n =
-    Acts (StandsForConnection registry) (give_fitting clock (length room)) old new (take n room)
+-- What is pending, and what is after that, is given on it, as much as fits into the room, whose first n bytes it is.
+abbrev pub SlotWritesInto : Registry → ℕ → Slot → Slot → List ℕ → ℕ → Type 0
+SlotWritesInto registry clock old new room n =
+    Acts (StandsForConnection registry) (write_fitting clock (length room)) old new (take n room)
 
 -- with its buffers emptied
 abbrev pub emptied_slot : Slot → Slot
@@ -76,7 +76,7 @@ emptied_slot slot =
 abbrev pub SlotShows : {Result : Type 0} → (Connection → Result) → Slot → Result → Type 0
 SlotShows show slot result = (registry : Registry) → Shows (StandsForConnection registry) show slot result
 
--- A slot that stands for the connection, but for `since`, is about to be fed a piece behind the
+-- A slot that stands for the connection, but for `since`, is about to be fed a piece after the
 -- bytes `fed` of a record.
 pub record IsBeforePiece (slot : Slot) (reader : Reader) (clock : ℕ) (c : Connection) (fed : List ℕ) : Type 0 where
   pub number : slot.number ≡ c.number
@@ -171,7 +171,7 @@ arguments_on id before piece connections = option_map_or (arguments_taken before
 abbrev pub TableHasArguments : ℕ → List ℕ → Table → Kept → Kept → Type 0
 TableHasArguments id piece table before after = TableShows (arguments_on id before.bytes piece) table after.bytes
 
--- so many bytes of a piece were taken on the live connection of the number, and this came of it
+-- this many bytes of a piece were taken on the live connection of the number, and this came of it
 abbrev pub TableTakes : ℕ → ℕ → List ℕ → Table → Table → Received → Type 0
 TableTakes id clock piece old new got = TableActs (on_live id (take_piece clock piece)) old new (Ok got)
 
@@ -197,12 +197,12 @@ abbrev pub TableGives : Registry → ℕ → ℕ → ℕ → Table → Table →
 TableGives registry id clock n old new result =
     Acts (StandsForConnections registry) (on_live id (give clock n)) old new result
 
--- What is pending on the live connection of the number, and what is behind that, is given, as much as fits into the room.
-abbrev pub TableGivesInto : Registry → ℕ → ℕ → Table → Table → List ℕ → Result Given CoreFault → Type 0
-TableGivesInto registry id clock old new room result =
-    Acts (StandsForConnections registry) (on_live id (give_fitting clock (length room))) old new (bytes_given room result)
+-- What is pending on the live connection of the number, and what is after that, is given, as much as fits into the room.
+abbrev pub TableWritesInto : Registry → ℕ → ℕ → Table → Table → List ℕ → Result Given CoreFault → Type 0
+TableWritesInto registry id clock old new room result =
+    Acts (StandsForConnections registry) (on_live id (write_fitting clock (length room))) old new (bytes_given room result)
 
--- a table without connections, for at most so many, counted by this meter
+-- a table without connections, for at most this many, counted by this meter
 pub record IsEmptyTable (conns tie : ℕ) (table : Table) : Type 0 where
   pub slots : table.slots ≡ []
   pub last_number : table.last_number ≡ 0
@@ -236,44 +236,45 @@ is_idle_stage (stages.Reading reader) = false
 is_idle_stage (stages.Owing giving) = false
 is_idle_stage stages.Awaiting = false
 
-unfoldable pub is_wanted_slot : Wanted → Slot → Bool
+unfoldable pub is_wanted_slot : Sought → Slot → Bool
 is_wanted_slot (wanted.Live id) slot = slot.number == id && not (is_lost_stage slot.stage)
 is_wanted_slot (wanted.Numbered id) slot = slot.number == id
 is_wanted_slot wanted.AnyLost slot = is_lost_stage slot.stage
 is_wanted_slot (wanted.Due clock) slot = is_due_slot clock slot
 
-unfoldable pub is_wanted : Wanted → Connection → Bool
+unfoldable pub is_wanted : Sought → Connection → Bool
 is_wanted (wanted.Live id) c = is_live id c
 is_wanted (wanted.Numbered id) c = has_number id c
 is_wanted wanted.AnyLost c = is_lost c.phase
 is_wanted (wanted.Due clock) c = is_due clock c
 
 -- it is wanted by its number, which no other connection has
-abbrev pub is_by_number : Wanted → Bool
+abbrev pub is_by_number : Sought → Bool
 is_by_number (wanted.Live id) = true
 is_by_number (wanted.Numbered id) = true
 is_by_number wanted.AnyLost = false
 is_by_number (wanted.Due clock) = false
 
 -- that number, or 0, which no connection has
-abbrev pub number_wanted : Wanted → ℕ
+abbrev pub number_wanted : Sought → ℕ
 number_wanted (wanted.Live id) = id
 number_wanted (wanted.Numbered id) = id
 number_wanted wanted.AnyLost = 0
 number_wanted (wanted.Due clock) = 0
 
 -- the key and the slot of the first connection that is wanted
-unfoldable pub wanted_slot : Wanted → List (ℕ × Slot) → Option (ℕ × Slot)
+-- HINT-1
+unfoldable pub wanted_slot : Sought → List (ℕ × Slot) → Option (ℕ × Slot)
 wanted_slot sought slots = find (λ (e : ℕ × Slot). is_wanted_slot sought e.1) slots
 
 -- the first connection that is wanted, and its slot
-pub record IsFound (registry : Registry) (sought : Wanted) (all : List Connection) (slot : Slot) : Type 0 where
+pub record IsFound (registry : Registry) (sought : Sought) (all : List Connection) (slot : Slot) : Type 0 where
   pub connection : Connection
   pub found : find (is_wanted sought) all ≡ Some connection
   pub stands : StandsForConnection registry slot connection
 
 -- The first connection that is wanted was found, or there is none.
-abbrev pub Finds : Wanted → Table → Option (Bor Slot) → Type 0
+abbrev pub Finds : Sought → Table → Option (Bor Slot) → Type 0
 Finds sought table result =
     (registry : Registry) (c : Connections) → StandsForConnections registry table c
     → MatchOption result (find (is_wanted sought) c.all ≡ None) (λ slot. IsFound registry sought c.all slot.now)
@@ -304,6 +305,7 @@ abbrev pub HasBuffers : ℕ → Slot → Type 0
 HasBuffers tie slot = AreBuffers tie slot.buffer slot.window
 
 -- buffers that no connection has are empty
+-- SPARE-1
 pub record AreSpare (tie : ℕ) (b : Buffers) : Type 0 where
   pub buffers : AreBuffers tie b.buffer b.window
   pub buffer_empty : b.buffer.bytes ≡ []

@@ -33,6 +33,7 @@ pub record IsHeld (head : CallFeed) (kept : Kept) (content : List ℕ) : Type 0 
   pub cap : kept.cap ≡ buffer_size
 
 -- The reader and the buffer stand for the bytes fed since the last record's end.
+-- TAKE-4
 pub record IsReading (reader : Reader) (kept : Kept) (fed : List ℕ) : Type 0 where
   pub marks_are : StandsForFed reader.marks fed
   pub data_is : IsHeld reader.head kept (data_of fed)
@@ -60,7 +61,8 @@ abbrev pub stamp_of_rest : Rest → Option ℕ
 stamp_of_rest (rests.Held start) = None
 stamp_of_rest (rests.Listed list) = Some list.stamp
 
--- The window and the rest behind it stand for what is owed: so many bytes of the fragment that is shown were given.
+-- The window and the rest after it stand for what is owed: this many bytes of the fragment that is shown were given.
+-- LIST-5
 pub record IsGiving (registry : Registry) (giving : Giving) (buffer : List ℕ) (shown : Kept) (o : Owed) : Type 0 where
   pub reply : List ℕ
   pub shows : IsShown reply shown o
@@ -87,6 +89,7 @@ pub record StandsForConnection (registry : Registry) (slot : Slot) (c : Connecti
   pub phase : StandsForPhase registry slot.stage slot.buffer slot.window c.phase
 
 -- the bytes of its buffer and its window count, and its fixed part
+-- HELD-4
 abbrev pub charge : Slot → ℕ
 charge slot = connection_charge + length slot.buffer.bytes + length slot.window.bytes
 

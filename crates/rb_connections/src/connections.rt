@@ -12,7 +12,7 @@ ghost use Rattle.rb_connections.specs.Listings.{began_before_earliest, with_evic
 ghost use Rattle.rb_model.specs.Costs.{evict_cost};
 
 use crate::hints::Hints;
-use crate::slot::{Buffers, CONNECTION_CHARGE, Received, Slot, Stage, Wanted, WholeRecord};
+use crate::slot::{Buffers, CONNECTION_CHARGE, Received, Slot, Sought, Stage, WholeRecord};
 use rb_address::Who;
 use rb_forward::soonest_in;
 use rb_model::{CoreFault, Given, LONGEST_KEPT, LONGEST_REPLY, Served, Standing};
@@ -169,7 +169,7 @@ fn make_spare(alloc: Global, conns: usize, meter: &mut Meter) -> Result<Pool<Buf
 /// than once.
 #[tactic(auto, unfolding(crate::specs::Slots::wanted_slot))]
 #[inline(always)]
-fn wanted_key(slots: &Pool<Slot>, hints: &Hints, wanted: Wanted, meter: &mut Meter) -> Option<usize>
+fn wanted_key(slots: &Pool<Slot>, hints: &Hints, wanted: Sought, meter: &mut Meter) -> Option<usize>
     requires tie { meter.old.tie ≡ slots.now.tie }
     requires numbers { HasDistinctNumbers (values_of slots.now.entries) }
     ensures key { result ≡ option_map (λ e. e.0) (wanted_slot wanted slots.now.entries) }
@@ -203,7 +203,7 @@ fn live_slot<'a>(
     ensures cost { PaysAtMost meter.old meter.new
         (2 * length slots.old.entries + 3 + count_cost (option_copied_mut result)) }
 {
-    let key = wanted_key(slots, hints, Wanted::Live(id), meter)?;
+    let key = wanted_key(slots, hints, Sought::Live(id), meter)?;
     hints.note(id, key);
     let slot = slots.get_mut(key, meter)?;
     *held -= slot.charge(meter);
@@ -220,10 +220,10 @@ impl Connections {
     ghost use Rattle.rb_model.specs.Losses.{expire_first};
     ghost use Rattle.rb_model.specs.Standings.{as_done, without_standing};
     ghost use Rattle.rb_connections.specs.Standings.{TellsStanding, TellsGiven, TellsReceived, IsStanding};
-    ghost use Rattle.rb_connections.specs.Slots.{Finds, TableActs, TableTakesPiece, TableGives, TableGivesInto, TableHasArguments, TableLends, TableShows, TakesWhole, KeepsWhole, StaysTable, IsDraft, IsEmptyDraft, IsEmptyTable, HasBuffers};
+    ghost use Rattle.rb_connections.specs.Slots.{Finds, TableActs, TableTakesPiece, TableGives, TableWritesInto, TableHasArguments, TableLends, TableShows, TakesWhole, KeepsWhole, StaysTable, IsDraft, IsEmptyDraft, IsEmptyTable, HasBuffers};
     ghost use Rattle.rb_model.specs.Gives.{given_in};
     ghost use Rattle.rb_model.specs.Step.{pending_at};
-    ghost use Rattle.rb_connections.specs.Costs.{slot_count, look_cost, settling_cost, PaysToTake, PaysToGive, PaysToGiveInto};
+    ghost use Rattle.rb_connections.specs.Costs.{slot_count, look_cost, settling_cost, PaysToTake, PaysToGive, PaysToWriteInto};
     ghost use Rattle.rb_model.specs.Costs.{pending_cost, oldest_cost, evict_cost};
     ghost use Rattle.rb_connections.specs.Awaits.{AwaitsIfForwarded, NoneIsFreed, OnlyIsFreed, EndedOn, EndsOnFree, GoOn, StayOpen};
     ghost use Rattle.rb_connections.specs.StandsFor.{held_in, most_charge};
@@ -285,7 +285,7 @@ impl Connections {
         ensures refused { OnErr result (self.new ≡ self.old) }
         ensures cost { PaysAtMost meter.old meter.new (look_cost self.old + 5) }
     {
-        let Some(key) = wanted_key(&self.slots, &self.hints, Wanted::Numbered(id), meter) else {
+        let Some(key) = wanted_key(&self.slots, &self.hints, Sought::Numbered(id), meter) else {
             return Err(CoreFault::Gone);
         };
         let Some(slot) = self.slots.remove(key, meter) else {
@@ -318,7 +318,7 @@ impl Connections {
         ensures cost { PaysAtMost meter.old meter.new 1 }
     {
         let content = one_fragment(piece)?;
-        let slot = self.slots.get_mut(self.hints.key(Wanted::Live(id)), meter)?;
+        let slot = self.slots.get_mut(self.hints.key(Sought::Live(id)), meter)?;
         let who = slot.take_whole(id, clock)?;
         Some(WholeRecord { who, content })
     }
@@ -397,7 +397,7 @@ impl Connections {
     /// Counts n of the pending bytes of the live connection of the number as given, or as many as there are, and
     /// returns where it stands then: `Gone` where there is none. The next fragment of a list is made in a buffer that
     /// is empty before and after.
-    pub fn give(
+    pub fn gave(
         &mut self,
         id: u64,
         n: usize,
@@ -424,17 +424,17 @@ impl Connections {
         else {
             return Err(CoreFault::Gone);
         };
-        slot.give(n, clock, registry, draft, meter);
+        slot.gave(n, clock, registry, draft, meter);
         let standing = slot.standing();
         self.held += slot.charge(meter);
         Ok(standing)
     }
 
-    /// Gives what is pending of the reply on the live connection of the number into `room`, and each fragment behind
+    /// Gives what is pending of the reply on the live connection of the number into `room`, and each fragment after
     /// that, as many as fit whole, and returns how many bytes and where it stands then: `Gone` where there is none.
     /// Where none fits or is owed, nothing changes. Fragments of a list are made in a buffer that is empty before and
     /// after.
-    pub fn give_into(
+    pub fn write_into(
         &mut self,
         id: u64,
         room: &mut [u8],
@@ -447,7 +447,7 @@ impl Connections {
         requires tie { meter.old.tie ≡ self.old.tie }
         requires draft { IsEmptyDraft meter.old.tie draft.old }
         requires lists { CanContinueAll registry.now self.old }
-        ensures acts { TableGivesInto registry.now id clock self.old self.new room.new result }
+        ensures acts { TableWritesInto registry.now id clock self.old self.new room.new result }
         ensures within { given_in result ≤ length room.new }
         ensures nothing { given_in result ≡ 0 → self.new ≡ self.old }
         ensures stands { TellsGiven id self.new result }
@@ -457,13 +457,13 @@ impl Connections {
         ensures stays { StaysTable self.old self.new }
         ensures draft { IsEmptyDraft meter.old.tie draft.new }
         ensures same_meter { meter.new.tie ≡ meter.old.tie }
-        ensures cost { PaysToGiveInto self.old registry.now id result meter.old meter.new }
+        ensures cost { PaysToWriteInto self.old registry.now id result meter.old meter.new }
     {
         let Some(slot) = live_slot(&mut self.slots, &mut self.hints, &mut self.held, id, meter)
         else {
             return Err(CoreFault::Gone);
         };
-        let count = slot.give_into(room, clock, registry, draft, meter);
+        let count = slot.write_into(room, clock, registry, draft, meter);
         let standing = slot.standing();
         self.held += slot.charge(meter);
         Ok(Given { count, standing })
@@ -497,7 +497,7 @@ impl Connections {
         ensures goes_on { GoOn self.old self.new }
         ensures cost { PaysAtMost meter.old meter.new (look_cost self.old) }
     {
-        let Some(key) = wanted_key(&self.slots, &self.hints, Wanted::Due(clock), meter) else {
+        let Some(key) = wanted_key(&self.slots, &self.hints, Sought::Due(clock), meter) else {
             return None;
         };
         let Some(slot) = self.slots.get_mut(key, meter) else {
@@ -517,7 +517,7 @@ impl Connections {
 
     /// The first connection that is wanted.
     #[inline(always)]
-    fn first(&self, wanted: Wanted, meter: &mut Meter) -> Option<&Slot>
+    fn first(&self, wanted: Sought, meter: &mut Meter) -> Option<&Slot>
         requires { meter.old.tie ≡ self.now.tie }
         ensures found { Finds wanted self.now result }
         ensures buffers { IfSome result (λ slot. HasBuffers self.now.tie slot.now) }
@@ -538,7 +538,7 @@ impl Connections {
         ensures len { TableShows (λ c. pending_count (pending_at id c)) self.now result }
         ensures cost { PaysAtMost meter.old meter.new (look_cost self.now + 1) }
     {
-        let Some(slot) = self.first(Wanted::Live(id), meter) else {
+        let Some(slot) = self.first(Sought::Live(id), meter) else {
             return Err(CoreFault::Gone);
         };
         Ok(slot.pending_len(meter))
@@ -552,7 +552,7 @@ impl Connections {
         ensures few { IfOk result (λ bytes. length bytes.now ≤ longest_fragment) }
         ensures cost { PaysAtMost meter.old meter.new (look_cost self.now + pending_cost) }
     {
-        let Some(slot) = self.first(Wanted::Live(id), meter) else {
+        let Some(slot) = self.first(Sought::Live(id), meter) else {
             return Err(CoreFault::Gone);
         };
         Ok(slot.pending(meter))
@@ -564,7 +564,7 @@ impl Connections {
         ensures lost { TableShows next_lost_in_table self.now result }
         ensures cost { PaysAtMost meter.old meter.new (look_cost self.now) }
     {
-        match self.first(Wanted::AnyLost, meter) {
+        match self.first(Sought::AnyLost, meter) {
             Some(slot) => Some(slot.number),
             None => None,
         }

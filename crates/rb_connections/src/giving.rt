@@ -1,6 +1,6 @@
 //! A reply that is given fragment by fragment (RFC 5531 section 11).
 //!
-//! A window shows its current fragment, marked. What is behind that is in the connection's buffer, unmarked, or it is
+//! A window shows its current fragment, marked. What is after that is in the connection's buffer, unmarked, or it is
 //! a list, which is held nowhere as a whole: its next fragment is made from the registry once this one was given.
 ghost use Rattle.std.specs.Prelude.{◌≡◌, ◌+◌, ◌-◌, ◌<◌, ◌≤◌, ◌++◌, [], length, take, drop};
 ghost use Rattle.rb_xdr.specs.Meter.{PaysAtMost};
@@ -47,7 +47,7 @@ impl Rest {
 /// A reply that is given.
 #[derive(Clone, Copy, Debug, PartialEq, Eq)]
 pub struct Giving {
-    /// What is behind the fragment that is shown.
+    /// What is after the fragment that is shown.
     pub rest: Rest,
     /// How many bytes of the fragment were given.
     pub place: usize,
@@ -84,7 +84,7 @@ fn put(window: &mut Kept, bytes: &[u8], meter: &mut Meter)
 
 /// Puts a fragment with this data in the window.
 #[tactic(auto, unfolding(rb_model::specs::Connections::longest_fragment))]
-fn show(part: &[u8], last: bool, window: &mut Kept, meter: &mut Meter)
+fn frame(part: &[u8], last: bool, window: &mut Kept, meter: &mut Meter)
     requires tie { meter.old.tie ≡ window.old.tie }
     requires some { 0 < length part.now }
     requires few { length part.now ≤ fragment_size }
@@ -119,15 +119,15 @@ fn write_fragment(part: &[u8], last: bool, room: &mut [u8]) -> usize
 /// What came of the next fragment of a reply.
 #[derive(Clone, Copy, Debug, PartialEq, Eq)]
 enum Next {
-    /// It was written and is the last one. It has so many bytes.
+    /// It was written and is the last one. The number of its bytes.
     Ended(usize),
-    /// It was written and has 1,028 bytes. This is behind it.
+    /// It was written and has 1,028 bytes. This is after it.
     Behind(Rest),
     /// It did not fit and is shown.
     Shown(Giving),
 }
 
-/// Writes the fragment with this data to `room`, or else puts it in the window. `rest` is behind it, where it is not
+/// Writes the fragment with this data to `room`, or else puts it in the window. `rest` is after it, where it is not
 /// the last one and has 1,024 bytes of data.
 fn write_part(
     part: &[u8],
@@ -146,7 +146,7 @@ fn write_part(
 {
     let count = write_fragment(part, last, room);
     if count == 0 {
-        show(part, last, window, meter);
+        frame(part, last, window, meter);
         Next::Shown(Giving {
             rest,
             place: 0,
@@ -240,7 +240,7 @@ fn write_next(
 
 /// Puts the next fragment of a reply in the window, where `rest` was not shown yet: from `buffer`, or of a list,
 /// whose fragment is made in `draft`, which is empty before and after.
-pub fn show_next(
+pub fn frame_next(
     rest: Rest,
     buffer: &Kept,
     registry: &Registry,
@@ -267,7 +267,7 @@ pub fn show_next(
 }
 
 /// Copies what is left of a window from this place on to `room`. Returns how many bytes, 0 where they do not fit.
-pub fn copy_shown(place: usize, window: &Kept, room: &mut [u8], meter: &mut Meter) -> usize
+pub fn copy_framed(place: usize, window: &Kept, room: &mut [u8], meter: &mut Meter) -> usize
     requires tie { meter.old.tie ≡ window.now.tie }
     ensures count { result ≡ fitting_length (length room.old) (length window.now.bytes - place) }
     ensures copied { 0 < result → take result room.new ≡ drop place window.now.bytes }
@@ -325,7 +325,7 @@ pub fn write_fragments(
 /// Writes a reply of one fragment, with its header, to `room`, where that has place for the longest fragment, and
 /// empties its buffer. Returns the number of bytes written, 0 where nothing was.
 #[tactic(auto, unfolding(rb_model::specs::Connections::longest_fragment))]
-pub fn give_whole(reply: &mut Kept, room: &mut [u8], meter: &mut Meter) -> usize
+pub fn write_whole(reply: &mut Kept, room: &mut [u8], meter: &mut Meter) -> usize
     requires tie { meter.old.tie ≡ reply.old.tie }
     requires some { 0 < length reply.old.bytes }
     ensures count { result ≡ whole_length (length room.old) (length reply.old.bytes) }

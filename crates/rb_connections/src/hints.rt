@@ -3,7 +3,7 @@ ghost use Rattle.std.specs.Prelude.{◌≡◌, ◌%◌};
 ghost use Rattle.std.specs.List.{slice_index};
 ghost use Rattle.rb_connections.specs.Slots.{number_wanted};
 
-use crate::slot::Wanted;
+use crate::slot::Sought;
 
 /// The key under which a connection was opened or found last, by the last byte of its number. A hint may be wrong: a
 /// look-up tries it, and then walks the table.
@@ -26,12 +26,12 @@ impl Hints {
 
     /// The key to try first for the wanted connection; where that is not wanted by its number, the key for number 0,
     /// which no connection has.
-    pub fn key(&self, wanted: Wanted) -> usize
+    pub fn key(&self, wanted: Sought) -> usize
         ensures { result ≡ slice_index self.now.keys (number_wanted wanted % 256) }
     {
         let number = match wanted {
-            Wanted::Live(id) | Wanted::Numbered(id) => id,
-            Wanted::AnyLost | Wanted::Due(_) => 0,
+            Sought::Live(id) | Sought::Numbered(id) => id,
+            Sought::AnyLost | Sought::Due(_) => 0,
         };
         usize::from(self.keys[(number % 256) as usize])
     }

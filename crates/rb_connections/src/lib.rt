@@ -10,5 +10,5 @@ mod reading;
 mod slot;
 
 pub use connections::{BUFFER_SIZE, Connections};
-pub use giving::give_whole;
+pub use giving::write_whole;
 pub use slot::{CONNECTION_CHARGE, EndedRecord, Received, WholeRecord};

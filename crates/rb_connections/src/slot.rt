@@ -3,10 +3,10 @@ ghost use Rattle.std.specs.Prelude.{◌≡◌, ◌+◌, [], Some, None};
 ghost use Rattle.rb_xdr.specs.Meter.{Pays, PaysAtMost};
 
 use crate::deadlines::time_in;
-use crate::giving::{Giving, Rest, copy_shown, show_next, write_fragments};
+use crate::giving::{Giving, Rest, copy_framed, frame_next, write_fragments};
 use crate::reading::{Fed, Reader};
 use rb_address::{Host, Source, Trust, Who};
-use rb_model::{Outcome, Served, Standing};
+use rb_model::{Response, Served, Standing};
 use rb_proto::ListReply;
 use rb_registry::Registry;
 use rb_rpc::Verdict;
@@ -34,7 +34,7 @@ pub enum Stage {
 
 /// Which connection is looked for.
 #[derive(Clone, Copy, Debug, PartialEq, Eq)]
-pub enum Wanted {
+pub enum Sought {
     /// The one of this number, unless it is Lost.
     Live(u64),
     /// The one of this number.
@@ -45,7 +45,7 @@ pub enum Wanted {
     Due(u64),
 }
 
-impl Wanted {
+impl Sought {
     ghost use Rattle.std.specs.Prelude.{◌≡◌};
     ghost use Rattle.rb_connections.specs.Slots.{is_by_number};
 
@@ -53,7 +53,7 @@ impl Wanted {
     pub fn is_by_number(self) -> bool
         ensures { result ≡ is_by_number self }
     {
-        matches!(self, Wanted::Live(_) | Wanted::Numbered(_))
+        matches!(self, Sought::Live(_) | Sought::Numbered(_))
     }
 }
 
@@ -164,7 +164,7 @@ impl Slot {
     ghost use Rattle.std.specs.Prelude.{◌≡◌, ◌≤◌, ◌<◌, ◌+◌, ℕ, List, [], true, false, length, Some, IfSome, IfNone};
     ghost use Rattle.rb_model.specs.State.{Connection};
     ghost use Rattle.rb_model.specs.Connections.{pending_in, longest_fragment};
-    ghost use Rattle.rb_connections.specs.Slots.{is_due_slot, SlotActs, SlotGives, SlotGivesInto, SlotHasArguments, SlotShows, emptied_slot, ReceivesPiece, StandsBehindPiece, KeepsArguments, HasBuffers, IsDraft, IsEmptyDraft, StaysSlot, take_piece, received_whole, is_lost_stage, is_idle_stage, is_wanted_slot};
+    ghost use Rattle.rb_connections.specs.Slots.{is_due_slot, SlotActs, SlotGives, SlotWritesInto, SlotHasArguments, SlotShows, emptied_slot, ReceivesPiece, StandsBehindPiece, KeepsArguments, HasBuffers, IsDraft, IsEmptyDraft, StaysSlot, take_piece, received_whole, is_lost_stage, is_idle_stage, is_wanted_slot};
     ghost use Rattle.rb_connections.specs.StandsFor.{StandsForConnection, charge, most_charge, rest_in};
     ghost use Rattle.rb_model.specs.Served.{IsWritten, kind_in};
     ghost use Rattle.rb_model.specs.Calls.{kept_of};
@@ -179,14 +179,14 @@ impl Slot {
     ghost use Rattle.rb_model.specs.Costs.{pending_cost};
 
     #[tactic(auto, unfolding(crate::specs::Slots::is_wanted_slot))]
-    pub fn is_wanted(&self, wanted: Wanted) -> bool
+    pub fn is_wanted(&self, wanted: Sought) -> bool
         ensures { result ≡ is_wanted_slot wanted self.now }
     {
         match wanted {
-            Wanted::Live(id) => self.number == id && !self.is_lost(),
-            Wanted::Numbered(id) => self.number == id,
-            Wanted::AnyLost => self.is_lost(),
-            Wanted::Due(clock) => self.is_due(clock),
+            Sought::Live(id) => self.number == id && !self.is_lost(),
+            Sought::Numbered(id) => self.number == id,
+            Sought::AnyLost => self.is_lost(),
+            Sought::Due(clock) => self.is_due(clock),
         }
     }
 
@@ -362,7 +362,7 @@ impl Slot {
         requires draft { IsDraft meter.old.tie draft.old }
         requires written { IsWritten served draft.old.bytes }
         ensures stands { SlotSettles registry.now clock served draft.old.bytes self.old self.new }
-        ensures awaits { kind_in served ≡ Outcome.Forwarded
+        ensures awaits { kind_in served ≡ Response.Forwarded
             → is_awaiting_stage self.new.stage ≡ true }
         ensures lists { CanContinueSlot registry.now self.new }
         ensures stays { StaysSlot meter.old.tie self.old self.new }
@@ -371,33 +371,33 @@ impl Slot {
     {
         self.since = clock;
         match served {
-            Served::Answered(Outcome::NoCall) => {
+            Served::Answered(Response::NoCall) => {
                 self.stage = Stage::Lost;
                 draft.clear(meter);
             }
-            Served::Answered(Outcome::Forwarded) => {
+            Served::Answered(Response::Forwarded) => {
                 self.stage = Stage::Awaiting;
                 self.empty(draft, meter);
             }
-            Served::Answered(Outcome::Silent) => {
+            Served::Answered(Response::Silent) => {
                 self.stage = Stage::Idle;
                 self.empty(draft, meter);
             }
-            Served::Answered(Outcome::Reply) => {
+            Served::Answered(Response::Reply) => {
                 self.buffer.clear(meter);
                 mem::swap(&mut self.buffer, draft);
-                self.show(Rest::Held(0), registry, draft, meter);
+                self.frame(Rest::Held(0), registry, draft, meter);
             }
             Served::Listed(xid, listing) => {
                 self.buffer.clear(meter);
                 let list = ListReply::new(xid, listing, registry);
-                self.show(Rest::Listed(list), registry, draft, meter);
+                self.frame(Rest::Listed(list), registry, draft, meter);
             }
         }
     }
 
     /// Puts the next fragment of a reply in its window, where `rest` was not shown yet.
-    fn show(&mut self, rest: Rest, registry: &Registry, draft: &mut Kept, meter: &mut Meter)
+    fn frame(&mut self, rest: Rest, registry: &Registry, draft: &mut Kept, meter: &mut Meter)
         requires registry { meter.old.tie ≡ registry.now.tie }
         requires buffers { HasBuffers meter.old.tie self.old }
         requires draft { IsEmptyDraft meter.old.tie draft.old }
@@ -407,13 +407,13 @@ impl Slot {
         ensures draft { IsEmptyDraft meter.old.tie draft.new }
         ensures cost { PaysAtMost meter.old meter.new (next_cost registry.now rest) }
     {
-        let giving = show_next(rest, &self.buffer, registry, &mut self.window, draft, meter);
+        let giving = frame_next(rest, &self.buffer, registry, &mut self.window, draft, meter);
         self.stage = Stage::Owing(giving);
     }
 
     /// Counts n of the pending bytes as given, or as many as there are: with the last byte of its reply the
     /// connection is Idle again. The next fragment of a list is made in a buffer that is empty before and after.
-    pub fn give(
+    pub fn gave(
         &mut self,
         n: usize,
         clock: u64,
@@ -447,14 +447,14 @@ impl Slot {
         } else if giving.last {
             self.end_reply(meter);
         } else {
-            self.show(giving.rest, registry, draft, meter);
+            self.frame(giving.rest, registry, draft, meter);
         }
     }
 
-    /// Gives what is pending of its reply into `room`, and each fragment behind that, as many as fit whole: with the
+    /// Gives what is pending of its reply into `room`, and each fragment after that, as many as fit whole: with the
     /// last byte of its reply the connection is Idle again. Returns how many bytes; 0 where none fits or is owed, and
     /// then nothing changed. Fragments of a list are made in a buffer that is empty before and after.
-    pub fn give_into(
+    pub fn write_into(
         &mut self,
         room: &mut [u8],
         clock: u64,
@@ -466,7 +466,7 @@ impl Slot {
         requires buffers { HasBuffers meter.old.tie self.old }
         requires draft { IsEmptyDraft meter.old.tie draft.old }
         requires lists { CanContinueSlot registry.now self.old }
-        ensures acts { SlotGivesInto registry.now clock self.old self.new room.new result }
+        ensures acts { SlotWritesInto registry.now clock self.old self.new room.new result }
         ensures within { result ≤ length room.new }
         ensures nothing { result ≡ 0 → self.new ≡ self.old }
         ensures awaits { is_awaiting_stage self.new.stage ≡ is_awaiting_stage self.old.stage }
@@ -478,7 +478,7 @@ impl Slot {
         let Stage::Owing(giving) = self.stage else {
             return 0;
         };
-        let shown = copy_shown(giving.place, &self.window, room, meter);
+        let shown = copy_framed(giving.place, &self.window, room, meter);
         if shown == 0 {
             return 0;
         }
@@ -488,12 +488,12 @@ impl Slot {
             return shown;
         }
         let free = &mut room[shown..];
-        shown + self.give_rest(giving.rest, free, registry, draft, meter)
+        shown + self.write_rest(giving.rest, free, registry, draft, meter)
     }
 
     /// Gives fragments of a reply into `room`, where `rest` was not shown yet, as many as fit whole. Returns how many
     /// bytes.
-    fn give_rest(
+    fn write_rest(
         &mut self,
         rest: Rest,
         room: &mut [u8],

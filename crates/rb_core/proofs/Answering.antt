@@ -15,21 +15,21 @@ use Rattle.rb_connections.specs.StandsFor.{Table}
 use Rattle.rb_connections.specs.Slots.{StaysTable}
 use Rattle.rb_connections.specs.Listings.{CanContinueAll, stamps_of}
 use Rattle.rb_connections.proofs.ListsGoOn.{lists_on, stands_on, stamps_low}
-use Rattle.rb_core.specs.StandsFor.{Held}
+use Rattle.rb_core.specs.StandsFor.{CoreView}
 use Rattle.rb_core.specs.Core.{context_of}
 use Rattle.rb_core.specs.Eviction.{Evicts, ServesInRoom}
 use Rattle.rb_core.proofs.Steps.{Served, same_registry}
 
 -- what a call sees, of what is held by its other name
-pub sees : (view now : Held) (context : Context) (caller : Caller) → view ≡ now → context ≡ context_of now caller → context ≡ context_of view caller
-sees view now context caller same is = is ∙ ap (λ (h : Held). context_of h caller) (sym same)
+pub sees : (view now : CoreView) (context : Context) (caller : Caller) → view ≡ now → context ≡ context_of now caller → context ≡ context_of view caller
+sees view now context caller same is = is ∙ ap (λ (h : CoreView). context_of h caller) (sym same)
 
 -- The registry tells the lists that are given once a message was served too.
 pub lists_then : (table : Table) (mid books : Books) → GoesOn mid.registry books.registry → books.registry.floor ≡ mid.registry.floor → CanContinueAll mid.registry table → CanContinueAll books.registry table
 lists_then table mid books cursors floor told =
     lists_on mid.registry books.registry cursors table (subst (λ (f : ℕ). All (λ n. f ≤ n) (stamps_of table)) (sym floor) (stamps_low mid.registry table told)) told
 
-module _ (view : Held) (caller : Caller) (context : Context) (is : context ≡ context_of view caller) where
+module _ (view : CoreView) (caller : Caller) (context : Context) (is : context ≡ context_of view caller) where
   pub served_by : (message : Message) (arguments : List ℕ) (table : Table) (books : Books) (given : Outcome) → ServesInRoom context message arguments view.connections view.books table books given
       → SameFrame view.books books → StaysTable view.connections table → Served (context_of view caller) view message arguments table books given
   served_by message arguments table books given acts frame stays =

@@ -24,7 +24,7 @@ use Rattle.rb_model.proofs.Fragments.{length-short, length-long, some-marked}
 use Rattle.rb_laws.proofs.Cuts.{IsFeeding, find-changed, changed-twice}
 use Rattle.rb_model.specs.declared.served.Served.{Served as CodeServed}
 use Rattle.rb_model.specs.declared.served.Served.TheVariants.{Answered, Listed}
-use Rattle.rb_model.specs.declared.served.Outcome.TheVariants as outcomes
+use Rattle.rb_model.specs.declared.served.Response.TheVariants as outcomes
 use Rattle.rb_connections.specs.declared.slot.EndedRecord.{EndedRecord}
 use Rattle.rb_registry.specs.Registry.{Registry}
 use Rattle.rb_model.specs.Served.{served_in}
@@ -33,7 +33,7 @@ use Rattle.rb_connections.specs.Slots.{Acts, Shows, StaysTable, take_piece, argu
 use Rattle.rb_connections.specs.Awaits.{has_idle}
 use Rattle.rb_connections.specs.Giving.{whole_length, whole_cost}
 use Rattle.rb_connections.proofs.IdleSlots.{Lives, idle_is_live}
-use Rattle.rb_core.specs.StandsFor.{Held, StandsFor}
+use Rattle.rb_core.specs.StandsFor.{CoreView, StandsFor}
 use Rattle.rb_core.specs.Core.{context_of, serve_ended}
 use Rattle.rb_model.specs.Exchanges.{at_once_in, at_once_on, at_once, pending_front, without_front, then_gave, exchange}
 use Rattle.rb_core.specs.AtOnce.{count_at_once, count_when_answered, answer_and_give, IsGivenAtOnce}
@@ -154,8 +154,8 @@ counts_settled room id clock (Reply reply began) c lives = rw (find-changed id (
 counts_settled room id clock Forwarded c lives = rw (find-changed id (settle clock Forwarded) (keeps_live id clock Forwarded refl) c.all lives.connection lives.there) refl
 counts_settled room id clock Silent c lives = rw (find-changed id (settle clock Silent) (keeps_live id clock Silent refl) c.all lives.connection lives.there) refl
 
--- A message from a connection is answered, and so many bytes of the reply are given.
-pub answer_counts : (room : ℕ) (old : Held) (id : ℕ) (who : Who) (message : Message) (arguments : List ℕ) (roomy : Table) (books : Books) (given : Outcome)
+-- A message from a connection is answered, and this many bytes of the reply are given.
+pub answer_counts : (room : ℕ) (old : CoreView) (id : ℕ) (who : Who) (message : Message) (arguments : List ℕ) (roomy : Table) (books : Books) (given : Outcome)
     → Served (context_of old (Tcp id who)) old message arguments roomy books given → has_idle id roomy ≡ true → (s : State) → StandsFor old s
     → count_when_answered room id (settle_on id (serve_message s (Tcp id who) message arguments)) ≡ count_of room given
 answer_counts room old id who message arguments roomy books given served idle s h =
@@ -166,7 +166,7 @@ answer_counts room old id who message arguments roomy books given served idle s 
     (counts_settled room id s.clock given conns lives)
 
 -- A message from a connection is answered, and these bytes of the reply are given.
-pub answer_giving : (old : Held) (id : ℕ) (who : Who) (message : Message) (arguments : List ℕ) (roomy : Table) (books : Books) (given left : Outcome) (bytes : List ℕ) (table : Table)
+pub answer_giving : (old : CoreView) (id : ℕ) (who : Who) (message : Message) (arguments : List ℕ) (roomy : Table) (books : Books) (given left : Outcome) (bytes : List ℕ) (table : Table)
     → Served (context_of old (Tcp id who)) old message arguments roomy books given → StaysTable roomy table → Leaves given left bytes → has_idle id roomy ≡ true
     → ((c : Connections) → StandsForConnections books.registry roomy c → StandsForConnections books.registry table (changed_at id (settle old.clock left) c))
     → Acts StandsFor (λ s. answer_and_give id (length bytes) (settle_on id (serve_message s (Tcp id who) message arguments))) old (record old { connections = table; books = books }) (is_no_call given, bytes)
@@ -202,12 +202,12 @@ answer_giving old id who message arguments roomy books given left bytes table se
 
 -- ---- bytes that are taken, and a reply that is given
 
--- so many bytes are given
+-- this many bytes are given
 abbrev pub giving_by : ℕ → ℕ → List ℕ → ℕ → State → (Result Taken CoreFault × List ℕ) × State
 giving_by now id piece n s = then_gave now id n (bytes s now id piece)
 
 -- They are as many as are given at once.
-pub counted : (now id n : ℕ) (piece : List ℕ) (room : ℕ) (old new : Held) (x : Result Taken CoreFault × List ℕ) → Acts StandsFor (giving_by now id piece n) old new x
+pub counted : (now id n : ℕ) (piece : List ℕ) (room : ℕ) (old new : CoreView) (x : Result Taken CoreFault × List ℕ) → Acts StandsFor (giving_by now id piece n) old new x
     → ((s : State) → StandsFor old s → n ≡ at_once room id (live_connection id s.connections.all) (bytes s now id piece)) → Acts StandsFor (exchange now id piece room) old new x
 counted now id n piece room old new x acts same = record {
   gives = λ s h. acts.gives s h ∙ ap (λ (k : ℕ). (then_gave now id k (bytes s now id piece)).0) (same s h);
@@ -215,7 +215,7 @@ counted now id n piece room old new x acts same = record {
 }
 
 -- none are where the bytes are refused
-pub none_refused : (now id : ℕ) (piece : List ℕ) (room : ℕ) (old new : Held) (f : CoreFault) → Acts StandsFor (λ s. bytes s now id piece) old new (Err f)
+pub none_refused : (now id : ℕ) (piece : List ℕ) (room : ℕ) (old new : CoreView) (f : CoreFault) → Acts StandsFor (λ s. bytes s now id piece) old new (Err f)
     → (s : State) → StandsFor old s → 0 ≡ at_once room id (live_connection id s.connections.all) (bytes s now id piece)
 none_refused now id piece room old new f acts s h = by_result (live_connection id s.connections.all) (bytes s now id piece) (acts.gives s h)
   where
@@ -225,7 +225,7 @@ none_refused now id piece room old new f acts s h = by_result (live_connection i
     by_result (Some c) (Ok x, t) e = absurd cc
 
 -- Where nothing is given at once it is the event alone.
-pub plainly : (now id : ℕ) (piece : List ℕ) (old new : Held) (taken : Result Taken CoreFault) → Acts StandsFor (λ s. bytes s now id piece) old new taken → Acts StandsFor (giving_by now id piece 0) old new (taken, [])
+pub plainly : (now id : ℕ) (piece : List ℕ) (old new : CoreView) (taken : Result Taken CoreFault) → Acts StandsFor (λ s. bytes s now id piece) old new taken → Acts StandsFor (giving_by now id piece 0) old new (taken, [])
 plainly now id piece old new taken acts = record {
   gives = λ s h. ap (λ (r : Result Taken CoreFault). pair r) (acts.gives s h);
   stands = acts.stands;
@@ -239,7 +239,7 @@ no_room : (id : ℕ) (m : Option Connection) (r : Result Taken CoreFault × Stat
 unfolding longest_fragment
 no_room id None r = refl
 no_room id (Some c) (Err f, s) = refl
-no_room id (Some c) (Ok taken, s) = elim (is_owing c.phase || taken.closed) as (λ b. cond b 0 (at_once_on 0 (live_connection id s.connections.all)) ≡ 0) [ true ↦ refl | false ↦ on_none (live_connection id s.connections.all) ]
+no_room id (Some c) (Ok taken, s) = elim (is_owing c.phase || taken.lost) as (λ b. cond b 0 (at_once_on 0 (live_connection id s.connections.all)) ≡ 0) [ true ↦ refl | false ↦ on_none (live_connection id s.connections.all) ]
   where
     none_in : (phase : Phase) → at_once_in 0 phase ≡ 0
     none_in (Owing o) = elim (is_none o.stamp && not (ltb 1028 (length o.marked))) as (λ b. cond (b && false) (length o.marked) 0 ≡ 0) [ true ↦ refl | false ↦ refl ]
@@ -252,7 +252,7 @@ no_room id (Some c) (Ok taken, s) = elim (is_owing c.phase || taken.closed) as (
     on_none None = refl
     on_none (Some x) = none_in x.phase
 
-pub alone : (now id : ℕ) (piece given : List ℕ) (room : ℕ) (old new : Held) (taken : Result Taken CoreFault) → room ≡ 0 → Acts StandsFor (exchange now id piece room) old new (taken, given) → Acts StandsFor (λ s. bytes s now id piece) old new taken
+pub alone : (now id : ℕ) (piece given : List ℕ) (room : ℕ) (old new : CoreView) (taken : Result Taken CoreFault) → room ≡ 0 → Acts StandsFor (exchange now id piece room) old new (taken, given) → Acts StandsFor (λ s. bytes s now id piece) old new taken
 alone now id piece given room old new taken none acts = record {
   gives = λ s h. ap (λ (x : Result Taken CoreFault × List ℕ). x.0) (acts.gives s h);
   stands = λ s h.
@@ -284,12 +284,12 @@ given_by_event now id n s late few = elim (none_or_more n) [ inl none ↦ of_non
         ∙ sym (cond-false _ _ _ (nonzero n some) ∙ rw there refl)
 
 -- The record that ended is answered, and these bytes of the reply are given.
-pub exchange_ended : (old : Held) (now clock id : ℕ) (piece : List ℕ) (is : clock ≡ max old.clock now) (table : Table) (stays : StaysTable old.connections table)
+pub exchange_ended : (old : CoreView) (now clock id : ℕ) (piece : List ℕ) (is : clock ≡ max old.clock now) (table : Table) (stays : StaysTable old.connections table)
     (arguments : List ℕ) (holds : Shows (StandsForConnections old.books.registry) (arguments_on id old.arguments piece) old.connections arguments)
-    (count : ℕ) (said : EndedRecord) (new : Held) (closed : Bool) (given : List ℕ) → Acts (StandsForConnections old.books.registry) (on_live id (take_piece clock piece)) old.connections table (Ok (record { count = count; ended = Some said }))
-    → Acts StandsFor (λ s. answer_and_give id (length given) (serve_ended id said arguments s)) (record old { clock = clock; connections = table; arguments = [] }) new (closed, given)
-    → Acts StandsFor (giving_by now id piece (length given)) old new (Ok (record { count = count; closed = closed }), given)
-exchange_ended old now clock id piece is table stays arguments holds count said new closed given acts answers = record {
+    (count : ℕ) (said : EndedRecord) (new : CoreView) (lost : Bool) (given : List ℕ) → Acts (StandsForConnections old.books.registry) (on_live id (take_piece clock piece)) old.connections table (Ok (record { count = count; ended = Some said }))
+    → Acts StandsFor (λ s. answer_and_give id (length given) (serve_ended id said arguments s)) (record old { clock = clock; connections = table; arguments = [] }) new (lost, given)
+    → Acts StandsFor (giving_by now id piece (length given)) old new (Ok (record { count = count; lost = lost }), given)
+exchange_ended old now clock id piece is table stays arguments holds count said new lost given acts answers = record {
   gives = λ s h.
       let e = ended s h in
       ap (λ (x : Bool × List ℕ). taken x) (answers.gives e.meanwhile e.stands)
@@ -305,13 +305,13 @@ exchange_ended old now clock id piece is table stays arguments holds count said 
 }
   where
     taken : Bool × List ℕ → Result Taken CoreFault × List ℕ
-    taken x = (Ok (record { count = count; closed = x.0 }), x.1)
+    taken x = (Ok (record { count = count; lost = x.0 }), x.1)
 
     ended : (s : State) → StandsFor old s → RecordEnded old now clock id piece is table stays arguments holds count said s
     ended = ended_by old now clock id piece is table stays arguments holds count said acts
 
 -- the same by how many they are
-pub by_count : (now id n : ℕ) (piece room : List ℕ) (old new : Held) (taken : Result Taken CoreFault) → n ≤ length room
+pub by_count : (now id n : ℕ) (piece room : List ℕ) (old new : CoreView) (taken : Result Taken CoreFault) → n ≤ length room
     → Acts StandsFor (giving_by now id piece (length (take n room))) old new (taken, take n room) → Acts StandsFor (giving_by now id piece n) old new (taken, take n room)
 by_count now id n piece room old new taken within acts = subst (λ (k : ℕ). Acts StandsFor (giving_by now id piece k) old new (taken, take n room)) (omega (arith, within, length-take n room)) acts
 
@@ -319,7 +319,7 @@ pub whole_few : (room n : ℕ) → whole_cost room n ≤ n + 2
 whole_few room n = elim (eqb room 0) as (λ b. cond b 0 (n + 2) ≤ n + 2) [ true ↦ omega arith | false ↦ omega arith ]
 
 -- as many as the answer gives
-pub counted_ended : (old : Held) (now clock id : ℕ) (piece : List ℕ) (is : clock ≡ max old.clock now) (table : Table) (stays : StaysTable old.connections table)
+pub counted_ended : (old : CoreView) (now clock id : ℕ) (piece : List ℕ) (is : clock ≡ max old.clock now) (table : Table) (stays : StaysTable old.connections table)
     (arguments : List ℕ) (holds : Shows (StandsForConnections old.books.registry) (arguments_on id old.arguments piece) old.connections arguments)
     (count room n : ℕ) (said : EndedRecord) → Acts (StandsForConnections old.books.registry) (on_live id (take_piece clock piece)) old.connections table (Ok (record { count = count; ended = Some said }))
     → ((s : State) → StandsFor (record old { clock = clock; connections = table; arguments = [] }) s → n ≡ count_when_answered room id (serve_ended id said arguments s))

@@ -32,7 +32,7 @@ use Rattle.rb_laws.proofs.StepBounds.{taken-counts}
 use Rattle.rb_connections.specs.StandsFor.{buffer_size}
 use Rattle.rb_connections.specs.Slots.{Acts}
 use Rattle.rb_connections.specs.Costs.{look_cost, slot_count}
-use Rattle.rb_core.specs.StandsFor.{Held, StandsFor}
+use Rattle.rb_core.specs.StandsFor.{CoreView, StandsFor}
 use Rattle.rb_model.specs.Exchanges.{without_front, exchange}
 use Rattle.rb_core.specs.CallCosts.{announced_in, may_register_in, sizes_of, PaysForBytes, PaysForDatagram, PaysToGive}
 use Rattle.rb_core.specs.Core.{TakesBytes}
@@ -50,7 +50,7 @@ no_record may sizes c piece none = by_fed (fed_in c.phase) piece none
     by_fed (Some fed) [] e = refl
     by_fed (Some fed) (x ∷ xs) e = rw e refl
 
-module _ (core : Held) (a b : Meter) where
+module _ (core : CoreView) (a b : Meter) where
   module _ (s : State) (h : StandsFor core s) where
     pub few_connections : IsReached s → length core.connections.slots ≤ core.setting.limits.conns
     few_connections reached =
@@ -113,12 +113,12 @@ module _ (core : Held) (a b : Meter) where
   -- ---- calls that serve a message
 
   -- the rows that are left where what is held stands for a state of the same limits
-  rows_left : (new : Held) (s t : State) → StandsFor core s → StandsFor new t → t.setting ≡ s.setting → length (slots_of new.books.registry) ≤ core.setting.limits.rows
+  rows_left : (new : CoreView) (s t : State) → StandsFor core s → StandsFor new t → t.setting ≡ s.setting → length (slots_of new.books.registry) ≤ core.setting.limits.rows
   rows_left new s t h k same =
       let limit : t.setting.limits.rows ≡ core.setting.limits.rows = ap (λ (x : Setting). x.limits.rows) (same ∙ sym h.setting) in
       omega (arith, limit, rows_held new t k)
 
-  pub datagram_within : (new : Held) (now : ℕ) (who : Who) (content : List ℕ) (given : Outcome) → Acts StandsFor (λ s. datagram s now who content) core new given
+  pub datagram_within : (new : CoreView) (now : ℕ) (who : Who) (content : List ℕ) (given : Outcome) → Acts StandsFor (λ s. datagram s now who content) core new given
       → PaysForDatagram core new who content a b → StaysWithinSteps core (length content) 0 a b
   unfolding step longest_reply longest_kept buffer_size longest_args
   datagram_within new now who content given acts pays = record {
@@ -155,7 +155,7 @@ module _ (core : Held) (a b : Meter) where
         let same : ok taken ≡ (bytes_to s now id piece (Some c)).0 = rw there at gives in
         same_taken taken (when_taken (at_moment now s) id piece c (taking_of c.phase piece)).0 same ∙ taken-counts (at_moment now s) id piece c (taking_of c.phase piece)
 
-    pub exchange_within : (new : Held) (room n more : ℕ) (result : Result Taken CoreFault) (given : List ℕ) → Acts StandsFor (exchange now id piece room) core new (result, given) → more ≤ n + 2
+    pub exchange_within : (new : CoreView) (room n more : ℕ) (result : Result Taken CoreFault) (given : List ℕ) → Acts StandsFor (exchange now id piece room) core new (result, given) → more ≤ n + 2
         → ((s : State) → StandsFor core s → PaysAtMost a b (bytes_cost (announced_in core) (sizes_of core new) piece (live_connection id s.connections.all) + more)) → StaysWithinSteps core (length_taken result) n a b
     unfolding step longest_reply longest_kept buffer_size longest_args
     exchange_within new room n more result given acts few pays = record { within = λ s h reached. by_there s h reached (live_connection id s.connections.all) refl (pays s h) }
@@ -180,7 +180,7 @@ module _ (core : Held) (a b : Meter) where
         by_there s h reached (Some c) there paid = by_taking s h reached (may_register_in core c.who) (taking_of c.phase piece) (counts s c result there (ap (λ (x : Result Taken CoreFault × List ℕ). x.0) (acts.gives s h))) paid
 
     -- where no record ends, a piece costs a step for each byte that is taken, two for each connection, and 9
-    pub cheap_within : (new : Held) (result : Result (Taken × Standing) CoreFault) → TakesBytes now id piece core new result → PaysForBytes core new id piece a b → StaysCheapIfQuiet core id piece result a b
+    pub cheap_within : (new : CoreView) (result : Result (Taken × Standing) CoreFault) → TakesBytes now id piece core new result → PaysForBytes core new id piece a b → StaysCheapIfQuiet core id piece result a b
     cheap_within new result acts pays = λ s h reached none. by_there s h reached none (live_connection id s.connections.all) refl (pays s h)
       where
         by_there : (s : State) → StandsFor core s → IsReached s → NoRecordEnds s id piece → (m : Option Connection) → live_connection id s.connections.all ≡ m → PaysAtMost a b (bytes_cost (announced_in core) (sizes_of core new) piece m)

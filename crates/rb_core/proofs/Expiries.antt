@@ -7,9 +7,9 @@ use Rattle.rb_model.specs.Losses.{expire_first}
 use Rattle.rb_model.specs.Ending.{lost_as, expire_connection, expired_as}
 use Rattle.rb_connections.specs.Slots.{Acts, StaysTable}
 use Rattle.rb_connections.specs.StandsFor.{Table, StandsForConnections}
-use Rattle.rb_core.specs.StandsFor.{Held, StandsFor}
+use Rattle.rb_core.specs.StandsFor.{CoreView, StandsFor}
 
-pub due_closed : (old : Held) (table : Table) (found : Option ℕ) (result : Expired) → result ≡ lost_as found → StaysTable old.connections table
+pub due_closed : (old : CoreView) (table : Table) (found : Option ℕ) (result : Expired) → result ≡ lost_as found → StaysTable old.connections table
     → Acts (StandsForConnections old.books.registry) (expire_first old.clock) old.connections table found → Acts StandsFor expire_connection old (record old { connections = table }) result
 unfolding expire_connection
 due_closed old table found result is stays acts = record {
@@ -31,7 +31,7 @@ due_closed old table found result is stays acts = record {
 }
 
 -- where no entry ended, and this came of the connections
-pub none_ended_then : (old mid new : Held) (act : State → Option Told × State) (result : Expired) → Acts StandsFor act old mid None → Acts StandsFor expire_connection mid new result
+pub none_ended_then : (old mid new : CoreView) (act : State → Option Told × State) (result : Expired) → Acts StandsFor act old mid None → Acts StandsFor expire_connection mid new result
     → Acts StandsFor (λ s. expired_as (act s)) old new result
 none_ended_then old mid new act result acts then = record { gives = λ s h. (goes (act s) (acts.gives s h) (acts.stands s h)).0; stands = λ s h. (goes (act s) (acts.gives s h) (acts.stands s h)).1 }
   where

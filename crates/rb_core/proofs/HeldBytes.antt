@@ -42,7 +42,7 @@ use Rattle.rb_connections.specs.declared.slot.Slot.{Slot}
 use Rattle.rb_connections.specs.declared.slot.Stage.{Stage}
 use Rattle.rb_connections.specs.declared.slot.Stage.TheVariants as stages
 use Rattle.rb_connections.specs.StandsFor.{buffer_size, StandsForPhase, StandsForConnection, charge, held_in, IsWithin}
-use Rattle.rb_core.specs.StandsFor.{Held}
+use Rattle.rb_core.specs.StandsFor.{CoreView}
 use Rattle.rb_core.specs.HeldBytes.{takes_bytes, HoldsArguments, unheld_share, IsListener, HeldBytesAreBounded, NeverPasses}
 
 -- ---- connections
@@ -195,5 +195,5 @@ held_bytes_are_bounded core s h reached listener =
       whole = omega (arith, connections, room, in_rows, keys, calls, h.short);
     }
 
-pub never_passes : (core : Held) → NeverPasses core
+pub never_passes : (core : CoreView) → NeverPasses core
 never_passes core = record { within = λ s stands reached listener. let whole = (held_bytes_are_bounded core s stands reached listener).whole in omega (arith, whole) }

@@ -6,7 +6,7 @@ use Rattle.rb_model.specs.Calls.{Outcome, Outcome as said}
 use Rattle.rb_model.specs.Step.{Output, output_or, show_outcome}
 use Rattle.rb_model.specs.Step.Output.{Replied, Forwarded, Silent}
 use Rattle.rb_connections.specs.Slots.{Acts}
-use Rattle.rb_core.specs.StandsFor.{Held, StandsFor}
+use Rattle.rb_core.specs.StandsFor.{CoreView, StandsFor}
 
 pub same_state : {A : Type 0} (show : A → Output) (r : Result A CoreFault × State) → (output_or show r).1 ≡ r.1
 same_state show (Ok x, t) = refl
@@ -21,7 +21,7 @@ shown_of (said.Reply reply began) = Replied reply
 shown_of said.Forwarded = Forwarded
 shown_of said.Silent = Silent
 
-pub datagram_shown : (old new : Held) (act : State → Outcome × State) (given : Outcome) → Acts StandsFor act old new given → (s : State) → StandsFor old s → (shown_of given ≡ (show_outcome (act s)).0) × StandsFor new (show_outcome (act s)).1
+pub datagram_shown : (old new : CoreView) (act : State → Outcome × State) (given : Outcome) → Acts StandsFor act old new given → (s : State) → StandsFor old s → (shown_of given ≡ (show_outcome (act s)).0) × StandsFor new (show_outcome (act s)).1
 datagram_shown old new act given acts s h = by_result (act s) (acts.gives s h) (acts.stands s h)
   where
     by_result : (r : Outcome × State) → given ≡ r.0 → StandsFor new r.1 → (shown_of given ≡ (show_outcome r).0) × StandsFor new (show_outcome r).1

@@ -34,15 +34,15 @@ use Rattle.rb_serving.proofs.MessageFronts.{kept_says}
 use Rattle.rb_serving.proofs.Costs.{lists_walk}
 use Rattle.rb_core.specs.CallCosts.{sizes, announced_in, may_register_in, PaysForRoom, PaysInRoom, PaysForPlainRecord}
 use Rattle.rb_core.specs.Core.{context_of}
-use Rattle.rb_core.specs.StandsFor.{Held, StandsFor}
+use Rattle.rb_core.specs.StandsFor.{CoreView, StandsFor}
 
--- so many steps more are allowed
+-- this many steps more are allowed
 pub at_most : (a b : Meter) (less more : ℕ) → less ≤ more → PaysAtMost a b less → PaysAtMost a b more
 at_most a b less more le pays = record { steps = omega (arith, pays.steps, le); rises = pays.rises; tie = pays.tie }
 
 -- ---- what is held by what is plain
 
-module _ (held : Held) (s : State) (h : StandsFor held s) where
+module _ (held : CoreView) (s : State) (h : StandsFor held s) where
   pub connections_held : length held.connections.slots ≡ length s.connections.all
   connections_held = sym (as_many held.books.registry held.connections.slots s.connections.all h.connections.all)
 
@@ -175,7 +175,7 @@ served_in_room context message table old mid new args out m0 m1 m2 limit fewer r
     }
 
 -- the caller of a context may register where it may by what is held
-pub registers_as : (context : Context) (held : Held) (caller : Caller) → context ≡ context_of held caller → comes_from_here context ≡ may_register_in held (who_of caller)
+pub registers_as : (context : Context) (held : CoreView) (caller : Caller) → context ≡ context_of held caller → comes_from_here context ≡ may_register_in held (who_of caller)
 unfolding comes_from_here
 registers_as context held caller is = rw is refl
 
@@ -251,7 +251,7 @@ plain_datagram_paid may table old new content limit written a b is pays plain =
     let same = ap (λ n. looks n) is in
     at_most a b (datagram_cost (sizes_for may (message_of content) (sizes table old new)) (length content) written) _ (omega (arith, most, same)) pays
 
-pub plain_record_paid : (old : Held) (new : Books) (id : ℕ) (piece : List ℕ) (more : ℕ) (a b : Meter)
+pub plain_record_paid : (old : CoreView) (new : Books) (id : ℕ) (piece : List ℕ) (more : ℕ) (a b : Meter)
     → ((s : State) → StandsFor old s → PaysAtMost a b (bytes_cost (announced_in old) (sizes old.connections old.books new) piece (live_connection id s.connections.all) + more)) → PaysForPlainRecord old id piece more a b
 plain_record_paid old new id piece more a b pays s c n content h there ends plain =
     let may : Bool = may_register_in old c.who in

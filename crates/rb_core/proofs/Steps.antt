@@ -38,7 +38,7 @@ use Rattle.rb_connections.specs.declared.slot.EndedRecord.{EndedRecord}
 use Rattle.rb_connections.specs.declared.slot.Received.{Received}
 use Rattle.rb_connections.specs.StandsFor.{Table, StandsForConnections}
 use Rattle.rb_connections.specs.Slots.{Acts, Shows, StaysTable, received_of, connection_after, take_piece, arguments_after, arguments_taken, arguments_on}
-use Rattle.rb_core.specs.StandsFor.{Held, StandsFor}
+use Rattle.rb_core.specs.StandsFor.{CoreView, StandsFor}
 use Rattle.rb_core.specs.Core.{context_of, serve_ended}
 use Rattle.rb_model.specs.Exchanges.{at_once, at_once_in}
 use Rattle.rb_core.specs.Eviction.{ServesInRoom}
@@ -50,7 +50,7 @@ same_registry old new table c same z = subst (λ (r : Registry). StandsForConnec
 
 -- ---- the table alone
 
-module _ (old : Held) (s : State) (h : StandsFor old s) where
+module _ (old : CoreView) (s : State) (h : StandsFor old s) where
   -- with another clock and table
   pub with_table : (now clock : ℕ) (table : Table) (connections : Connections) → clock ≡ max old.clock now → StaysTable old.connections table → StandsForConnections old.books.registry table connections
       → StandsFor (record old { clock = clock; connections = table }) (record (at_moment now s) { connections = connections })
@@ -70,7 +70,7 @@ module _ (old : Held) (s : State) (h : StandsFor old s) where
   }
 
 -- A call on the connections that moves the clock: done, or refused.
-module _ {A : Type 0} (old : Held) (now clock : ℕ) (act : State → Connections → Result A CoreFault × Connections) (table : Table) where
+module _ {A : Type 0} (old : CoreView) (now clock : ℕ) (act : State → Connections → Result A CoreFault × Connections) (table : Table) where
   pub moved_acts : (x : A) → clock ≡ max old.clock now → StaysTable old.connections table
       → ((s : State) → StandsFor old s → Acts (StandsForConnections old.books.registry) (act s) old.connections table (Ok x))
       → Acts StandsFor (λ s. unless_refused now s (act s s.connections)) old (record old { clock = clock; connections = table }) (Ok x)
@@ -104,10 +104,10 @@ module _ {A : Type 0} (old : Held) (now clock : ℕ) (act : State → Connection
       by_state s h (Err g, c) e = h
 
 -- the same of a core by its other name
-pub acts_from : {A : Type 0} (act : State → A × State) (view now new : Held) (x : A) → view ≡ now → Acts StandsFor act view new x → Acts StandsFor act now new x
-acts_from act view now new x is acts = subst (λ (held : Held). Acts StandsFor act held new x) is acts
+pub acts_from : {A : Type 0} (act : State → A × State) (view now new : CoreView) (x : A) → view ≡ now → Acts StandsFor act view new x → Acts StandsFor act now new x
+acts_from act view now new x is acts = subst (λ (held : CoreView). Acts StandsFor act held new x) is acts
 
-module _ (old : Held) (now clock : ℕ) (is : clock ≡ max old.clock now) (table : Table) where
+module _ (old : CoreView) (now clock : ℕ) (is : clock ≡ max old.clock now) (table : Table) where
   open_at : (who : Who) (r : Result ℕ CoreFault) → Acts (StandsForConnections old.books.registry) (open_in_table old.connections.conns who clock) old.connections table r
       → (s : State) → StandsFor old s → Acts (StandsForConnections old.books.registry) (open_in_table s.setting.limits.conns who (max s.clock now)) old.connections table r
   open_at who r acts s h = rw (← h.conns, ← h.clock, ← is) acts
@@ -136,7 +136,7 @@ module _ (old : Held) (now clock : ℕ) (is : clock ≡ max old.clock now) (tabl
   unfolding gave
   gave_refused id n f acts = refused_acts old now clock (λ s. on_live id (give (max s.clock now) n)) table f (give_at id n (Err f) acts)
 
-pub closed_acts : (old : Held) (id : ℕ) (table : Table) (books : Books) (u : Unit {0}) → books.registry ≡ old.books.registry → StaysTable old.connections table → SameFrame old.books books
+pub closed_acts : (old : CoreView) (id : ℕ) (table : Table) (books : Books) (u : Unit {0}) → books.registry ≡ old.books.registry → StaysTable old.connections table → SameFrame old.books books
     → Acts (StandsForConnections old.books.registry) (close_in_table id) old.connections table (Ok u) → Becomes (λ l. (caller_dropped id l).1) old.books books
     → Acts StandsFor (λ s. close_connection s id) old (record old { connections = table; books = books }) (Ok u)
 unfolding close_connection
@@ -167,7 +167,7 @@ closed_acts old id table books u same stays frame acts dropped = record {
       arguments = h.arguments;
     }
 
-pub closed_refused : (old : Held) (id : ℕ) (table : Table) (f : CoreFault) → Acts (StandsForConnections old.books.registry) (close_in_table id) old.connections table (Err f)
+pub closed_refused : (old : CoreView) (id : ℕ) (table : Table) (f : CoreFault) → Acts (StandsForConnections old.books.registry) (close_in_table id) old.connections table (Err f)
     → Acts StandsFor (λ s. close_connection s id) old old (Err f)
 unfolding close_connection
 closed_refused old id table f acts = record {
@@ -186,7 +186,7 @@ closed_refused old id table f acts = record {
 -- ---- a message
 
 -- What serving a message did where a call sees this: these connections and books are left.
-pub record Served (context : Context) (old : Held) (message : Message) (arguments : List ℕ) (table : Table) (books : Books) (given : Outcome) : Type 0 where
+pub record Served (context : Context) (old : CoreView) (message : Message) (arguments : List ℕ) (table : Table) (books : Books) (given : Outcome) : Type 0 where
   pub acts : ServesInRoom context message arguments old.connections old.books table books given
   pub frame : SameFrame old.books books
   pub stays : StaysTable old.connections table
@@ -195,7 +195,7 @@ pub record Served (context : Context) (old : Held) (message : Message) (argument
 abbrev pub crowd_in : State → Caller → Message → List ℕ
 crowd_in s caller message = removals_in_the_way (context_in s caller) message s.connections.all s.ledger
 
-module _ (old : Held) (caller : Caller) (message : Message) (arguments : List ℕ) (table : Table) (books : Books) (given : Outcome) (served : Served (context_of old caller) old message arguments table books given) (s : State) (h : StandsFor old s) where
+module _ (old : CoreView) (caller : Caller) (message : Message) (arguments : List ℕ) (table : Table) (books : Books) (given : Outcome) (served : Served (context_of old caller) old message arguments table books given) (s : State) (h : StandsFor old s) where
   same_context : context_of old caller ≡ context_in s caller
   same_context = rw (h.setting, h.clock) refl
 
@@ -211,7 +211,7 @@ module _ (old : Held) (caller : Caller) (message : Message) (arguments : List �
       (served.acts.connections s.connections s.ledger h.connections h.ledger)
 
 -- a datagram is answered
-module _ (old : Held) (now clock : ℕ) (who : Who) (content : List ℕ) (table : Table) (books : Books) (reply : List ℕ) (tie : ℕ) (is : clock ≡ max old.clock now) (few : length reply ≤ longest_reply) where
+module _ (old : CoreView) (now clock : ℕ) (who : Who) (content : List ℕ) (table : Table) (books : Books) (reply : List ℕ) (tie : ℕ) (is : clock ≡ max old.clock now) (few : length reply ≤ longest_reply) where
   moment : (s : State) → StandsFor old s → StandsFor (record old { clock = clock }) (at_moment now s)
   moment s h = record {
     setting = h.setting;
@@ -228,7 +228,7 @@ module _ (old : Held) (now clock : ℕ) (who : Who) (content : List ℕ) (table 
     arguments = h.arguments;
   }
 
-  abbrev new_held : Held
+  abbrev new_held : CoreView
   new_held = record old { clock = clock; connections = table; books = books; reply = reply; tie = tie }
 
   -- the caller of the datagram, by what is held
@@ -278,7 +278,7 @@ module _ (old : Held) (now clock : ℕ) (who : Who) (content : List ℕ) (table 
 
       goes : (s : State) → StandsFor old s → Answers given (sender s who content) s
       goes s h =
-          let before : Held = record old { clock = clock } in
+          let before : CoreView = record old { clock = clock } in
           subst (λ (caller : Caller). Answers given caller s) (is_sender s h)
           (told_state given served.frame served.stays holds s h
           (serve_connections before datagram_caller (message_of content) (arguments_of content) table books given served (at_moment now s) (moment s h))
@@ -400,13 +400,13 @@ abbrev pub taken_of : Taken × State → Result Taken CoreFault × State
 taken_of (taken, s) = (Ok taken, s)
 
 -- the live connection that took a piece, and what came of it
-pub record Fed (old : Held) (clock id : ℕ) (piece : List ℕ) (table : Table) (got : Received) (s : State) : Type 0 where
+pub record Fed (old : CoreView) (clock id : ℕ) (piece : List ℕ) (table : Table) (got : Received) (s : State) : Type 0 where
   pub connection : Connection
   pub there : live_connection id s.connections.all ≡ Some connection
   pub gives : got ≡ received_of piece connection (taking_of connection.phase piece)
   pub stands : StandsForConnections old.books.registry table (changed_at id (λ x. connection_after clock x (taking_of x.phase piece)) s.connections)
 
-module _ (old : Held) (now clock id : ℕ) (piece : List ℕ) (is : clock ≡ max old.clock now) (table : Table) (stays : StaysTable old.connections table)
+module _ (old : CoreView) (now clock id : ℕ) (piece : List ℕ) (is : clock ≡ max old.clock now) (table : Table) (stays : StaysTable old.connections table)
     (arguments : List ℕ) (holds : Shows (StandsForConnections old.books.registry) (arguments_on id old.arguments piece) old.connections arguments) where
   abbrev ok : Received → Result Received CoreFault
   ok got = Ok got
@@ -450,7 +450,7 @@ module _ (old : Held) (now clock id : ℕ) (piece : List ℕ) (is : clock ≡ ma
   held_after s c t h there takes =
       holds s.connections h.connections ∙ ap (λ (o : Option Connection). option_map_or (arguments_taken old.arguments piece) o old.arguments) there ∙ ap (arguments_after old.arguments) takes
 
-  abbrev held_with : List ℕ → Held
+  abbrev held_with : List ℕ → CoreView
   held_with kept = record old { clock = clock; connections = table; arguments = kept }
 
   table_with : (s : State) → StandsFor old s → (kept : List ℕ) → kept ≡ [] → (connections : Connections) → StandsForConnections old.books.registry table connections
@@ -472,11 +472,11 @@ module _ (old : Held) (now clock id : ℕ) (piece : List ℕ) (is : clock ≡ ma
 
   -- what is given where no record ended
   pub record Quiet (s : State) (count : ℕ) : Type 0 where
-    pub gives : Ok (record { count = count; closed = false }) ≡ (bytes s now id piece).0
+    pub gives : Ok (record { count = count; lost = false }) ≡ (bytes s now id piece).0
     pub stands : StandsFor (held_with arguments) (bytes s now id piece).1
 
   pub quiet_acts : (count : ℕ) → Acts (StandsForConnections old.books.registry) (on_live id (take_piece clock piece)) old.connections table (Ok (quiet count))
-      → Acts StandsFor (λ s. bytes s now id piece) old (held_with arguments) (Ok (record { count = count; closed = false }))
+      → Acts StandsFor (λ s. bytes s now id piece) old (held_with arguments) (Ok (record { count = count; lost = false }))
   quiet_acts count acts = record { gives = λ s h. (goes s h).gives; stands = λ s h. (goes s h).stands }
     where
       by_taking : (s : State) → StandsFor old s → (f : Fed old clock id piece table (quiet count) s) (t : Taking) → taking_of f.connection.phase piece ≡ t → Quiet s count
@@ -569,7 +569,7 @@ fault_is : (a b : CoreFault) → not_ended a ≡ not_ended b → a ≡ b
 fault_is a b e = cc
 
 -- a connection that is not there takes nothing
-pub bytes_refused : (old : Held) (now clock id : ℕ) (piece : List ℕ) (table : Table) (f : CoreFault) → Acts (StandsForConnections old.books.registry) (on_live id (take_piece clock piece)) old.connections table (Err f)
+pub bytes_refused : (old : CoreView) (now clock id : ℕ) (piece : List ℕ) (table : Table) (f : CoreFault) → Acts (StandsForConnections old.books.registry) (on_live id (take_piece clock piece)) old.connections table (Err f)
     → Acts StandsFor (λ s. bytes s now id piece) old old (Err f)
 unfolding bytes
 bytes_refused old now clock id piece table f acts = record {
@@ -592,11 +592,11 @@ with_ended registry id clock piece old table got said is acts = subst (λ (m : O
 
 -- ---- forwarded calls
 
-pub unsent_shown : (held : Held) (given : Option UnsentCall) → ((l : Ledger) → StandsForLedger held.books l → given ≡ unsent held.books.forwards.first_xid l.forwards) → Shows StandsFor unsent_call held given
+pub unsent_shown : (held : CoreView) (given : Option UnsentCall) → ((l : Ledger) → StandsForLedger held.books l → given ≡ unsent held.books.forwards.first_xid l.forwards) → Shows StandsFor unsent_call held given
 unfolding unsent_call
 unsent_shown held given shows s h = shows s.ledger h.ledger ∙ ap (λ (n : ℕ). unsent n s.ledger.forwards) h.first_xid
 
-module _ (old : Held) (number : ℕ) (books : Books) where
+module _ (old : CoreView) (number : ℕ) (books : Books) where
   pub sent_acts : (u : Unit {0}) → books.registry ≡ old.books.registry → SameFrame old.books books → ((l : Ledger) → StandsForLedger old.books l → can_be_sent number l.forwards ≡ true) → Becomes (call_sent number) old.books books
       → Acts StandsFor (λ s. sent_call s number) old (record old { books = books }) (Ok u)
   unfolding sent_call
@@ -626,7 +626,7 @@ module _ (old : Held) (number : ℕ) (books : Books) where
   }
 
 -- statistics begin anew
-pub zeroed : (old : Held) (books : Books) → books.registry ≡ old.books.registry → SameFrame old.books books → Becomes (λ (l : Ledger). record l { history = [] }) old.books books
+pub zeroed : (old : CoreView) (books : Books) → books.registry ≡ old.books.registry → SameFrame old.books books → Becomes (λ (l : Ledger). record l { history = [] }) old.books books
     → Acts StandsFor (λ s. (tt {0}, zero_stats s)) old (record old { books = books }) (tt {0})
 unfolding zero_stats
 zeroed old books same frame becomes = record {
@@ -648,9 +648,9 @@ zeroed old books same frame becomes = record {
 }
 
 -- an entry ends, or none does
-module _ (old : Held) (now clock : ℕ) (is : clock ≡ max old.clock now) (message : List ℕ) (books : Books) (tie : ℕ) (act : Ledger → Option Ended × Ledger) (plain : State → Ledger → Option Ended × Ledger)
+module _ (old : CoreView) (now clock : ℕ) (is : clock ≡ max old.clock now) (message : List ℕ) (books : Books) (tie : ℕ) (act : Ledger → Option Ended × Ledger) (plain : State → Ledger → Option Ended × Ledger)
     (alike : (s : State) → StandsFor old s → act ≡ plain s) (same : books.registry ≡ old.books.registry) (frame : SameFrame old.books books) where
-  abbrev pub ended_held : Held
+  abbrev pub ended_held : CoreView
   ended_held = record old { clock = clock; books = books; reply = []; tie = tie }
 
   abbrev ends : State → Option Told × State
@@ -689,7 +689,7 @@ module _ (old : Held) (now clock : ℕ) (is : clock ≡ max old.clock now) (mess
       goes : (s : State) → StandsFor old s → (None ≡ (ends s).0) × StandsFor ended_held (ends s).1
       goes s h = let g = given_by None acts s h in by_end s h (plain s s.ledger) g.0 g.1
 
-  pub one_ended : (ended : Ended) (told : Told) (new : Held) → ActsAs act old.books books (Some ended) → Acts StandsFor (tell ended.id ended.forward.caller (outcome_at_end message ended)) ended_held new told → Acts StandsFor ends old new (Some told)
+  pub one_ended : (ended : Ended) (told : Told) (new : CoreView) → ActsAs act old.books books (Some ended) → Acts StandsFor (tell ended.id ended.forward.caller (outcome_at_end message ended)) ended_held new told → Acts StandsFor ends old new (Some told)
   one_ended ended told new acts tells = record { gives = λ s h. (goes s h).0; stands = λ s h. (goes s h).1 }
     where
       by_end : (s : State) → StandsFor old s → (r : Option Ended × Ledger) → Some ended ≡ r.0 → StandsForLedger books r.1
@@ -707,14 +707,14 @@ module _ (old : Held) (now clock : ℕ) (is : clock ≡ max old.clock now) (mess
       goes s h = let g = given_by (Some ended) acts s h in by_end s h (plain s s.ledger) g.0 g.1
 
 -- what a datagram of a target ends at a moment, or that moment
-pub replied_alike : (old : Held) (now clock : ℕ) (from : Peer) (message : List ℕ) → clock ≡ max old.clock now → (s : State) → StandsFor old s
+pub replied_alike : (old : CoreView) (now clock : ℕ) (from : Peer) (message : List ℕ) → clock ≡ max old.clock now → (s : State) → StandsFor old s
     → target_replied old.books.forwards.first_xid clock from message ≡ target_replied s.setting.first_xid (max s.clock now) from message
 replied_alike old now clock from message is s h = rw (← h.first_xid, ← h.clock, is) refl
 
-pub due_alike : (old : Held) (now clock : ℕ) → clock ≡ max old.clock now → (s : State) → StandsFor old s → fell_due clock ≡ fell_due (max s.clock now)
+pub due_alike : (old : CoreView) (now clock : ℕ) → clock ≡ max old.clock now → (s : State) → StandsFor old s → fell_due clock ≡ fell_due (max s.clock now)
 due_alike old now clock is s h = rw (← h.clock, is) refl
 
-pub one_expired : (old new : Held) (act : State → Option Told × State) (told : Told) → Acts StandsFor act old new (Some told) → Acts StandsFor (λ s. expired_as (act s)) old new (Expires.Ended told)
+pub one_expired : (old new : CoreView) (act : State → Option Told × State) (told : Told) → Acts StandsFor act old new (Some told) → Acts StandsFor (λ s. expired_as (act s)) old new (Expires.Ended told)
 one_expired old new act told acts = record { gives = λ s h. (goes (act s) (acts.gives s h) (acts.stands s h)).0; stands = λ s h. (goes (act s) (acts.gives s h) (acts.stands s h)).1 }
   where
     goes : (r : Option Told × State) → Some told ≡ r.0 → StandsFor new r.1 → (Expires.Ended told ≡ (expired_as r).0) × StandsFor new (expired_as r).1

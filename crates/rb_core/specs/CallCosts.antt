@@ -17,7 +17,7 @@ use Rattle.rb_proto.specs.declared.listener.Listener.{Listener}
 use Rattle.rb_model.specs.declared.types.Limits.{Limits}
 use Rattle.rb_model.specs.declared.types.CoreFault.{CoreFault}
 use Rattle.rb_model.specs.declared.types.Given.{Given}
-use Rattle.rb_model.specs.Gives.{give_into_cost, given_in}
+use Rattle.rb_model.specs.Gives.{write_into_cost, given_in}
 use Rattle.rb_model.specs.declared.message.Message.{Message}
 use Rattle.rb_model.specs.Calls.{message_with, message_of, kept_of}
 use Rattle.rb_model.specs.Costs.{Sizes, sizes_for, asks_for_rows, room_cost, message_cost, answer_cost, datagram_cost, bytes_cost, gave_cost, pending_cost, plain_cost, plain_record_cost}
@@ -29,7 +29,7 @@ use Rattle.rb_connections.specs.declared.slot.EndedRecord.{EndedRecord}
 use Rattle.rb_connections.specs.Giving.{whole_cost}
 use Rattle.rb_connections.specs.Costs.{look_cost, slot_count, taken_cost}
 use Rattle.rb_serving.specs.Costs.{row_count_of, sizes_over}
-use Rattle.rb_core.specs.StandsFor.{Held, StandsFor}
+use Rattle.rb_core.specs.StandsFor.{CoreView, StandsFor}
 use Rattle.rb_core.specs.declared.calls.Piece.{Piece}
 use Rattle.rb_model.specs.declared.types.Exchanged.{Exchanged}
 use Rattle.rb_core.specs.Core.{arguments_in, received_in}
@@ -43,14 +43,14 @@ making_cost limits listener = 18 * length (own_rows listener) + 3 * limits.conns
 -- ---- by what is kept
 
 -- the hosts by which its caller may register or not
-abbrev pub announced_in : Held → Announced
+abbrev pub announced_in : CoreView → Announced
 announced_in held = held.setting.listener.announced
 
 -- what the costs of a call depend on; `old` and `new` are the books before and after it
 abbrev pub sizes : Table → Books → Books → Sizes
 sizes table old new = sizes_over (slot_count table) old new
 
-abbrev pub sizes_of : Held → Held → Sizes
+abbrev pub sizes_of : CoreView → CoreView → Sizes
 sizes_of old new = sizes old.connections old.books new.books
 
 -- ---- what is paid at most
@@ -73,18 +73,18 @@ PaysInRoom context verdict table old new args out before now =
     (length args) (length out.bytes))
 
 -- the caller may register
-abbrev pub may_register_in : Held → Who → Bool
+abbrev pub may_register_in : CoreView → Who → Bool
 may_register_in held who = may_register (announced_in held) who
 
 -- to answer a datagram from this caller
-abbrev pub PaysForDatagram : Held → Held → Who → List ℕ → Meter → Meter → Type 0
+abbrev pub PaysForDatagram : CoreView → CoreView → Who → List ℕ → Meter → Meter → Type 0
 PaysForDatagram old new who content before now =
     PaysAtMost before now
     (datagram_cost (sizes_for (may_register_in old who) (message_of content) (sizes_of old new))
     (length content) (length new.reply))
 
 -- to answer a record of this verdict with these arguments, of whose reply n bytes are given where there is this room
-abbrev pub PaysToAnswer : EndedRecord → Held → Held → Option (Bor (List ℕ)) → List ℕ → ℕ → Meter → Meter → Type 0
+abbrev pub PaysToAnswer : EndedRecord → CoreView → CoreView → Option (Bor (List ℕ)) → List ℕ → ℕ → Meter → Meter → Type 0
 PaysToAnswer ended old new args room n before now =
     let lent : List ℕ = arguments_in args old.arguments in
     PaysAtMost before now
@@ -92,14 +92,14 @@ PaysToAnswer ended old new args room n before now =
     + whole_cost (length room) n)
 
 -- for a piece of bytes on the connection of the number, from whatever state the core stood for
-abbrev pub PaysForBytes : Held → Held → ℕ → List ℕ → Meter → Meter → Type 0
+abbrev pub PaysForBytes : CoreView → CoreView → ℕ → List ℕ → Meter → Meter → Type 0
 PaysForBytes old new id piece before now =
     (s : State) → StandsFor old s
     → PaysAtMost before now
     (bytes_cost (announced_in old) (sizes_of old new) piece (live_connection id s.connections.all))
 
 -- the same where a reply may be given at once, in this room
-abbrev pub PaysForExchange : Held → Held → ℕ → List ℕ → List ℕ → Result Exchanged CoreFault → Meter → Meter → Type 0
+abbrev pub PaysForExchange : CoreView → CoreView → ℕ → List ℕ → List ℕ → Result Exchanged CoreFault → Meter → Meter → Type 0
 PaysForExchange old new id piece room result before now =
     (s : State) → StandsFor old s
     → PaysAtMost before now
@@ -107,34 +107,34 @@ PaysForExchange old new id piece room result before now =
     + whole_cost (length room) (count_given result))
 
 -- to count bytes as given on the connection of the number, from whatever state the core stood for
-abbrev pub PaysToGive : Held → ℕ → Meter → Meter → Type 0
+abbrev pub PaysToGive : CoreView → ℕ → Meter → Meter → Type 0
 PaysToGive old id before now =
     (s : State) → StandsFor old s
     → PaysAtMost before now
     (gave_cost (slot_count old.connections) (row_count_of old.books) (live_connection id s.connections.all))
 
 -- to give what the result says into a room, on the connection of the number
-abbrev pub PaysToGiveInto : Held → ℕ → Result Given CoreFault → Meter → Meter → Type 0
-PaysToGiveInto old id result before now =
+abbrev pub PaysToWriteInto : CoreView → ℕ → Result Given CoreFault → Meter → Meter → Type 0
+PaysToWriteInto old id result before now =
     (s : State) → StandsFor old s
     → PaysAtMost before now
-    (give_into_cost (slot_count old.connections) (row_count_of old.books) (given_in result) (live_connection id s.connections.all))
+    (write_into_cost (slot_count old.connections) (row_count_of old.books) (given_in result) (live_connection id s.connections.all))
 
 -- ---- what is paid where no rows are asked for, and by a SET or an UNSET of a caller that may not register, whatever is
 -- registered or retained
 
 -- how many looks a search takes
-abbrev pub looks_in : Held → ℕ
+abbrev pub looks_in : CoreView → ℕ
 looks_in held = looks held.setting.limits.rows
 
 -- to answer a datagram from this caller
-abbrev pub PaysForPlainDatagram : Held → Held → Who → List ℕ → Meter → Meter → Type 0
+abbrev pub PaysForPlainDatagram : CoreView → CoreView → Who → List ℕ → Meter → Meter → Type 0
 PaysForPlainDatagram old new who content before now =
     asks_for_rows (may_register_in old who) (message_of content) ≡ false
     → PaysAtMost before now (plain_cost (looks_in old) (length content) (length new.reply))
 
--- for a piece of bytes with which a record ends, and for so many steps more
-abbrev pub PaysForPlainRecord : Held → ℕ → List ℕ → ℕ → Meter → Meter → Type 0
+-- for a piece of bytes with which a record ends, and for this many steps more
+abbrev pub PaysForPlainRecord : CoreView → ℕ → List ℕ → ℕ → Meter → Meter → Type 0
 PaysForPlainRecord old id piece more before now =
     (s : State) (c : Connection) (n : ℕ) (content : List ℕ)
     → StandsFor old s → live_connection id s.connections.all ≡ Some c → taking_of c.phase piece ≡ Ends n content
@@ -142,18 +142,18 @@ PaysForPlainRecord old id piece more before now =
     → PaysAtMost before now (plain_record_cost (looks_in old) (slot_count old.connections) n (length (kept_of content)) + more)
 
 -- the same where its reply may be given at once, in this room
-abbrev pub PaysForPlainExchange : Held → ℕ → List ℕ → List ℕ → Result Exchanged CoreFault → Meter → Meter → Type 0
+abbrev pub PaysForPlainExchange : CoreView → ℕ → List ℕ → List ℕ → Result Exchanged CoreFault → Meter → Meter → Type 0
 PaysForPlainExchange old id piece room result before now =
     PaysForPlainRecord old id piece (whole_cost (length room) (count_given result)) before now
 
 -- what it costs to find the next deadline
-abbrev pub deadline_cost : Held → ℕ
+abbrev pub deadline_cost : CoreView → ℕ
 deadline_cost held = soonest_cost (slot_count held.connections) + soonest_cost held.books.forwards.cap
 
 -- what it costs to lend what is pending on a connection
-abbrev pub lend_pending_cost : Held → ℕ
+abbrev pub lend_pending_cost : CoreView → ℕ
 lend_pending_cost held = look_cost held.connections + pending_cost
 
--- what it costs to lend a forwarded call of so many bytes
-abbrev pub lending_cost : Held → ℕ → ℕ
+-- what it costs to lend a forwarded call of this many bytes
+abbrev pub lending_cost : CoreView → ℕ → ℕ
 lending_cost held count = unsent_cost held.books.forwards.cap count

@@ -18,7 +18,7 @@ use Rattle.rb_model.specs.declared.types.Told.{Told}
 use Rattle.rb_model.specs.Ending.{outcome_at_end, tell}
 use Rattle.rb_model.specs.Standings.{without_standing}
 use Rattle.rb_model.specs.Step.{serve_message, settle_on, bytes}
-use Rattle.rb_model.specs.declared.served.Outcome as outcome
+use Rattle.rb_model.specs.declared.served.Response as outcome
 use Rattle.rb_connections.specs.declared.slot.EndedRecord.{EndedRecord}
 use Rattle.rb_connections.specs.declared.slot.Received.{Received}
 use Rattle.rb_connections.specs.StandsFor.{Table}
@@ -26,12 +26,12 @@ use Rattle.rb_connections.specs.Slots.{Acts, TableActs, TableShows, take_piece, 
 use Rattle.rb_connections.specs.Listings.{CanContinueAll}
 use Rattle.rb_model.specs.Served.{outcome_with}
 use Rattle.rb_core.specs.declared.calls.Piece.{Piece}
-use Rattle.rb_core.specs.StandsFor.{Held, StandsFor}
+use Rattle.rb_core.specs.StandsFor.{CoreView, StandsFor}
 use Rattle.rb_core.specs.Awaits.{AreAwaited}
 
 -- What is true of all that a core holds: it has one meter, its draft is empty between two events, each connection for
 -- which a call is forwarded awaits it, the registry can make the rest of each list that is being given, and the reply
--- has so many bytes.
+-- has this many bytes.
 pub record IsCore (setting : Setting) (connections : Table) (books : Books) (reply draft arguments : Kept) (reply_len : ℕ) : Type 0 where
   pub conns : connections.conns ≡ setting.limits.conns
   pub few_conns : setting.limits.conns ≤ 256
@@ -54,7 +54,7 @@ pub record IsCore (setting : Setting) (connections : Table) (books : Books) (rep
 -- ---- what calls answer
 
 -- what a call from a caller sees
-abbrev pub context_of : Held → Caller → Context
+abbrev pub context_of : CoreView → Caller → Context
 context_of held caller = record {
   announced = held.setting.listener.announced;
   terms = held.setting.listener.terms;
@@ -69,7 +69,7 @@ abbrev pub received_in : Result Piece CoreFault → Result Received CoreFault
 received_in (Ok piece) = Ok piece.received
 received_in (Err fault) = Err fault
 
--- So many bytes of a piece were taken on the live connection of the number, and this came of it.
+-- This many bytes of a piece were taken on the live connection of the number, and this came of it.
 abbrev pub TakesPiece : ℕ → ℕ → List ℕ → Table → Table → Result Piece CoreFault → Type 0
 TakesPiece id clock piece old new result = TableActs (on_live id (take_piece clock piece)) old new (received_in result)
 
@@ -93,17 +93,17 @@ serve_ended id ended arguments s =
     settle_on id (serve_message s (Tcp id ended.who) (message_with ended.verdict arguments) arguments)
 
 -- what is held, once the arguments are taken out
-abbrev pub without_arguments : Held → Held
+abbrev pub without_arguments : CoreView → CoreView
 without_arguments held = record held { arguments = [] }
 
 -- The caller of a forwarded call that ended is told how; `message` is the datagram that ended it.
-abbrev pub TellsCaller : List ℕ → Ended → Held → Held → Told → Type 0
+abbrev pub TellsCaller : List ℕ → Ended → CoreView → CoreView → Told → Type 0
 TellsCaller message ended old new given = Acts StandsFor (tell ended.id ended.forward.caller (outcome_at_end message ended)) old new given
 
 -- The bytes of a piece arrive on the connection of the number; the result also says where that stands then.
-abbrev pub TakesBytes : ℕ → ℕ → List ℕ → Held → Held → Result (Taken × Standing) CoreFault → Type 0
+abbrev pub TakesBytes : ℕ → ℕ → List ℕ → CoreView → CoreView → Result (Taken × Standing) CoreFault → Type 0
 TakesBytes now id piece old new result = Acts StandsFor (λ s. bytes s now id piece) old new (without_standing result)
 
 -- An act that answers something, with the reply that is held after it.
-abbrev pub ActsWithReply : (State → Outcome × State) → Held → Held → outcome.Outcome → Type 0
+abbrev pub ActsWithReply : (State → Outcome × State) → CoreView → CoreView → outcome.Response → Type 0
 ActsWithReply act old new given = Acts StandsFor act old new (outcome_with given new.reply)

@@ -12,7 +12,7 @@ use Rattle.rb_model.specs.Connections.{longest_fragment}
 use Rattle.rb_model.specs.Bounds.{steps_bound}
 use Rattle.rb_model.specs.Laws.{NoRecordEnds}
 use Rattle.rb_model.specs.Standings.{as_done, without_standing}
-use Rattle.rb_core.specs.StandsFor.{Held, StandsFor}
+use Rattle.rb_core.specs.StandsFor.{CoreView, StandsFor}
 use Rattle.rb_core.specs.contracts.holding.Core.{the_row}
 use Rattle.rb_model.specs.declared.types.Exchanged.{Exchanged}
 use Rattle.rb_model.specs.Exchanges.{taken_in, count_given}
@@ -28,19 +28,22 @@ abbrev pub count_shown : Meter → ℕ
 count_shown meter = min meter.steps greatest_count
 
 -- Nothing has changed but `steps_before`, what the meter showed as the last event began.
-abbrev pub OnlyBegins : Held → Held → Type 0
+-- REFUSED-2
+abbrev pub OnlyBegins : CoreView → CoreView → Type 0
 OnlyBegins old new = new ≡ record old { steps_before = new.steps_before }
 
 -- Nothing has changed but `steps_before`, which is what this meter shows.
-abbrev pub BeginsAt : Meter → Held → Held → Type 0
+-- REFUSED-2
+abbrev pub BeginsAt : Meter → CoreView → CoreView → Type 0
 BeginsAt before old new = new ≡ record old { steps_before = count_shown before }
 
 -- the same once the borrow of what is lent ends
-abbrev pub LendsFrom : MutBor Held → Meter → Fml
+abbrev pub LendsFrom : MutBor CoreView → Meter → Fml
 LendsFrom core before = Rests the_row core (BeginsAt before core.now)
 
 -- These are the steps since the meter was `before`, if the last event began then, while its count is below the greatest.
-abbrev pub TellsSteps : Held → Meter → ℕ → Type 0
+-- STEPS-5
+abbrev pub TellsSteps : CoreView → Meter → ℕ → Type 0
 TellsSteps core now steps =
     (before : Meter) → core.steps_before ≡ count_shown before → before.steps ≤ now.steps → now.steps < greatest_count
     → before.steps + steps ≡ now.steps
@@ -62,35 +65,37 @@ abbrev pub length_given : Result (Unit {0}) CoreFault → ℕ → ℕ
 length_given (Ok u) n = n
 length_given (Err fault) n = 0
 
--- A call that takes so many bytes, and lends or reports as given so many, pays no more than the bound, whatever state
+-- A call that takes this many bytes, and lends or reports as given this many, pays no more than the bound, whatever state
 -- that a run reaches the core stood for.
-pub record StaysWithinSteps (core : Held) (taken given : ℕ) (before now : Meter) : Type 0 where
+-- STEPS-4
+pub record StaysWithinSteps (core : CoreView) (taken given : ℕ) (before now : Meter) : Type 0 where
   pub within : (s : State) → StandsFor core s → IsReached s
       → PaysAtMost before now (steps_bound core.setting.limits taken given)
 
 -- the same of a call of `bytes`, which takes what its result says
-abbrev pub TakesWithinSteps : Held → Result (Taken × Standing) CoreFault → Meter → Meter → Type 0
+abbrev pub TakesWithinSteps : CoreView → Result (Taken × Standing) CoreFault → Meter → Meter → Type 0
 TakesWithinSteps core result before now = StaysWithinSteps core (length_taken (without_standing result)) 0 before now
 
 -- the same of a call of `gave`, which reports n bytes as given
-abbrev pub GaveWithinSteps : Held → ℕ → Result Standing CoreFault → Meter → Meter → Type 0
+abbrev pub GaveWithinSteps : CoreView → ℕ → Result Standing CoreFault → Meter → Meter → Type 0
 GaveWithinSteps core n result before now = StaysWithinSteps core 0 (length_given (as_done result) n) before now
 
 -- the same of a call of `exchange`
-abbrev pub ExchangesWithinSteps : Held → Result Exchanged CoreFault → Meter → Meter → Type 0
+abbrev pub ExchangesWithinSteps : CoreView → Result Exchanged CoreFault → Meter → Meter → Type 0
 ExchangesWithinSteps core result before now =
     StaysWithinSteps core (length_taken (taken_in result)) (count_given result) before now
 
 -- From each state that a run reaches and that the core stood for: where no record ends in a piece on a connection, no more
 -- is paid than 8 steps for each byte that is taken, 64 for each connection that there may be, and 64.
-abbrev pub StaysCheapIfQuiet : Held → ℕ → List ℕ → Result (Taken × Standing) CoreFault → Meter → Meter → Type 0
+-- STEPS-3
+abbrev pub StaysCheapIfQuiet : CoreView → ℕ → List ℕ → Result (Taken × Standing) CoreFault → Meter → Meter → Type 0
 StaysCheapIfQuiet core id piece result before now =
     (s : State) → StandsFor core s → IsReached s → NoRecordEnds s id piece
     → PaysAtMost before now (8 * length_taken (without_standing result) + 64 * core.setting.limits.conns + 64)
 
 -- A call that gives n bytes into a room pays no more than the bound of a `gave` of 1,028 bytes, for each 1,028 bytes of them
 -- and once more.
-abbrev pub GivesWithinSteps : Held → ℕ → Meter → Meter → Type 0
+abbrev pub GivesWithinSteps : CoreView → ℕ → Meter → Meter → Type 0
 GivesWithinSteps core n before now =
     (s : State) → StandsFor core s → IsReached s
     → PaysAtMost before now ((n / longest_fragment + 1) * steps_bound core.setting.limits 0 longest_fragment)

@@ -32,7 +32,7 @@ pub record ServesInRoom (context : Context) (message : Message) (arguments : Lis
   pub connections : (c : Connections) (l : Ledger) → StandsForConnections old.registry table c
       → StandsForLedger old l → StandsForConnections new.registry left (evict (removals_in_the_way context message c.all l) c)
 
--- The same of the message on which this is the verdict; `arguments` are the bytes behind its head.
+-- The same of the message on which this is the verdict; `arguments` are the bytes after its head.
 abbrev pub ServesVerdict : Context → Verdict → List ℕ → Table → Books → Table → Books → Served → Kept → Type 0
 ServesVerdict context verdict arguments table old left new served out =
     ServesInRoom context (message_with verdict arguments) arguments table old left new

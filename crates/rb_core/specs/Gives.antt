@@ -2,12 +2,13 @@
 use Rattle.std.specs.Prelude.{ℕ, List, length, Result}
 use Rattle.rb_model.specs.declared.types.CoreFault.{CoreFault}
 use Rattle.rb_model.specs.declared.types.Given.{Given}
-use Rattle.rb_model.specs.Gives.{give_into, bytes_given}
+use Rattle.rb_model.specs.Gives.{write_into, bytes_given}
 use Rattle.rb_connections.specs.Slots.{Acts}
-use Rattle.rb_core.specs.StandsFor.{Held, StandsFor}
+use Rattle.rb_core.specs.StandsFor.{CoreView, StandsFor}
 
--- From each state that the old core stands for, the call does the model's `give_into` with so much room, and the first
+-- From each state that the old core stands for, the call does the model's `write_into` with so much room, and the first
 -- bytes of `room` are those that were given.
-abbrev pub GivesInto : ℕ → ℕ → Held → Held → List ℕ → Result Given CoreFault → Type 0
-GivesInto now id old new room result =
-    Acts StandsFor (λ s. give_into s now id (length room)) old new (bytes_given room result)
+-- GIVE-1
+abbrev pub WritesInto : ℕ → ℕ → CoreView → CoreView → List ℕ → Result Given CoreFault → Type 0
+WritesInto now id old new room result =
+    Acts StandsFor (λ s. write_into s now id (length room)) old new (bytes_given room result)

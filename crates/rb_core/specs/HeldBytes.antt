@@ -14,13 +14,14 @@ use Rattle.rb_model.specs.Bounds.{bytes_bound}
 use Rattle.rb_model.specs.Step.{IsReached}
 use Rattle.rb_connections.specs.StandsFor.{held_in as held_of_connections, charge}
 use Rattle.rb_connections.specs.declared.slot.Slot.{Slot}
-use Rattle.rb_core.specs.StandsFor.{Held, StandsFor}
+use Rattle.rb_core.specs.StandsFor.{CoreView, StandsFor}
 
 -- ---- held bytes
 
 -- what the connections hold, the rows, live or retained, the keys of the statistics, the forwarded calls, and the last reply
 -- over UDP
-abbrev pub held : Held → ℕ
+-- HELD-5
+abbrev pub held : CoreView → ℕ
 held core =
     held_of_connections (values_of core.connections.slots) + held_of_rows (rows_of core.books.registry) + 48 * key_count core.books.stats
     + held_of_calls (calls_of core.books.forwards) + length core.reply
@@ -40,7 +41,8 @@ abbrev pub unheld_share : ℕ
 unheld_share = 840 + 1028
 
 -- What is held, with this share for each connection that is Idle or Reading, is within the bound.
-pub record IsBounded (core : Held) (s : State) : Type 0 where
+-- HELD-3
+pub record IsBounded (core : CoreView) (s : State) : Type 0 where
   pub each : AllZip HoldsArguments (values_of core.connections.slots) s.connections.all
   pub whole : held core + unheld_share * count_by takes_bytes s.connections.all ≤ bytes_bound s.setting.limits
 
@@ -52,9 +54,9 @@ pub record IsListener (listener : Listener) : Type 0 where
 -- Whatever a core holds that stands for a state that a run reaches.
 abbrev pub HeldBytesAreBounded : Type 0
 HeldBytesAreBounded =
-    (core : Held) (s : State) → StandsFor core s → IsReached s → IsListener s.setting.listener → IsBounded core s
+    (core : CoreView) (s : State) → StandsFor core s → IsReached s → IsListener s.setting.listener → IsBounded core s
 
 -- Whatever such state a core stands for, it holds no more than the bound.
-pub record NeverPasses (core : Held) : Type 0 where
+pub record NeverPasses (core : CoreView) : Type 0 where
   pub within : (s : State) → StandsFor core s → IsReached s → IsListener s.setting.listener
       → held core ≤ bytes_bound s.setting.limits

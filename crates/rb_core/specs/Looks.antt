@@ -6,48 +6,49 @@ use Rattle.rb_registry.specs.declared.row.Row.{Row}
 use Rattle.rb_registry.specs.Registry.{Registry, rows_of, slots_of, rows_passed}
 use Rattle.rb_registry.specs.Cursors as cursors
 use Rattle.rb_registry.specs.Table.{PaysFor}
-use Rattle.rb_core.specs.StandsFor.{Held}
+use Rattle.rb_core.specs.StandsFor.{CoreView}
 
 -- the rows that a core holds, the retained ones with them
-abbrev pub rows_held : Held → Registry
+abbrev pub rows_held : CoreView → Registry
 rows_held core = core.books.registry
 
 -- its live rows: the own ones first
-abbrev pub rows_shown : Held → List Row
+-- LOOK-1
+abbrev pub rows_shown : CoreView → List Row
 rows_shown core = rows_of (rows_held core)
 
--- A cursor stands among them, before all of them or behind one.
-abbrev pub StandsAmong : Held → Option ℕ → Type 0
+-- A cursor stands among them, before all of them or after one.
+abbrev pub StandsAmong : CoreView → Option ℕ → Type 0
 StandsAmong core cursor = cursors.StandsIn (rows_held core) (rows_held core).stamp cursor
 
 -- it is before all of them
-abbrev pub IsAtStart : Held → Option ℕ → Type 0
+abbrev pub IsAtStart : CoreView → Option ℕ → Type 0
 IsAtStart core cursor = rows_passed (rows_held core) (rows_held core).stamp cursor ≡ 0
 
--- the row behind it
-abbrev pub row_behind : Held → Option ℕ → Option Row
+-- the row after it
+abbrev pub row_behind : CoreView → Option ℕ → Option Row
 row_behind core cursor = cursors.row_behind (rows_held core) (rows_held core).stamp cursor
 
--- behind that row the next cursor has passed one more
-abbrev pub PassesOne : Held → Option ℕ → Option ℕ → Type 0
+-- after that row the next cursor has passed one more
+abbrev pub PassesOne : CoreView → Option ℕ → Option ℕ → Type 0
 PassesOne core cursor next = cursors.PassesOne (rows_held core) (rows_held core).stamp cursor next
 
 -- it has passed them all
-abbrev pub IsAtEnd : Held → Option ℕ → Type 0
+abbrev pub IsAtEnd : CoreView → Option ℕ → Type 0
 IsAtEnd core cursor = cursors.IsAtEnd (rows_held core) (rows_held core).stamp cursor
 
 -- how many rows there are, live and retained
-abbrev pub slot_count : Held → ℕ
+abbrev pub slot_count : CoreView → ℕ
 slot_count core = length (slots_of (rows_held core))
 
--- how many of them are behind it
-abbrev pub slots_behind : Held → Option ℕ → ℕ
+-- how many of them are after it
+abbrev pub slots_behind : CoreView → Option ℕ → ℕ
 slots_behind core cursor = cursors.slots_left (rows_held core) cursor
 
 -- from one place to the next, 2 steps were paid at most for each row that was passed, retained ones among them
-abbrev pub PaysForRow : Held → Option ℕ → Option ℕ → Meter → Meter → Type 0
+abbrev pub PaysForRow : CoreView → Option ℕ → Option ℕ → Meter → Meter → Type 0
 PaysForRow core place next old new = PaysFor (rows_held core).entries place next old new
 
 -- the same of a row that was lent, if one was
-abbrev pub PaysIfLent : Held → Option ℕ → Option ℕ → Option (Bor Row) → Meter → Meter → Type 0
+abbrev pub PaysIfLent : CoreView → Option ℕ → Option ℕ → Option (Bor Row) → Meter → Meter → Type 0
 PaysIfLent core place next lent old new = IfSome lent (λ row. PaysForRow core place next old new)

@@ -6,7 +6,7 @@ use Rattle.rb_model.specs.declared.types.CoreFault.{CoreFault}
 use Rattle.rb_model.specs.declared.types.Exchanged.{Exchanged}
 use Rattle.rb_model.specs.State.{State}
 use Rattle.rb_model.specs.Calls.{Outcome}
-use Rattle.rb_model.specs.declared.served.Outcome as outcome
+use Rattle.rb_model.specs.declared.served.Response as outcome
 use Rattle.rb_connections.specs.Slots.{Acts}
 use Rattle.rb_core.specs.StandsFor.{StandsFor}
 use Rattle.rb_core.specs.Metered.{Metered}
@@ -19,16 +19,16 @@ abbrev pub Does : {A : Type 0} → (State → A × State) → Metered → Metere
 Does step old new result = Acts StandsFor step old.core new.core result
 
 -- the same of a datagram, with the reply that is held after it
-abbrev pub DoesWithReply : (State → Outcome × State) → Metered → Metered → outcome.Outcome → Type 0
+abbrev pub DoesWithReply : (State → Outcome × State) → Metered → Metered → outcome.Response → Type 0
 DoesWithReply step old new result = ActsWithReply step old.core new.core result
 
 -- ---- how many steps are counted more
 
--- at most so many
+-- at most this many
 abbrev pub StepsAtMost : ℕ → Metered → Metered → Type 0
 StepsAtMost most old new = PaysAtMost old.meter new.meter most
 
--- within the bound of a call that takes so many bytes, and lends or reports as given so many
+-- within the bound of a call that takes this many bytes, and lends or reports as given this many
 abbrev pub StepsWithin : ℕ → ℕ → Metered → Metered → Type 0
 StepsWithin taken given old new = StaysWithinSteps old.core taken given old.meter new.meter
 

@@ -6,14 +6,16 @@ use Rattle.rb_connections.specs.StandsFor.{Table}
 use Rattle.rb_connections.specs.Slots.{Shows}
 use Rattle.rb_connections.specs.Standings.{IsStanding}
 use Rattle.rb_core.specs.declared.calls.Piece.{Piece}
-use Rattle.rb_core.specs.StandsFor.{Held, StandsFor}
+use Rattle.rb_core.specs.StandsFor.{CoreView, StandsFor}
 
 -- So stands the connection of the number in each state that the core stands for.
-abbrev pub StandsThen : ℕ → Held → Standing → Type 0
+-- STANDING-1
+abbrev pub StandsThen : ℕ → CoreView → Standing → Type 0
 StandsThen id held standing = Shows StandsFor (standing_of id) held standing
 
--- So it stands there behind so many bytes that were taken of a piece.
-abbrev pub StandsBehind : ℕ → ℕ → Held → Standing → Type 0
+-- So it stands there after this many bytes that were taken of a piece.
+-- STANDING-2
+abbrev pub StandsBehind : ℕ → ℕ → CoreView → Standing → Type 0
 StandsBehind id count held standing = Shows StandsFor (λ s. standing_behind count (standing_of id s)) held standing
 
 -- where it stands by the table, where no record ended in the piece

@@ -7,7 +7,7 @@ use Rattle.rb_model.specs.State.{Setting, State}
 use Rattle.rb_connections.specs.StandsFor.{Table, StandsForConnections, AreWithin}
 
 -- `steps_before` is what the meter showed as the last event began, and `tie` is the number of that meter
-pub record Held : Type 0 where
+pub record CoreView : Type 0 where
   pub setting : Setting
   pub clock : ℕ
   pub connections : Table
@@ -20,7 +20,8 @@ pub record Held : Type 0 where
 -- What a core holds stands for a state. The changes of rows, the history of calls and whole lists are not held, and
 -- between two events no arguments are. What is held of a connection and of the reply has its limit. A state has nothing
 -- like `steps_before`.
-pub record StandsFor (held : Held) (s : State) : Type 0 where
+-- LOOK-1
+pub record StandsFor (held : CoreView) (s : State) : Type 0 where
   pub setting : held.setting ≡ s.setting
   pub clock : held.clock ≡ s.clock
   pub conns : held.connections.conns ≡ s.setting.limits.conns

@@ -18,8 +18,8 @@ ghost use Rattle.rb_connections.specs.Slots.{IsDraft};
 
 use crate::eviction::make_room;
 use crate::seen::{Seen, seen_of};
-use rb_connections::{Connections, EndedRecord, Received, give_whole};
-use rb_model::{CoreFault, Message, Outcome, Served, Standing};
+use rb_connections::{Connections, EndedRecord, Received, write_whole};
+use rb_model::{CoreFault, Message, Response, Served, Standing};
 use rb_proto::{Books, Context};
 use rb_rpc::{FRAGMENT_HEADER, Verdict, read_call};
 use rb_serving::{kept_arguments, procedure_of, serve, serve_null};
@@ -35,7 +35,7 @@ pub struct Piece<'a> {
     pub standing: Standing,
 }
 
-/// Where a connection that stands so stands behind `count` bytes that were taken of a piece: it takes none while it is
+/// Where a connection that stands so stands after `count` bytes that were taken of a piece: it takes none while it is
 /// Awaiting, so the call that came with them is forwarded, and waits to be sent.
 pub fn standing_behind(count: usize, standing: Standing) -> Standing
     ensures { result ≡ standing_behind count standing }
@@ -106,11 +106,11 @@ pub fn lend_arguments<'a>(piece: Option<&'a [u8]>, buffer: &'a Kept, meter: &mut
 }
 
 /// Serves the message on which this is the verdict, once there is room for the row that it adds; `arguments` are the
-/// bytes behind its head. The reply is written into `out`, which is empty before, unless it is a list that is
+/// bytes after its head. The reply is written into `out`, which is empty before, unless it is a list that is
 /// streamed.
 ///
 /// A call of NULL is served by itself: it has no arguments, adds no row, and its reply is a head alone (RFC 1833
-/// sections 2.2 and 3.2). `seen` is left as it was where nothing is to be told of the message.
+/// sections 2.2 and 3.2). `seen` is left as it was if there is nothing to tell of the message.
 #[tactic(auto, unfolding(rb_model::specs::Calls::longest_reply))]
 pub fn serve_verdict(
     connections: &mut Connections,
@@ -154,7 +154,7 @@ pub fn serve_verdict(
     served
 }
 
-/// Notes what is to be told of a message, where anything is; `is_accepted` is whether it changed the rows.
+/// Notes what there is to tell of a message, if anything; `is_accepted` is whether it changed the rows.
 fn note(seen: &mut Option<Seen>, context: &Context, message: &Message, is_accepted: bool) {
     if let Some(told) = seen_of(context, message, is_accepted) {
         *seen = Some(told);
@@ -163,7 +163,7 @@ fn note(seen: &mut Option<Seen>, context: &Context, message: &Message, is_accept
 
 /// Writes the reply into `room`, with its header, where it is one fragment and `room` has place for the longest, and
 /// then empties its buffer. Returns the number of bytes written, 0 where nothing was.
-pub fn give_at_once(served: Served, draft: &mut Kept, room: &mut [u8], meter: &mut Meter) -> usize
+pub fn write_at_once(served: Served, draft: &mut Kept, room: &mut [u8], meter: &mut Meter) -> usize
     requires draft { IsDraft meter.old.tie draft.old }
     requires written { IsWritten served draft.old.bytes }
     ensures count { result ≡ count_at_once (length room.old) served draft.old.bytes }
@@ -174,7 +174,7 @@ pub fn give_at_once(served: Served, draft: &mut Kept, room: &mut [u8], meter: &m
     ensures cost { PaysAtMost meter.old meter.new (whole_cost (length room.old) result) }
 {
     match served {
-        Served::Answered(Outcome::Reply) => give_whole(draft, room, meter),
+        Served::Answered(Response::Reply) => write_whole(draft, room, meter),
         Served::Answered(_) | Served::Listed(_, _) => 0,
     }
 }

@@ -1,13 +1,13 @@
 //! The calls of a core: each is one event, or says how one went.
 use crate::calls::{
-    Piece, give_at_once, lend_arguments, serve_verdict, standing_behind, take_piece,
+    Piece, lend_arguments, serve_verdict, standing_behind, take_piece, write_at_once,
 };
 use crate::holding::Core;
 use crate::seen::{Seen, forget};
 use rb_address::{Peer, Who};
 use rb_connections::{EndedRecord, Received};
 use rb_forward::{Ended, FwdId, Unsent, sooner};
-use rb_model::{CoreFault, Exchanged, Expired, Outcome, Served, Standing, Taken, Told};
+use rb_model::{CoreFault, Exchanged, Expired, Response, Served, Standing, Taken, Told};
 use rb_proto::Context;
 use rb_rpc::{Caller, read_call};
 use rb_serving::{arguments_behind, longest_to, put_end};
@@ -57,7 +57,7 @@ impl Core {
     /// `Reply` the reply is lent by `udp_reply`, of at most 9,000 bytes. At `Forwarded` the call is forwarded, and its
     /// reply comes with `forward_reply` or `expire`. At `NoCall` and `Silent` there is none.
     #[tactic(auto, using(crate::proofs::HeldBytes::never_passes))]
-    pub fn datagram(&mut self, now: u64, who: Who, content: &[u8], meter: &mut Meter) -> Outcome
+    pub fn datagram(&mut self, now: u64, who: Who, content: &[u8], meter: &mut Meter) -> Response
         requires { meter.old.tie ≡ self.old.tie }
         ensures acts { ActsWithReply (λ s. datagram s now who content.now) self.old self.new result }
         ensures tie { self.new.tie ≡ self.old.tie }
@@ -207,16 +207,16 @@ impl Core {
             standing,
         } = got;
         let Some(ended) = ended else {
-            let closed = false;
+            let lost = false;
             return Ok(Exchanged {
-                taken: Taken { count, closed },
+                taken: Taken { count, lost },
                 given: 0,
                 standing: standing_behind(count, standing),
             });
         };
-        let (closed, given, left) = self.answer(id, ended, arguments, room, meter);
+        let (lost, given, left) = self.answer(id, ended, arguments, room, meter);
         Ok(Exchanged {
-            taken: Taken { count, closed },
+            taken: Taken { count, lost },
             given,
             standing: standing_behind(count, left),
         })
@@ -261,7 +261,7 @@ impl Core {
             meter,
         );
         self.arguments.clear(meter);
-        let given = give_at_once(served, &mut self.draft, room, meter);
+        let given = write_at_once(served, &mut self.draft, room, meter);
         if given > 0 {
             // It is Idle since this moment, and stays so.
             return (false, given, Standing::Idle);
@@ -305,7 +305,7 @@ impl Core {
         let clock = self.clock.max(now);
         let standing = self
             .connections
-            .give(id, n, clock, &self.books.registry, &mut self.draft, meter)?;
+            .gave(id, n, clock, &self.books.registry, &mut self.draft, meter)?;
         self.clock = clock;
         Ok(standing)
     }
@@ -445,7 +445,7 @@ impl Core {
         ensures cost { PaysAtMost meter.old meter.new (look_cost self.old.connections) }
     {
         match self.connections.expire(self.clock, meter) {
-            Some(id) => Expired::ConnectionClosed(id),
+            Some(id) => Expired::ConnectionLost(id),
             None => Expired::Nothing,
         }
     }
@@ -490,8 +490,8 @@ impl Core {
                 let outcome = put_end(ended, message, &mut self.reply, meter);
                 self.reply_len = self.reply.len(meter) as u64;
                 match outcome {
-                    Outcome::Reply => Told::Datagram(ended.id, who),
-                    Outcome::NoCall | Outcome::Forwarded | Outcome::Silent => {
+                    Response::Reply => Told::Datagram(ended.id, who),
+                    Response::NoCall | Response::Forwarded | Response::Silent => {
                         Told::Silent(ended.id)
                     }
                 }
@@ -546,7 +546,7 @@ impl Core {
         sooner(of_connections, of_forwards)
     }
 
-    /// What is to be told of the call that the last `datagram`, `bytes` or `exchange` brought whole, if anything is.
+    /// What there is to tell of the call that the last `datagram`, `bytes` or `exchange` brought whole, if anything.
     pub fn seen(&self) -> Option<&Seen> {
         self.seen.as_ref()
     }

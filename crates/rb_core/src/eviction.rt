@@ -16,7 +16,7 @@ use rb_proto::{Books, Context};
 use rb_registry::Registry;
 use rb_xdr::Meter;
 
-/// With so many retained rows or more, a SET drops those that no list needs, even where there is room. With fewer it
+/// The number of retained rows from which a SET drops those that no list needs, even if there is room. With fewer it
 /// does not walk the rows.
 const MANY_RETAINED: usize = 16;
 

@@ -42,7 +42,7 @@ pub struct Core {
     pub(crate) arguments: Kept,
     /// What the meter showed as the last event began.
     pub(crate) steps_before: u128,
-    /// What is to be told of the last whole call, if anything is. No answer depends on it.
+    /// What there is to tell of the last whole call, if anything. No answer depends on it.
     pub(crate) seen: Option<Seen>,
 }
 
@@ -75,10 +75,10 @@ fn layout(core: &Core) {
 }
 
 impl Model for Core {
-    ghost use Rattle.rb_core.specs.StandsFor.{Held};
+    ghost use Rattle.rb_core.specs.StandsFor.{CoreView};
     ghost use Rattle.rb_core.specs.Core.{IsCore};
 
-    ghost Value = { Held };
+    ghost Value = { CoreView };
 
     ghost view = { λ c. record {
       setting = record { limits = c.limits; listener = c.listener; first_xid = c.first_xid };
@@ -95,7 +95,7 @@ impl Model for Core {
         c.connections c.books c.reply c.draft c.arguments c.reply_len };
 }
 
-// Written out, so that each place that drops a core, as each `?` behind one does, calls this once, in place of code
+// Written out, so that each place that drops a core, as each `?` after one does, calls this once, in place of code
 // that frees it part by part.
 impl Drop for Core {
     fn drop(self) {

@@ -37,9 +37,9 @@ impl Core {
         Cursor::start()
     }
 
-    /// The live row behind the cursor, and the cursor behind it. From `first_place` on each of them comes once, the
+    /// The live row after the cursor, and the cursor after it. From `first_place` on each of them comes once, the
     /// daemon's own first, in their order, and then `None`, where no event comes between. It costs at most 2 steps for
-    /// each row behind the cursor, retained ones among them, and 1.
+    /// each row after the cursor, retained ones among them, and 1.
     pub fn next_row(&self, cursor: Cursor, meter: &mut Meter) -> Option<(Cursor, &Row)>
         requires tie { meter.old.tie ≡ self.now.tie }
         requires place { StandsAmong self.now cursor }
@@ -56,7 +56,7 @@ impl Core {
         registry.next_row(registry.stamp(), cursor, meter)
     }
 
-    /// The same, and the cursor moves on behind the row. It stays where no row is behind it.
+    /// The same, and the cursor moves on after the row. It stays where no row is after it.
     pub(crate) fn lend_row(&self, cursor: &mut Cursor, meter: &mut Meter) -> Option<&Row>
         requires tie { meter.old.tie ≡ self.now.tie }
         requires place { StandsAmong self.now cursor.old }

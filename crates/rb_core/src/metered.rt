@@ -3,7 +3,7 @@ use crate::holding::Core;
 use crate::seen::Seen;
 use rb_address::{Peer, Who};
 use rb_forward::{FwdId, Unsent};
-use rb_model::{CoreFault, Exchanged, Expired, Given, Limits, Outcome, Standing, Taken, Told};
+use rb_model::{CoreFault, Exchanged, Expired, Given, Limits, Response, Standing, Taken, Told};
 use rb_proto::Listener;
 use rb_registry::{Cursor, Row};
 use rb_xdr::Meter;
@@ -60,8 +60,8 @@ impl Metered {
     ghost use Rattle.rb_core.specs.Core.{TakesBytes};
     ghost use Rattle.rb_core.specs.Standings.{StandsThen, StandsBehind};
     ghost use Rattle.rb_core.specs.AtOnce.{CountsGiven, Exchanges};
-    ghost use Rattle.rb_core.specs.Gives.{GivesInto};
-    ghost use Rattle.rb_core.specs.CallCosts.{deadline_cost, making_cost, sizes_of, PaysForBytes, PaysForPlainRecord, PaysToGive, PaysToGiveInto};
+    ghost use Rattle.rb_core.specs.Gives.{WritesInto};
+    ghost use Rattle.rb_core.specs.CallCosts.{deadline_cost, making_cost, sizes_of, PaysForBytes, PaysForPlainRecord, PaysToGive, PaysToWriteInto};
     ghost use Rattle.rb_core.specs.Looks.{rows_shown, StandsAmong, IsAtStart, row_behind, PassesOne, IsAtEnd, slot_count, slots_behind};
     ghost use Rattle.rb_core.specs.Lending.{LendsReply, LendsPending, LendsUnsent, LendsRow};
     ghost use Rattle.rb_core.specs.MeteredCalls.{Does, DoesWithReply, StepsAtMost, StepsWithin, StepsForDatagram, StepsForPlainDatagram, StepsForExchange, StepsForPlainExchange};
@@ -117,7 +117,7 @@ impl Metered {
     /// Answers a datagram from `who` at the moment `now`, as `Core::datagram`. At `Reply` the reply is lent by
     /// `udp_reply`. At `Forwarded` the call is forwarded, and its reply comes with `forward_reply` or `expire`. At
     /// `NoCall` and `Silent` there is none.
-    pub fn datagram(&mut self, now: u64, who: Who, content: &[u8]) -> Outcome
+    pub fn datagram(&mut self, now: u64, who: Who, content: &[u8]) -> Response
         ensures acts { DoesWithReply (λ s. datagram s now who content.now) self.old self.new result }
         ensures begun { self.new.core.steps_before ≡ count_shown self.old.meter }
         ensures memory { KeepsMemory self.old.core self.new.core }
@@ -244,8 +244,8 @@ impl Metered {
     /// Gives the reply that a connection owes into `room` at the moment `now`, as `Core::give`: as many whole fragments as
     /// fit, of which the longest is 1,028 bytes. Returns how many bytes, and where the connection stands then. `Gone`
     /// where there is no such connection, or it is Lost.
-    pub fn give(&mut self, now: u64, id: u64, room: &mut [u8]) -> Result<Given, CoreFault>
-        ensures acts { GivesInto now id self.old.core self.new.core room.new result }
+    pub fn write_into(&mut self, now: u64, id: u64, room: &mut [u8]) -> Result<Given, CoreFault>
+        ensures acts { WritesInto now id self.old.core self.new.core room.new result }
         ensures within { given_in result ≤ length room.new }
         ensures nothing { given_in result ≡ 0 → OnlyBegins self.old.core self.new.core }
         ensures stands { IfOk result (λ done. StandsThen id self.new.core done.standing) }
@@ -253,11 +253,11 @@ impl Metered {
         ensures begun { self.new.core.steps_before ≡ count_shown self.old.meter }
         ensures memory { KeepsMemory self.old.core self.new.core }
         ensures held { NeverPasses self.new.core }
-        ensures cost { PaysToGiveInto self.old.core id result self.old.meter self.new.meter }
+        ensures cost { PaysToWriteInto self.old.core id result self.old.meter self.new.meter }
         ensures bound { GivesWithinSteps
             self.old.core (given_in result) self.old.meter self.new.meter }
     {
-        self.core.give(now, id, room, &mut self.meter)
+        self.core.write_into(now, id, room, &mut self.meter)
     }
 
     /// Removes a connection that was closed, live or Lost, and drops its forwarded call. `Gone` where there is none of
@@ -391,7 +391,7 @@ impl Metered {
         self.core.bytes_bound()
     }
 
-    /// What is to be told of the call that the last `datagram`, `bytes` or `exchange` brought whole, if anything is.
+    /// What there is to tell of the call that the last `datagram`, `bytes` or `exchange` brought whole, if anything.
     pub fn seen(&self) -> Option<&Seen> {
         self.core.seen()
     }
@@ -420,7 +420,7 @@ impl Metered {
         self.core.first_place()
     }
 
-    /// The live row behind the cursor, as `Core::next_row`, and the cursor moves on behind it; it stays where there is
+    /// The live row after the cursor, as `Core::next_row`, and the cursor moves on after it; it stays where there is
     /// none. From `first_place` on each row comes once, and then `None`, where no event comes between.
     pub fn next_row(&mut self, cursor: &mut Cursor) -> Option<&Row>
         requires { StandsAmong self.old.core cursor.old }

@@ -13,7 +13,7 @@ const LONGEST_NETID: usize = 32;
 
 /// A procedure that changes the registry.
 #[derive(Clone, Copy, Debug, PartialEq, Eq)]
-pub enum Asked {
+pub enum ChangeKind {
     /// SET of any version.
     Set,
     /// UNSET of any version.
@@ -39,7 +39,7 @@ pub struct RowNamed {
 #[derive(Drop)]
 pub struct ChangeAsked {
     /// Which of both.
-    pub asked: Asked,
+    pub asked: ChangeKind,
     /// What it is about.
     pub row: RowNamed,
     /// As whom the caller registers.
@@ -59,7 +59,7 @@ pub struct RefusedCall {
     pub status: ReplyStatus,
 }
 
-/// What is to be told of a call.
+/// What there is to tell of a call.
 #[derive(Drop)]
 pub enum Seen {
     /// A SET or an UNSET, accepted or not.
@@ -69,14 +69,14 @@ pub enum Seen {
     Refused(RefusedCall),
 }
 
-/// Nothing is to be told any more. Where nothing was, nothing is written: it is as long as the longest texts of a call.
+/// There is nothing to tell any more. Where nothing was, nothing is written: it is as long as the longest texts of a call.
 pub(crate) fn forget(seen: &mut Option<Seen>) {
     if seen.is_some() {
         *seen = None;
     }
 }
 
-/// What is to be told of a message, where anything is; `is_accepted` is whether it changed the rows.
+/// What there is to tell of a message, if anything; `is_accepted` is whether it changed the rows.
 pub fn seen_of(context: &Context, message: &Message, is_accepted: bool) -> Option<Seen> {
     let status = match message {
         Message::NoCall => return None,
@@ -107,9 +107,12 @@ fn who_of(caller: &Caller) -> Who {
 }
 
 /// What a SET or an UNSET is about; `None` of any other call.
-fn named_by(request: &Request) -> Option<(Asked, RowNamed)> {
+fn named_by(request: &Request) -> Option<(ChangeKind, RowNamed)> {
     match request {
-        Request::Mapping(MappingProcedure::Set, mapping) => Some((Asked::Set, of_mapping(mapping))),
+        Request::Mapping(MappingProcedure::Set, mapping) => Some((
+            ChangeKind::Set,
+            of_mapping(mapping),
+        )),
         Request::Mapping(MappingProcedure::Unset, mapping) => {
             let (prog, vers) = (mapping.prog, mapping.vers);
             let (netid, addr) = (Text::new(&[]), Text::new(&[]));
@@ -119,10 +122,10 @@ fn named_by(request: &Request) -> Option<(Asked, RowNamed)> {
                 netid,
                 addr,
             };
-            Some((Asked::Unset, row))
+            Some((ChangeKind::Unset, row))
         }
-        Request::Rpcb(RpcbProcedure::Set, rpcb) => Some((Asked::Set, of_rpcb(rpcb))),
-        Request::Rpcb(RpcbProcedure::Unset, rpcb) => Some((Asked::Unset, of_rpcb(rpcb))),
+        Request::Rpcb(RpcbProcedure::Set, rpcb) => Some((ChangeKind::Set, of_rpcb(rpcb))),
+        Request::Rpcb(RpcbProcedure::Unset, rpcb) => Some((ChangeKind::Unset, of_rpcb(rpcb))),
         _ => None,
     }
 }

@@ -12,7 +12,7 @@ use Rattle.rb_course.specs.Next.{place_of, next_stage, step_to_versions, most_ve
 use Rattle.rb_course.specs.Laws.{IsOfCall, follow, versions_called_from, upwards, EachVersionIsCalled}
 
 module _ (course : Course) (place : Place) (answer : ℕ → Option Answer) (known : place_of course.way ≡ Some place) (of_call : (vers : ℕ) → IfSome (answer vers) IsOfCall) where
-  -- whatever is answered, the version behind it follows
+  -- whatever is answered, the version after it follows
   follows : (vers high : ℕ) (lacks : Bool) (a : Option Answer) → IfSome a IsOfCall → (after : Bool) × ((follow course (Call (aims.Each vers high lacks) place) a).stage ≡ next_stage course vers high after)
   follows vers high lacks (Some answers.Ready) of = (lacks, refl)
   follows vers high lacks (Some (answers.Refused status)) of = (true, refl)

@@ -17,5 +17,6 @@ old_of Short = Some OldShort
 old_of Summary = Some OldSummary
 old_of _ = None
 
+-- FALLBACK-1
 abbrev pub fallback : Question → ReplyStatus → Option Question
 fallback question status = if has_two status then old_of question else None

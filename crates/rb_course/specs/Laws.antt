@@ -22,17 +22,18 @@ abbrev pub follow : Course → Stage → Option Answer → Step
 follow course stage (Some answer) = next course stage answer
 follow course stage None = unwrap_or (unanswered course stage) (step_to stage)
 
--- the versions that are called from a stage on, at most so many, where each has this answer, or none
+-- the versions that are called from a stage on, at most this many, where each has this answer, or none
 abbrev pub versions_called_from : ℕ → Course → (ℕ → Option Answer) → Stage → List ℕ
 versions_called_from zero course answer stage = []
 versions_called_from (suc n) course answer (Call (aims.Each vers high lacks) place) = vers ∷ versions_called_from n course answer (follow course (Call (aims.Each vers high lacks) place) (answer vers)).stage
 versions_called_from (suc n) course answer _ = []
 
--- so many numbers from this one upwards
+-- this many numbers from this one upwards
 abbrev pub upwards : ℕ → ℕ → List ℕ
 upwards zero least = []
 upwards (suc n) least = least ∷ upwards n (least + 1)
 
+-- COURSE-5
 abbrev pub EachVersionIsCalled : Type 0
 EachVersionIsCalled =
     (course : Course) (place : Place) (low more : ℕ) (answer : ℕ → Option Answer) → place_of course.way ≡ Some place → more < most_versions → ((vers : ℕ) → IfSome (answer vers) IsOfCall)

@@ -8,7 +8,8 @@ use Rattle.std.specs.Str.{bytes_eq}
 use Rattle.hex.specs.Hex.{decode_sized}
 use Rattle.hex.specs.declared.error.FromHexError.{FromHexError}
 
--- at most so many bytes of the routes are read
+-- the most bytes of the routes that are read
+-- BROADCAST-2
 abbrev pub longest_routes : ℕ
 longest_routes = 1048576
 
@@ -57,9 +58,10 @@ abbrev pub networks_in_line : List ℕ → List (List ℕ)
 networks_in_line line = option_list (network_of (pieces_of tab line))
 
 -- those of all lines, in their order
+-- BROADCAST-1
 abbrev pub networks_in : List ℕ → List (List ℕ)
 networks_in routes = flat_map networks_in_line (pieces_of newline routes)
 
--- these addresses stand behind those that were there
+-- these addresses stand after those that were there
 abbrev pub AddsNetworks : Vec (List ℕ) → Vec (List ℕ) → List (List ℕ) → Type 0
 AddsNetworks old new networks = vec_items new ≡ vec_items old ++ networks

@@ -56,6 +56,7 @@ place_of (ways.Port transport port) = Some (places.Port transport port)
 place_of (ways.Address netid address) = Some (places.Address (transport_of netid) address)
 
 -- GETPORT with the protocol of the transport, or GETADDR of the netid, over its own transport
+-- COURSE-1
 abbrev pub find_by : Way → ℕ → Aim → Place × Question
 find_by (ways.Getport transport) prog aim = (places.Portmapper transports.Tcp, questions.Port (protocol_of transport) prog (version_of aim))
 find_by (ways.Getaddr netid) prog aim = (places.Portmapper (transport_of netid), questions.Address netid prog (version_of aim))
@@ -75,6 +76,7 @@ abbrev pub by_user : Option ℕ → Place × Question → Place × Ask
 by_user uid q = (q.0, record { question = q.1; uid = uid })
 
 -- each question is asked by the user of the course
+-- COURSE-2
 abbrev pub ask_at : Course → Stage → Option (Place × Ask)
 ask_at course stage = option_map (by_user course.uid) (question_at course stage)
 
@@ -91,12 +93,14 @@ begin course aim = begin_at (place_of course.way) aim
 abbrev pub step_to : Stage → Step
 step_to stage = record { lacks = None; stage = stage }
 
--- the version behind this one, or the end
+-- the version after this one, or the end
+-- COURSE-5 COURSE-9
 abbrev pub next_stage : Course → ℕ → ℕ → Bool → Stage
 next_stage course vers high lacks =
     if nat_lt vers high then begin course (aims.Each (vers + 1) high lacks) else End (if lacks then ends.SomeLack else ends.Ready)
 
--- at most so many versions are called
+-- the most versions that are called
+-- COURSE-8
 abbrev pub most_versions : ℕ
 most_versions = 256
 
@@ -121,6 +125,7 @@ transport_at (ways.Port transport port) = transport
 transport_at (ways.Address netid address) = transport_of netid
 
 -- 0, and a number that no port has, say that there is none
+-- COURSE-3
 abbrev pub after_port : Course → Aim → ℕ → Step
 after_port course aim port =
     if port == 0 || nat_le 65536 port then after_lack course aim None
@@ -131,20 +136,24 @@ host_in (uaddrs.V4 octets port) = hosts.V4 octets
 host_in (uaddrs.V6 octets port) = hosts.V6 octets
 
 -- 0.0.0.0 and :: stand for every host of the one that tells them, and 127.0.0.0/8 and ::1 for that host itself
+-- COURSE-4
 abbrev pub means_teller : Host → Bool
 means_teller host = is_any host || is_loopback host
 
 -- so it is of IPv4 in IPv6's form, as ::ffff:127.0.0.1
+-- COURSE-4
 abbrev pub is_of_teller : Uaddr → Bool
 is_of_teller address = means_teller (plain_host (host_in address))
 
 -- such an address is a port of the host whose portmapper told it
+-- COURSE-4
 abbrev pub after_address : Course → Aim → Uaddr → Step
 after_address course aim address =
     if is_of_teller address then after_port course aim (port_of address)
     else step_to (Call aim (places.Address (transport_at course.way) address))
 
 -- the portmapper refused to say where the version is: the end, or, of several, the next one
+-- COURSE-6
 abbrev pub refused_find : Course → Aim → ReplyStatus → Step
 refused_find course (aims.Each vers high lacks) status = after_lack course (aims.Each vers high lacks) (Some status)
 refused_find course aim status = step_to (End (ends.Refused status))
@@ -205,6 +214,7 @@ lack_of_several course (aims.Each vers high lacks) = Some (after_lack course (ai
 lack_of_several course aim = None
 
 -- A question had no answer, or none that can be read: of several versions this one is not available, else the course ends.
+-- COURSE-6
 abbrev pub unanswered : Course → Stage → Option Step
 unanswered course (Find aim) = lack_of_several course aim
 unanswered course (FindOld aim transport) = lack_of_several course aim

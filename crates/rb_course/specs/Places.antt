@@ -15,6 +15,7 @@ abbrev pub is_of_link : List ℕ → Bool
 is_of_link octets = slice_index octets 0 == 254 && (nat_le 128 (slice_index octets 1) && nat_lt (slice_index octets 1) 192)
 
 -- an address of a link has the scope by which the portmapper's host was found
+-- COURSE-7
 abbrev pub told_scope : Uaddr → SocketAddr → ℕ
 told_scope (V4 octets port) portmapper = 0
 told_scope (V6 octets port) portmapper = if is_of_link octets then socket_scope_id portmapper else 0
@@ -38,6 +39,7 @@ pub record IsPortOf (portmapper : SocketAddr) (port : ℕ) (called : SocketAddr)
   pub scope : socket_scope_id called ≡ socket_scope_id portmapper
 
 -- the place, of the host whose portmapper has this address, is called at this one
+-- COURSE-7
 abbrev pub IsCalledAt : Place → SocketAddr → SocketAddr → Type 0
 IsCalledAt (Portmapper transport) portmapper called = called ≡ portmapper
 IsCalledAt (Port transport port) portmapper called = IsPortOf portmapper port called

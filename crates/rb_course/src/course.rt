@@ -96,6 +96,6 @@ pub enum Answer {
 pub struct Step {
     /// The version that is not available, where it is one of several.
     pub lacks: Option<u32>,
-    /// The stage behind the answer.
+    /// The stage after the answer.
     pub stage: Stage,
 }

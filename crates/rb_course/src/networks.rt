@@ -6,7 +6,7 @@ ghost use Rattle.rb_show.specs.Summary.{borrowed_texts};
 
 use std::alloc::{AllocError, Global};
 
-/// At most so many bytes of the routes are read.
+/// The most bytes of the routes that are read.
 pub const LONGEST_ROUTES: usize = 1_048_576;
 
 /// Returns whether a text of routes is read whole, and is not longer than what is read.

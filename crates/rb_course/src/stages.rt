@@ -9,7 +9,7 @@ use rb_show::{Ask, Question};
 use rb_uaddr::Uaddr;
 use rb_words::Way;
 
-/// At most so many versions of a program are called.
+/// The most versions of a program that are called.
 const MOST_VERSIONS: u32 = 256;
 
 /// Returns the transport of a netid. A local socket is one of a stream, as TCP is.
@@ -126,7 +126,7 @@ fn end(end: End) -> Step
     step_to(Stage::End(end))
 }
 
-/// The stage behind a version: the next one, or the end behind the last.
+/// The stage after a version: the next one, or the end after the last.
 fn next_stage(course: &Course, vers: u32, high: u32, lacks: bool) -> Stage
     ensures { result ≡ next_stage course.now vers high lacks }
 {
@@ -315,7 +315,7 @@ fn after_call(course: &Course, aim: Aim, answer: Answer) -> Step
     }
 }
 
-/// Returns the stage behind an answer, and the version that is not available, where it is one of several.
+/// Returns the stage after an answer, and the version that is not available, where it is one of several.
 ///
 /// Without a version that is named, at most 256 versions are called; a server that names more ends in `TooMany`.
 pub fn next(course: &Course, stage: Stage, answer: Answer) -> Step
@@ -339,7 +339,7 @@ fn lack_of_several(course: &Course, aim: Aim) -> Option<Step>
     }
 }
 
-/// Returns the step behind a question that had no answer, or none that can be read: of several versions this one is not
+/// Returns the step after a question that had no answer, or none that can be read: of several versions this one is not
 /// available, and the next one follows. `None` where the course ends.
 pub fn unanswered(course: &Course, stage: Stage) -> Option<Step>
     ensures { result ≡ unanswered course.now stage }

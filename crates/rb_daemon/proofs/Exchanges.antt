@@ -18,7 +18,7 @@ use Rattle.rb_record.specs.Entries.{entry_text, run_entries}
 use Rattle.rb_record.specs.Tapes.{Tape, Records}
 use Rattle.rb_connections.specs.Slots.{Acts, Shows}
 use Rattle.rb_model.specs.Exchanges.{count_now, without_front, exchange, fits_at_once, at_once_in, at_once_on, at_once}
-use Rattle.rb_core.specs.StandsFor.{Held, StandsFor}
+use Rattle.rb_core.specs.StandsFor.{CoreView, StandsFor}
 use Rattle.rb_lines.specs.RecordLaws.{Fits, AreBytes, HasLine}
 use Rattle.rb_daemon.specs.Recording.{given_events, exchange_events, output_or_refusal, given_entries, exchange_entries}
 use Rattle.rb_daemon.specs.Served.{IsServed}
@@ -52,7 +52,7 @@ whole : (room id : ℕ) (before : Option Connection) (r : Result Taken CoreFault
 unfolding pending
 whole room id None r owed is some = absurd (omega (arith, some))
 whole room id (Some before) (Err fault, s) owed is some = absurd (omega (arith, some))
-whole room id (Some before) (Ok taken, s) owed is some = by_owed (is_owing before.phase || taken.closed) some
+whole room id (Some before) (Ok taken, s) owed is some = by_owed (is_owing before.phase || taken.lost) some
   where
     by_owed : (b : Bool) → 0 < cond b 0 (at_once_on room (live_connection id s.connections.all)) → length owed ≤ cond b 0 (at_once_on room (live_connection id s.connections.all))
     by_owed true some = absurd (omega (arith, some))
@@ -141,12 +141,12 @@ exchange_state s now id n piece given g = elim g.some [
 ]
 
 -- Bytes were taken, and these bytes of the reply given.
-pub record Exchanged (now id room n : ℕ) (piece given : List ℕ) (r : Result Taken CoreFault) (old new : Held) : Type 0 where
+pub record Exchanged (now id room n : ℕ) (piece given : List ℕ) (r : Result Taken CoreFault) (old new : CoreView) : Type 0 where
   pub count : length given ≡ n
   pub at_once : Shows StandsFor (count_now now id piece room) old n
   pub acts : Acts StandsFor (exchange now id piece room) old new (r, given)
 
-module _ (now id room n : ℕ) (piece given : List ℕ) (r : Result Taken CoreFault) (old new : Held) (h : Exchanged now id room n piece given r old new) where
+module _ (now id room n : ℕ) (piece given : List ℕ) (r : Result Taken CoreFault) (old new : CoreView) (h : Exchanged now id room n piece given r old new) where
   given_of : (s : State) → StandsFor old s → GivenAtOnce (bytes s now id piece).1 now id n given
   given_of s stands =
       let count = h.at_once s stands in

@@ -12,7 +12,7 @@ use Rattle.rb_model.specs.State.{State, Phase, Connection}
 use Rattle.rb_model.specs.State.Phase.{Idle, Reading, Owing, Awaiting, Lost}
 use Rattle.rb_model.specs.Connections.{longest_fragment, pending_in, live_connection, on_found}
 use Rattle.rb_model.specs.Sessions.{pending_bytes}
-use Rattle.rb_model.specs.Gives.{end_within, fitting_of, fitting_in, give_fitting, unless_nothing, give_into, bytes_given, cut_from, pieces_of, piece_events, piece_outputs, first_piece, GivesBySteps}
+use Rattle.rb_model.specs.Gives.{end_within, fitting_of, fitting_in, write_fitting, unless_nothing, write_into, bytes_given, cut_from, pieces_of, piece_events, piece_outputs, first_piece, GivesBySteps}
 use Rattle.rb_model.specs.Step.{Event, Output, unless_refused, pending_on, pending, step, run, after}
 use Rattle.rb_model.proofs.Gives.{count_pending}
 use Rattle.rb_model.specs.Step.Event.{Pending, Gave}
@@ -22,7 +22,7 @@ use Rattle.rb_record.specs.Entries.{entry_text, run_entries}
 use Rattle.rb_record.specs.Tapes.{Tape, Records}
 use Rattle.rb_record.proofs.Tapes.{records_more}
 use Rattle.rb_connections.specs.Slots.{Acts, Shows}
-use Rattle.rb_core.specs.StandsFor.{Held, StandsFor}
+use Rattle.rb_core.specs.StandsFor.{CoreView, StandsFor}
 use Rattle.rb_lines.specs.RecordLaws.{Fits, HasLine}
 use Rattle.rb_daemon.specs.Served.{IsServed}
 use Rattle.rb_daemon.proofs.Reached.{none_recorded, off_recorded, served_on}
@@ -50,7 +50,7 @@ pub pieces_none : (n : ℕ) → pieces_of n [] ≡ []
 unfolding pieces_of
 pieces_none n = refl
 
--- the first piece, and those behind it
+-- the first piece, and those after it
 pub pieces_more : (n : ℕ) (bytes : List ℕ) → 0 < n → 0 < length bytes → pieces_of n bytes ≡ take n bytes ∷ pieces_of longest_fragment (drop n bytes)
 unfolding pieces_of
 pieces_more n [] some more = absurd (omega (arith, more))
@@ -147,45 +147,45 @@ nothing_gives s (Ok [], new) = refl
 nothing_gives s (Ok (byte ∷ bytes), new) = refl
 nothing_gives s (Err fault, new) = refl
 
-some_on : (s : State) (now id room : ℕ) (bytes : List ℕ) (c : Option Connection) → Ok bytes ≡ (unless_nothing s (unless_refused now s (on_found id (give_fitting (max s.clock now) room) s.connections c))).0 → 0 < length bytes → 0 < length (pending_bytes (pending_on c))
-unfolding give_fitting
+some_on : (s : State) (now id room : ℕ) (bytes : List ℕ) (c : Option Connection) → Ok bytes ≡ (unless_nothing s (unless_refused now s (on_found id (write_fitting (max s.clock now) room) s.connections c))).0 → 0 < length bytes → 0 < length (pending_bytes (pending_on c))
+unfolding write_fitting
 some_on s now id room bytes None gives some = absurd cc
 some_on s now id room bytes (Some c) gives some =
-    let r : Result (List ℕ) CoreFault × State = unless_refused now s (on_found id (give_fitting (max s.clock now) room) s.connections (Some c)) in
+    let r : Result (List ℕ) CoreFault × State = unless_refused now s (on_found id (write_fitting (max s.clock now) room) s.connections (Some c)) in
     let fits : bytes ≡ fitting_in room c.phase = ap (λ (x : Result (List ℕ) CoreFault). pending_bytes x) (gives ∙ nothing_gives s r) in
     some_in room c.phase (subst (λ (xs : List ℕ). 0 < length xs) fits some)
 
 -- where bytes are given, some are pending
-pub some_first : (s : State) (now id room : ℕ) (bytes : List ℕ) → Ok bytes ≡ (give_into s now id room).0 → 0 < length bytes → 0 < first_piece s id
-unfolding give_into pending
+pub some_first : (s : State) (now id room : ℕ) (bytes : List ℕ) → Ok bytes ≡ (write_into s now id room).0 → 0 < length bytes → 0 < first_piece s id
+unfolding write_into pending
 some_first s now id room bytes gives some = some_on s now id room bytes (live_connection id s.connections.all) gives some
 
 module _ (s : State) (now id room : ℕ) where
   -- where it is refused the state stays
-  refused_on : (fault : CoreFault) (c : Option Connection) → Err fault ≡ (unless_nothing s (unless_refused now s (on_found id (give_fitting (max s.clock now) room) s.connections c))).0
-      → (unless_nothing s (unless_refused now s (on_found id (give_fitting (max s.clock now) room) s.connections c))).1 ≡ s
+  refused_on : (fault : CoreFault) (c : Option Connection) → Err fault ≡ (unless_nothing s (unless_refused now s (on_found id (write_fitting (max s.clock now) room) s.connections c))).0
+      → (unless_nothing s (unless_refused now s (on_found id (write_fitting (max s.clock now) room) s.connections c))).1 ≡ s
   refused_on fault None gives = refl
   refused_on fault (Some c) gives =
-      let r : Result (List ℕ) CoreFault × State = unless_refused now s (on_found id (give_fitting (max s.clock now) room) s.connections (Some c)) in
-      let both : Err fault ≡ Ok (give_fitting (max s.clock now) room c).0 = gives ∙ nothing_gives s r in
+      let r : Result (List ℕ) CoreFault × State = unless_refused now s (on_found id (write_fitting (max s.clock now) room) s.connections (Some c)) in
+      let both : Err fault ≡ Ok (write_fitting (max s.clock now) room c).0 = gives ∙ nothing_gives s r in
       absurd cc
 
-  pub refused_stays : (fault : CoreFault) → Err fault ≡ (give_into s now id room).0 → (give_into s now id room).1 ≡ s
-  unfolding give_into
+  pub refused_stays : (fault : CoreFault) → Err fault ≡ (write_into s now id room).0 → (write_into s now id room).1 ≡ s
+  unfolding write_into
   refused_stays fault gives = refused_on fault (live_connection id s.connections.all) gives
 
-  steps_of : (bytes : List ℕ) → Ok bytes ≡ (give_into s now id room).0 → GivesBySteps s now id bytes (give_into s now id room).1
+  steps_of : (bytes : List ℕ) → Ok bytes ≡ (write_into s now id room).0 → GivesBySteps s now id bytes (write_into s now id room).1
   steps_of bytes gives =
-      gives_are_steps s now id room bytes (give_into s now id room).1 (ap (λ (x : Result (List ℕ) CoreFault). let r : Result (List ℕ) CoreFault × State = (x, (give_into s now id room).1) in r) (sym gives))
+      gives_are_steps s now id room bytes (write_into s now id room).1 (ap (λ (x : Result (List ℕ) CoreFault). let r : Result (List ℕ) CoreFault × State = (x, (write_into s now id room).1) in r) (sym gives))
 
-  state_after : (r : Result (List ℕ) CoreFault) → r ≡ (give_into s now id room).0 → (give_into s now id room).1 ≡ after s (give_events now id (pending_bytes r) s)
+  state_after : (r : Result (List ℕ) CoreFault) → r ≡ (write_into s now id room).0 → (write_into s now id room).1 ≡ after s (give_events now id (pending_bytes r) s)
   state_after (Ok bytes) gives = (steps_of bytes gives).state
   state_after (Err fault) gives =
       refused_stays fault gives ∙ ap (λ (pieces : List (List ℕ)). after s (piece_events now id pieces)) (sym (pieces_none (first_piece s id)))
 
-  entries_are : (r : Result (List ℕ) CoreFault) → r ≡ (give_into s now id room).0 → pieces_entries now id (pieces_of (first_piece s id) (pending_bytes r)) ≡ run_entries s (give_events now id (pending_bytes r) s)
+  entries_are : (r : Result (List ℕ) CoreFault) → r ≡ (write_into s now id room).0 → pieces_entries now id (pieces_of (first_piece s id) (pending_bytes r)) ≡ run_entries s (give_events now id (pending_bytes r) s)
   unfolding run_entries
-  entries_are (Ok bytes) gives = given_entries_are s (give_into s now id room).1 now id bytes (steps_of bytes gives)
+  entries_are (Ok bytes) gives = given_entries_are s (write_into s now id room).1 now id bytes (steps_of bytes gives)
   entries_are (Err fault) gives =
       ap (λ (pieces : List (List ℕ)). pieces_entries now id pieces) (pieces_none (first_piece s id))
       ∙ ap (λ (pieces : List (List ℕ)). run_entries s (piece_events now id pieces)) (sym (pieces_none (first_piece s id)))
@@ -218,10 +218,10 @@ few_given room (Err fault) few = none_given
 -- ---- a call
 
 -- The pieces of what was given were recorded, from each state that the core stood for.
-abbrev pub RecordsPieces : ℕ → ℕ → List ℕ → Held → Tape → Tape → Type 0
+abbrev pub RecordsPieces : ℕ → ℕ → List ℕ → CoreView → Tape → Tape → Type 0
 RecordsPieces now id bytes old before later = (s : State) → StandsFor old s → Records (pieces_entries now id (pieces_of (first_piece s id) bytes)) before later
 
-module _ (now id room : ℕ) (r : Result (List ℕ) CoreFault) (old new : Held) (acts : Acts StandsFor (λ s. give_into s now id room) old new r) where
+module _ (now id room : ℕ) (r : Result (List ℕ) CoreFault) (old new : CoreView) (acts : Acts StandsFor (λ s. write_into s now id room) old new r) where
   pub gives_records : (before later : Tape) → RecordsPieces now id (pending_bytes r) old before later → (s : State) → StandsFor old s → Records (run_entries s (give_events now id (pending_bytes r) s)) before later
   gives_records before later records s h =
       subst (λ (entries : List (List ℕ)). Records entries before later) (entries_are s now id room r (acts.gives s h)) (records s h)
@@ -233,20 +233,20 @@ module _ (now id room : ℕ) (r : Result (List ℕ) CoreFault) (old new : Held) 
       (gives_records before later records)
 
 -- while the recording is over
-pub off_pieces : (now id : ℕ) (bytes : List ℕ) (core : Held) (tape : Tape) → tape.is_on ≡ false → ∥ IsServed core tape ∥₁ → RecordsPieces now id bytes core tape tape
+pub off_pieces : (now id : ℕ) (bytes : List ℕ) (core : CoreView) (tape : Tape) → tape.is_on ≡ false → ∥ IsServed core tape ∥₁ → RecordsPieces now id bytes core tape tape
 off_pieces now id bytes core tape off held s h = off_recorded _ core tape off held
 
 -- where nothing is given
-pub no_pieces : (now id : ℕ) (bytes : List ℕ) (core : Held) (tape : Tape) → bytes ≡ [] → ∥ IsServed core tape ∥₁ → RecordsPieces now id bytes core tape tape
+pub no_pieces : (now id : ℕ) (bytes : List ℕ) (core : CoreView) (tape : Tape) → bytes ≡ [] → ∥ IsServed core tape ∥₁ → RecordsPieces now id bytes core tape tape
 no_pieces now id bytes core tape none held s h =
     let is : pieces_of (first_piece s id) bytes ≡ [] = ap (λ (xs : List ℕ). pieces_of (first_piece s id) xs) none ∙ pieces_none (first_piece s id) in
     subst (λ (pieces : List (List ℕ)). Records (pieces_entries now id pieces) tape tape) (sym is) (none_recorded core tape held)
 
-pub all_pieces : (now id first : ℕ) (bytes : List ℕ) (core : Held) (before later : Tape) → Shows StandsFor (λ s. first_piece s id) core first → Records (pieces_entries now id (pieces_of first bytes)) before later → RecordsPieces now id bytes core before later
+pub all_pieces : (now id first : ℕ) (bytes : List ℕ) (core : CoreView) (before later : Tape) → Shows StandsFor (λ s. first_piece s id) core first → Records (pieces_entries now id (pieces_of first bytes)) before later → RecordsPieces now id bytes core before later
 all_pieces now id first bytes core before later shows records s h =
     subst (λ (n : ℕ). Records (pieces_entries now id (pieces_of n bytes)) before later) (shows s h) records
 
 -- where bytes are given, some are pending
-pub first_some : (now id room first : ℕ) (bytes : List ℕ) (old new : Held) (tape : Tape) → Shows StandsFor (λ s. first_piece s id) old first → Acts StandsFor (λ s. give_into s now id room) old new (Ok bytes) → 0 < length bytes → ∥ IsServed old tape ∥₁ → 0 < first
+pub first_some : (now id room first : ℕ) (bytes : List ℕ) (old new : CoreView) (tape : Tape) → Shows StandsFor (λ s. first_piece s id) old first → Acts StandsFor (λ s. write_into s now id room) old new (Ok bytes) → 0 < length bytes → ∥ IsServed old tape ∥₁ → 0 < first
 first_some now id room first bytes old new tape shows acts some held =
     ∥∥₁_elim held le_prop (λ h. subst (λ (n : ℕ). 0 < n) (sym (shows h.state h.stands)) (some_first h.state now id room bytes (acts.gives h.state h.stands) some))

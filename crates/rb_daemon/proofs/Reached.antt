@@ -22,20 +22,20 @@ use Rattle.rb_model.specs.Calls.{Outcome, Outcome as outcomes}
 use Rattle.rb_model.specs.Ending.{forward_reply, expire}
 use Rattle.rb_model.specs.Step.{Event, Output, step, after, open_connection, pending, gave, close_connection, next_lost, datagram, zero_stats, unsent_call, sent_call, output_or, show_done, show_outcome, show_told, show_end, show_expired, is_too_much}
 use Rattle.rb_model.specs.Step.Event.{Open, Pending, Gave, Closed, NextLost, Datagram, Unsent, Sent, Forward, Expire, ZeroStats}
-use Rattle.rb_model.specs.Step.Output.{Opened, TooMuch, IsPending, Done, LostIs, Replied, Forwarded as OutForwarded, Silent, UnsentIs, Ignored, Nothing, ConnectionClosed}
+use Rattle.rb_model.specs.Step.Output.{Opened, TooMuch, IsPending, Done, LostIs, Replied, Forwarded as OutForwarded, Silent, UnsentIs, Ignored, Nothing, ConnectionLost}
 use Rattle.rb_laws.proofs.RunLaws.{after-append}
 use Rattle.rb_laws.proofs.EntriesKept.{after-setting}
 use Rattle.rb_record.specs.Entries.{entry_text, run_entries, options_text}
 use Rattle.rb_record.specs.Tapes.{Tape, Records, IsRecordOf, empty_tape}
 use Rattle.rb_record.proofs.RunTexts.{run_entries-append, one_recorded}
 use Rattle.rb_record.proofs.Tapes.{records_more, new_record, record_goes_on, record_stays}
-use Rattle.rb_model.specs.declared.served.Outcome as outcome
-use Rattle.rb_model.specs.declared.served.Outcome.TheVariants as outcome_kinds
+use Rattle.rb_model.specs.declared.served.Response as outcome
+use Rattle.rb_model.specs.declared.served.Response.TheVariants as outcome_kinds
 use Rattle.rb_model.specs.Served.{outcome_with}
 use Rattle.rb_connections.specs.Slots.{Acts, Shows}
 use Rattle.rb_core.specs.Core.{ActsWithReply}
 use Rattle.rb_core.specs.HeldBytes.{IsListener}
-use Rattle.rb_core.specs.StandsFor.{Held, StandsFor}
+use Rattle.rb_core.specs.StandsFor.{CoreView, StandsFor}
 use Rattle.rb_core.proofs.Begun.{with_steps_before, stands_begun}
 use Rattle.rb_lines.specs.RecordLaws.{Fits, AreBytes, HasLine}
 use Rattle.rb_daemon.specs.Recording.{given_events, send_events_of, send_events, output_or_refusal}
@@ -63,7 +63,7 @@ end_state (Some told, s) = refl
 expired_state : (r : Expired × State) → (show_expired r).1 ≡ r.1
 expired_state (expiries.Nothing, s) = refl
 expired_state (expiries.Ended told, s) = refl
-expired_state (expiries.ConnectionClosed id, s) = refl
+expired_state (expiries.ConnectionLost id, s) = refl
 
 -- ---- the core of the daemon, and its record
 
@@ -74,7 +74,7 @@ more_recorded l h xid now first more s before later is was records =
     (ap (λ (t : State). run_entries (opening l h xid now) first ++ run_entries t more) is ∙ sym (run_entries-append (opening l h xid now) first more))
     (record_goes_on (options_text l h xid now ∷ run_entries (opening l h xid now) first) (run_entries s more) before later was records)
 
--- the lines of events behind others
+-- the lines of events after others
 lines_append : (xs ys : List Event) → AllByRecursion HasLine xs → AllByRecursion HasLine ys → AllByRecursion HasLine (xs ++ ys)
 lines_append [] ys a b = b
 lines_append (x ∷ xs) ys a b = (a.0, lines_append xs ys a.1 b)
@@ -85,7 +85,7 @@ bytes_are [] small = tt
 bytes_are (x ∷ xs) small = (small 0, bytes_are xs (λ i. small (suc i)))
 
 -- a core that stands for a reached state goes on by events to one that does, as they are recorded
-pub served_on : (old new : Held) (before later : Tape) (events : State → List Event) → ((s : State) → StandsFor old s → AllByRecursion HasLine (events s)) → ((s : State) → StandsFor old s → StandsFor new (after s (events s))) → ((s : State) → StandsFor old s → Records (run_entries s (events s)) before later) → ∥ IsServed old before ∥₁ → ∥ IsServed new later ∥₁
+pub served_on : (old new : CoreView) (before later : Tape) (events : State → List Event) → ((s : State) → StandsFor old s → AllByRecursion HasLine (events s)) → ((s : State) → StandsFor old s → StandsFor new (after s (events s))) → ((s : State) → StandsFor old s → Records (run_entries s (events s)) before later) → ∥ IsServed old before ∥₁ → ∥ IsServed new later ∥₁
 served_on old new before later events lines stands records held =
     ∥∥₁_elim held squash₁ (λ h.
     let r = h.reached in
@@ -112,7 +112,7 @@ pub good_from : {T : Type 0} (good : Bool) (made : T) → (IsTrue (not good) →
 good_from true made kept = refl
 good_from false made kept = let wrong = kept refl in absurd cc
 
-pub new_served : (core : Held) (l : Limits) (h : Listener) (xid now limit : ℕ) (empty tape : Tape) → empty ≡ empty_tape limit → Records (options_text l h xid now ∷ []) empty tape → StandsFor core (opening l h xid now) → are_good l h ≡ true → IsListener h → ∥ IsServed core tape ∥₁
+pub new_served : (core : CoreView) (l : Limits) (h : Listener) (xid now limit : ℕ) (empty tape : Tape) → empty ≡ empty_tape limit → Records (options_text l h xid now ∷ []) empty tape → StandsFor core (opening l h xid now) → are_good l h ≡ true → IsListener h → ∥ IsServed core tape ∥₁
 unfolding run_entries
 new_served core l h xid now limit empty tape is records stands good listener = ∣ record {
   state = opening l h xid now;
@@ -124,19 +124,19 @@ new_served core l h xid now limit empty tape is records stands good listener = �
   recorded = record_goes_on [] (options_text l h xid now ∷ []) empty tape (subst (IsRecordOf []) (sym is) (new_record limit)) records;
 } ∣₁
 
-still_served : (core : Held) (before later : Tape) → later.text ≡ before.text → later.limit ≡ before.limit → (later.is_on ≡ true → before.is_on ≡ true) → ∥ IsServed core before ∥₁ → ∥ IsServed core later ∥₁
+still_served : (core : CoreView) (before later : Tape) → later.text ≡ before.text → later.limit ≡ before.limit → (later.is_on ≡ true → before.is_on ≡ true) → ∥ IsServed core before ∥₁ → ∥ IsServed core later ∥₁
 still_served core before later text limit on held =
     ∥∥₁_elim held squash₁ (λ h. ∣ record { state = h.state; stands = h.stands; reached = h.reached; good = h.good; listener = h.listener; lines = h.lines; recorded = record_stays _ before later text limit on h.recorded } ∣₁)
 
 -- what was recorded was written out, or that failed
-pub written_served : {E : Type 0} (core : Held) (before later : Tape) (n : ℕ) (r : Result (Unit {0}) E) → OnOk r (later ≡ record before { written = n }) → OnErr r (later ≡ record before { is_on = false }) → ∥ IsServed core before ∥₁ → ∥ IsServed core later ∥₁
+pub written_served : {E : Type 0} (core : CoreView) (before later : Tape) (n : ℕ) (r : Result (Unit {0}) E) → OnOk r (later ≡ record before { written = n }) → OnErr r (later ≡ record before { is_on = false }) → ∥ IsServed core before ∥₁ → ∥ IsServed core later ∥₁
 written_served core before later n (Ok done) same failed =
     still_served core before later (ap (λ (t : Tape). t.text) same) (ap (λ (t : Tape). t.limit) same) (λ on. sym (ap (λ (t : Tape). t.is_on) same) ∙ on)
 written_served core before later n (Err error) written same =
     still_served core before later (ap (λ (t : Tape). t.text) same) (ap (λ (t : Tape). t.limit) same) (λ on. absurd (true≢false (sym on ∙ ap (λ (t : Tape). t.is_on) same)))
 
 -- where nothing is recorded
-pub none_recorded : (core : Held) (tape : Tape) → ∥ IsServed core tape ∥₁ → Records [] tape tape
+pub none_recorded : (core : CoreView) (tape : Tape) → ∥ IsServed core tape ∥₁ → Records [] tape tape
 none_recorded core tape held = record {
   on = λ is. is;
   grows = λ is. sym (append-nil tape.text);
@@ -148,7 +148,7 @@ none_recorded core tape held = record {
 }
 
 -- where the recording is over
-pub off_recorded : (entries : List (List ℕ)) (core : Held) (tape : Tape) → tape.is_on ≡ false → ∥ IsServed core tape ∥₁ → Records entries tape tape
+pub off_recorded : (entries : List (List ℕ)) (core : CoreView) (tape : Tape) → tape.is_on ≡ false → ∥ IsServed core tape ∥₁ → Records entries tape tape
 off_recorded entries core tape off held = record {
   on = λ is. is;
   grows = λ is. absurd (true≢false (sym is ∙ off));
@@ -161,32 +161,32 @@ off_recorded entries core tape off held = record {
 
 -- ---- one event
 
-pub open_records : (old new : Held) (now : ℕ) (who : Who) (r : Result ℕ CoreFault) (before later : Tape) → Acts StandsFor (λ s. open_connection s now who) old new r → Records (entry_text (Open now who) (output_or_refusal Opened r) ∷ []) before later → (s : State) → StandsFor old s → Records (run_entries s (Open now who ∷ [])) before later
+pub open_records : (old new : CoreView) (now : ℕ) (who : Who) (r : Result ℕ CoreFault) (before later : Tape) → Acts StandsFor (λ s. open_connection s now who) old new r → Records (entry_text (Open now who) (output_or_refusal Opened r) ∷ []) before later → (s : State) → StandsFor old s → Records (run_entries s (Open now who ∷ [])) before later
 unfolding step
 open_records old new now who r before later acts records s h =
     one_recorded s (Open now who) (output_or_refusal Opened r) before later (ap (output_or_refusal Opened) (acts.gives s h) ∙ output_given Opened (open_connection s now who)) records
 
-pub open_served : (old new : Held) (now : ℕ) (who : Who) (r : Result ℕ CoreFault) (before later : Tape) → Acts StandsFor (λ s. open_connection s now who) old new r → Records (entry_text (Open now who) (output_or_refusal Opened r) ∷ []) before later → Fits now → ∥ IsWho who ∥₁ → ∥ IsServed old before ∥₁ → ∥ IsServed new later ∥₁
+pub open_served : (old new : CoreView) (now : ℕ) (who : Who) (r : Result ℕ CoreFault) (before later : Tape) → Acts StandsFor (λ s. open_connection s now who) old new r → Records (entry_text (Open now who) (output_or_refusal Opened r) ∷ []) before later → Fits now → ∥ IsWho who ∥₁ → ∥ IsServed old before ∥₁ → ∥ IsServed new later ∥₁
 unfolding step
 open_served old new now who r before later acts records fits is_who =
     λ held. ∥∥₁_elim is_who squash₁ (λ w.
     served_on old new before later (λ s. Open now who ∷ []) (λ s h. ((fits, w), tt)) (λ s h. subst (StandsFor new) (sym (output_state Opened (open_connection s now who))) (acts.stands s h)) (open_records old new now who r before later acts records) held)
 
-pub closed_records : (old new : Held) (id : ℕ) (r : Result (Unit {0}) CoreFault) (before later : Tape) → Acts StandsFor (λ s. close_connection s id) old new r → Records (entry_text (Closed id) (output_or_refusal show_done r) ∷ []) before later → (s : State) → StandsFor old s → Records (run_entries s (Closed id ∷ [])) before later
+pub closed_records : (old new : CoreView) (id : ℕ) (r : Result (Unit {0}) CoreFault) (before later : Tape) → Acts StandsFor (λ s. close_connection s id) old new r → Records (entry_text (Closed id) (output_or_refusal show_done r) ∷ []) before later → (s : State) → StandsFor old s → Records (run_entries s (Closed id ∷ [])) before later
 unfolding step
 closed_records old new id r before later acts records s h =
     one_recorded s (Closed id) (output_or_refusal show_done r) before later (ap (output_or_refusal show_done) (acts.gives s h) ∙ output_given show_done (close_connection s id)) records
 
-pub closed_served : (old new : Held) (id : ℕ) (r : Result (Unit {0}) CoreFault) (before later : Tape) → Acts StandsFor (λ s. close_connection s id) old new r → Records (entry_text (Closed id) (output_or_refusal show_done r) ∷ []) before later → Fits id → ∥ IsServed old before ∥₁ → ∥ IsServed new later ∥₁
+pub closed_served : (old new : CoreView) (id : ℕ) (r : Result (Unit {0}) CoreFault) (before later : Tape) → Acts StandsFor (λ s. close_connection s id) old new r → Records (entry_text (Closed id) (output_or_refusal show_done r) ∷ []) before later → Fits id → ∥ IsServed old before ∥₁ → ∥ IsServed new later ∥₁
 unfolding step
 closed_served old new id r before later acts records fits =
     served_on old new before later (λ s. Closed id ∷ []) (λ s h. (fits, tt)) (λ s h. subst (StandsFor new) (sym (output_state show_done (close_connection s id))) (acts.stands s h)) (closed_records old new id r before later acts records)
 
-pub lost_records : (old : Held) (lost : Option ℕ) (before later : Tape) → Shows StandsFor next_lost old lost → Records (entry_text NextLost (LostIs lost) ∷ []) before later → (s : State) → StandsFor old s → Records (run_entries s (NextLost ∷ [])) before later
+pub lost_records : (old : CoreView) (lost : Option ℕ) (before later : Tape) → Shows StandsFor next_lost old lost → Records (entry_text NextLost (LostIs lost) ∷ []) before later → (s : State) → StandsFor old s → Records (run_entries s (NextLost ∷ [])) before later
 unfolding step
 lost_records old lost before later shows records s h = one_recorded s NextLost (LostIs lost) before later (ap LostIs (shows s h)) records
 
-pub lost_served : (old new : Held) (n : ℕ) (lost : Option ℕ) (before later : Tape) → new ≡ with_steps_before old n → Shows StandsFor next_lost old lost → Records (entry_text NextLost (LostIs lost) ∷ []) before later → ∥ IsServed old before ∥₁ → ∥ IsServed new later ∥₁
+pub lost_served : (old new : CoreView) (n : ℕ) (lost : Option ℕ) (before later : Tape) → new ≡ with_steps_before old n → Shows StandsFor next_lost old lost → Records (entry_text NextLost (LostIs lost) ∷ []) before later → ∥ IsServed old before ∥₁ → ∥ IsServed new later ∥₁
 unfolding step
 lost_served old new n lost before later is shows records =
     served_on old new before later (λ s. NextLost ∷ []) (λ s h. (tt, tt)) (stands_begun old new n is) (lost_records old lost before later shows records)
@@ -194,29 +194,29 @@ lost_served old new n lost before later is shows records =
 -- ---- a datagram
 
 -- what is shown of a datagram, with the reply that is held
-abbrev pub answer_shown : outcome.Outcome → List ℕ → Output
+abbrev pub answer_shown : outcome.Response → List ℕ → Output
 answer_shown outcome_kinds.NoCall reply = Silent
 answer_shown outcome_kinds.Reply reply = Replied reply
 answer_shown outcome_kinds.Forwarded reply = OutForwarded
 answer_shown outcome_kinds.Silent reply = Silent
 
-answer_silent : (given : outcome.Outcome) (reply : List ℕ) → (given ≡ outcome_kinds.NoCall) ⊎ (given ≡ outcome_kinds.Silent) → Silent ≡ answer_shown given reply
+answer_silent : (given : outcome.Response) (reply : List ℕ) → (given ≡ outcome_kinds.NoCall) ⊎ (given ≡ outcome_kinds.Silent) → Silent ≡ answer_shown given reply
 answer_silent given reply (inl is) = rw is refl
 answer_silent given reply (inr is) = rw is refl
 
-answer_is : (given : outcome.Outcome) (reply : List ℕ) (r : Outcome × State) → outcome_with given reply ≡ r.0 → answer_shown given reply ≡ (show_outcome r).0
+answer_is : (given : outcome.Response) (reply : List ℕ) (r : Outcome × State) → outcome_with given reply ≡ r.0 → answer_shown given reply ≡ (show_outcome r).0
 answer_is outcome_kinds.NoCall reply (x, s) is = rw (← is) refl
 answer_is outcome_kinds.Reply reply (x, s) is = rw (← is) refl
 answer_is outcome_kinds.Forwarded reply (x, s) is = rw (← is) refl
 answer_is outcome_kinds.Silent reply (x, s) is = rw (← is) refl
 
-pub datagram_records : (old new : Held) (now : ℕ) (who : Who) (content : List ℕ) (given : outcome.Outcome) (before later : Tape) → ActsWithReply (λ s. datagram s now who content) old new given → Records (entry_text (Datagram now who content) (answer_shown given new.reply) ∷ []) before later → (s : State) → StandsFor old s → Records (run_entries s (Datagram now who content ∷ [])) before later
+pub datagram_records : (old new : CoreView) (now : ℕ) (who : Who) (content : List ℕ) (given : outcome.Response) (before later : Tape) → ActsWithReply (λ s. datagram s now who content) old new given → Records (entry_text (Datagram now who content) (answer_shown given new.reply) ∷ []) before later → (s : State) → StandsFor old s → Records (run_entries s (Datagram now who content ∷ [])) before later
 unfolding step
 datagram_records old new now who content given before later acts records s h =
     one_recorded s (Datagram now who content) (answer_shown given new.reply) before later (answer_is given new.reply (datagram s now who content) (acts.gives s h)) records
 
--- with a look at the reply behind it
-pub datagram_served : (old new after_look : Held) (n now : ℕ) (who : Who) (content : List ℕ) (given : outcome.Outcome) (before later : Tape) → after_look ≡ with_steps_before new n → ActsWithReply (λ s. datagram s now who content) old new given → Records (entry_text (Datagram now who content) (answer_shown given new.reply) ∷ []) before later → Fits now → ∥ IsWho who ∥₁ → AreBytes content → ∥ IsServed old before ∥₁ → ∥ IsServed after_look later ∥₁
+-- with a look at the reply after it
+pub datagram_served : (old new after_look : CoreView) (n now : ℕ) (who : Who) (content : List ℕ) (given : outcome.Response) (before later : Tape) → after_look ≡ with_steps_before new n → ActsWithReply (λ s. datagram s now who content) old new given → Records (entry_text (Datagram now who content) (answer_shown given new.reply) ∷ []) before later → Fits now → ∥ IsWho who ∥₁ → AreBytes content → ∥ IsServed old before ∥₁ → ∥ IsServed after_look later ∥₁
 unfolding step
 datagram_served old new after_look n now who content given before later is acts records fits is_who small =
     λ held. ∥∥₁_elim is_who squash₁ (λ w.
@@ -225,26 +225,26 @@ datagram_served old new after_look n now who content given before later is acts 
     (datagram_records old new now who content given before later acts records) held)
 
 -- a look at the core changes nothing that is served
-pub looked_served : (old new : Held) (n : ℕ) (tape : Tape) → new ≡ with_steps_before old n → ∥ IsServed old tape ∥₁ → ∥ IsServed new tape ∥₁
+pub looked_served : (old new : CoreView) (n : ℕ) (tape : Tape) → new ≡ with_steps_before old n → ∥ IsServed old tape ∥₁ → ∥ IsServed new tape ∥₁
 looked_served old new n tape is held =
     ∥∥₁_elim held squash₁ (λ h. ∣ record { state = h.state; stands = stands_begun old new n is h.state h.stands; reached = h.reached; good = h.good; listener = h.listener; lines = h.lines; recorded = h.recorded } ∣₁)
 
 -- so of one that is no call, or is not answered
-pub silent_records : (old new : Held) (now : ℕ) (who : Who) (content : List ℕ) (given : outcome.Outcome) (before later : Tape) → (given ≡ outcome_kinds.NoCall) ⊎ (given ≡ outcome_kinds.Silent) → ActsWithReply (λ s. datagram s now who content) old new given → Records (entry_text (Datagram now who content) Silent ∷ []) before later → (s : State) → StandsFor old s → Records (run_entries s (Datagram now who content ∷ [])) before later
+pub silent_records : (old new : CoreView) (now : ℕ) (who : Who) (content : List ℕ) (given : outcome.Response) (before later : Tape) → (given ≡ outcome_kinds.NoCall) ⊎ (given ≡ outcome_kinds.Silent) → ActsWithReply (λ s. datagram s now who content) old new given → Records (entry_text (Datagram now who content) Silent ∷ []) before later → (s : State) → StandsFor old s → Records (run_entries s (Datagram now who content ∷ [])) before later
 silent_records old new now who content given before later is acts records =
     datagram_records old new now who content given before later acts (subst (λ (x : Output). Records (entry_text (Datagram now who content) x ∷ []) before later) (answer_silent given new.reply is) records)
 
-pub silent_served : (old new : Held) (now : ℕ) (who : Who) (content : List ℕ) (given : outcome.Outcome) (before later : Tape) → (given ≡ outcome_kinds.NoCall) ⊎ (given ≡ outcome_kinds.Silent) → ActsWithReply (λ s. datagram s now who content) old new given → Records (entry_text (Datagram now who content) Silent ∷ []) before later → Fits now → ∥ IsWho who ∥₁ → AreBytes content → ∥ IsServed old before ∥₁ → ∥ IsServed new later ∥₁
+pub silent_served : (old new : CoreView) (now : ℕ) (who : Who) (content : List ℕ) (given : outcome.Response) (before later : Tape) → (given ≡ outcome_kinds.NoCall) ⊎ (given ≡ outcome_kinds.Silent) → ActsWithReply (λ s. datagram s now who content) old new given → Records (entry_text (Datagram now who content) Silent ∷ []) before later → Fits now → ∥ IsWho who ∥₁ → AreBytes content → ∥ IsServed old before ∥₁ → ∥ IsServed new later ∥₁
 silent_served old new now who content given before later is acts records =
     datagram_served old new new new.steps_before now who content given before later refl acts (subst (λ (x : Output). Records (entry_text (Datagram now who content) x ∷ []) before later) (answer_silent given new.reply is) records)
 
 -- ---- statistics begin anew
 
-pub zeroed_records : (old : Held) (before later : Tape) → Records (entry_text ZeroStats Done ∷ []) before later → (s : State) → StandsFor old s → Records (run_entries s (ZeroStats ∷ [])) before later
+pub zeroed_records : (old : CoreView) (before later : Tape) → Records (entry_text ZeroStats Done ∷ []) before later → (s : State) → StandsFor old s → Records (run_entries s (ZeroStats ∷ [])) before later
 unfolding step
 zeroed_records old before later records s h = one_recorded s ZeroStats Done before later refl records
 
-pub zeroed_served : (old new : Held) (before later : Tape) → Acts StandsFor (λ s. (tt {0}, zero_stats s)) old new (tt {0}) → Records (entry_text ZeroStats Done ∷ []) before later → ∥ IsServed old before ∥₁ → ∥ IsServed new later ∥₁
+pub zeroed_served : (old new : CoreView) (before later : Tape) → Acts StandsFor (λ s. (tt {0}, zero_stats s)) old new (tt {0}) → Records (entry_text ZeroStats Done ∷ []) before later → ∥ IsServed old before ∥₁ → ∥ IsServed new later ∥₁
 unfolding step
 zeroed_served old new before later acts records =
     served_on old new before later (λ s. ZeroStats ∷ []) (λ s h. (tt, tt)) (λ s h. acts.stands s h) (zeroed_records old before later records)
@@ -254,7 +254,7 @@ zeroed_served old new before later acts records =
 end_is : (reply : List ℕ) (told : Told) (r : Option Told × State) → Some told ≡ r.0 → reply ≡ r.1.reply → show_told reply told ≡ (show_end r).0
 end_is reply told (x, s) is same = rw (← is) (ap (λ (bytes : List ℕ). show_told bytes told) same)
 
-pub ignored_records : (old new : Held) (now : ℕ) (from : Peer) (message : List ℕ) (before later : Tape) → Acts StandsFor (λ s. forward_reply s now from message) old new None → Records (entry_text (Forward now from message) Ignored ∷ []) before later → (s : State) → StandsFor old s → Records (run_entries s (Forward now from message ∷ [])) before later
+pub ignored_records : (old new : CoreView) (now : ℕ) (from : Peer) (message : List ℕ) (before later : Tape) → Acts StandsFor (λ s. forward_reply s now from message) old new None → Records (entry_text (Forward now from message) Ignored ∷ []) before later → (s : State) → StandsFor old s → Records (run_entries s (Forward now from message ∷ [])) before later
 unfolding step
 ignored_records old new now from message before later acts records s h =
     one_recorded s (Forward now from message) Ignored before later (none_is (forward_reply s now from message) (acts.gives s h)) records
@@ -262,23 +262,23 @@ ignored_records old new now from message before later acts records s h =
     none_is : (r : Option Told × State) → None ≡ r.0 → Ignored ≡ (show_end r).0
     none_is (x, s) is = rw (← is) refl
 
-pub forward_records : (old new : Held) (now : ℕ) (from : Peer) (message : List ℕ) (told : Told) (before later : Tape) → Acts StandsFor (λ s. forward_reply s now from message) old new (Some told) → Records (entry_text (Forward now from message) (show_told new.reply told) ∷ []) before later → (s : State) → StandsFor old s → Records (run_entries s (Forward now from message ∷ [])) before later
+pub forward_records : (old new : CoreView) (now : ℕ) (from : Peer) (message : List ℕ) (told : Told) (before later : Tape) → Acts StandsFor (λ s. forward_reply s now from message) old new (Some told) → Records (entry_text (Forward now from message) (show_told new.reply told) ∷ []) before later → (s : State) → StandsFor old s → Records (run_entries s (Forward now from message ∷ [])) before later
 unfolding step
 forward_records old new now from message told before later acts records s h =
     one_recorded s (Forward now from message) (show_told new.reply told) before later (end_is new.reply told (forward_reply s now from message) (acts.gives s h) (acts.stands s h).reply) records
 
--- with a look at the reply behind it
-forward_stands : (old new after_look : Held) (n now : ℕ) (from : Peer) (message : List ℕ) (r : Option Told) → after_look ≡ with_steps_before new n → Acts StandsFor (λ s. forward_reply s now from message) old new r → (s : State) → StandsFor old s → StandsFor after_look (step s (Forward now from message)).1
+-- with a look at the reply after it
+forward_stands : (old new after_look : CoreView) (n now : ℕ) (from : Peer) (message : List ℕ) (r : Option Told) → after_look ≡ with_steps_before new n → Acts StandsFor (λ s. forward_reply s now from message) old new r → (s : State) → StandsFor old s → StandsFor after_look (step s (Forward now from message)).1
 unfolding step
 forward_stands old new after_look n now from message r is acts s h =
     stands_begun new after_look n is _ (subst (StandsFor new) (sym (end_state (forward_reply s now from message))) (acts.stands s h))
 
-pub ignored_served : (old new : Held) (now : ℕ) (from : Peer) (message : List ℕ) (before later : Tape) → Acts StandsFor (λ s. forward_reply s now from message) old new None → Records (entry_text (Forward now from message) Ignored ∷ []) before later → Fits now → ∥ IsPeer from ∥₁ → AreBytes message → ∥ IsServed old before ∥₁ → ∥ IsServed new later ∥₁
+pub ignored_served : (old new : CoreView) (now : ℕ) (from : Peer) (message : List ℕ) (before later : Tape) → Acts StandsFor (λ s. forward_reply s now from message) old new None → Records (entry_text (Forward now from message) Ignored ∷ []) before later → Fits now → ∥ IsPeer from ∥₁ → AreBytes message → ∥ IsServed old before ∥₁ → ∥ IsServed new later ∥₁
 ignored_served old new now from message before later acts records fits is_peer small =
     λ held. ∥∥₁_elim is_peer squash₁ (λ w.
     served_on old new before later (λ s. Forward now from message ∷ []) (λ s h. ((fits, w, small), tt)) (forward_stands old new new new.steps_before now from message None refl acts) (ignored_records old new now from message before later acts records) held)
 
-pub forward_served : (old new after_look : Held) (n now : ℕ) (from : Peer) (message : List ℕ) (told : Told) (before later : Tape) → after_look ≡ with_steps_before new n → Acts StandsFor (λ s. forward_reply s now from message) old new (Some told) → Records (entry_text (Forward now from message) (show_told new.reply told) ∷ []) before later → Fits now → ∥ IsPeer from ∥₁ → AreBytes message → ∥ IsServed old before ∥₁ → ∥ IsServed after_look later ∥₁
+pub forward_served : (old new after_look : CoreView) (n now : ℕ) (from : Peer) (message : List ℕ) (told : Told) (before later : Tape) → after_look ≡ with_steps_before new n → Acts StandsFor (λ s. forward_reply s now from message) old new (Some told) → Records (entry_text (Forward now from message) (show_told new.reply told) ∷ []) before later → Fits now → ∥ IsPeer from ∥₁ → AreBytes message → ∥ IsServed old before ∥₁ → ∥ IsServed after_look later ∥₁
 forward_served old new after_look n now from message told before later is acts records fits is_peer small =
     λ held. ∥∥₁_elim is_peer squash₁ (λ w.
     served_on old after_look before later (λ s. Forward now from message ∷ []) (λ s h. ((fits, w, small), tt)) (forward_stands old new after_look n now from message (Some told) is acts) (forward_records old new now from message told before later acts records) held)
@@ -289,20 +289,20 @@ forward_served old new after_look n now from message told before later is acts r
 abbrev pub due_shown : Expired → List ℕ → Output
 due_shown expiries.Nothing reply = Nothing
 due_shown (expiries.Ended told) reply = show_told reply told
-due_shown (expiries.ConnectionClosed id) reply = ConnectionClosed id
+due_shown (expiries.ConnectionLost id) reply = ConnectionLost id
 
 due_is : (reply : List ℕ) (due : Expired) (r : Expired × State) → due ≡ r.0 → reply ≡ r.1.reply → due_shown due reply ≡ (show_expired r).0
 due_is reply expiries.Nothing (x, s) is same = rw (← is) refl
 due_is reply (expiries.Ended told) (x, s) is same = rw (← is) (ap (λ (bytes : List ℕ). show_told bytes told) same)
-due_is reply (expiries.ConnectionClosed id) (x, s) is same = rw (← is) refl
+due_is reply (expiries.ConnectionLost id) (x, s) is same = rw (← is) refl
 
-pub expire_records : (old new : Held) (now : ℕ) (due : Expired) (before later : Tape) → Acts StandsFor (λ s. expire s now) old new due → Records (entry_text (Expire now) (due_shown due new.reply) ∷ []) before later → (s : State) → StandsFor old s → Records (run_entries s (Expire now ∷ [])) before later
+pub expire_records : (old new : CoreView) (now : ℕ) (due : Expired) (before later : Tape) → Acts StandsFor (λ s. expire s now) old new due → Records (entry_text (Expire now) (due_shown due new.reply) ∷ []) before later → (s : State) → StandsFor old s → Records (run_entries s (Expire now ∷ [])) before later
 unfolding step
 expire_records old new now due before later acts records s h =
     one_recorded s (Expire now) (due_shown due new.reply) before later (due_is new.reply due (expire s now) (acts.gives s h) (acts.stands s h).reply) records
 
--- with a look at the reply behind it
-pub expire_served : (old new after_look : Held) (n now : ℕ) (due : Expired) (before later : Tape) → after_look ≡ with_steps_before new n → Acts StandsFor (λ s. expire s now) old new due → Records (entry_text (Expire now) (due_shown due new.reply) ∷ []) before later → Fits now → ∥ IsServed old before ∥₁ → ∥ IsServed after_look later ∥₁
+-- with a look at the reply after it
+pub expire_served : (old new after_look : CoreView) (n now : ℕ) (due : Expired) (before later : Tape) → after_look ≡ with_steps_before new n → Acts StandsFor (λ s. expire s now) old new due → Records (entry_text (Expire now) (due_shown due new.reply) ∷ []) before later → Fits now → ∥ IsServed old before ∥₁ → ∥ IsServed after_look later ∥₁
 unfolding step
 expire_served old new after_look n now due before later is acts records fits =
     served_on old after_look before later (λ s. Expire now ∷ []) (λ s h. (fits, tt))
@@ -341,29 +341,29 @@ gave_output s now id n owed is few done =
 pub given_state : (s : State) (now id n : ℕ) (owed : List ℕ) → pending s id ≡ Ok owed → n ≤ length owed → after s (given_events now id n) ≡ (gave s now id n).1
 given_state s now id n owed is few = ap (λ (t : State). (step t (Gave now id n)).1) (look_state s id) ∙ gave_state s now id n owed is few
 
--- ---- calls that are to be sent
+-- ---- calls that must be sent
 
-pub unsent_records : (old : Held) (unsent : Option UnsentCall) (before later : Tape) → Shows StandsFor unsent_call old unsent → Records (entry_text Unsent (UnsentIs unsent) ∷ []) before later → (s : State) → StandsFor old s → Records (run_entries s (Unsent ∷ [])) before later
+pub unsent_records : (old : CoreView) (unsent : Option UnsentCall) (before later : Tape) → Shows StandsFor unsent_call old unsent → Records (entry_text Unsent (UnsentIs unsent) ∷ []) before later → (s : State) → StandsFor old s → Records (run_entries s (Unsent ∷ [])) before later
 unfolding step
 unsent_records old unsent before later shows records s h = one_recorded s Unsent (UnsentIs unsent) before later (ap UnsentIs (shows s h)) records
 
-pub none_records : (old : Held) (before later : Tape) → Shows StandsFor unsent_call old None → Records (entry_text Unsent (UnsentIs None) ∷ []) before later → (s : State) → StandsFor old s → Records (run_entries s (send_events s)) before later
+pub none_records : (old : CoreView) (before later : Tape) → Shows StandsFor unsent_call old None → Records (entry_text Unsent (UnsentIs None) ∷ []) before later → (s : State) → StandsFor old s → Records (run_entries s (send_events s)) before later
 none_records old before later shows records s h =
     subst (λ (u : Option UnsentCall). Records (run_entries s (send_events_of u)) before later) (shows s h) (unsent_records old None before later shows records s h)
 
-pub none_served : (old new : Held) (n : ℕ) (before later : Tape) → new ≡ with_steps_before old n → Shows StandsFor unsent_call old None → Records (entry_text Unsent (UnsentIs None) ∷ []) before later → ∥ IsServed old before ∥₁ → ∥ IsServed new later ∥₁
+pub none_served : (old new : CoreView) (n : ℕ) (before later : Tape) → new ≡ with_steps_before old n → Shows StandsFor unsent_call old None → Records (entry_text Unsent (UnsentIs None) ∷ []) before later → ∥ IsServed old before ∥₁ → ∥ IsServed new later ∥₁
 unfolding step
 none_served old new n before later is shows records =
     served_on old new before later (λ s. Unsent ∷ []) (λ s h. (tt, tt)) (stands_begun old new n is) (unsent_records old None before later shows records)
 
-pub sent_records : (old mid new : Held) (n : ℕ) (unsent : UnsentCall) (r : Result (Unit {0}) CoreFault) (before between later : Tape) → mid ≡ with_steps_before old n → Shows StandsFor unsent_call old (Some unsent) → Acts StandsFor (λ s. sent_call s unsent.number) mid new r → Records (entry_text Unsent (UnsentIs (Some unsent)) ∷ []) before between → Records (entry_text (Sent unsent.number) (output_or_refusal show_done r) ∷ []) between later → (s : State) → StandsFor old s → Records (run_entries s (send_events s)) before later
+pub sent_records : (old mid new : CoreView) (n : ℕ) (unsent : UnsentCall) (r : Result (Unit {0}) CoreFault) (before between later : Tape) → mid ≡ with_steps_before old n → Shows StandsFor unsent_call old (Some unsent) → Acts StandsFor (λ s. sent_call s unsent.number) mid new r → Records (entry_text Unsent (UnsentIs (Some unsent)) ∷ []) before between → Records (entry_text (Sent unsent.number) (output_or_refusal show_done r) ∷ []) between later → (s : State) → StandsFor old s → Records (run_entries s (send_events s)) before later
 unfolding step
 sent_records old mid new n unsent r before between later is shows acts one two s h =
     subst (λ (u : Option UnsentCall). Records (run_entries s (send_events_of u)) before later) (shows s h)
     (two_recorded s Unsent (Sent unsent.number) (UnsentIs (Some unsent)) (output_or_refusal show_done r) before between later (ap UnsentIs (shows s h))
     (ap (output_or_refusal show_done) (acts.gives s (stands_begun old mid n is s h)) ∙ output_given show_done (sent_call s unsent.number)) one two)
 
-pub sent_served : (old mid new : Held) (n : ℕ) (unsent : UnsentCall) (r : Result (Unit {0}) CoreFault) (before between later : Tape) → mid ≡ with_steps_before old n → Shows StandsFor unsent_call old (Some unsent) → Acts StandsFor (λ s. sent_call s unsent.number) mid new r → Records (entry_text Unsent (UnsentIs (Some unsent)) ∷ []) before between → Records (entry_text (Sent unsent.number) (output_or_refusal show_done r) ∷ []) between later → Fits unsent.number → ∥ IsServed old before ∥₁ → ∥ IsServed new later ∥₁
+pub sent_served : (old mid new : CoreView) (n : ℕ) (unsent : UnsentCall) (r : Result (Unit {0}) CoreFault) (before between later : Tape) → mid ≡ with_steps_before old n → Shows StandsFor unsent_call old (Some unsent) → Acts StandsFor (λ s. sent_call s unsent.number) mid new r → Records (entry_text Unsent (UnsentIs (Some unsent)) ∷ []) before between → Records (entry_text (Sent unsent.number) (output_or_refusal show_done r) ∷ []) between later → Fits unsent.number → ∥ IsServed old before ∥₁ → ∥ IsServed new later ∥₁
 unfolding step
 sent_served old mid new n unsent r before between later is shows acts one two fits =
     served_on old new before later send_events (λ s h. subst (λ (u : Option UnsentCall). AllByRecursion HasLine (send_events_of u)) (shows s h) (tt, (fits, tt)))

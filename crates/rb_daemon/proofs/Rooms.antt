@@ -7,7 +7,7 @@ use Rattle.rb_model.specs.State.{State}
 use Rattle.rb_model.specs.Connections.{on_live}
 use Rattle.rb_model.specs.Step.{unless_refused}
 use Rattle.rb_model.specs.Exchanges.{exchange}
-use Rattle.rb_model.specs.Gives.{give_fitting, unless_nothing, give_into, given_in, bytes_given}
+use Rattle.rb_model.specs.Gives.{write_fitting, unless_nothing, write_into, given_in, bytes_given}
 use Rattle.rb_core.specs.StandsFor.{StandsFor}
 use Rattle.rb_daemon.specs.declared.engine.Engine.{Engine}
 use Rattle.rb_daemon.specs.Moves.{Moves, ActsNow}
@@ -17,9 +17,9 @@ pub exchanges_in : (id : ℕ) (piece : List ℕ) (room free : ℕ) (old new : En
 exchanges_in id piece room free old new result same acts =
     subst (λ (n : ℕ). ActsNow (λ s now. exchange now id piece n s) old new result) same acts
 
-pub gives_in : (id room free : ℕ) (old new : Engine) (result : Result (List ℕ) CoreFault) → room ≡ free → ActsNow (λ s now. give_into s now id room) old new result → ActsNow (λ s now. give_into s now id free) old new result
+pub gives_in : (id room free : ℕ) (old new : Engine) (result : Result (List ℕ) CoreFault) → room ≡ free → ActsNow (λ s now. write_into s now id room) old new result → ActsNow (λ s now. write_into s now id free) old new result
 gives_in id room free old new result same acts =
-    subst (λ (n : ℕ). ActsNow (λ s now. give_into s now id n) old new result) same acts
+    subst (λ (n : ℕ). ActsNow (λ s now. write_into s now id n) old new result) same acts
 
 -- ---- where no byte is given
 
@@ -28,11 +28,11 @@ nothing_on s (Ok [], new) is = refl
 nothing_on s (Ok (byte ∷ bytes), new) is = absurd cc
 nothing_on s (Err fault, new) is = absurd cc
 
-nothing_stays : (s : State) (now id room : ℕ) → Ok [] ≡ (give_into s now id room).0 → (give_into s now id room).1 ≡ s
-unfolding give_into
-nothing_stays s now id room is = nothing_on s (unless_refused now s (on_live id (give_fitting (max s.clock now) room) s.connections)) is
+nothing_stays : (s : State) (now id room : ℕ) → Ok [] ≡ (write_into s now id room).0 → (write_into s now id room).1 ≡ s
+unfolding write_into
+nothing_stays s now id room is = nothing_on s (unless_refused now s (on_live id (write_fitting (max s.clock now) room) s.connections)) is
 
-pub idle_stays : (id room : ℕ) (given : List ℕ) (result : Result Given CoreFault) (old new : Engine) → ActsNow (λ s now. give_into s now id room) old new (bytes_given given result) → given_in result ≡ 0 → Moves (λ s now. s) old new
+pub idle_stays : (id room : ℕ) (given : List ℕ) (result : Result Given CoreFault) (old new : Engine) → ActsNow (λ s now. write_into s now id room) old new (bytes_given given result) → given_in result ≡ 0 → Moves (λ s now. s) old new
 idle_stays id room given (Ok done) old new acts none s h =
     subst (StandsFor new.core.core) (nothing_stays s old.moment id room (ap (λ (n : ℕ). let r : Result (List ℕ) CoreFault = Ok (take n given) in r) (sym none) ∙ acts.gives s h)) (acts.stands s h)
 idle_stays id room given (Err fault) old new acts none s h =

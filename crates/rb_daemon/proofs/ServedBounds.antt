@@ -6,7 +6,7 @@ use Rattle.std.proofs.Math.Logic.{∥∥₁_elim}
 use Rattle.rb_model.specs.State.{Setting, State, are_good}
 use Rattle.rb_model.specs.Bounds.{bytes_bound}
 use Rattle.rb_record.specs.Tapes.{Tape}
-use Rattle.rb_core.specs.StandsFor.{Held, StandsFor}
+use Rattle.rb_core.specs.StandsFor.{CoreView, StandsFor}
 use Rattle.rb_core.specs.HeldBytes.{held}
 use Rattle.rb_core.proofs.HeldBytes.{never_passes}
 use Rattle.rb_laws.proofs.StepBounds.{steps_are_bounded}
@@ -15,11 +15,11 @@ use Rattle.rb_daemon.specs.Served.{IsServed}
 use Rattle.rb_daemon.specs.ServedLaws.{ServedBytesAreBounded, ServedStepsAreBounded, ServedRunsAreBounded}
 
 -- each state that the core stands for has its setting
-good_of : (core : Held) (tape : Tape) (s : State) → StandsFor core s → IsServed core tape → are_good s.setting.limits s.setting.listener ≡ true
+good_of : (core : CoreView) (tape : Tape) (s : State) → StandsFor core s → IsServed core tape → are_good s.setting.limits s.setting.listener ≡ true
 good_of core tape s stands h =
     subst (λ (x : Setting). are_good x.limits x.listener ≡ true) (sym h.stands.setting ∙ stands.setting) h.good
 
-served_good : (core : Held) (tape : Tape) (s : State) → StandsFor core s → ∥ IsServed core tape ∥₁ → are_good s.setting.limits s.setting.listener ≡ true
+served_good : (core : CoreView) (tape : Tape) (s : State) → StandsFor core s → ∥ IsServed core tape ∥₁ → are_good s.setting.limits s.setting.listener ≡ true
 served_good core tape s stands served = ∥∥₁_elim served (Bool-set _ _) (good_of core tape s stands)
 
 pub served_bytes_are_bounded : ServedBytesAreBounded

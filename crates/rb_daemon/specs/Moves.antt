@@ -11,7 +11,7 @@ use Rattle.rb_connections.specs.Slots.{Acts, Shows}
 use Rattle.rb_model.specs.declared.types.Exchanged.{Exchanged}
 use Rattle.rb_model.specs.declared.types.Given.{Given}
 use Rattle.rb_model.specs.Exchanges.{exchange, taken_in, count_given, count_now}
-use Rattle.rb_model.specs.Gives.{give_into, given_in, bytes_given}
+use Rattle.rb_model.specs.Gives.{write_into, given_in, bytes_given}
 use Rattle.rb_core.specs.AtOnce.{Exchanges}
 use Rattle.rb_core.specs.StandsFor.{StandsFor}
 use Rattle.rb_links.specs.Outgoing.{Outgoing}
@@ -32,6 +32,7 @@ abbrev pub ActsNow : {R : Type 0} → (State → ℕ → R × State) → Engine 
 ActsNow step old new result = Acts StandsFor (λ s. step s old.moment) old.core.core new.core.core result
 
 -- Whatever state its core stood for, these events from it were recorded, each with what it gave.
+-- TAPE-4
 abbrev pub RecordsEvents : (State → ℕ → List Event) → Engine → Engine → Type 0
 RecordsEvents events old new = (s : State) → StandsFor old.core.core s → Records (run_entries s (events s old.moment)) old.tape new.tape
 
@@ -39,7 +40,7 @@ RecordsEvents events old new = (s : State) → StandsFor old.core.core s → Rec
 abbrev pub ExchangesNow : ℕ → List ℕ → Engine → Engine → Result Exchanged CoreFault → List ℕ → Type 0
 ExchangesNow id piece old new result room = Exchanges old.moment id piece old.core.core new.core.core result room
 
--- Bytes came on a connection, of whose reply so many were given at once, and that was recorded.
+-- Bytes came on a connection, of whose reply this many were given at once, and that was recorded.
 abbrev pub RecordsExchange : ℕ → List ℕ → ℕ → Engine → Engine → Type 0
 RecordsExchange id piece count old new = RecordsEvents (λ s now. exchange_events now id piece count) old new
 
@@ -47,16 +48,17 @@ RecordsExchange id piece count old new = RecordsEvents (λ s now. exchange_event
 abbrev pub RecordsGiving : ℕ → List ℕ → Engine → Engine → Type 0
 RecordsGiving id given old new = RecordsEvents (λ s now. give_events now id given s) old new
 
--- What a connection owes is given into a room of so many bytes, as far as it fits: these bytes, or a refusal.
-abbrev pub GivesInto : ℕ → ℕ → Engine → Engine → Result (List ℕ) CoreFault → Type 0
-GivesInto id room old new given = ActsNow (λ s now. give_into s now id room) old new given
+-- What a connection owes is given into a room of this many bytes, as far as it fits: these bytes, or a refusal.
+abbrev pub WritesInto : ℕ → ℕ → Engine → Engine → Result (List ℕ) CoreFault → Type 0
+WritesInto id room old new given = ActsNow (λ s now. write_into s now id room) old new given
 
--- So many bytes are given at once of the reply to a record that ends with these bytes, where there is so much room.
+-- This many bytes are given at once of the reply to a record that ends with these bytes, where there is so much room.
 abbrev pub CountsGiven : ℕ → List ℕ → ℕ → Engine → ℕ → Type 0
 CountsGiven id piece room engine count = Shows StandsFor (count_now engine.moment id piece room) engine.core.core count
 
--- Bytes came on a connection. The core had all the free room of the outbox, and what it gave at once stands there, behind
+-- Bytes came on a connection. The core had all the free room of the outbox, and what it gave at once stands there, after
 -- what the outbox held.
+-- OUTBOX-4
 pub record FillsOutbox (id : ℕ) (piece : List ℕ) (old new : Engine) (before after : Outgoing) (result : Result Exchanged CoreFault) : Type 0 where
   pub given : List ℕ
   pub count : count_given result ≡ length given
@@ -64,12 +66,13 @@ pub record FillsOutbox (id : ℕ) (piece : List ℕ) (old new : Engine) (before 
   pub appended : after.bytes ≡ before.bytes ++ given
   pub moment : new.moment ≡ old.moment
 
--- What is owed on a connection is given into all the free room of the outbox, as far as it fits. It stands there, behind what
+-- What is owed on a connection is given into all the free room of the outbox, as far as it fits. It stands there, after what
 -- the outbox held, and is recorded. Where that is no byte, the core stays.
-pub record GivesToOutbox (id : ℕ) (old new : Engine) (before after : Outgoing) (result : Result Given CoreFault) : Type 0 where
+-- OUTBOX-3
+pub record WritesToOutbox (id : ℕ) (old new : Engine) (before after : Outgoing) (result : Result Given CoreFault) : Type 0 where
   pub given : List ℕ
   pub count : given_in result ≡ length given
-  pub acts : GivesInto id before.free old new (bytes_given given result)
+  pub acts : WritesInto id before.free old new (bytes_given given result)
   pub idle : given_in result ≡ 0 → Moves (λ s now. s) old new
   pub appended : after.bytes ≡ before.bytes ++ given
   pub recorded : RecordsGiving id given old new

@@ -6,6 +6,7 @@ use Rattle.rb_address.specs.declared.who.Who.{Who}
 use Rattle.rb_address.specs.Hosts.{plain_host}
 use Rattle.rb_address.specs.Peers.{peer_at}
 
+-- MAPPED-3
 abbrev pub plain_peer : Peer → Peer
 plain_peer peer = peer_at peer.host peer.port
 
@@ -13,5 +14,6 @@ abbrev pub plain_source : Source → Source
 plain_source (Inet peer) = Inet (plain_peer peer)
 plain_source Local = Local
 
+-- MAPPED-3
 abbrev pub plain_who : Who → Who
 plain_who who = record { source = plain_source who.source; asked = plain_host who.asked; trust = who.trust }

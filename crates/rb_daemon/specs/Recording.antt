@@ -27,10 +27,11 @@ abbrev pub exchange_events : ℕ → ℕ → List ℕ → ℕ → List Event
 exchange_events now id piece n = Bytes now id piece ∷ (if n == 0 then [] else given_events now id n)
 
 -- these bytes were given into a room, piece by piece
+-- TAPE-4
 abbrev pub give_events : ℕ → ℕ → List ℕ → State → List Event
 give_events now id given s = piece_events now id (pieces_of (first_piece s id) given)
 
--- the look for a call that is to be sent, and that it was sent
+-- the look for a call that must be sent, and that it was sent
 abbrev pub send_events_of : Option UnsentCall → List Event
 send_events_of None = Unsent ∷ []
 send_events_of (Some unsent) = Unsent ∷ Sent unsent.number ∷ []
@@ -45,6 +46,7 @@ abbrev pub entries_of : {s : State} → IsReached s → List (List ℕ)
 entries_of r = options_text r.limits r.listener r.first_xid r.now ∷ run_entries (opening r.limits r.listener r.first_xid r.now) r.events
 
 -- The tape has all of them while the recording goes on, and the first ones, whole, where it has ended.
+-- TAPE-4
 abbrev pub HasRecorded : {s : State} → IsReached s → Tape → Type 0
 HasRecorded r tape = IsRecordOf (entries_of r) tape
 
@@ -74,6 +76,6 @@ taken_output done = output_or_refusal show_taken (taken_in done)
 abbrev pub end_entry : LentEvent → List ℕ → Told → List ℕ
 end_entry event reply told = entry_text (lent_event event) (show_told reply told)
 
--- the look for a call that is to be sent, which is this one
+-- the look for a call that must be sent, which is this one
 abbrev pub unsent_entry : ℕ → Peer → List ℕ → List ℕ
 unsent_entry number target call = entry_text Unsent (UnsentIs (Some (record { number = number; target = target; call = call })))

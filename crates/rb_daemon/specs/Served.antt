@@ -7,7 +7,7 @@ use Rattle.rb_registry.specs.declared.row.Row.{Row}
 use Rattle.rb_forward.specs.Forwards.{Unsent}
 use Rattle.rb_model.specs.State.{State, are_good}
 use Rattle.rb_model.specs.declared.types.Told.TheVariants.{TcpReady, Datagram, Silent}
-use Rattle.rb_model.specs.declared.types.Expired.TheVariants.{Nothing as NothingDue, Ended, ConnectionClosed}
+use Rattle.rb_model.specs.declared.types.Expired.TheVariants.{Nothing as NothingDue, Ended, ConnectionLost}
 use Rattle.rb_model.specs.declared.types.Told.{Told}
 use Rattle.rb_model.specs.declared.types.Expired.{Expired}
 use Rattle.rb_model.specs.Ending.{forward_reply, expire}
@@ -16,7 +16,7 @@ use Rattle.rb_model.specs.Calls.Outcome.{NoCall, Reply, Forwarded, Silent as Sil
 use Rattle.rb_model.specs.Step.{datagram, unsent_call, sent_call, IsReached}
 use Rattle.rb_model.specs.ChangeLaws.{this_machine, set_bytes}
 use Rattle.rb_record.specs.Tapes.{Tape}
-use Rattle.rb_core.specs.StandsFor.{Held, StandsFor}
+use Rattle.rb_core.specs.StandsFor.{CoreView, StandsFor}
 use Rattle.rb_core.specs.HeldBytes.{IsListener}
 use Rattle.rb_lines.specs.RecordLaws.{HasLine}
 use Rattle.rb_sockets.specs.declared.settings.Settings.{Settings}
@@ -29,7 +29,8 @@ use Rattle.rb_daemon.specs.declared.engine.Due.TheVariants as dues
 
 -- The core stands for a state that a run of events reaches from an opening, and the tape is a record of that run. Its limits
 -- are good, its listener has a port of 16 bits and a short path, and each of its events has a line.
-pub record IsServed (core : Held) (tape : Tape) : Type 0 where
+-- EVENT-1
+pub record IsServed (core : CoreView) (tape : Tape) : Type 0 where
   pub state : State
   pub stands : StandsFor core state
   pub reached : IsReached state
@@ -85,6 +86,7 @@ ready_after (None, s) = (None, s)
 ready_after (Some told, s) = (ready_of told, s)
 
 -- a datagram came where forwarded calls are sent from
+-- SEND-2
 abbrev pub take_forward_reply : Peer → List ℕ → State → ℕ → Option ℕ × State
 take_forward_reply from message s now = ready_after (forward_reply s now from message)
 
@@ -95,16 +97,18 @@ due_when (Some id) = dues.Ready id
 abbrev pub due_after : Expired × State → Due × State
 due_after (NothingDue, s) = (dues.Nothing, s)
 due_after (Ended told, s) = (due_when (ready_of told), s)
-due_after (ConnectionClosed id, s) = (dues.Closed id, s)
+due_after (ConnectionLost id, s) = (dues.Closed id, s)
 
 -- what is due first ends
+-- DUE-4
 abbrev pub expire_due : State → ℕ → Due × State
 expire_due s now = due_after (expire s now)
 
--- The call that is to be sent first was sent, where there is one: its number.
+-- The call that must be sent first was sent, where there is one: its number.
 abbrev pub send_unsent : State → Option Unsent → Option ℕ × State
 send_unsent s None = (None, s)
 send_unsent s (Some unsent) = (Some unsent.number, (sent_call s unsent.number).1)
 
+-- SEND-1
 abbrev pub send_forward : State → ℕ → Option ℕ × State
 send_forward s now = send_unsent s (unsent_call s)

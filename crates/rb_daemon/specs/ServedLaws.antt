@@ -7,7 +7,7 @@ use Rattle.rb_model.specs.Costs.{event_cost, run_cost}
 use Rattle.rb_model.specs.Step.{Event, run, IsReached}
 use Rattle.rb_model.specs.WholeRuns.{args_waiting, whole_bound}
 use Rattle.rb_record.specs.Tapes.{Tape, EndsWithin}
-use Rattle.rb_core.specs.StandsFor.{Held, StandsFor}
+use Rattle.rb_core.specs.StandsFor.{CoreView, StandsFor}
 use Rattle.rb_core.specs.HeldBytes.{held}
 use Rattle.rb_lines.specs.Lines.{longest_input}
 use Rattle.rb_lines.specs.RecordLaws.{HasPath, ReadsAs}
@@ -18,18 +18,18 @@ use Rattle.rb_daemon.specs.Served.{IsServed}
 
 -- What the core holds is no more than the bound of its limits.
 abbrev pub ServedBytesAreBounded : Type 0
-ServedBytesAreBounded = (core : Held) (tape : Tape) → ∥ IsServed core tape ∥₁ → held core ≤ bytes_bound core.setting.limits
+ServedBytesAreBounded = (core : CoreView) (tape : Tape) → ∥ IsServed core tape ∥₁ → held core ≤ bytes_bound core.setting.limits
 
 -- Whatever state that a run reaches the core stands for, no event costs more than its bound there.
 abbrev pub ServedStepsAreBounded : Type 0
 ServedStepsAreBounded =
-    (core : Held) (tape : Tape) → ∥ IsServed core tape ∥₁ → (s : State) → StandsFor core s → IsReached s
+    (core : CoreView) (tape : Tape) → ∥ IsServed core tape ∥₁ → (s : State) → StandsFor core s → IsReached s
     → (event : Event) → event_cost s event ≤ bound_at s event
 
 -- And no run from there costs more than its whole bound.
 abbrev pub ServedRunsAreBounded : Type 0
 ServedRunsAreBounded =
-    (core : Held) (tape : Tape) → ∥ IsServed core tape ∥₁ → (s : State) → StandsFor core s → IsReached s
+    (core : CoreView) (tape : Tape) → ∥ IsServed core tape ∥₁ → (s : State) → StandsFor core s → IsReached s
     → (events : List Event)
     → run_cost s events ≤ whole_bound s.setting.limits (args_waiting s.connections.all) events (run s events)
 
@@ -46,7 +46,7 @@ pub record ReadsBack (s : State) (r : IsReached s) (tape : Tape) : Type 0 where
 -- takes it. Its first line has the options of the run, so `replay --check` finds no difference.
 abbrev pub ServedRecordsAreRead : Type 0
 ServedRecordsAreRead =
-    (core : Held) (tape : Tape) (served : IsServed core tape)
+    (core : CoreView) (tape : Tape) (served : IsServed core tape)
     → HasPath served.reached.listener → tape.limit ≤ longest_input
     → ReadsBack served.state served.reached tape
 
@@ -57,5 +57,5 @@ IsFront entries text = (count : ℕ) × (text ≡ concat (take count entries))
 -- The record of the daemon has the first entries of its run alone, or ends in front of the first one that does not fit.
 abbrev pub ServedRecordsEndFull : Type 0
 ServedRecordsEndFull =
-    (core : Held) (tape : Tape) (served : IsServed core tape)
+    (core : CoreView) (tape : Tape) (served : IsServed core tape)
     → IsFront (entries_of served.reached) tape.text ⊎ EndsWithin tape.limit (entries_of served.reached) [] tape.text

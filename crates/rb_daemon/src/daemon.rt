@@ -123,7 +123,7 @@ impl<'a, R: Clock> Daemon<'a, R> {
         let shown = self.events.iter().count();
         self.serving.begin_turn(self.moments.last());
         for event in &self.events {
-            self.serving.show(event);
+            self.serving.note_ready(event);
         }
         self.serving.answer_calls(host);
         self.serving.take_forward_replies();
@@ -162,8 +162,8 @@ impl<'a, R: Clock> Daemon<'a, R> {
         self.serving.write_log(writer)
     }
 
-    /// Waits until something is ready, or for so many milliseconds, and reads the clock. A wait that showed something is
-    /// over then; else the daemon looks once more behind the clock, so that nothing is unread that came before the moment
+    /// Waits until something is ready, or for this many milliseconds, and reads the clock. A wait that showed something is
+    /// over then; else the daemon looks once more after the clock, so that nothing is unread that came before the moment
     /// of the turn. Returns whether it did. A signal ends a wait too, and is told as one that showed nothing.
     fn wait(&mut self, wait: Option<u64>, follows_wall: bool) -> Result<bool, DaemonFault> {
         if wait != Some(0) {
@@ -179,7 +179,7 @@ impl<'a, R: Clock> Daemon<'a, R> {
         Ok(true)
     }
 
-    /// Takes what is ready, after so many milliseconds at most.
+    /// Takes what is ready, after this many milliseconds at most.
     fn look(&mut self, wait: Option<u64>) -> Result<(), DaemonFault> {
         match self
             .poll
@@ -190,7 +190,7 @@ impl<'a, R: Clock> Daemon<'a, R> {
         }
     }
 
-    /// Where a signal ended a wait of so many milliseconds, which showed nothing, the rest of it passes all the same: waits
+    /// Where a signal ended a wait of this many milliseconds, which showed nothing, the rest of it passes all the same: waits
     /// that always end so take no processor.
     fn sleep_on(&self, wait: Option<u64>) -> Result<(), DaemonFault> {
         let monotonic = match self.clock.monotonic() {
@@ -241,7 +241,7 @@ fn places_of(settings: &Settings<'_>, sockets: &Sockets) -> (usize, Option<Short
     (places, Some(shortage))
 }
 
-/// Sets the rows again that were kept, and begins the statistics anew behind them. Returns the places of those that are not
+/// Sets the rows again that were kept, and begins the statistics anew after them. Returns the places of those that are not
 /// set. An error where an allocation is refused.
 fn restore(alloc: Global, engine: &mut Engine, rows: &[Row]) -> Result<Vec<usize>, AllocError> {
     let mut left_out = Vec::new(alloc);

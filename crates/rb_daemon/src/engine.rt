@@ -16,7 +16,7 @@ use crate::showing::{
     count_given, record_exchange, record_pieces, record_unsent, show_done, show_opened,
 };
 use rb_address::{Source, Who};
-use rb_core::{CoreFault, Exchanged, Expired, Given, Limits, Listener, Metered, Outcome, Told};
+use rb_core::{CoreFault, Exchanged, Expired, Given, Limits, Listener, Metered, Response, Told};
 use rb_keep::{set_call, write_rows};
 use rb_model::{Event, Output};
 use rb_record::{Start, Tape};
@@ -46,9 +46,9 @@ pub(crate) struct Engine {
 pub(crate) enum Answer {
     /// Nothing.
     Nothing,
-    /// It has a reply, which is to be sent.
+    /// It has a reply, which must be sent.
     Reply,
-    /// It is a call that is forwarded, and so is to be sent.
+    /// It is a call that is forwarded, and so must be sent.
     Forwarded,
 }
 
@@ -60,7 +60,7 @@ pub(crate) enum Due {
     Done,
     /// A forwarded call of the connection of this number, which goes on.
     Ready(u64),
-    /// The connection of this number, which is to be closed.
+    /// The connection of this number, which must be closed.
     Closed(u64),
 }
 
@@ -160,7 +160,7 @@ impl Engine {
     ghost use Rattle.rb_model.specs.Sessions.{pending_bytes};
     ghost use Rattle.rb_core.specs.Standings.{StandsThen, StandsBehind};
     ghost use Rattle.rb_daemon.specs.Served.{answer_datagram, change_count, set_again, ready_of, take_forward_reply, expire_due, send_forward};
-    ghost use Rattle.rb_daemon.specs.Moves.{IsNewEngine, Moves, ActsNow, RecordsEvents, RecordsExchange, RecordsGiving, ExchangesNow, GivesInto, CountsGiven};
+    ghost use Rattle.rb_daemon.specs.Moves.{IsNewEngine, Moves, ActsNow, RecordsEvents, RecordsExchange, RecordsGiving, ExchangesNow, WritesInto, CountsGiven};
 
     /// A new core at this moment, which is the first. The xid of the first forwarded call is the low 32 bits of it.
     /// Up to `record_limit` bytes of its events are recorded, and `logged` says of what the log has lines. `BadLimits`
@@ -222,7 +222,7 @@ impl Engine {
         self.tape.write_out(writer)
     }
 
-    /// Tells the log of the call that the last `answer` or `exchange` brought, where that is to be told.
+    /// Tells the log of the call that the last `answer` or `exchange` brought, where that must be told.
     pub(crate) fn tell_call(&mut self)
         ensures core { self.new.core ≡ self.old.core }
         ensures moment { self.new.moment ≡ self.old.moment }
@@ -296,8 +296,8 @@ impl Engine {
 
     /// Gives whole fragments of the reply that a connection owes into the room, as many as fit: the longest is 1,028 bytes.
     /// `Gone` where there is no such connection, or the core has given it up.
-    pub(crate) fn give(&mut self, id: u64, room: &mut [u8]) -> Result<Given, CoreFault>
-        ensures acts { GivesInto
+    pub(crate) fn write_into(&mut self, id: u64, room: &mut [u8]) -> Result<Given, CoreFault>
+        ensures acts { WritesInto
             id (length room.old) self.old self.new (bytes_given room.new result) }
         ensures stands { IfOk result (λ done. StandsThen id self.new.core.core done.standing) }
         ensures fits { given_in result ≤ length room.new }
@@ -307,10 +307,10 @@ impl Engine {
     {
         count_fits(room);
         if !self.tape.is_on() {
-            return self.core.give(self.moment, id, room);
+            return self.core.write_into(self.moment, id, room);
         }
         let first = count_pending(&mut self.core, id);
-        let given = self.core.give(self.moment, id, room)?;
+        let given = self.core.write_into(self.moment, id, room)?;
         if given.count > 0 {
             record_pieces(&mut self.tape, self.moment, id, first, &room[..given.count]);
         }
@@ -361,16 +361,16 @@ impl Engine {
         let who = caller.who;
         let event = Event::Datagram(self.moment, who, content);
         match self.core.datagram(self.moment, who, content) {
-            Outcome::Reply => {
+            Response::Reply => {
                 let reply = self.core.udp_reply();
                 self.tape.record(&event, &Output::Replied(reply));
                 Answer::Reply
             }
-            Outcome::Forwarded => {
+            Response::Forwarded => {
                 self.tape.record(&event, &Output::Forwarded);
                 Answer::Forwarded
             }
-            Outcome::NoCall | Outcome::Silent => {
+            Response::NoCall | Response::Silent => {
                 self.tape.record(&event, &Output::Silent);
                 Answer::Nothing
             }
@@ -461,8 +461,8 @@ impl Engine {
                 self.tape.record(&event, &Output::Nothing);
                 return Due::Nothing;
             }
-            Expired::ConnectionClosed(id) => {
-                self.tape.record(&event, &Output::ConnectionClosed(id));
+            Expired::ConnectionLost(id) => {
+                self.tape.record(&event, &Output::ConnectionLost(id));
                 return Due::Closed(id);
             }
             Expired::Ended(told) => told,
@@ -474,7 +474,7 @@ impl Engine {
         }
     }
 
-    /// Sends the first forwarded call that is to be sent. It counts as sent though no socket takes it.
+    /// Sends the first forwarded call that must be sent. It counts as sent though no socket takes it.
     /// Returns its number, if there was one.
     pub(crate) fn send_forward(&mut self, forwards: &ForwardSockets) -> Option<u64>
         ensures acts { ActsNow send_forward self.old self.new result }

@@ -27,7 +27,7 @@ pub(crate) struct Keeper {
 }
 
 impl Keeper {
-    /// A keeper of at most so many rows in the file at a path, which has what so many changes made. Without a path nothing is
+    /// A keeper of at most this many rows in the file at a path, which has what this many changes made. Without a path nothing is
     /// kept. An error where an allocation is refused.
     pub(crate) fn new(
         alloc: Global,
@@ -83,7 +83,7 @@ impl Keeper {
         file.replace(host, self.text.as_slice())
     }
 
-    /// A write failed. The first one behind a write that went well is to be told.
+    /// A write failed. The first one after a write that went well is to be told.
     fn fail(&mut self, error: io::Error) {
         if !self.has_failed {
             self.fault = Some(error);

@@ -1,7 +1,7 @@
 //! The log: lines of what calls changed, and of those that were refused. It has the memory that a second's lines need
 //! from the start.
 use rb_address::Source;
-use rb_core::{Asked, ChangeAsked, Seen};
+use rb_core::{ChangeAsked, ChangeKind, Seen};
 use rb_forward::sooner;
 use rb_policy::{ChangeLine, LINES, LONGEST_LOG_LINE, LogKind, LogLine, LogRate};
 use rb_sockets::Logged;
@@ -101,7 +101,7 @@ impl Log {
         done
     }
 
-    /// Adds a line, behind how many of its kind were left out before; or counts it, where its second has had enough.
+    /// Adds a line, after how many of its kind were left out before; or counts it, where its second has had enough.
     fn tell(&mut self, now: u64, kind: LogKind, line: &LogLine<'_>) {
         self.tell_left_out(now, kind);
         if self.rate(kind).ask(now) {
@@ -136,7 +136,7 @@ impl Log {
 /// The line of a SET or an UNSET.
 fn line_of(change: &ChangeAsked) -> ChangeLine<'_> {
     ChangeLine {
-        adds: change.asked == Asked::Set,
+        adds: change.asked == ChangeKind::Set,
         prog: change.row.prog,
         vers: change.row.vers,
         netid: change.row.netid.as_slice(),

@@ -1,7 +1,7 @@
 //! Replies that the core gives go into the outbox of their connection.
 ghost use Rattle.std.specs.Prelude.{◌≤◌, length, IfOk};
 ghost use Rattle.rb_model.specs.Exchanges.{count_given};
-ghost use Rattle.rb_daemon.specs.Moves.{FillsOutbox, GivesToOutbox, RecordsExchange};
+ghost use Rattle.rb_daemon.specs.Moves.{FillsOutbox, WritesToOutbox, RecordsExchange};
 
 use crate::engine::Engine;
 use rb_core::{CoreFault, Exchanged, Given};
@@ -25,11 +25,15 @@ pub(crate) fn exchange(
 }
 
 /// Takes over what a connection owes, whole fragments, as many as what is free of the outbox has room for.
-pub(crate) fn give(engine: &mut Engine, id: u64, outbox: &mut Outbox) -> Result<Given, CoreFault>
-    ensures { GivesToOutbox id engine.old engine.new outbox.old outbox.new result }
+pub(crate) fn write_into(
+    engine: &mut Engine,
+    id: u64,
+    outbox: &mut Outbox,
+) -> Result<Given, CoreFault>
+    ensures { WritesToOutbox id engine.old engine.new outbox.old outbox.new result }
 {
     let room = &mut outbox.bytes.as_mut_slice()[outbox.end..];
-    let given = engine.give(id, room)?;
+    let given = engine.write_into(id, room)?;
     outbox.end += given.count;
     Ok(given)
 }

@@ -71,7 +71,7 @@ fn passes(brake: &mut Option<Brake>, now: u64, who: &Who) -> bool {
 }
 
 impl Serving {
-    /// With so many places for connections, and so many datagrams of strangers in a second where that is limited. An
+    /// With this many places for connections, and this many datagrams of strangers in a second where that is limited. An
     /// error where an allocation is refused.
     pub(crate) fn new(
         alloc: Global,
@@ -168,8 +168,8 @@ impl Serving {
     }
 
     /// Notes what an event shows of the daemon's own sockets.
-    pub(crate) fn show(&mut self, event: &Event) {
-        self.sockets.show(event.token());
+    pub(crate) fn note_ready(&mut self, event: &Event) {
+        self.sockets.note_ready(event.token());
     }
 
     /// Serves the connection that an event shows, or leaves it for the last round.
@@ -322,7 +322,7 @@ impl Serving {
         self.take_forward_replies_from(Family::Inet6);
     }
 
-    /// Takes what comes back from targets of a family, where that is to be served.
+    /// Takes what comes back from targets of a family, where that must be served.
     fn take_forward_replies_from(&mut self, family: Family) {
         let forwards = self.sockets.forwards.of(family);
         if !forwards.is_some_and(|forwards| forwards.is_ready()) {
@@ -371,7 +371,7 @@ impl Serving {
     }
 
     /// Ends what is due, unless the turn is behind. `deadline` is the next one as the turn began; `is_fresh` is whether the
-    /// turn looked for events behind its moment, and so many sockets were shown, where no more than `most` can be.
+    /// turn looked for events after its moment, and this many sockets were shown, where no more than `most` can be.
     pub(crate) fn expire(
         &mut self,
         deadline: Option<u64>,
@@ -483,7 +483,7 @@ impl Serving {
         after_all_calls(got_some)
     }
 
-    /// An accept of the listener of this number failed. It is to be told, where none of that listener was.
+    /// An accept of the listener of this number failed. It must be told, where none of that listener was.
     fn note_fault(&mut self, which: usize, error: io::Error) {
         if self.fault.is_none() {
             if let Some(listener) = self.sockets.listeners.get_mut(which) {
@@ -514,7 +514,7 @@ impl Serving {
             }
             Admission::Close => return,
         };
-        self.places.give(key, stream, origin, self.turn.moment);
+        self.places.seat(key, stream, origin, self.turn.moment);
         if let Some(source) = self.sources.get_mut(key) {
             *source = visitor.source();
         }
@@ -553,7 +553,7 @@ impl Serving {
         }
     }
 
-    /// Reads the table of a family, where it is to be looked at for one that waits.
+    /// Reads the table of a family, where it must be looked at for one that waits.
     fn look_in<R: Files>(&mut self, rt: &R, table: Family) {
         if self.places.looks_in(table) {
             let text = self.table.read(rt, table);

@@ -38,7 +38,7 @@ fn show_taken<'a>(done: &Result<Exchanged, CoreFault>) -> Output<&'a [u8]>
     ensures { lent_output result ≡ taken_output done.now }
 {
     match done {
-        Ok(exchanged) if exchanged.taken.closed => Output::TookAndClosed(exchanged.taken.count),
+        Ok(exchanged) if exchanged.taken.lost => Output::TookAndLost(exchanged.taken.count),
         Ok(exchanged) => Output::Took(exchanged.taken.count),
         Err(fault) => Output::Refused(*fault),
     }
@@ -81,8 +81,8 @@ fn record_given(tape: &mut Tape, now: u64, id: u64, given: &[u8])
     tape.record(&Event::Gave(now, id, given.len() as u64), &Output::Done);
 }
 
-/// Records, piece by piece, the look at bytes and that all of them were given. The first piece has so many of them, or all;
-/// each behind it is a fragment. There is at least one byte.
+/// Records, piece by piece, the look at bytes and that all of them were given. The first piece has this many of them, or all;
+/// each after it is a fragment. There is at least one byte.
 pub(crate) fn record_pieces(tape: &mut Tape, now: u64, id: u64, first: usize, given: &[u8])
     requires some { 0 < length given.now }
     requires first { 0 < first }
@@ -95,7 +95,7 @@ pub(crate) fn record_pieces(tape: &mut Tape, now: u64, id: u64, first: usize, gi
     }
 }
 
-/// Records the look for a call that is to be sent, where there is one.
+/// Records the look for a call that must be sent, where there is one.
 pub(crate) fn record_unsent(tape: &mut Tape, number: u64, target: Peer, call: &[u8])
     ensures { Records (unsent_entry number target call.now ∷ []) tape.old tape.new }
 {

@@ -2,7 +2,7 @@
 //! socket.
 use crate::engine::Engine;
 use crate::keeping::Keeper;
-use crate::outbox::{exchange, give};
+use crate::outbox::{exchange, write_into};
 use rb_core::Standing;
 use rb_links::{LONG_ROOM, Link, Outbox, READ_AHEAD, Turn};
 use rb_policy::{Next, SOCKET_CALLS};
@@ -20,7 +20,7 @@ pub(crate) enum Progress {
     Blocked,
     /// It used up its socket calls, or wrote enough.
     CutOff,
-    /// It is to be closed.
+    /// It must be closed.
     Over,
 }
 
@@ -95,7 +95,7 @@ fn make_exchanges(link: &mut Link, engine: &mut Engine, forwards: &ForwardSocket
                 link.note_taken(done.taken.count, done.standing);
             }
             Standing::Owing if link.outbox.has_room() => {
-                let Ok(given) = give(engine, id, &mut link.outbox) else {
+                let Ok(given) = write_into(engine, id, &mut link.outbox) else {
                     return false;
                 };
                 link.note_given(given.count, given.standing);

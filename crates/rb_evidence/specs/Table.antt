@@ -51,6 +51,7 @@ words_text octets = []
 abbrev pub text_at : Host → ℕ → List ℕ
 text_at host port = words_text (octets_of_host host) ++ codes ":" ++ byte_text (port / 256) ++ byte_text (port % 256)
 
+-- EVIDENCE-3
 unfoldable pub endpoint_text : Peer → List ℕ
 endpoint_text p = text_at p.host p.port
 
@@ -68,10 +69,12 @@ the_only [] = None
 the_only (line ∷ []) = Some line
 the_only (line ∷ another ∷ more) = None
 
+-- EVIDENCE-1
 unfoldable pub only_between : List ℕ → List ℕ → List ℕ → Option (List ℕ)
 only_between table theirs ours = the_only (filter (is_between theirs ours) (lines_of table))
 
 -- the uid of a line that is established, 01, and has an inode that is not 0
+-- EVIDENCE-2
 unfoldable pub owner_in : List ℕ → Option ℕ
 owner_in line = do
   uid ← slice_get (fields_of line) 7
@@ -85,9 +88,11 @@ uid_between table theirs ours = do
   line ← only_between table theirs ours
   owner_in line
 
+-- EVIDENCE-1
 unfoldable pub uid_of : List ℕ → Peer → Peer → Option ℕ
 uid_of table theirs ours = uid_between table (endpoint_text theirs) (endpoint_text ours)
 
+-- EVIDENCE-4
 unfoldable pub uid_of_mapped : List ℕ → Peer → Peer → Option ℕ
 uid_of_mapped table theirs ours = uid_between table (mapped_text theirs) (mapped_text ours)
 

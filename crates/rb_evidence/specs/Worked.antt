@@ -10,7 +10,7 @@ of_127_0_0_1 port = record { host = V4 (127 ∷ 0 ∷ 0 ∷ 1 ∷ []); port = po
 abbrev pub of__1 : ℕ → Peer
 of__1 port = record { host = V6 (replicate 15 0 ++ 1 ∷ []); port = port }
 
--- Behind the head: the listener at port 31112, a connection of uid 65534 seen from both ends, one that its client has
+-- After the head: the listener at port 31112, a connection of uid 65534 seen from both ends, one that its client has
 -- closed, one that its client has shut down, and one that waits to be accepted.
 abbrev pub table4 : List ℕ
 table4 = codes "  sl  local_address rem_address   st tx_queue rx_queue tr tm->when retrnsmt   uid  timeout inode                                                     \n"

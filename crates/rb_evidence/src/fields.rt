@@ -2,7 +2,7 @@
 ghost use Rattle.std.specs.Prelude.{◌≡◌, [], ◌∷◌, IfSome, IfNone, slice_get};
 ghost use Rattle.rb_evidence.specs.Table.{IsCutAt, IsWithout, fields_of, is_field, borrowed};
 
-/// What stands before the first such byte, and what stands behind it.
+/// What stands before the first such byte, and what stands after it.
 pub(crate) fn around(text: &[u8], at: u8) -> Option<(&[u8], &[u8])>
     ensures some { IfSome result (λ found. IsCutAt at found.0.now found.1.now text.now) }
     ensures none { IfNone result (IsWithout at text.now) }
@@ -11,7 +11,7 @@ pub(crate) fn around(text: &[u8], at: u8) -> Option<(&[u8], &[u8])>
     Some((&text[..end], &text[end + 1..]))
 }
 
-/// The first field, and what stands behind it.
+/// The first field, and what stands after it.
 fn first_field(text: &[u8]) -> Option<(&[u8], &[u8])>
     ensures some { IfSome result (λ found. fields_of text.now ≡ found.0.now ∷ fields_of found.1.now) }
     ensures none { IfNone result (fields_of text.now ≡ []) }

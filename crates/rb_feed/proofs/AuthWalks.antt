@@ -12,7 +12,7 @@ use Rattle.rb_rpc.specs.Verdict.{body_length, auth_end, is_over_long, is_broken}
 use Rattle.rb_rpc.specs.declared.call.Verdict.TheVariants.{NoCall}
 use Rattle.rb_feed.proofs.ContentWalks.{Walks, Walked, walked, stays_bad, one_in_front}
 
--- ---- at a place, by the bytes behind it
+-- ---- at a place, by the bytes after it
 
 same_ltb : (a b c d : ℕ) → (a < b → c < d) → (c < d → a < b) → ltb a b ≡ ltb c d
 same_ltb a b c d there back = grind (arith, nat_tests)

@@ -25,7 +25,7 @@ words_are_bytes : (ws : List ℕ) → AreBytes (words ws)
 words_are_bytes [] = AreBytes-none
 words_are_bytes (w ∷ ws) = AreBytes-append (number w) (words ws) (AreBytes-number w) (words_are_bytes ws)
 
--- ---- behind the head of a call
+-- ---- after the head of a call
 
 pub record InArguments (fed : List ℕ) (head : CallHead) (place : ℕ) : Type 0 where
   pub is : verdict fed ≡ Call head place
@@ -60,7 +60,7 @@ ends_rightly feed fed h = by_verdict (verdict_at feed.stage) refl
     by_verdict (AuthError xid stat) e = no_call (ap is_call e)
     by_verdict (Call head place) e = e ∙ sym (in_arguments feed fed head place h e).is
 
--- the head of a call ends within so many bytes
+-- the head of a call ends within this many bytes
 ends_by : (feed : CallFeed) (limit : ℕ) → ((head : CallHead) (place : ℕ) → verdict_at feed.stage ≡ Call head place → place ≤ limit) → EndsWithin (verdict_at feed.stage) limit
 ends_by feed limit few = by_verdict (verdict_at feed.stage) refl
   where
@@ -104,7 +104,7 @@ more_arguments feed fed more h e = by_verdict (verdict_at feed.stage) refl e
 
 -- ---- one byte more
 
--- the bytes behind the whole words are a part of one still
+-- the bytes after the whole words are a part of one still
 pub part_more : (feed : CallFeed) (fed : List ℕ) (byte : ℕ) → StandsForCall feed fed → is_call (verdict_at feed.stage) ≡ false → byte < 256 → feed.seen < 3
     → StandsForCall (record { seen = feed.seen + 1; number = feed.number * 256 % 2 ^ 32 + byte; stage = feed.stage }) (fed ++ byte ∷ [])
 part_more feed fed byte h early small seen =
@@ -172,7 +172,7 @@ none_more feed fed byte h early small =
 
 -- ---- the head in a piece
 
--- Behind this front of the piece no arguments have come.
+-- After this front of the piece no arguments have come.
 pub record HasFed (first feed : CallFeed) (front : List ℕ) : Type 0 where
   pub stands : StandsForMore first front feed
   pub none : AreArguments first front []
@@ -192,7 +192,7 @@ byte_fed first feed next bytes n within h stands none = record {
       ∙ append-nil (arguments_of (fed ++ take n bytes)) ∙ h.none fed at;
 }
 
--- What the piece came to: the arguments in it, and the feed behind it.
+-- What the piece came to: the arguments in it, and the feed after it.
 pub record HasFedAll (first feed : CallFeed) (bytes arguments : List ℕ) : Type 0 where
   pub stands : StandsForMore first bytes feed
   pub arguments_are : AreArguments first bytes arguments

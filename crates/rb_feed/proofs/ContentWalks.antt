@@ -8,7 +8,7 @@ use Rattle.rb_xdr.specs.Xdr.{AreNumbers, number, words, residue, are_zero}
 use Rattle.rb_xdr.proofs.Words.{length-number}
 use Rattle.rb_feed.specs.SysFields.{ends_in_zeros}
 
--- `at left a` is before so many more bytes of content; `a` gathers the words that are all content.
+-- `at left a` is before this many more bytes of content; `a` gathers the words that are all content.
 pub record Walks {S A : Type 0} (step : S → ℕ → S) (at : ℕ → A → S) (more : A → ℕ → A) (next : A → S) (bad : S) : Type 0 where
   pub goes : (left : ℕ) (a : A) (w : ℕ)
       → step (at left a) w ≡ cond (ltb 4 left) (at (left - 4) (more a w)) (cond (ends_in_zeros left w) (next (cond (eqb left 4) (more a w) a)) bad)
@@ -27,7 +27,7 @@ pub record Spoilt {S A : Type 0} (step : S → ℕ → S) (at : ℕ → A → S)
   pub zeros : are_zero (slice_range (words ws ++ p) left (left + residue left)) ≡ false
   pub runs : fold step (at left a) ws ≡ bad
 
--- all there: the words that are all content, the bytes of one that is content in part, and the words behind
+-- all there: the words that are all content, the bytes of one that is content in part, and the words after
 pub record Passed {S A : Type 0} (step : S → ℕ → S) (at : ℕ → A → S) (more : A → ℕ → A) (next : A → S) (left : ℕ) (a : A) (ws p : List ℕ) : Type 0 where
   pub front : List ℕ
   pub part : List ℕ

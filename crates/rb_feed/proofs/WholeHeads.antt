@@ -45,7 +45,7 @@ split (a ∷ b ∷ c ∷ d ∷ more) are =
       few = rest.few;
     }
 
--- a verdict that is a call is of the stage behind its head
+-- a verdict that is a call is of the stage after its head
 in_head : (s : Stage) (head : CallHead) (place : ℕ) → verdict_at s ≡ Call head place → s ≡ stages.Arguments head place
 unfolding verdict_at
 in_head (stages.Arguments h p) head place e = cc

@@ -163,7 +163,7 @@ unfolding sys_uid
 sys_uid_is bytes body len s length_is body_is uid =
     ap (λ (n : ℕ). uid_of (body_of_sys (take n (drop 32 bytes)))) length_is ∙ ap (λ (xs : List ℕ). uid_of (body_of_sys xs)) body_is ∙ uid
 
--- nothing changes behind the verifier
+-- nothing changes after the verifier
 ended : (call : CallWords) (claim : Claim) (place : ℕ) (ws : List ℕ) → verdict_at (fold stage_after (stage_behind call claim place) ws) ≡ verdict_at (stage_behind call claim place)
 unfolding stage_after stage_behind
 ended call (claims.Taken cred) place ws = ap verdict_at (stays_bad stage_after (stage_behind call (claims.Taken cred) place) (λ w. refl) ws)

@@ -18,7 +18,8 @@ pub record HasPart (feed : CallFeed) (front : List ℕ) : Type 0 where
   pub seen_is : feed.seen ≡ length front
   pub number_is : feed.number ≡ number_so_far front
 
--- The feed was fed these bytes: whole words, and the front of one more, or behind the head of a call any bytes.
+-- The feed was fed these bytes: whole words, and the front of one more, or after the head of a call any bytes.
+-- FEED-1
 pub record StandsForCall (feed : CallFeed) (fed : List ℕ) : Type 0 where
   pub numbers : List ℕ
   pub front : List ℕ
@@ -29,7 +30,7 @@ pub record StandsForCall (feed : CallFeed) (fed : List ℕ) : Type 0 where
 
 -- ---- calls and what follows their heads
 
--- the bytes behind the head of a call
+-- the bytes after the head of a call
 abbrev pub behind_head : Verdict → List ℕ → List ℕ
 behind_head (verdicts.Call head place) bytes = drop place bytes
 behind_head verdicts.NoCall bytes = []

@@ -10,11 +10,12 @@ use Rattle.rb_feed.specs.Feeds.{StandsForCall, arguments_of}
 
 -- ---- what is said of the bytes that a feed was fed, and of more
 
--- Behind more bytes this feed stands for all of them.
+-- After more bytes this feed stands for all of them.
 abbrev pub StandsForMore : CallFeed → List ℕ → CallFeed → Type 0
 StandsForMore feed more behind = (fed : List ℕ) → StandsForCall feed fed → StandsForCall behind (fed ++ more)
 
 -- Of more bytes, these are the call's arguments.
+-- FEED-2
 abbrev pub AreArguments : CallFeed → List ℕ → List ℕ → Type 0
 AreArguments feed more arguments =
     (fed : List ℕ) → StandsForCall feed fed → arguments_of (fed ++ more) ≡ arguments_of fed ++ arguments

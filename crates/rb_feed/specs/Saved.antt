@@ -52,5 +52,6 @@ stage_saved_as ws =
 
 -- The feed that sixteen words say, whatever they are: how many bytes of the next word have come, the number that they
 -- spell, and the stage. The last three say nothing.
+-- FEED-3
 unfoldable pub feed_saved_as : List ℕ → CallFeed
 feed_saved_as ws = record { seen = slice_index ws 0 % 256; number = slice_index ws 1; stage = stage_saved_as (slice_range ws 2 13) }

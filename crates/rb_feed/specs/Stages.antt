@@ -38,14 +38,14 @@ claim_of flavor field =
 
 -- ---- one more word
 
--- behind the credential's length word
+-- after the credential's length word
 unfoldable pub credential_before : CallWords → ℕ → ℕ → Stage
 credential_before call flavor len =
     if nat_lt max_auth_body len then stages.BadCredential call.xid
     else if len == 0 then stages.VerifierFlavor call (claim_of flavor fields.Stamp) len
     else stages.CredentialBody call flavor len len fields.Stamp
 
--- behind a word of the credential's body, of which so many bytes were to come
+-- after a word of the credential's body, of which this many bytes were to come
 unfoldable pub credential_after : CallWords → ℕ → ℕ → ℕ → SysField → ℕ → Stage
 credential_after call flavor len left field w =
     if nat_lt 4 left then stages.CredentialBody call flavor len (left - 4) (field_after field w)
@@ -55,7 +55,7 @@ credential_after call flavor len left field w =
 abbrev pub head_of : CallWords → Credential → CallHead
 head_of call cred = record { xid = call.xid; prog = call.prog; vers = call.vers; proc = call.proc; cred = cred }
 
--- behind the verifier, where the arguments begin at this place
+-- after the verifier, where the arguments begin at this place
 unfoldable pub stage_behind : CallWords → Claim → ℕ → Stage
 stage_behind call (claims.Taken cred) place = stages.Arguments (head_of call cred) place
 stage_behind call claims.Unreadable place = stages.BadCredential call.xid
@@ -65,14 +65,14 @@ stage_behind call claims.Rejected place = stages.RejectedCredential call.xid
 abbrev pub arguments_at : ℕ → ℕ → ℕ
 arguments_at len verifier_len = 40 + len + residue len + verifier_len + residue verifier_len
 
--- behind the verifier's length word
+-- after the verifier's length word
 unfoldable pub verifier_before : CallWords → Claim → ℕ → ℕ → Stage
 verifier_before call claim len verifier_len =
     if nat_lt max_auth_body verifier_len then stages.BadVerifier call.xid
     else if verifier_len == 0 then stage_behind call claim (arguments_at len verifier_len)
     else stages.VerifierBody call claim (arguments_at len verifier_len) verifier_len
 
--- behind a word of the verifier's body, of which so many bytes were to come
+-- after a word of the verifier's body, of which this many bytes were to come
 unfoldable pub verifier_after : CallWords → Claim → ℕ → ℕ → ℕ → Stage
 verifier_after call claim place left w =
     if nat_lt 4 left then stages.VerifierBody call claim place (left - 4)

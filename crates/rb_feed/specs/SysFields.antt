@@ -5,29 +5,29 @@ use Rattle.rb_rpc.specs.Messages.{max_machine, max_gids}
 use Rattle.rb_feed.specs.declared.sys.SysField.TheVariants as fields
 pub use Rattle.rb_feed.specs.declared.sys.SysField.{SysField}
 
--- The bytes of a word behind so many of them are zeros, as residual bytes are (RFC 4506 section 3).
+-- The bytes of a word after this many of them are zeros, as residual bytes are (RFC 4506 section 3).
 unfoldable pub ends_in_zeros : ℕ → ℕ → Bool
 ends_in_zeros content w = are_zero (drop content (number w))
 
--- behind the length word of machinename
+-- after the length word of machinename
 unfoldable pub name_before : ℕ → SysField
 name_before len =
     if nat_lt max_machine len then fields.Unreadable
     else if len == 0 then fields.Uid
     else fields.Name len
 
--- behind a word of machinename, of which so many bytes were to come
+-- after a word of machinename, of which this many bytes were to come
 unfoldable pub name_after : ℕ → ℕ → SysField
 name_after left w =
     if nat_lt 4 left then fields.Name (left - 4)
     else if ends_in_zeros left w then fields.Uid
     else fields.Unreadable
 
--- before so many gids
+-- before this many gids
 unfoldable pub gids_before : ℕ → ℕ → SysField
 gids_before uid left = if left == 0 then fields.Whole uid else fields.Gids uid left
 
--- behind one more word: stamp, machinename<255>, uid, gid, gids<16>
+-- after one more word: stamp, machinename<255>, uid, gid, gids<16>
 unfoldable pub field_after : SysField → ℕ → SysField
 field_after fields.Stamp w = fields.NameLength
 field_after fields.NameLength w = name_before w

@@ -8,7 +8,7 @@ use rb_rpc::{Verdict, read_call};
 /// and of credentials and verifiers at most the three bytes of a word whose fourth has not come.
 #[derive(Clone, Copy, PartialEq, Eq, Debug)]
 pub struct CallFeed {
-    /// So many bytes of the next word have come, and they spell this number as far as they go.
+    /// The number of bytes of the next word that have come; they spell this number as far as they go.
     seen: u8,
     number: u32,
     stage: Stage,

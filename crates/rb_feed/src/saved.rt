@@ -45,9 +45,9 @@ fn field_saved_as(number: u32, uid: u32, left: u32) -> SysField
     }
 }
 
-/// A flavor and the field behind its body that claim as much.
+/// A flavor and the field after its body that claim as much.
 #[tactic(auto, unfolding(crate::specs::Stages::claim_of))]
-fn claimed(claim: Claim) -> (u32, SysField)
+fn claim_words(claim: Claim) -> (u32, SysField)
     ensures { claim_of result.0 result.1 ≡ claim }
 {
     match claim {
@@ -60,7 +60,7 @@ fn claimed(claim: Claim) -> (u32, SysField)
     }
 }
 
-/// The words of a stage behind the procedure's number.
+/// The words of a stage after the procedure's number.
 #[tactic(auto, unfolding(crate::specs::Saved::stage_saved_as))]
 fn parts(number: u32, call: CallWords, cred: (u32, SysField), len: u32, left: u16) -> StageWords
     ensures { stage_saved_as result ≡ stage_of number call cred.0 len left cred.1 }
@@ -95,17 +95,17 @@ pub(crate) fn stage_words(stage: Stage) -> StageWords
             field,
         } => { parts(8, call, (flavor, field), u32::from(len), left) }
         Stage::VerifierFlavor { call, claim, len } => {
-            parts(9, call, claimed(claim), u32::from(len), 0)
+            parts(9, call, claim_words(claim), u32::from(len), 0)
         }
         Stage::VerifierLength { call, claim, len } => {
-            parts(10, call, claimed(claim), u32::from(len), 0)
+            parts(10, call, claim_words(claim), u32::from(len), 0)
         }
         Stage::VerifierBody {
             call,
             claim,
             place,
             left,
-        } => { parts(11, call, claimed(claim), place, left) }
+        } => { parts(11, call, claim_words(claim), place, left) }
         Stage::Arguments { head, place } => {
             let call = CallWords {
                 xid: head.xid,
@@ -114,7 +114,7 @@ pub(crate) fn stage_words(stage: Stage) -> StageWords
                 proc: head.proc,
             };
             let claim = Claim::Taken { cred: head.cred };
-            parts(12, call, claimed(claim), place, 0)
+            parts(12, call, claim_words(claim), place, 0)
         }
         Stage::NoCall => [13, 0, 0, 0, 0, 0, 0, 0, 0, 0, 0],
         Stage::RpcMismatch { xid } => [14, xid, 0, 0, 0, 0, 0, 0, 0, 0, 0],

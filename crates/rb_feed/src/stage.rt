@@ -19,7 +19,7 @@ pub(crate) struct CallWords {
     pub(crate) proc: u32,
 }
 
-/// What a whole credential says. It's judged behind the verifier alone.
+/// What a whole credential says. It's judged after the verifier alone.
 #[derive(Clone, Copy, PartialEq, Eq, Debug)]
 pub(crate) enum Claim {
     /// AUTH_NONE, or an AUTH_SYS that was read.
@@ -60,7 +60,7 @@ pub(crate) enum Stage {
         call: CallWords,
         flavor: u32,
     },
-    /// So many more bytes of the credential's body. It's read as one of AUTH_SYS.
+    /// The number of bytes to come of the credential's body. It's read as one of AUTH_SYS.
     CredentialBody {
         call: CallWords,
         flavor: u32,
@@ -78,7 +78,7 @@ pub(crate) enum Stage {
         claim: Claim,
         len: u16,
     },
-    /// So many more bytes of the verifier's body. The arguments begin at the place.
+    /// The number of bytes to come of the verifier's body. The arguments begin at the place.
     VerifierBody {
         call: CallWords,
         claim: Claim,
@@ -160,7 +160,7 @@ fn layout_of_words(claim: &Claim, call: &CallWords) {
     let _: [u32; 4] = [xid, prog, vers, proc];
 }
 
-/// Behind the message type.
+/// After the message type.
 #[tactic(auto, unfolding(crate::specs::Stages::stage_after))]
 fn message_type_after(xid: u32, word: u32) -> Stage
     ensures { result ≡ stage_after (MessageType xid) word }
@@ -172,7 +172,7 @@ fn message_type_after(xid: u32, word: u32) -> Stage
     }
 }
 
-/// Behind the version of RPC.
+/// After the version of RPC.
 #[tactic(auto, unfolding(crate::specs::Stages::stage_after))]
 fn rpc_version_after(xid: u32, word: u32) -> Stage
     ensures { result ≡ stage_after (RpcVersion xid) word }
@@ -184,7 +184,7 @@ fn rpc_version_after(xid: u32, word: u32) -> Stage
     }
 }
 
-/// Behind the procedure.
+/// After the procedure.
 #[tactic(auto, unfolding(crate::specs::Stages::stage_after))]
 fn proc_after(xid: u32, prog: u32, vers: u32, proc: u32) -> Stage
     ensures { result ≡ stage_after (Proc xid prog vers) proc }
@@ -219,7 +219,7 @@ pub(crate) fn claim_of(flavor: u32, field: SysField) -> Claim
     }
 }
 
-/// Behind the credential's length word.
+/// After the credential's length word.
 #[tactic(auto, unfolding(crate::specs::Stages::credential_before))]
 fn credential_before(call: CallWords, flavor: u32, len: u32) -> Stage
     ensures { result ≡ credential_before call flavor len }
@@ -243,7 +243,7 @@ fn credential_before(call: CallWords, flavor: u32, len: u32) -> Stage
     }
 }
 
-/// Behind a word of the credential's body, of which so many bytes were to come.
+/// After a word of the credential's body, of which this many bytes were to come.
 #[tactic(auto, unfolding(crate::specs::Stages::credential_after))]
 fn credential_after(
     call: CallWords,
@@ -290,7 +290,7 @@ fn head_of(call: CallWords, cred: Credential) -> CallHead
     }
 }
 
-/// Behind the verifier, where the arguments begin at this place.
+/// After the verifier, where the arguments begin at this place.
 #[tactic(auto, unfolding(crate::specs::Stages::stage_behind))]
 pub(crate) fn stage_behind(call: CallWords, claim: Claim, place: u32) -> Stage
     ensures { result ≡ stage_behind call claim place }
@@ -306,13 +306,13 @@ pub(crate) fn stage_behind(call: CallWords, claim: Claim, place: u32) -> Stage
 }
 
 /// With residual bytes.
-fn padded(len: u16) -> u32
+fn padded_length(len: u16) -> u32
     ensures { result ≡ len + residue len }
 {
     u32::from(len) + residue(len as usize) as u32
 }
 
-/// Behind the verifier's length word.
+/// After the verifier's length word.
 #[tactic(auto, unfolding(crate::specs::Stages::verifier_before))]
 fn verifier_before(call: CallWords, claim: Claim, len: u16, verifier_len: u32) -> Stage
     ensures { result ≡ verifier_before call claim len verifier_len }
@@ -321,7 +321,7 @@ fn verifier_before(call: CallWords, claim: Claim, len: u16, verifier_len: u32) -
         return Stage::BadVerifier { xid: call.xid };
     }
     let verifier_len = verifier_len as u16;
-    let place = 40 + padded(len) + padded(verifier_len);
+    let place = 40 + padded_length(len) + padded_length(verifier_len);
     if verifier_len == 0 {
         return stage_behind(call, claim, place);
     }
@@ -333,7 +333,7 @@ fn verifier_before(call: CallWords, claim: Claim, len: u16, verifier_len: u32) -
     }
 }
 
-/// Behind a word of the verifier's body, of which so many bytes were to come.
+/// After a word of the verifier's body, of which this many bytes were to come.
 #[tactic(auto, unfolding(crate::specs::Stages::verifier_after))]
 fn verifier_after(call: CallWords, claim: Claim, place: u32, left: u16, word: u32) -> Stage
     ensures { result ≡ verifier_after call claim place left word }
@@ -357,7 +357,7 @@ impl Stage {
     ghost use Rattle.std.specs.Prelude.{◌≡◌};
     ghost use Rattle.rb_feed.specs.Stages.{stage_after, verdict_at, is_call};
 
-    /// Behind one more word.
+    /// After one more word.
     #[tactic(auto, unfolding(crate::specs::Stages::stage_after))]
     pub(crate) fn after(self, word: u32) -> Stage
         ensures { result ≡ stage_after self word }

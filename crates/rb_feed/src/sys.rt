@@ -11,13 +11,13 @@ pub(crate) enum SysField {
     Stamp,
     /// The length word of machinename.
     NameLength,
-    /// So many more bytes of machinename, and its residual bytes.
+    /// The number of bytes to come of machinename and its residual bytes.
     Name { left: u32 },
     Uid,
     Gid { uid: u32 },
     /// The length word of gids.
     GidCount { uid: u32 },
-    /// So many more gids.
+    /// The number of gids to come.
     Gids { uid: u32, left: u32 },
     /// None: every field was read, and what follows them counts for nothing.
     Whole { uid: u32 },
@@ -41,7 +41,7 @@ fn layout(field: &SysField) {
     }
 }
 
-/// Whether the bytes of a word behind so many of them are zeros, as residual bytes are (RFC 4506
+/// Whether the bytes of a word after this many of them are zeros, as residual bytes are (RFC 4506
 /// section 3).
 #[tactic(auto, unfolding(crate::specs::SysFields::ends_in_zeros, rb_xdr::specs::Xdr::number))]
 pub(crate) fn ends_in_zeros(content: usize, word: u32) -> bool
@@ -52,7 +52,7 @@ pub(crate) fn ends_in_zeros(content: usize, word: u32) -> bool
     are_zero(&bytes[content..])
 }
 
-/// Behind the length word of machinename.
+/// After the length word of machinename.
 #[tactic(auto, unfolding(crate::specs::SysFields::name_before))]
 fn name_before(len: u32) -> SysField
     ensures { result ≡ name_before len }
@@ -66,7 +66,7 @@ fn name_before(len: u32) -> SysField
     }
 }
 
-/// Before so many gids.
+/// Before this many gids.
 #[tactic(auto, unfolding(crate::specs::SysFields::gids_before))]
 fn gids_before(uid: u32, left: u32) -> SysField
     ensures { result ≡ gids_before uid left }
@@ -78,7 +78,7 @@ fn gids_before(uid: u32, left: u32) -> SysField
     }
 }
 
-/// Behind a word of machinename, of which so many bytes were to come.
+/// After a word of machinename, of which this many bytes were to come.
 #[tactic(auto, unfolding(crate::specs::SysFields::name_after))]
 fn name_after(left: u32, word: u32) -> SysField
     ensures { result ≡ name_after left word }
@@ -96,7 +96,7 @@ impl SysField {
     ghost use Rattle.std.specs.Prelude.{◌≡◌};
     ghost use Rattle.rb_feed.specs.SysFields.{field_after};
 
-    /// Behind one more word.
+    /// After one more word.
     #[tactic(auto, unfolding(crate::specs::SysFields::field_after))]
     pub(crate) fn after(self, word: u32) -> SysField
         ensures { result ≡ field_after self word }

@@ -8,12 +8,14 @@ use Rattle.rb_policy.specs.declared.keep_file.KeepState.{KeepState}
 use Rattle.rb_policy.specs.declared.keep_file.KeepState.TheVariants as keeps
 
 -- A file is plain or of another kind, and is there.
+-- FILE-3
 abbrev pub IsRecordState : FileType → RecordState → Type 0
 IsRecordState kind records.Absent = ⊥
 IsRecordState kind records.Plain = IsFile kind
 IsRecordState kind records.Other = ¬ IsFile kind
 
 -- The same, and of a plain one the mode is told, of which the twelve bits of permission count.
+-- FILE-3
 abbrev pub IsKeepState : FileType → ℕ → KeepState → Type 0
 IsKeepState kind mode keeps.Absent = ⊥
 IsKeepState kind mode (keeps.Plain writers) = IsFile kind × (writers.mode ≡ bit_and mode 0o7777)

@@ -20,7 +20,7 @@ pub struct KeptFile {
 impl KeptFile {
     ghost use Rattle.std.specs.Prelude.{◌≡◌, ◌++◌, string_bytes, codes, IfOk};
 
-    /// The file at the path, whose new text is written beside it, at the path with `.new` behind it. It takes the
+    /// The file at the path, whose new text is written beside it, at the path with `.new` after it. It takes the
     /// memory for both paths, and looks at no file. An error where the allocation is refused.
     pub fn new(alloc: Global, path: &str) -> Result<KeptFile, AllocError>
         ensures path { IfOk result (λ file. string_bytes file.path ≡ path.now) }

@@ -101,7 +101,7 @@ fn believe(found: &Metadata) -> Result<(), KeptFileFault> {
     }
 }
 
-/// Said behind the path of the file.
+/// Said after the path of the file.
 impl Display for KeptFileFault {
     fn fmt<W: fmt::Write>(&self, f: &mut Formatter<W>) -> fmt::Result {
         match self {

@@ -9,7 +9,7 @@ use Rattle.rb_address.specs.declared.who.Who.{Who}
 use Rattle.rb_rpc.specs.declared.caller.Caller.{Caller}
 use Rattle.rb_rpc.specs.declared.caller.Caller.TheVariants.{Tcp, Udp}
 use Rattle.rb_forward.specs.declared.entries.Slot.{Slot}
-use Rattle.rb_forward.specs.declared.entries.Wanted.TheVariants as wanted
+use Rattle.rb_forward.specs.declared.entries.Sought.TheVariants as wanted
 use Rattle.rb_forward.specs.Forwards.{is_connection, without_first, change_first}
 use Rattle.rb_forward.specs.Table.{is_waiting, IsNew, AreOfDistinctCallers, is_wanted_slot}
 

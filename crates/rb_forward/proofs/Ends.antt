@@ -10,7 +10,7 @@ use Rattle.rb_address.specs.Hosts.{is_same_host}
 use Rattle.rb_address.proofs.HostLaws.{same_host_is, same_host_of}
 use Rattle.rb_rpc.specs.declared.caller.Caller.{Caller}
 use Rattle.rb_rpc.specs.declared.caller.Caller.TheVariants.{Tcp, Udp}
-use Rattle.rb_forward.specs.declared.types.Outcome.{Outcome}
+use Rattle.rb_forward.specs.declared.types.ForwardEnd.{ForwardEnd}
 use Rattle.rb_forward.specs.Forwards.{Entry, Forwards, xid_of, is_same_peer, is_answered, counts_for, is_connection, without_first, ended_by, with_end}
 use Rattle.rb_forward.specs.Ends.{NoneIs, IsFirst, EndsFirst, IsReplyTo, IsOf}
 use Rattle.rb_forward.proofs.Tables.{some_is, none_some, all_stay}
@@ -53,7 +53,7 @@ module _ (Is : Entry → Type 0) (test : Entry → Bool) (means : (e : Entry) �
             rest_are = rw t (ap (λ (ys : List Entry). x ∷ ys) l.rest_are);
           }
 
-  pub ends_first : (outcome : Outcome) (f : Forwards) → EndsFirst Is outcome f (with_end test outcome f).0 (with_end test outcome f).1
+  pub ends_first : (outcome : ForwardEnd) (f : Forwards) → EndsFirst Is outcome f (with_end test outcome f).0 (with_end test outcome f).1
   ends_first outcome f = by_found (find test f.all) refl
     where
       by_found : (o : Option Entry) → find test f.all ≡ o → EndsFirst Is outcome f (option_map (ended_by outcome) o) (record f { all = without_first test f.all })

@@ -12,10 +12,10 @@ use Rattle.rb_rpc.specs.CallBytes.{call_bytes}
 use Rattle.rb_address.specs.declared.peer.Peer.{Peer}
 use Rattle.rb_rpc.specs.declared.call.CallHead.{CallHead}
 use Rattle.rb_forward.specs.declared.types.Forward.{Forward}
-use Rattle.rb_forward.specs.declared.types.Outcome.{Outcome}
+use Rattle.rb_forward.specs.declared.types.ForwardEnd.{ForwardEnd}
 use Rattle.rb_forward.specs.declared.entries.Slot.{Slot}
-use Rattle.rb_forward.specs.declared.entries.Wanted.{Wanted}
-use Rattle.rb_forward.specs.declared.entries.Wanted.TheVariants as wanted
+use Rattle.rb_forward.specs.declared.entries.Sought.{Sought}
+use Rattle.rb_forward.specs.declared.entries.Sought.TheVariants as wanted
 use Rattle.rb_forward.specs.Forwards.{Entry, Forwards, is_answered, is_unsent, as_sent, without_first, ended_by, with_end, reply, counts_for, outcome_of, xid_of, head_of, question, held_call, held, unsent, unsent_call, can_be_sent, sent, can_start, with_next_entry, next_entry, later, patience, greatest_number, entry_charge}
 use Rattle.rb_forward.specs.Table.{without_call, is_wanted_slot, is_wanted, wanted_slot}
 use Rattle.rb_forward.specs.StandsFor.{StandsForEntry, held_in}
@@ -23,7 +23,7 @@ use Rattle.rb_forward.proofs.Tables.{none_some, IsFirst, is_first, nothing_found
 use Rattle.std.proofs.lemmas.Map.Entries.{length-values_of}
 
 -- an entry is wanted as its slot is
-pub wanted_alike : (first_xid : ℕ) (sought : Wanted) (slot : Slot) (e : Entry) → StandsForEntry first_xid slot e → is_wanted_slot sought slot ≡ is_wanted first_xid sought e
+pub wanted_alike : (first_xid : ℕ) (sought : Sought) (slot : Slot) (e : Entry) → StandsForEntry first_xid slot e → is_wanted_slot sought slot ≡ is_wanted first_xid sought e
 unfolding is_wanted_slot is_wanted is_answered
 wanted_alike first_xid wanted.AnyUnsent slot e h = rw h.sent refl
 wanted_alike first_xid (wanted.Unsent number) slot e h = rw (h.number, h.sent) refl
@@ -31,7 +31,7 @@ wanted_alike first_xid (wanted.Answered xid from clock) slot e h = rw (h.sent, h
 wanted_alike first_xid (wanted.Due clock) slot e h = rw h.deadline refl
 wanted_alike first_xid (wanted.OfConnection id) slot e h = rw h.forward refl
 
-module _ (sought : Wanted) (slots : List (ℕ × Slot)) where
+module _ (sought : Sought) (slots : List (ℕ × Slot)) where
   pub first_wanted : (k : ℕ) → HasDistinctKeys slots → option_map (λ e. e.0) (wanted_slot sought slots) ≡ Some k → IsFirst (is_wanted_slot sought) slots k
   unfolding wanted_slot
   first_wanted k d h = is_first (is_wanted_slot sought) slots k d h
@@ -50,7 +50,7 @@ module _ (sought : Wanted) (slots : List (ℕ × Slot)) where
   pub found_first : (k : ℕ) (slot : Slot) → HasDistinctKeys slots → option_map (λ e. e.0) (wanted_slot sought slots) ≡ Some k → value_at slots k ≡ Some slot → find (is_wanted_slot sought) (values_of slots) ≡ Some slot
   found_first k slot d h v = let f = first_wanted k d h in f.found ∙ sym f.here ∙ v
 
-module _ (first_xid : ℕ) (sought : Wanted) (slots : List (ℕ × Slot)) (all : List Entry) (z : AllZip (StandsForEntry first_xid) (values_of slots) all) where
+module _ (first_xid : ℕ) (sought : Sought) (slots : List (ℕ × Slot)) (all : List Entry) (z : AllZip (StandsForEntry first_xid) (values_of slots) all) where
   pub no_entry : option_map (λ e. e.0) (wanted_slot sought slots) ≡ None → find (is_wanted first_xid sought) all ≡ None
   no_entry h = none_beside (StandsForEntry first_xid) (is_wanted_slot sought) (is_wanted first_xid sought) (wanted_alike first_xid sought) (values_of slots) all z (none_wanted sought slots h)
 
@@ -134,7 +134,7 @@ module _ (first_xid number : ℕ) (slots : List (ℕ × Slot)) (f : Forwards) (z
 
 -- ---- what ends
 
-module _ (first_xid : ℕ) (sought : Wanted) (outcome : Outcome) (slots : List (ℕ × Slot)) (f : Forwards) (z : AllZip (StandsForEntry first_xid) (values_of slots) f.all) where
+module _ (first_xid : ℕ) (sought : Sought) (outcome : ForwardEnd) (slots : List (ℕ × Slot)) (f : Forwards) (z : AllZip (StandsForEntry first_xid) (values_of slots) f.all) where
   pub nothing_ends : option_map (λ e. e.0) (wanted_slot sought slots) ≡ None → with_end (is_wanted first_xid sought) outcome f ≡ (None, f)
   nothing_ends h =
       let e = no_entry first_xid sought slots f.all z h in

@@ -14,7 +14,7 @@ use Rattle.rb_forward.specs.StandsFor.{longest_forwarded_call}
 use Rattle.std.specs.Prelude.{option_map, find}
 use Rattle.rb_xdr.specs.Pool.{HasDistinctKeys, value_at, without, with_value}
 use Rattle.rb_xdr.proofs.PoolLemmas.{All-value_at, All-with_value, All-without}
-use Rattle.rb_forward.specs.declared.entries.Wanted.{Wanted}
+use Rattle.rb_forward.specs.declared.entries.Sought.{Sought}
 use Rattle.std.proofs.lemmas.Map.Entries.{length-values_of}
 use Rattle.rb_xdr.proofs.PoolLemmas.{distinct-without, length-without, distinct-with, length-with}
 use Rattle.rb_forward.proofs.Tables.{some_is, sum-without, sum-changed}
@@ -47,7 +47,7 @@ module _ (slots : Pool Slot) (spare : Pool Kept) (cap held : ℕ) (t : IsTable s
       let h = held_few in
       omega (arith, h, room, few, t.few)
 
-  module _ (sought : Wanted) (k : ℕ) (slot : Slot) (h : option_map (λ e. e.0) (wanted_slot sought slots.entries) ≡ Some k) (v : value_at slots.entries k ≡ Some slot) where
+  module _ (sought : Sought) (k : ℕ) (slot : Slot) (h : option_map (λ e. e.0) (wanted_slot sought slots.entries) ≡ Some k) (v : value_at slots.entries k ≡ Some slot) where
     pub its_buffer : IsBuffer slots.tie slot.call
     its_buffer = All-value_at (HasBuffer slots.tie) slots.entries k slot t.buffers v
 
@@ -103,7 +103,7 @@ module _ (slots : Pool Slot) (spare : Pool Kept) (cap held : ℕ) (t : IsTable s
           is_held = rw first.taken_out (omega (arith, sum, t.is_held));
         }
 
-  -- one more slot stands behind the others, in a buffer that was spare
+  -- one more slot stands after the others, in a buffer that was spare
   pub table_started : (count : ℕ) (new : Pool Slot) (now : Pool Kept) (slot : Slot) → values_of new.entries ≡ values_of slots.entries ++ slot ∷ [] → length new.entries ≡ length slots.entries + 1
       → HasDistinctKeys new.entries → new.cap ≡ slots.cap → new.tie ≡ slots.tie → length spare.entries ≡ length now.entries + 1 → HasDistinctKeys now.entries → now.cap ≡ spare.cap → now.tie ≡ spare.tie
       → All (IsSpare slots.tie) (values_of now.entries) → IsBuffer slots.tie slot.call → length slot.call.bytes ≡ 40 + count → IsNew slot.forward.caller (values_of slots.entries)

@@ -3,7 +3,7 @@ use Rattle.std.proofs.Common.{◌≡◌, ℕ, ◌+◌, ◌-◌, ◌%◌, ◌^◌
 use Rattle.std.proofs.Math.Nat.{add-mod-mod}
 use Rattle.rb_forward.specs.Forwards.{xid_of}
 
--- the xid behind so many entries
+-- the xid after this many entries
 pub xid-next : (first given : ℕ) → (first + given % 2 ^ 32) % 2 ^ 32 ≡ xid_of first (given + 1)
 unfolding xid_of
 xid-next first given =

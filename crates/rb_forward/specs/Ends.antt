@@ -4,8 +4,8 @@ use Rattle.rb_xdr.specs.Xdr.{word}
 use Rattle.rb_address.specs.declared.peer.Peer.{Peer}
 use Rattle.rb_rpc.specs.declared.caller.Caller.{Caller}
 use Rattle.rb_rpc.specs.declared.caller.Caller.TheVariants.{Tcp, Udp}
-use Rattle.rb_forward.specs.declared.types.Outcome.{Outcome}
-use Rattle.rb_forward.specs.declared.types.Outcome.TheVariants.{Failed, Dropped}
+use Rattle.rb_forward.specs.declared.types.ForwardEnd.{ForwardEnd}
+use Rattle.rb_forward.specs.declared.types.ForwardEnd.TheVariants.{Failed, Dropped}
 use Rattle.rb_forward.specs.declared.types.Ended.{Ended}
 use Rattle.rb_forward.specs.Forwards.{Entry, Forwards, xid_of, outcome_of, ended_by, reply, due, drop_caller}
 
@@ -24,12 +24,13 @@ pub record IsFirst (Is : Entry → Type 0) (all : List Entry) (e : Entry) (rest 
   pub rest_are : rest ≡ before ++ behind
 
 -- What is told and left: the first such entry has ended so, and the others stay; where there is none, nothing changes.
-abbrev pub EndsFirst : (Entry → Type 0) → Outcome → Forwards → Option Ended → Forwards → Type 0
+abbrev pub EndsFirst : (Entry → Type 0) → ForwardEnd → Forwards → Option Ended → Forwards → Type 0
 EndsFirst Is outcome f None left = NoneIs Is f.all × (left ≡ f)
 EndsFirst Is outcome f (Some ended) left =
     (e : Entry) × IsFirst Is f.all e left.all × (ended ≡ ended_by outcome e) × (left.next ≡ f.next)
 
 -- a datagram from there, at this moment, answers the call of the entry
+-- FORWARD-1
 pub record IsReplyTo (first_xid clock : ℕ) (from : Peer) (message : List ℕ) (e : Entry) : Type 0 where
   pub was_sent : e.sent ≡ true
   pub host : from.host ≡ e.forward.target.host

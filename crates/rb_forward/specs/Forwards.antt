@@ -15,8 +15,8 @@ use Rattle.rb_rpc.specs.declared.caller.Caller.{Caller}
 use Rattle.rb_rpc.specs.declared.caller.Caller.TheVariants.{Tcp, Udp}
 use Rattle.rb_rpc.specs.declared.reply.ReplyStatus.TheVariants as replies
 use Rattle.rb_forward.specs.declared.types.Forward.{Forward}
-use Rattle.rb_forward.specs.declared.types.Outcome.{Outcome}
-use Rattle.rb_forward.specs.declared.types.Outcome.TheVariants.{Passed, Refused, Failed, Dropped}
+use Rattle.rb_forward.specs.declared.types.ForwardEnd.{ForwardEnd}
+use Rattle.rb_forward.specs.declared.types.ForwardEnd.TheVariants.{Passed, Refused, Failed, Dropped}
 use Rattle.rb_forward.specs.declared.types.Ended.{Ended}
 use Rattle.rb_forward.specs.declared.types.FwdId.{FwdId}
 
@@ -40,6 +40,7 @@ no_forwards = record { next = 1; all = [] }
 -- ---- what a target is asked
 
 -- the xid of the entry of a number
+-- XID-1
 unfoldable pub xid_of : ℕ → ℕ → ℕ
 xid_of first_xid number = (first_xid + number - 1) % 2 ^ 32
 
@@ -47,18 +48,20 @@ abbrev pub head_of : ℕ → ℕ → Forward → CallHead
 head_of first_xid number asked =
     record { xid = xid_of first_xid number; prog = asked.prog; vers = asked.vers; proc = asked.proc; cred = credentials.None }
 
--- the datagram: a call by AUTH_NONE (RFC 5531 section 9), and the content of the arguments behind it
+-- the datagram: a call by AUTH_NONE (RFC 5531 section 9), and the content of the arguments after it
+-- FORWARD-7
 unfoldable pub question : ℕ → Entry → List ℕ
 question first_xid e = call_bytes (head_of first_xid e.number e.forward) ++ e.args
 
 -- ---- what a target says
 
 -- the most bytes of results that pass: the limit of res and of results
+-- FORWARD-4
 unfoldable pub longest_results : ℕ
 longest_results = 8800
 
--- What the reply says that has so many bytes behind its head, which ends at this place. A refusal of the call itself stands.
-abbrev pub outcome_said : ReplyStatus → ℕ → ℕ → Outcome
+-- What the reply says that has this many bytes after its head, which ends at this place. A refusal of the call itself stands.
+abbrev pub outcome_said : ReplyStatus → ℕ → ℕ → ForwardEnd
 outcome_said replies.Success place rest = if nat_le rest longest_results then Passed place else Failed
 outcome_said (replies.RpcMismatch low high) place rest = Failed
 outcome_said (replies.AuthError stat) place rest = Failed
@@ -68,11 +71,12 @@ outcome_said replies.ProcUnavail place rest = Refused replies.ProcUnavail
 outcome_said replies.GarbageArgs place rest = Refused replies.GarbageArgs
 outcome_said replies.SystemErr place rest = Refused replies.SystemErr
 
-abbrev pub outcome_read : ℕ → Option (ReplyHead × ℕ) → Outcome
+abbrev pub outcome_read : ℕ → Option (ReplyHead × ℕ) → ForwardEnd
 outcome_read count None = Failed
 outcome_read count (Some (head, place)) = outcome_said head.status place (count - place)
 
-unfoldable pub outcome_of : List ℕ → Outcome
+-- FORWARD-4
+unfoldable pub outcome_of : List ℕ → ForwardEnd
 outcome_of message = outcome_read (length message) (read_reply message)
 
 -- ---- which entry ends
@@ -81,6 +85,7 @@ unfoldable pub is_same_peer : Peer → Peer → Bool
 is_same_peer a b = is_same_host a.host b.host && a.port == b.port
 
 -- it was sent, and the xid, host and port, and moment are right
+-- FORWARD-1
 unfoldable pub is_answered : ℕ → ℕ → Peer → ℕ → Entry → Bool
 is_answered first_xid clock from xid e =
     e.sent && is_same_peer e.forward.target from && xid_of first_xid e.number == xid && nat_lt clock e.deadline
@@ -111,11 +116,11 @@ without_first test (x ∷ xs) = if test x then xs else x ∷ without_first test 
 abbrev pub id_of : Entry → FwdId
 id_of e = record { number = e.number }
 
-abbrev pub ended_by : Outcome → Entry → Ended
+abbrev pub ended_by : ForwardEnd → Entry → Ended
 ended_by outcome e = record { id = id_of e; forward = e.forward; outcome = outcome }
 
 -- The first entry that passes the test, if there is one, ends so, and is there no longer.
-abbrev pub with_end : (Entry → Bool) → Outcome → Forwards → Option Ended × Forwards
+abbrev pub with_end : (Entry → Bool) → ForwardEnd → Forwards → Option Ended × Forwards
 with_end test outcome f =
     (option_map (ended_by outcome) (find test f.all), record f { all = without_first test f.all })
 
@@ -138,10 +143,12 @@ abbrev pub greatest_number : ℕ
 greatest_number = 2 ^ 64 - 1
 
 -- a target's time to answer, in milliseconds
+-- FORWARD-3
 abbrev pub patience : ℕ
 patience = 5000
 
--- a moment so many milliseconds after that one
+-- a moment this many milliseconds after that one
+-- FORWARD-3 DEADLINE-2
 unfoldable pub later : ℕ → ℕ → ℕ
 later moment wait = min (moment + wait) greatest_number
 
@@ -167,6 +174,7 @@ abbrev pub unsent_call : ℕ → Entry → Unsent
 unsent_call first_xid e = record { number = e.number; target = e.forward.target; call = question first_xid e }
 
 -- the unsent entry of least number, whether or not its deadline has come
+-- FORWARD-6
 unfoldable pub unsent : ℕ → Forwards → Option Unsent
 unsent first_xid f = option_map (unsent_call first_xid) (find (λ e. not e.sent) f.all)
 
@@ -182,6 +190,7 @@ abbrev pub as_sent : Entry → Entry
 as_sent e = record e { sent = true }
 
 -- it is known, and was not sent
+-- FORWARD-5
 unfoldable pub can_be_sent : ℕ → Forwards → Bool
 can_be_sent number f = list_any (is_unsent number) f.all
 

@@ -4,7 +4,7 @@ use Rattle.std.specs.List.{count_by, cons_option}
 use Rattle.std.specs.Option.{option_map}
 use Rattle.rb_address.specs.declared.peer.Peer.{Peer}
 use Rattle.rb_forward.specs.declared.types.Forward.{Forward}
-use Rattle.rb_forward.specs.declared.types.Outcome.TheVariants.{Failed, Dropped}
+use Rattle.rb_forward.specs.declared.types.ForwardEnd.TheVariants.{Failed, Dropped}
 use Rattle.rb_forward.specs.Forwards.{Entry, Forwards, no_forwards, can_start, with_next_entry, sent, counts_for, is_due, is_of_connection, outcome_of, ended_by, reply, due, drop_caller}
 
 -- what may happen to a table of forwarded calls: the calls that change it
@@ -81,6 +81,7 @@ NumbersNeverRecur =
     → AreRising 1 (run cap first_xid no_forwards events).begun (run cap first_xid no_forwards events).left.next
 
 -- Each entry that begins ends once, or is still there, and nothing else ends.
+-- FORWARD-2
 abbrev pub EachEndsOnce : Type 0
 EachEndsOnce =
     (cap first_xid : ℕ) (events : List Event) (number : ℕ)

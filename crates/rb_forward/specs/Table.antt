@@ -7,9 +7,9 @@ use Rattle.rb_xdr.specs.Pool.{Pool, HasDistinctKeys}
 use Rattle.rb_rpc.specs.declared.caller.Caller.{Caller}
 use Rattle.rb_rpc.specs.declared.caller.Caller.TheVariants.{Tcp, Udp}
 use Rattle.rb_forward.specs.declared.entries.Slot.{Slot}
-use Rattle.rb_forward.specs.declared.entries.Wanted.{Wanted}
-use Rattle.rb_forward.specs.declared.entries.Wanted.TheVariants as wanted
-use Rattle.rb_forward.specs.declared.types.Outcome.{Outcome}
+use Rattle.rb_forward.specs.declared.entries.Sought.{Sought}
+use Rattle.rb_forward.specs.declared.entries.Sought.TheVariants as wanted
+use Rattle.rb_forward.specs.declared.types.ForwardEnd.{ForwardEnd}
 use Rattle.rb_forward.specs.declared.types.Ended.{Ended}
 use Rattle.rb_forward.specs.declared.types.Unsent.{Unsent as Lent}
 use Rattle.rb_forward.specs.Forwards.{Entry, Forwards, is_same_peer, is_answered, is_due, is_connection, is_of_connection, with_end, Unsent, is_unsent}
@@ -39,7 +39,7 @@ without_call slot = record slot { sent = true; call = record slot.call { bytes =
 
 -- ---- what is looked for
 
-unfoldable pub is_wanted_slot : Wanted → Slot → Bool
+unfoldable pub is_wanted_slot : Sought → Slot → Bool
 is_wanted_slot wanted.AnyUnsent slot = not slot.sent
 is_wanted_slot (wanted.Unsent number) slot = slot.number == number && not slot.sent
 is_wanted_slot (wanted.Answered xid from clock) slot =
@@ -47,7 +47,7 @@ is_wanted_slot (wanted.Answered xid from clock) slot =
 is_wanted_slot (wanted.Due clock) slot = nat_le slot.deadline clock
 is_wanted_slot (wanted.OfConnection id) slot = is_connection id slot.forward.caller
 
-unfoldable pub is_wanted : ℕ → Wanted → Entry → Bool
+unfoldable pub is_wanted : ℕ → Sought → Entry → Bool
 is_wanted first_xid wanted.AnyUnsent e = not e.sent
 is_wanted first_xid (wanted.Unsent number) e = is_unsent number e
 is_wanted first_xid (wanted.Answered xid from clock) e = is_answered first_xid clock from xid e
@@ -55,11 +55,11 @@ is_wanted first_xid (wanted.Due clock) e = is_due clock e
 is_wanted first_xid (wanted.OfConnection id) e = is_of_connection id e
 
 -- the first entry that is wanted ends so
-abbrev pub end_of : ℕ → Wanted → Outcome → Forwards → Option Ended × Forwards
+abbrev pub end_of : ℕ → Sought → ForwardEnd → Forwards → Option Ended × Forwards
 end_of first_xid sought outcome f = with_end (is_wanted first_xid sought) outcome f
 
 -- the key and the slot of the first entry that is wanted
-unfoldable pub wanted_slot : Wanted → List (ℕ × Slot) → Option (ℕ × Slot)
+unfoldable pub wanted_slot : Sought → List (ℕ × Slot) → Option (ℕ × Slot)
 wanted_slot sought slots = find (λ (e : ℕ × Slot). is_wanted_slot sought e.1) slots
 
 -- ---- what is lent

@@ -12,8 +12,8 @@ use Rattle.rb_rpc.specs.declared.reply.ReplyStatus.TheVariants as replies
 use Rattle.rb_forward.specs.declared.types.Forward.{Forward}
 use Rattle.rb_rpc.specs.declared.caller.Kind.TheVariants.{Indirect}
 use Rattle.rb_forward.specs.declared.types.Ended.{Ended}
-use Rattle.rb_forward.specs.declared.types.Outcome.{Outcome}
-use Rattle.rb_forward.specs.declared.types.Outcome.TheVariants.{Passed, Refused, Failed, Dropped}
+use Rattle.rb_forward.specs.declared.types.ForwardEnd.{ForwardEnd}
+use Rattle.rb_forward.specs.declared.types.ForwardEnd.TheVariants.{Passed, Refused, Failed, Dropped}
 use Rattle.rb_forward.specs.Forwards.{Forwards, no_forwards, can_start, with_next_entry, can_be_sent, sent, unsent, reply, due, drop_caller, xid_of, held}
 
 abbrev pub at_host : List ℕ → ℕ → Peer
@@ -60,7 +60,7 @@ abbrev pub success : ℕ → List ℕ
 success xid = words (xid ∷ 1 ∷ 0 ∷ 0 ∷ 0 ∷ 0 ∷ [])
 
 -- the one entry ends so, and at nothing it stays
-abbrev pub Ends : Outcome → Option Ended × Forwards → Type 0
+abbrev pub Ends : ForwardEnd → Option Ended × Forwards → Type 0
 Ends outcome given = given ≡ (Some (record { id = record { number = 1 }; forward = indirect by_datagram; outcome = outcome }), none_left)
 
 abbrev pub Stays : Forwards → Option Ended × Forwards → Type 0
@@ -89,7 +89,7 @@ abbrev pub SentOnce : Type 0
 SentOnce = (can_be_sent 1 (one_unsent by_datagram) ≡ true) × (can_be_sent 2 (one_unsent by_datagram) ≡ false)
     × (can_be_sent 1 one_sent ≡ false) × (unsent 1000 one_sent ≡ None)
 
--- the xid behind the greatest is 0
+-- the xid after the greatest is 0
 abbrev pub XidsWrap : Type 0
 XidsWrap = (xid_of (2 ^ 32 - 1) 1 ≡ 2 ^ 32 - 1) × (xid_of (2 ^ 32 - 1) 2 ≡ 0)
 

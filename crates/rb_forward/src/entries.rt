@@ -43,7 +43,7 @@ fn layout(slot: &Slot) {
 
 /// Which entry is looked for: the first of these.
 #[derive(Clone, Copy, Debug, PartialEq, Eq)]
-pub enum Wanted {
+pub enum Sought {
     /// Those that were not sent.
     AnyUnsent,
     /// Those of this number that were not sent.
@@ -90,17 +90,17 @@ impl Slot {
     ghost use Rattle.rb_forward.specs.Table.{is_wanted_slot};
 
     #[tactic(auto, unfolding(crate::specs::Table::is_wanted_slot, crate::specs::Forwards::is_same_peer))]
-    fn is_wanted(&self, wanted: Wanted) -> bool
+    fn is_wanted(&self, wanted: Sought) -> bool
         ensures { result ≡ is_wanted_slot wanted self.now }
     {
         match wanted {
-            Wanted::AnyUnsent => !self.sent,
-            Wanted::Unsent(number) => self.number == number && !self.sent,
-            Wanted::Answered(xid, from, clock) => {
+            Sought::AnyUnsent => !self.sent,
+            Sought::Unsent(number) => self.number == number && !self.sent,
+            Sought::Answered(xid, from, clock) => {
                 self.sent && self.forward.target == from && self.xid == xid && clock < self.deadline
             }
-            Wanted::Due(clock) => self.deadline <= clock,
-            Wanted::OfConnection(id) => match self.forward.caller {
+            Sought::Due(clock) => self.deadline <= clock,
+            Sought::OfConnection(id) => match self.forward.caller {
                 Caller::Tcp(number, _) => number == id,
                 Caller::Udp(_, _) => false,
             },
@@ -111,7 +111,7 @@ impl Slot {
 impl Slot {
     ghost use Rattle.rb_forward.specs.Table.{without_call};
 
-    /// Notes that the call was sent, and empties its buffer, which had so many bytes.
+    /// Notes that the call was sent, and empties its buffer, which had this many bytes.
     pub(crate) fn empty(&mut self, meter: &mut Meter) -> usize
         requires { meter.old.tie ≡ self.old.call.tie }
         ensures count { result ≡ length self.old.call.bytes }
@@ -127,7 +127,7 @@ impl Slot {
 
 /// The key of the first slot that is wanted.
 #[tactic(auto, unfolding(crate::specs::Table::wanted_slot))]
-pub(crate) fn wanted_key(slots: &Pool<Slot>, wanted: Wanted, meter: &mut Meter) -> Option<usize>
+pub(crate) fn wanted_key(slots: &Pool<Slot>, wanted: Sought, meter: &mut Meter) -> Option<usize>
     requires tie { meter.old.tie ≡ slots.now.tie }
     ensures key { result ≡ option_map (λ e. e.0) (wanted_slot wanted slots.now.entries) }
     ensures cost { PaysAtMost meter.old meter.new (find_cost (length slots.now.entries)) }

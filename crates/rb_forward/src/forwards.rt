@@ -5,9 +5,9 @@ ghost use Rattle.rb_forward.specs.Forwards.{head_of, entry_charge};
 
 use crate::buffers::{HEAD, make_spare, put_buffer, take_buffer, write_call};
 use crate::deadlines::soonest_in;
-use crate::entries::{Slot, Wanted, wanted_key};
+use crate::entries::{Slot, Sought, wanted_key};
 use crate::outcome::{outcome_of, xid_of};
-use crate::types::{Ended, Forward, FwdId, Gone, Outcome, Unsent};
+use crate::types::{Ended, Forward, ForwardEnd, FwdId, Gone, Unsent};
 use rb_address::Peer;
 use rb_rpc::{CallHead, Credential};
 use rb_xdr::{Full, Kept, Meter, NoMemory, Pool};
@@ -175,7 +175,7 @@ impl Forwards {
         ensures cost { PaysAtMost meter.old meter.new
             (unsent_cost self.now.cap (count_lent result)) }
     {
-        let Some(key) = wanted_key(&self.slots, Wanted::AnyUnsent, meter) else {
+        let Some(key) = wanted_key(&self.slots, Sought::AnyUnsent, meter) else {
             return None;
         };
         let Some(slot) = self.slots.get(key, meter) else {
@@ -202,7 +202,7 @@ impl Forwards {
         ensures frame { SameFrame self.old self.new }
         ensures cost { PaysAtMost meter.old meter.new (sent_cost self.old.cap) }
     {
-        let Some(key) = wanted_key(&self.slots, Wanted::Unsent(id.number), meter) else {
+        let Some(key) = wanted_key(&self.slots, Sought::Unsent(id.number), meter) else {
             return Err(Gone);
         };
         let Some(slot) = self.slots.get_mut(key, meter) else {
@@ -235,7 +235,7 @@ impl Forwards {
         let Some(xid) = xid_of(bytes) else {
             return None;
         };
-        self.end(Wanted::Answered(xid, from, clock), outcome_of(bytes), meter)
+        self.end(Sought::Answered(xid, from, clock), outcome_of(bytes), meter)
     }
 
     /// The entry of least number whose deadline has come at the moment `clock`, in milliseconds, ends, as `Failed`.
@@ -244,14 +244,14 @@ impl Forwards {
         requires { meter.old.tie ≡ self.old.tie }
         ensures ended { GivenBy (due clock) self.old result }
         ensures left { LeftBy (due clock) self.old self.new }
-        ensures failed { IfSome result (λ ended. ended.outcome ≡ Outcome.Failed) }
+        ensures failed { IfSome result (λ ended. ended.outcome ≡ ForwardEnd.Failed) }
         ensures alone { IfSome result
             (λ ended. IsNew ended.forward.caller (slots_of self.new)) }
         ensures waiting { NoneWaitsAnew (slots_of self.old) (slots_of self.new) }
         ensures frame { SameFrame self.old self.new }
         ensures cost { PaysAtMost meter.old meter.new (end_cost self.old.cap) }
     {
-        self.end(Wanted::Due(clock), Outcome::Failed, meter)
+        self.end(Sought::Due(clock), ForwardEnd::Failed, meter)
     }
 
     /// The entry of the connection of this number ends, as `Dropped`. Where there is none, nothing changes, and the
@@ -265,7 +265,7 @@ impl Forwards {
         ensures frame { SameFrame self.old self.new }
         ensures cost { PaysAtMost meter.old meter.new (end_cost self.old.cap) }
     {
-        self.end(Wanted::OfConnection(id), Outcome::Dropped, meter)
+        self.end(Sought::OfConnection(id), ForwardEnd::Dropped, meter)
     }
 
     /// How many bytes are held: those of each unsent call, and 128 for the rest of each entry.
@@ -278,7 +278,7 @@ impl Forwards {
     }
 
     /// The first entry that is wanted ends so.
-    fn end(&mut self, wanted: Wanted, outcome: Outcome, meter: &mut Meter) -> Option<Ended>
+    fn end(&mut self, wanted: Sought, outcome: ForwardEnd, meter: &mut Meter) -> Option<Ended>
         requires { meter.old.tie ≡ self.old.tie }
         ensures ended { GivenBy (end_of self.old.first_xid wanted outcome) self.old result }
         ensures left { LeftBy (end_of self.old.first_xid wanted outcome) self.old self.new }

@@ -16,5 +16,5 @@ pub use deadlines::{sooner, soonest_in};
 pub use forwards::{ENTRY_CHARGE, Forwards, PATIENCE};
 pub use laws::{calls_end_the_first, each_entry_ends_once};
 pub use outcome::LONGEST_RESULTS;
-pub use types::{Ended, Forward, FwdId, Gone, Outcome, Unsent};
+pub use types::{Ended, Forward, ForwardEnd, FwdId, Gone, Unsent};
 pub use worked::worked_examples;

@@ -4,7 +4,7 @@ ghost use Rattle.rb_xdr.specs.Xdr.{word};
 ghost use Rattle.rb_forward.specs.Forwards.{outcome_of};
 ghost use Rattle.rb_forward.specs.Outcomes.{PassesWithin};
 
-use crate::types::Outcome;
+use crate::types::ForwardEnd;
 use rb_rpc::{ReplyStatus, read_reply};
 
 /// The most bytes of results that are passed on to a caller: `res` of RFC 1833 section 2.1 and `results` of section
@@ -24,26 +24,26 @@ pub(crate) fn xid_of(bytes: &[u8]) -> Option<u32>
 
 /// How the call ends whose reply this is.
 #[tactic(auto, unfolding(crate::specs::Forwards::outcome_of, crate::specs::Forwards::longest_results))]
-pub(crate) fn outcome_of(bytes: &[u8]) -> Outcome
+pub(crate) fn outcome_of(bytes: &[u8]) -> ForwardEnd
     ensures outcome { result ≡ outcome_of bytes.now }
     ensures within { PassesWithin result (length bytes.now) }
 {
     let Ok((head, place)) = read_reply(bytes) else {
-        return Outcome::Failed;
+        return ForwardEnd::Failed;
     };
     match head.status {
         ReplyStatus::Success => {
             if bytes.len() - place <= LONGEST_RESULTS {
-                Outcome::Passed(place)
+                ForwardEnd::Passed(place)
             } else {
-                Outcome::Failed
+                ForwardEnd::Failed
             }
         }
-        ReplyStatus::RpcMismatch(..) | ReplyStatus::AuthError(_) => Outcome::Failed,
+        ReplyStatus::RpcMismatch(..) | ReplyStatus::AuthError(_) => ForwardEnd::Failed,
         ReplyStatus::ProgUnavail
         | ReplyStatus::ProgMismatch(..)
         | ReplyStatus::ProcUnavail
         | ReplyStatus::GarbageArgs
-        | ReplyStatus::SystemErr => Outcome::Refused(head.status),
+        | ReplyStatus::SystemErr => ForwardEnd::Refused(head.status),
     }
 }

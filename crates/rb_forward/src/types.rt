@@ -56,7 +56,7 @@ pub struct FwdId {
 pub struct Unsent<'a> {
     /// The entry's number, which `sent` takes, and which `Ended` tells at its end.
     pub id: FwdId,
-    /// Where it is to be sent.
+    /// Where it must be sent.
     pub target: Peer,
     /// The datagram: the call's head and its arguments, at most 8,840 bytes.
     pub call: &'a [u8],
@@ -64,7 +64,7 @@ pub struct Unsent<'a> {
 
 /// How a forwarded call ended.
 #[derive(Clone, Copy, PartialEq, Eq, Debug)]
-pub enum Outcome {
+pub enum ForwardEnd {
     /// The target's results are the bytes of the datagram from this place on, at most 8,800.
     Passed(usize),
     /// The target refused the call itself, by an accept_stat of 1 to 5 (RFC 5531 section 9).
@@ -83,7 +83,7 @@ pub struct Ended {
     /// The call that was forwarded.
     pub forward: Forward,
     /// How it ended.
-    pub outcome: Outcome,
+    pub outcome: ForwardEnd,
 }
 
 /// There is no forwarded call of this number, or it was sent before.

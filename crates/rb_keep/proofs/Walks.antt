@@ -19,7 +19,7 @@ use Rattle.rb_model.specs.Step.{IsReached}
 use Rattle.rb_model.specs.ChangeLaws.{set_rows, set_call}
 use Rattle.rb_record.specs.Entries.{event_text}
 use Rattle.rb_laws.proofs.Restoring.{rows_can_be_set}
-use Rattle.rb_core.specs.StandsFor.{Held, StandsFor}
+use Rattle.rb_core.specs.StandsFor.{CoreView, StandsFor}
 use Rattle.rb_core.specs.Looks.{rows_held, rows_shown, StandsAmong, IsAtStart, IsAtEnd, row_behind, PassesOne, slots_behind, slot_count, PaysForRow}
 use Rattle.rb_core.specs.Metered.{Metered}
 use Rattle.rb_core.specs.Lending.{HasLentRow}
@@ -27,7 +27,7 @@ use Rattle.rb_keep.specs.Kept.{row_line, rows_text, kept_text}
 use Rattle.rb_keep.specs.Writing.{line_where_set}
 
 -- what the rows add that a cursor has passed
-abbrev pub passed_lines : Held → Option ℕ → List ℕ
+abbrev pub passed_lines : CoreView → Option ℕ → List ℕ
 passed_lines core cursor = passed_bytes (line_where_set core.clock) (rows_held core) (rows_held core).stamp cursor
 
 -- they are written, and paid for
@@ -72,8 +72,8 @@ module _ (first core : Metered) (cursor : Option ℕ) (began written : Option (L
       → (more : Option (List ℕ)) (now : ℕ) → now ≡ first.core.clock → Appends written more (line_where_set now row) → (lent : Bor Row) (paid : Metered) → HasLentRow cursor next (Some lent) core paid
       → Writing first paid next began more
   row_written row next here place passed more now is added lent paid looked =
-      let line : Appends written more (line_where_set core.core.clock row) = subst (λ (n : ℕ). Appends written more (line_where_set n row)) (is ∙ sym (ap (λ (held : Held). held.clock) w.stays)) added in
-      subst (λ (held : Held). Writing first (record { core = held; meter = paid.meter }) next began more) (sym looked.stays)
+      let line : Appends written more (line_where_set core.core.clock row) = subst (λ (n : ℕ). Appends written more (line_where_set n row)) (is ∙ sym (ap (λ (held : CoreView). held.clock) w.stays)) added in
+      subst (λ (held : CoreView). Writing first (record { core = held; meter = paid.meter }) next began more) (sym looked.stays)
       (row_written_on row next here place passed more paid.meter line (2 * slots_behind core.core cursor + 1) looked.cost looked.cost_row)
 
 -- ---- the lines of all rows
@@ -98,7 +98,7 @@ kept_lines now [] = refl
 kept_lines now (row ∷ rows) = ap (λ (xs : List ℕ). row_line now row ++ xs) (kept_lines now rows)
 
 -- all that a core shows are those of a state that it stands for
-all_lines : (core : Held) (s : State) → StandsFor core s → IsReached s → flat_map (line_where_set core.clock) (rows_shown core) ≡ kept_text s
+all_lines : (core : CoreView) (s : State) → StandsFor core s → IsReached s → flat_map (line_where_set core.clock) (rows_shown core) ≡ kept_text s
 all_lines core s h r =
     ap (flat_map (line_where_set core.clock)) h.ledger.registry.rows
     ∙ own_lines core.clock s.ledger.own (set_rows s) h.ledger.registry.are_own
@@ -109,7 +109,7 @@ all_lines core s h r =
 pub all_written : (first core : Metered) (cursor next : Option ℕ) (began written : Option (List ℕ)) → Writing first core cursor began written → next ≡ cursor → IsAtEnd core.core next
     → (s : State) → StandsFor first.core s → IsReached s → Appends began written (kept_text s)
 all_written first core cursor next began written w same end s h r =
-    let held : StandsFor core.core s = subst (λ (held : Held). StandsFor held s) (sym w.stays) h in
+    let held : StandsFor core.core s = subst (λ (held : CoreView). StandsFor held s) (sym w.stays) h in
     let ended : IsAtEnd core.core cursor = subst (IsAtEnd core.core) same end in
     subst (Appends began written)
     (ap (λ (n : ℕ). flat_map (line_where_set core.core.clock) (take n (rows_shown core.core))) ended ∙ ap (flat_map (line_where_set core.core.clock)) (take_all (length (rows_shown core.core)) (rows_shown core.core) (omega arith)) ∙ all_lines core.core s held r)

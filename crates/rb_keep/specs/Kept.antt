@@ -8,6 +8,7 @@ use Rattle.rb_model.specs.ChangeLaws.{set_call, kept_calls}
 use Rattle.rb_record.specs.Entries.{event_text}
 
 -- the line of a row: the event that sets it again, at this moment
+-- KEEP-2
 abbrev pub row_line : ℕ → Row → List ℕ
 row_line now row = event_text (set_call now row)
 
@@ -16,6 +17,7 @@ abbrev pub rows_text : ℕ → List Row → List ℕ
 rows_text now rows = concat (map (row_line now) rows)
 
 -- what is kept of a state: the events that set its rows again
+-- KEEP-3
 abbrev pub kept_text : State → List ℕ
 kept_text s = concat (map event_text (kept_calls s))
 

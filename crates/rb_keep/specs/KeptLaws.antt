@@ -14,11 +14,13 @@ use Rattle.rb_keep.specs.Reading.{kept_line, most_rows, read}
 -- ---- lines
 
 -- The line says the event that sets the row again, at some moment.
+-- KEEP-4
 pub record SetsAgain (text : List ℕ) (row : Row) : Type 0 where
   pub now : ℕ
   pub event : line text ≡ Happens (set_call now row)
 
 -- A line keeps no row but the one that it sets again.
+-- KEEP-4
 abbrev pub LinesKeepTheirRows : Type 0
 LinesKeepTheirRows = (text : List ℕ) (row : Row) → kept_line text ≡ Keeps row → SetsAgain text row
 
@@ -46,6 +48,7 @@ kept_lines text = map kept_line (lines_of text)
 
 -- A text reads as these rows exactly where it is short enough, no line is wrong, they are those of its lines, and
 -- they are no more than there may be.
+-- KEEP-5
 abbrev pub ReadsTheRows : Type 0
 ReadsTheRows =
     (text : List ℕ) (rows : List Row)
@@ -54,6 +57,7 @@ ReadsTheRows =
 
 -- What is kept of a state that a run of bytes reaches, by a moment of 64 bits and with no more rows than there may
 -- be, is read as the rows that were set, in their order.
+-- KEEP-7
 abbrev pub KeptTextIsRead : Type 0
 KeptTextIsRead =
     (s : State) → IsReachedByBytes s → s.clock < 2 ^ 64 → length (set_rows s) ≤ most_rows

@@ -87,6 +87,7 @@ kept_by SaysNoEvent = Bad
 kept_by (Happens event) = keeps_or_not (kept_row event)
 
 -- what a line keeps: the row that its event sets again, if it does
+-- KEEP-4
 unfoldable pub kept_line : List ℕ → KeptLine
 kept_line text = kept_by (line text)
 
@@ -94,20 +95,23 @@ kept_line text = kept_by (line text)
 abbrev pub most_rows : ℕ
 most_rows = 4096
 
--- the rows so far, and behind them what the line of this number keeps
+-- the rows so far, and after them what the line of this number keeps
+-- KEEP-6
 abbrev pub with_line : ℕ → List Row → KeptLine → Result (List Row) KeepFault
 with_line k rows Skipped = Ok rows
 with_line k rows Bad = Err (faults.BadLine k)
 with_line k rows NotKept = Err (faults.NotKept k)
 with_line k rows (Keeps row) = if nat_lt (length rows) most_rows then Ok (rows ++ row ∷ []) else Err (faults.TooMany k)
 
--- the rows so far, and behind them those of the lines, the first of which has this number; or the first fault
+-- the rows so far, and after them those of the lines, the first of which has this number; or the first fault
+-- KEEP-5
 unfoldable pub rows_from : ℕ → List (List ℕ) → Result (List Row) KeepFault → Result (List Row) KeepFault
 rows_from k texts (Err fault) = Err fault
 rows_from k [] (Ok rows) = Ok rows
 rows_from k (text ∷ texts) (Ok rows) = rows_from (k + 1) texts (with_line k rows (kept_line text))
 
 -- the rows of a text
+-- KEEP-6
 unfoldable pub read : List ℕ → Result (List Row) KeepFault
 read text = if nat_lt longest_input (length text) then Err faults.TooLong else rows_from 1 (lines_of text) (Ok [])
 

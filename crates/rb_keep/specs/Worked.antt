@@ -28,7 +28,7 @@ LinesOfTwoRows = rows_text 8 two_rows ≡ two_lines
 abbrev pub TwoLinesAreRead : Type 0
 TwoLinesAreRead = read (codes "# kept\n\n" ++ two_lines) ≡ Ok two_rows
 
--- Another port, whose word it is, another xid and a byte behind the call make another event.
+-- Another port, whose word it is, another xid and a byte after the call make another event.
 abbrev pub OtherLinesAreNamed : Type 0
 OtherLinesAreNamed =
     (read (codes "datagram 8 127.0.0.1:1 000000000000000000000002000186a000000004000000010000000000000000000000000000000000030d410000000100000003746370000000000b302e302e302e302e382e310000000000") ≡ Err (NotKept 1))

@@ -5,11 +5,12 @@ use Rattle.rb_registry.specs.Rows.{rpcb_prog}
 use Rattle.rb_model.specs.State.{State}
 use Rattle.rb_model.specs.Step.{IsReached}
 use Rattle.rb_record.specs.Printing.{Writes}
-use Rattle.rb_core.specs.StandsFor.{Held, StandsFor}
+use Rattle.rb_core.specs.StandsFor.{CoreView, StandsFor}
 use Rattle.rb_keep.specs.Kept.{row_line, kept_text}
 
 -- What a writer holds has grown by what is kept of each state that a run reaches and that the core stands for.
-abbrev pub WritesKept : Held → {W : Type 0} → (W → Option (List ℕ)) → W → W → Type 0
+-- KEEP-3
+abbrev pub WritesKept : CoreView → {W : Type 0} → (W → Option (List ℕ)) → W → W → Type 0
 WritesKept core contents old new = (s : State) → StandsFor core s → IsReached s → Writes contents old new (kept_text s)
 
 -- the line of a row that was set: none of the daemon's own, which are of the portmapper's program

@@ -10,7 +10,7 @@ pub enum KeepFault {
     /// The line of this number is an event line, but not that of a row that was kept.
     #[error("line {0}: sets no row that was kept")]
     NotKept(usize),
-    /// The line of this number keeps a row behind 4,096 others.
+    /// The line of this number keeps a row after 4,096 others.
     #[error("line {0}: too many rows")]
     TooMany(usize),
     /// The text has over 16,777,216 bytes.

@@ -169,7 +169,7 @@ fn read_lines(alloc: Global, text: &[u8]) -> Result<Vec<Row>, KeepFault>
 /// the row again.
 ///
 /// The first line that is not names the fault: `BadLine` where it is no event line, `NotKept` where it is another,
-/// and `TooMany` where it is that of a row behind 4,096 others. A text of more than 16,777,216 bytes is `TooLong`,
+/// and `TooMany` where it is that of a row after 4,096 others. A text of more than 16,777,216 bytes is `TooLong`,
 /// whatever it says. `NoMemory` where an allocation was refused.
 #[tactic(auto, unfolding(crate::specs::Reading::read))]
 pub fn read_rows(alloc: Global, text: &[u8]) -> Result<Vec<Row>, KeepFault>

@@ -87,7 +87,7 @@ unfolding is_live
 number-is id c e = eqb-true c.number id (and_parts (eqb c.number id) (not (is_lost c.phase)) e).0
 
 abbrev nothing_taken : Result Taken CoreFault
-nothing_taken = Ok (record { count = 0; closed = false })
+nothing_taken = Ok (record { count = 0; lost = false })
 
 same-from : (s : State) (now id : ℕ) (first second : List ℕ) (x y z : Result Taken CoreFault × State) → bytes s now id (first ++ second) ≡ x → bytes s now id first ≡ y → bytes y.1 now id second ≡ z → x.0 ≡ one_after_another y.0 z.0 → x.1 ≡ z.1 → SameInOnePiece s now id first second
 same-from s now id first second x y z ex ey ez taken state = grind arith
@@ -96,7 +96,7 @@ same-from s now id first second x y z ex ey ez taken state = grind arith
 nothing-first : (r : Result Taken CoreFault) → r ≡ one_after_another nothing_taken r
 nothing-first r = grind arith
 
--- what is taken of a piece behind these bytes
+-- what is taken of a piece after these bytes
 abbrev taken_from : State → ℕ → Connection → List ℕ → Option (List ℕ) → Result Taken CoreFault × State
 taken_from t id c piece fed = (Ok (when_taken t id piece c (taking_behind fed piece)).0, (when_taken t id piece c (taking_behind fed piece)).1)
 
@@ -132,9 +132,9 @@ who-on clock front c = refl
 moment-on : (s : State) (now id : ℕ) (front : List ℕ) → at_moment now (fed_on (at_moment now s) id front) ≡ fed_on (at_moment now s) id front
 moment-on s now id front = ap (λ clock. record (fed_on (at_moment now s) id front) { clock = clock }) (max-max s.clock now)
 
--- what is done in one is done after so many bytes were taken
+-- what is done in one is done after this many bytes were taken
 record Same (one : Result Taken CoreFault × State) (before : ℕ) (rest : Result Taken CoreFault × State) : Type 0 where
-  taken : one.0 ≡ one_after_another (Ok (record { count = before; closed = false })) rest.0
+  taken : one.0 ≡ one_after_another (Ok (record { count = before; lost = false })) rest.0
   state : one.1 ≡ rest.1
 
 along-fed : (t : State) (id : ℕ) (front : List ℕ) (who : Who) (whole : List ℕ) (c : Connection) → live_connection id t.connections.all ≡ Some c → stamp_in c.phase ≡ None → serve_record (fed_on t id front) id who whole ≡ serve_record t id who whole
@@ -169,7 +169,7 @@ by_phase s now id (b ∷ first) [] c there (Some fed) phase none =
     let ex : bytes s now id (b ∷ first ++ []) ≡ y = ap (λ (xs : List ℕ). bytes s now id xs) (append-nil (b ∷ first)) ∙ ey in
     let ez : bytes y.1 now id [] ≡ z = fed-at y.1 now id [] (keep_reading t.clock front c) (Some front) (there-on id t c front there) (phase-on t.clock front c) in
     same-from s now id (b ∷ first) [] y y z ex ey ez
-    (ap (λ (n : ℕ). Ok (record { count = n; closed = false })) (omega arith))
+    (ap (λ (n : ℕ). Ok (record { count = n; lost = false })) (omega arith))
     (sym (moment-on s now id front))
 by_phase s now id (b ∷ first) (d ∷ second) c there (Some fed) phase none =
     let t : State = at_moment now s in

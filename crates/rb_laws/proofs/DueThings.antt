@@ -2,14 +2,14 @@
 use Rattle.std.specs.Prelude.{find}
 use Rattle.std.specs.Option.{option_map}
 use Rattle.std.proofs.Common.{◌≡◌, ℕ, max, Option, Some, None, [], ◌++◌, refl, ap, ◌∙◌, append-nil}
-use Rattle.rb_forward.specs.declared.types.Outcome.TheVariants.{Failed}
+use Rattle.rb_forward.specs.declared.types.ForwardEnd.TheVariants.{Failed}
 use Rattle.rb_forward.specs.declared.types.Ended as entry
 use Rattle.rb_forward.specs.Forwards.{Entry, is_due as entry_is_due, id_of, ended_by, without_first, due}
 use Rattle.rb_forward.proofs.Tables.{all_stay}
 use Rattle.rb_proto.specs.Ledger.{Ledger}
 use Rattle.rb_proto.specs.Forwarding.{noted_end, fell_due}
 use Rattle.rb_model.specs.declared.types.Expired.{Expired}
-use Rattle.rb_model.specs.declared.types.Expired.TheVariants.{Nothing, ConnectionClosed}
+use Rattle.rb_model.specs.declared.types.Expired.TheVariants.{Nothing, ConnectionLost}
 use Rattle.rb_model.specs.State.{State, Connection}
 use Rattle.rb_model.specs.Connections.{changed_at}
 use Rattle.rb_model.specs.Losses.{is_due, first_due, lose, expire_first}
@@ -27,7 +27,7 @@ pub data Expiry (s : State) (clock : ℕ) (fresh : State) (r : Expired × State)
       → r ≡ expired_as (Some (tell (id_of e) e.forward.caller (outcome_at_end [] (end_of e)) (record fresh { ledger = ledger })).0, (tell (id_of e) e.forward.caller (outcome_at_end [] (end_of e)) (record fresh { ledger = ledger })).1)
       → Expiry s clock fresh r
   ConnectionEnds : find (entry_is_due clock) s.ledger.forwards.all ≡ None → (c : Connection) → find (is_due clock) s.connections.all ≡ Some c
-      → r ≡ (ConnectionClosed c.number, record fresh { connections = changed_at c.number lose s.connections }) → Expiry s clock fresh r
+      → r ≡ (ConnectionLost c.number, record fresh { connections = changed_at c.number lose s.connections }) → Expiry s clock fresh r
   NothingDue : find (entry_is_due clock) s.ledger.forwards.all ≡ None → find (is_due clock) s.connections.all ≡ None
       → r ≡ (Nothing, fresh) → Expiry s clock fresh r
 

@@ -11,10 +11,10 @@ use Rattle.rb_rpc.specs.declared.caller.Caller.{Caller}
 use Rattle.rb_rpc.specs.declared.caller.Caller.TheVariants.{Tcp, Udp}
 use Rattle.rb_rpc.specs.Records.{data_of}
 use Rattle.rb_forward.specs.declared.types.Forward.{Forward as Asked}
-use Rattle.rb_forward.specs.declared.types.Outcome as target
+use Rattle.rb_forward.specs.declared.types.ForwardEnd as target
 use Rattle.rb_forward.specs.declared.types.Ended.{Ended as EntryEnd}
 use Rattle.rb_forward.specs.Forwards.{Entry, Forwards, is_connection, is_of_connection, is_unsent, as_sent, change_first as change_entry, sent, can_be_sent, next_entry, with_next_entry, without_first, ended_by, with_end, counts_for, is_due, outcome_of, reply, drop_caller}
-use Rattle.rb_forward.specs.declared.types.Outcome.TheVariants.{Failed}
+use Rattle.rb_forward.specs.declared.types.ForwardEnd.TheVariants.{Failed}
 use Rattle.rb_forward.proofs.Tables.{all_stay, sum-without}
 use Rattle.rb_proto.specs.declared.listener.Listener.{Listener}
 use Rattle.rb_proto.specs.declared.context.Context.{Context}
@@ -302,7 +302,7 @@ module _ (s : State) (sound : IsSound s) (h : Await s) where
   sent-await number b = grind (arith, common_steps, kept)
 
   -- an entry ends by a datagram or at its deadline, if one does
-  end-awaits : (at : ℕ) (message : List ℕ) (test : Entry → Bool) (outcome : target.Outcome) (r : Option EntryEnd × Ledger) → r.0 ≡ (with_end test outcome s.ledger.forwards).0 → r.1.forwards ≡ (with_end test outcome s.ledger.forwards).1
+  end-awaits : (at : ℕ) (message : List ℕ) (test : Entry → Bool) (outcome : target.ForwardEnd) (r : Option EntryEnd × Ledger) → r.0 ≡ (with_end test outcome s.ledger.forwards).0 → r.1.forwards ≡ (with_end test outcome s.ledger.forwards).1
       → Await (tell_end message (at_fresh_moment at s) r).1
   end-awaits at message test outcome (None, l) gave left = by_found (find test s.ledger.forwards.all) refl gave
     where

@@ -63,7 +63,7 @@ times-filter test number (n ∷ ns) = grind (arith, common_steps, times-filter t
 
 -- ---- what an event leaves of the counts
 
--- so many have ended before with this number, or there is one
+-- this many have ended before with this number, or there is one
 abbrev IsOnce : ℕ → State → ℕ → Type 0
 IsOnce number s past = past + times number (numbers_in s) ≡ begun number (next_in s)
 

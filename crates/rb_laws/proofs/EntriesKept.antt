@@ -176,7 +176,7 @@ expired-follows s (Some told, u) f = f
 expired-follows s (None, u) f = by_found (expire_connection u) (record { setting = f.setting; goes = f.goes })
   where
     by_found : (r : Expired × State) → Follows s r.1 → Follows s (show_expired r).1
-    by_found (e, t) g = elim e as (λ x. Follows s (show_expired (x, t)).1) [ expired.Nothing ↦ g | expired.Ended told ↦ g | expired.ConnectionClosed id ↦ g ]
+    by_found (e, t) g = elim e as (λ x. Follows s (show_expired (x, t)).1) [ expired.Nothing ↦ g | expired.Ended told ↦ g | expired.ConnectionLost id ↦ g ]
 
 pub step-follows : (s : State) (event : Event) → Follows s (step s event).1
 unfolding step open_connection bytes gave close_connection datagram sent_call forward_reply expire target_replied fell_due call_sent reply due zero_stats

@@ -30,7 +30,7 @@ module _ (s : State) (now id : ℕ) (c : Connection) (reached : IsReached s) (th
   abbrev arrival : List ℕ → Arrival
   arrival piece = record { state = s; now = now; id = id; piece = piece; connection = c }
 
-  nothing : (piece : List ℕ) → bytes s now id piece ≡ (Ok (record { count = 0; closed = false }), at_moment now s) → TakesNothing (arrival piece)
+  nothing : (piece : List ℕ) → bytes s now id piece ≡ (Ok (record { count = 0; lost = false }), at_moment now s) → TakesNothing (arrival piece)
   nothing piece is = grind arith
 
   goes-on : (fed piece : List ℕ) → IsLive (on_connection id (keep_reading (max s.clock now) (fed ++ piece)) (at_moment now s)) id (keep_reading (max s.clock now) (fed ++ piece) c)
@@ -56,14 +56,14 @@ module _ (s : State) (now id : ℕ) (c : Connection) (reached : IsReached s) (th
   -- the first record of these bytes
   ended-at : (fed : List ℕ) (b : ℕ) (piece : List ℕ) (n : ℕ) → fed_in c.phase ≡ Some fed → first_record (fed ++ b ∷ piece) ≡ Some n
       → bytes s now id (b ∷ piece) ≡ (
-        Ok (record { count = n - length fed; closed = is_no_call (said_in s now id c (take n (fed ++ b ∷ piece))) }),
+        Ok (record { count = n - length fed; lost = is_no_call (said_in s now id c (take n (fed ++ b ∷ piece))) }),
         on_connection id (settle (max s.clock now) (said_in s now id c (take n (fed ++ b ∷ piece)))) (answered_in s now id c (take n (fed ++ b ∷ piece))),
       )
   unfolding serve_record serve
   ended-at fed b piece n feeds some = fed-at s now id (b ∷ piece) c (Some fed) there feeds ∙ (rw some refl)
 
   read-at : (fed : List ℕ) (b : ℕ) (piece : List ℕ) → fed_in c.phase ≡ Some fed → first_record (fed ++ b ∷ piece) ≡ None
-      → bytes s now id (b ∷ piece) ≡ (Ok (record { count = length (b ∷ piece); closed = false }), on_connection id (keep_reading (max s.clock now) (fed ++ b ∷ piece)) (at_moment now s))
+      → bytes s now id (b ∷ piece) ≡ (Ok (record { count = length (b ∷ piece); lost = false }), on_connection id (keep_reading (max s.clock now) (fed ++ b ∷ piece)) (at_moment now s))
   read-at fed b piece feeds none = fed-at s now id (b ∷ piece) c (Some fed) there feeds ∙ (rw none refl)
 
   same_connections : (record_bytes : List ℕ) (said : Outcome) → (on_connection id (settle (max s.clock now) said) (answered_in s now id c record_bytes)).connections

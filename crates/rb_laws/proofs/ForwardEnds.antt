@@ -3,8 +3,8 @@ use Rattle.std.specs.Prelude.{find}
 use Rattle.std.specs.Option.{option_map}
 use Rattle.std.proofs.Common.{◌≡◌, ℕ, max, Bool, true, Option, Some, None, List, [], ◌++◌, refl, sym, ap, subst, append-nil, arith}
 use Rattle.rb_rpc.specs.declared.caller.Caller.{Caller}
-use Rattle.rb_forward.specs.declared.types.Outcome as target
-use Rattle.rb_forward.specs.declared.types.Outcome.TheVariants.{Failed}
+use Rattle.rb_forward.specs.declared.types.ForwardEnd as target
+use Rattle.rb_forward.specs.declared.types.ForwardEnd.TheVariants.{Failed}
 use Rattle.rb_forward.specs.declared.types.Ended.{Ended as EntryEnd}
 use Rattle.rb_forward.specs.declared.types.FwdId.{FwdId}
 use Rattle.rb_forward.specs.Forwards.{Entry, Forwards, id_of, ended_by, with_end, without_first, counts_for, is_due, outcome_of, reply, due}
@@ -24,7 +24,7 @@ use Rattle.rb_model.specs.ForwardLaws.{CallerGets, EndsFirst, EndsNone, EndsByRe
 
 -- the first such entry ends, or none does
 module _ (Is : Entry → Type 0) (test : Entry → Bool) (means : (e : Entry) → test e ≡ true → Is e) (tested : (e : Entry) → Is e → test e ≡ true)
-    (s : State) (now : ℕ) (message : List ℕ) (outcome : target.Outcome) where
+    (s : State) (now : ℕ) (message : List ℕ) (outcome : target.ForwardEnd) where
   abbrev ends : Option EntryEnd × Ledger
   ends = noted_end (with_end test outcome s.ledger.forwards) s.ledger
 

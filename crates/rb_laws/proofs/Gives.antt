@@ -15,13 +15,13 @@ use Rattle.rb_model.specs.Sessions.{pending_bytes}
 use Rattle.rb_model.specs.Step.{Event, Output, step, run, after, pending, pending_on, gave, unless_refused, output_or, show_done, is_too_much}
 use Rattle.rb_model.specs.Step.Event.{Pending, Gave}
 use Rattle.rb_model.specs.Step.Output.{IsPending, Done, TooMuch}
-use Rattle.rb_model.specs.Gives.{end_within, fitting_of, fitting_in, give_fitting, unless_nothing, give_into, cut_from, pieces_of, piece_events, piece_outputs, first_piece, GivesBySteps, GivesAreSteps}
+use Rattle.rb_model.specs.Gives.{end_within, fitting_of, fitting_in, write_fitting, unless_nothing, write_into, cut_from, pieces_of, piece_events, piece_outputs, first_piece, GivesBySteps, GivesAreSteps}
 use Rattle.rb_model.proofs.Gives.{front_end, count_pending, fits_none, fits_last, fits_more}
 use Rattle.rb_laws.proofs.Cuts.{IsFeeding, find-changed, changed-twice}
 
 -- ---- bytes that are given on a live connection
 
--- the state once so many bytes were given; none leave it, its clock too
+-- the state once this many bytes were given; none leave it, its clock too
 abbrev given_at : State → ℕ → ℕ → ℕ → State
 given_at s now id n =
     cond (eqb n 0) s (record (at_moment now s) { connections = changed_at id (λ (c : Connection). with_given (max s.clock now) n c) s.connections })
@@ -117,7 +117,7 @@ module _ (s : State) (now id : ℕ) (c : Connection) (o : Owed) (live : live_con
 
 -- ---- all pieces
 
--- So many bytes are the first piece: those that are pending.
+-- This many bytes are the first piece: those that are pending.
 abbrev IsFirst : ℕ → ℕ → Owed → Type 0
 IsFirst first room o = 0 < length (fitting_of room o) → (take first (fitting_of room o) ≡ pending_of o) × (drop first (fitting_of room o) ≡ drop (length (pending_of o)) (fitting_of room o))
 
@@ -132,7 +132,7 @@ some-pending room o some = elim (cases_lt room (length (pending_of o))) [
   | inr fits ↦ (fits, pending-some room o some)
 ]
 
--- all of it, and what is behind it
+-- all of it, and what is after it
 data Parts (room : ℕ) (o : Owed) : Type 0 where
   IsLast : length o.marked ≤ front_end o → fitting_of room o ≡ pending_of o → Parts room o
   HasMore : front_end o ≡ o.given + length (pending_of o) → front_end o < length o.marked → fitting_of room o ≡ pending_of o ++ fitting_of (room - length (pending_of o)) (record o { given = o.given + length (pending_of o) }) → Parts room o
@@ -180,7 +180,7 @@ no-steps : (s : State) (now id k first : ℕ) → Steps s now id (cut_from k fir
 no-steps s now id zero first = record { state = refl; outputs = refl }
 no-steps s now id (suc k) first = record { state = refl; outputs = refl }
 
--- a piece, and those behind it
+-- a piece, and those after it
 cut-more : (k first : ℕ) (bytes : List ℕ) → 0 < length bytes → cut_from (suc k) first bytes ≡ take first bytes ∷ cut_from k longest_fragment (drop first bytes)
 cut-more k first [] some = absurd (omega (arith, some))
 cut-more k first (byte ∷ bytes) some = refl
@@ -230,15 +230,15 @@ steps-on (suc k) s now id room first c o live owes enough is_first = elim (cases
 
 -- ---- what is given
 
-gives-in : (s : State) (now id room : ℕ) (c : Connection) (o : Owed) → live_connection id s.connections.all ≡ Some c → c.phase ≡ Owing o → give_into s now id room ≡ (Ok (fitting_of room o), given_at s now id (length (fitting_of room o)))
-unfolding give_into give_fitting live_connection
+gives-in : (s : State) (now id room : ℕ) (c : Connection) (o : Owed) → live_connection id s.connections.all ≡ Some c → c.phase ≡ Owing o → write_into s now id room ≡ (Ok (fitting_of room o), given_at s now id (length (fitting_of room o)))
+unfolding write_into write_fitting live_connection
 gives-in s now id room c o live owes =
     let clock : ℕ = max s.clock now in
     let count : ℕ = length (fitting_of room o) in
-    ap (λ (x : Option Connection). unless_nothing s (unless_refused now s (on_found id (give_fitting clock room) s.connections x))) live
-    ∙ ap (λ (bytes : List ℕ). unless_nothing s (Ok bytes, record (at_moment now s) { connections = record s.connections { all = change_first (is_live id) (λ (x : Connection). (give_fitting clock room x).1) s.connections.all } })) (ap (λ (phase : Phase). fitting_in room phase) owes)
+    ap (λ (x : Option Connection). unless_nothing s (unless_refused now s (on_found id (write_fitting clock room) s.connections x))) live
+    ∙ ap (λ (bytes : List ℕ). unless_nothing s (Ok bytes, record (at_moment now s) { connections = record s.connections { all = change_first (is_live id) (λ (x : Connection). (write_fitting clock room x).1) s.connections.all } })) (ap (λ (phase : Phase). fitting_in room phase) owes)
     ∙ ap (λ (all : List Connection). unless_nothing s (Ok (fitting_of room o), record (at_moment now s) { connections = record s.connections { all = all } }))
-    (changed-alike (is_live id) (λ (x : Connection). (give_fitting clock room x).1) (λ (x : Connection). with_given clock count x) s.connections.all c live (ap (λ (phase : Phase). with_given clock (length (fitting_in room phase)) c) owes))
+    (changed-alike (is_live id) (λ (x : Connection). (write_fitting clock room x).1) (λ (x : Connection). with_given clock count x) s.connections.all c live (ap (λ (phase : Phase). with_given clock (length (fitting_in room phase)) c) owes))
     ∙ by_bytes (fitting_of room o)
   where
     by_bytes : (bytes : List ℕ) → unless_nothing s (Ok bytes, record (at_moment now s) { connections = changed_at id (λ (x : Connection). with_given (max s.clock now) (length bytes) x) s.connections }) ≡ (Ok bytes, given_at s now id (length bytes))
@@ -247,12 +247,12 @@ gives-in s now id room c o live owes =
         ap (λ (t : State). let r : Result (List ℕ) CoreFault × State = (Ok (byte ∷ bytes), t) in r) (sym (some-given s now id (length (byte ∷ bytes)) (omega arith)))
 
 -- where nothing is owed nothing is given
-gives-none : (s : State) (now id room : ℕ) (c : Connection) → live_connection id s.connections.all ≡ Some c → fitting_in room c.phase ≡ [] → give_into s now id room ≡ (Ok [], s)
-unfolding give_into give_fitting
+gives-none : (s : State) (now id room : ℕ) (c : Connection) → live_connection id s.connections.all ≡ Some c → fitting_in room c.phase ≡ [] → write_into s now id room ≡ (Ok [], s)
+unfolding write_into write_fitting
 gives-none s now id room c live none =
     let clock : ℕ = max s.clock now in
-    ap (λ (x : Option Connection). unless_nothing s (unless_refused now s (on_found id (give_fitting clock room) s.connections x))) live
-    ∙ ap (λ (bytes : List ℕ). unless_nothing s (Ok bytes, record (at_moment now s) { connections = changed_at id (λ (x : Connection). (give_fitting clock room x).1) s.connections })) none
+    ap (λ (x : Option Connection). unless_nothing s (unless_refused now s (on_found id (write_fitting clock room) s.connections x))) live
+    ∙ ap (λ (bytes : List ℕ). unless_nothing s (Ok bytes, record (at_moment now s) { connections = changed_at id (λ (x : Connection). (write_fitting clock room x).1) s.connections })) none
 
 steps-of-none : (s : State) (now id : ℕ) (bytes : List ℕ) (new : State) (r : Result (List ℕ) CoreFault × State) → r ≡ (Ok [], s) → r ≡ (Ok bytes, new) → GivesBySteps s now id bytes new
 unfolding pieces_of
@@ -261,10 +261,10 @@ steps-of-none s now id bytes new r is gives =
     let stays : new ≡ s = ap (λ (x : Result (List ℕ) CoreFault × State). x.1) (sym gives ∙ is) in
     rw (same, stays) (record { state = refl; outputs = refl })
 
-gives-refused : (s : State) (now id room : ℕ) → live_connection id s.connections.all ≡ None → give_into s now id room ≡ (Err Gone, s)
-unfolding give_into
+gives-refused : (s : State) (now id room : ℕ) → live_connection id s.connections.all ≡ None → write_into s now id room ≡ (Err Gone, s)
+unfolding write_into
 gives-refused s now id room live =
-    ap (λ (x : Option Connection). unless_nothing s (unless_refused now s (on_found id (give_fitting (max s.clock now) room) s.connections x))) live
+    ap (λ (x : Option Connection). unless_nothing s (unless_refused now s (on_found id (write_fitting (max s.clock now) room) s.connections x))) live
 
 pub gives_are_steps : GivesAreSteps
 unfolding pieces_of
@@ -279,10 +279,10 @@ gives_are_steps s now id room bytes new gives = by_live (live_connection id s.co
         let steps = steps-on (length (fitting_of room o)) s now id room (length (pending_of o)) c o live owes (omega arith) (pending-first room o) in
         let all : Steps s now id (cut_from (length bytes) (first_piece s id) bytes) new = rw (same, then, first) steps in
         record { state = all.state; outputs = all.outputs }
-    by_phase c Idle live is = steps-of-none s now id bytes new (give_into s now id room) (gives-none s now id room c live (ap (λ (phase : Phase). fitting_in room phase) is)) gives
-    by_phase c (Reading fed) live is = steps-of-none s now id bytes new (give_into s now id room) (gives-none s now id room c live (ap (λ (phase : Phase). fitting_in room phase) is)) gives
-    by_phase c Awaiting live is = steps-of-none s now id bytes new (give_into s now id room) (gives-none s now id room c live (ap (λ (phase : Phase). fitting_in room phase) is)) gives
-    by_phase c Lost live is = steps-of-none s now id bytes new (give_into s now id room) (gives-none s now id room c live (ap (λ (phase : Phase). fitting_in room phase) is)) gives
+    by_phase c Idle live is = steps-of-none s now id bytes new (write_into s now id room) (gives-none s now id room c live (ap (λ (phase : Phase). fitting_in room phase) is)) gives
+    by_phase c (Reading fed) live is = steps-of-none s now id bytes new (write_into s now id room) (gives-none s now id room c live (ap (λ (phase : Phase). fitting_in room phase) is)) gives
+    by_phase c Awaiting live is = steps-of-none s now id bytes new (write_into s now id room) (gives-none s now id room c live (ap (λ (phase : Phase). fitting_in room phase) is)) gives
+    by_phase c Lost live is = steps-of-none s now id bytes new (write_into s now id room) (gives-none s now id room c live (ap (λ (phase : Phase). fitting_in room phase) is)) gives
 
     by_live : (c : Option Connection) → live_connection id s.connections.all ≡ c → GivesBySteps s now id bytes new
     by_live (Some c) live = by_phase c c.phase live refl

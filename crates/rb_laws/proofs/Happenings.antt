@@ -9,8 +9,8 @@ use Rattle.rb_address.specs.declared.who.Who.{Who}
 use Rattle.rb_rpc.specs.declared.caller.Caller.{Caller}
 use Rattle.rb_rpc.specs.declared.caller.Caller.TheVariants.{Tcp, Udp}
 use Rattle.rb_rpc.specs.Records.{first_record, data_of}
-use Rattle.rb_forward.specs.declared.types.Outcome as target
-use Rattle.rb_forward.specs.declared.types.Outcome.TheVariants.{Failed}
+use Rattle.rb_forward.specs.declared.types.ForwardEnd as target
+use Rattle.rb_forward.specs.declared.types.ForwardEnd.TheVariants.{Failed}
 use Rattle.rb_forward.specs.declared.types.Ended.{Ended as EntryEnd}
 use Rattle.rb_forward.specs.Forwards.{Entry, is_connection, is_of_connection, id_of, counts_for, is_due, outcome_of, with_end, reply, due, can_be_sent}
 use Rattle.rb_proto.specs.Ledger.{Ledger}
@@ -26,7 +26,7 @@ use Rattle.rb_model.specs.Losses.{removals_in_the_way, evict, is_due as connecti
 use Rattle.rb_model.specs.Step.{sender, Event, Output, context_in, serve, serve_record, unless_refused, when_taken, bytes_to, bytes, pending, pending_on, gave, is_too_much, open_connection, dropped_with, close_connection, next_lost, with_reply, datagram, unsent_call, sent_call, output_or, show_taken, show_done, show_outcome, show_told, show_end, show_expired, on_connection, step, zero_stats}
 use Rattle.rb_model.specs.declared.types.Taken.{Taken}
 use Rattle.rb_model.specs.Step.Event.{Open, Bytes, Pending, Gave, Closed, NextLost, Datagram, Unsent, Sent, Forward, Expire, ZeroStats}
-use Rattle.rb_model.specs.Step.Output.{Opened, Refused, TooMuch, Took, IsPending, Done, LostIs, Replied, Forwarded, Silent, UnsentIs, Nothing, ConnectionClosed}
+use Rattle.rb_model.specs.Step.Output.{Opened, Refused, TooMuch, Took, IsPending, Done, LostIs, Replied, Forwarded, Silent, UnsentIs, Nothing, ConnectionLost}
 use Rattle.rb_model.specs.declared.types.Expired.{Expired}
 use Rattle.rb_model.specs.Laws.{number_given}
 use Rattle.rb_model.specs.Sessions.{piece_to, gave_to, given_by, IsFinal, outcome_of_ended, outcome_by}
@@ -47,12 +47,12 @@ answered_in s now id c record_bytes = (serve (at_moment now s) (Tcp id c.who) (d
 pub data Arriving (s : State) (now id : ℕ) (piece : List ℕ) (r : Result Taken CoreFault × State) : Type 0 where
   NotThere : live_connection id s.connections.all ≡ None → r ≡ (Err Gone, s) → Arriving s now id piece r
   NotTaken : (c : Connection) → live_connection id s.connections.all ≡ Some c → (fed_in c.phase ≡ None) ⊎ (piece ≡ [])
-      → r ≡ (Ok (record { count = 0; closed = false }), at_moment now s) → Arriving s now id piece r
+      → r ≡ (Ok (record { count = 0; lost = false }), at_moment now s) → Arriving s now id piece r
   ReadOn : (c : Connection) (fed : List ℕ) → live_connection id s.connections.all ≡ Some c → fed_in c.phase ≡ Some fed → first_record (fed ++ piece) ≡ None
-      → r ≡ (Ok (record { count = length piece; closed = false }), on_connection id (keep_reading (max s.clock now) (fed ++ piece)) (at_moment now s)) → Arriving s now id piece r
+      → r ≡ (Ok (record { count = length piece; lost = false }), on_connection id (keep_reading (max s.clock now) (fed ++ piece)) (at_moment now s)) → Arriving s now id piece r
   Ended : (c : Connection) (fed : List ℕ) (n : ℕ) → live_connection id s.connections.all ≡ Some c → fed_in c.phase ≡ Some fed → first_record (fed ++ piece) ≡ Some n
       → r ≡ (
-        Ok (record { count = n - length fed; closed = is_no_call (said_in s now id c (take n (fed ++ piece))) }),
+        Ok (record { count = n - length fed; lost = is_no_call (said_in s now id c (take n (fed ++ piece))) }),
         on_connection id (settle (max s.clock now) (said_in s now id c (take n (fed ++ piece)))) (answered_in s now id c (take n (fed ++ piece))),
       ) → Arriving s now id piece r
 
@@ -105,7 +105,7 @@ pub data Happening (s : State) (event : Event) (output : Output) (now : Connecti
       → output ≡ Took (length piece) → now ≡ changed_at id (keep_reading (max s.clock at) (fed ++ piece)) s.connections → Happening s event output now
   Ends : (at id : ℕ) (piece : List ℕ) (c : Connection) (fed : List ℕ) (n : ℕ) → event ≡ Bytes at id piece
       → live_connection id s.connections.all ≡ Some c → fed_in c.phase ≡ Some fed → first_record (fed ++ piece) ≡ Some n
-      → output ≡ show_taken (record { count = n - length fed; closed = is_no_call (said_in s at id c (take n (fed ++ piece))) })
+      → output ≡ show_taken (record { count = n - length fed; lost = is_no_call (said_in s at id c (take n (fed ++ piece))) })
       → now ≡ changed_at id (settle (max s.clock at) (said_in s at id c (take n (fed ++ piece)))) (evict (crowd_at s at (Tcp id c.who) (data_of (take n (fed ++ piece)))) s.connections)
       → Happening s event output now
   Gives : (at id n : ℕ) (c : Connection) → event ≡ Gave at id n → live_connection id s.connections.all ≡ Some c → n ≤ length (pending_in c.phase)
@@ -130,7 +130,7 @@ find-any p q (y ∷ xs) x is holds = grind (arith, find-any p q xs x)
 abbrev pub WasThere : State → Option EntryEnd → Type 0
 WasThere s o = (ended : EntryEnd) → o ≡ Some ended → (id : ℕ) → is_connection id ended.forward.caller ≡ true → has_entry id s ≡ true
 
-was-there : (s : State) (test : Entry → Bool) (outcome : target.Outcome) → WasThere s (with_end test outcome s.ledger.forwards).0
+was-there : (s : State) (test : Entry → Bool) (outcome : target.ForwardEnd) → WasThere s (with_end test outcome s.ledger.forwards).0
 was-there s test outcome = grind (arith, common_steps, find-any)
 
 pub replied-there : (s : State) (clock : ℕ) (from : Peer) (message : List ℕ) → WasThere s (target_replied s.setting.first_xid clock from message s.ledger).0
@@ -228,7 +228,7 @@ module _ (s : State) where
 
   expire-happens : (at : ℕ) (r : Expired × State) → Expiry s (max s.clock at) (at_fresh_moment at s) r → Happens (Expire at) (show_expired r)
   expire-happens at r (NothingDue none free is) = rw is (Stays (quiet (Expire at) Nothing refl refl (λ k. refl)) refl)
-  expire-happens at r (ConnectionEnds none c found is) = rw is (TimesOut at c refl (quiet (Expire at) (ConnectionClosed c.number) refl refl (λ k. refl)) none found refl)
+  expire-happens at r (ConnectionEnds none c found is) = rw is (TimesOut at c refl (quiet (Expire at) (ConnectionLost c.number) refl refl (λ k. refl)) none found refl)
   expire-happens at r (EntryEnds e found ledger left is) = rw is (by_caller e.forward.caller refl)
     where
       after : Caller → Told × State

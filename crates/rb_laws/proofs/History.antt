@@ -139,7 +139,7 @@ message-noted s (Some m) hears =
     outcome-noted (context_in (at_moment m.now s) m.caller) (message_of m.content) (arguments_of m.content) s.ledger (hears m refl)
     ∙ ap (λ (notes : List Note). s.ledger.history ++ notes) (sym (append-nil (notes_from s (Some m))))
 
--- the ledger is left with these notes, behind the history, or behind nothing where statistics begin anew
+-- the ledger is left with these notes, after the history, or after nothing where statistics begin anew
 left-noted : (s : State) (event : Event) → (ledger_left s event).history ≡ unless_anew (begins_anew event) s.ledger.history ++ notes_by s event
 unfolding target_replied fell_due caller_dropped call_sent
 left-noted s (Open now who) = sym (append-nil s.ledger.history)
@@ -169,7 +169,7 @@ events_are_noted s event = ap (λ (l : Ledger). l.history) (step-ledger s event)
 
 -- ---- runs
 
--- what is left of a history and of notes behind it, by one event and by others behind it
+-- what is left of a history and of notes after it, by one event and by others after it
 left-of : (one later : Bool) (history notes more : List Note)
     → unless_anew later (unless_anew one history ++ notes) ++ more ≡ unless_anew (one || later) history ++ (unless_anew later notes ++ more)
 left-of true true history notes more = refl

@@ -43,20 +43,20 @@ data_few (suc k) bytes = by_last (is_last bytes) (number_at 0 bytes % 2 ^ 31) (�
 nothing : (xs : List ℕ) → length xs ≤ 0 → xs ≡ []
 nothing xs none = grind (arith, common_steps)
 
--- At most so many are behind the old ones.
+-- At most this many are after the old ones.
 record Grows (old new : List ℕ) (most : ℕ) : Type 0 where
   more : List ℕ
   is : new ≡ old ++ more
   few : length more ≤ most
 
--- of a fragment and what is behind it
+-- of a fragment and what is after it
 abbrev from_fragment : Bool → ℕ → ℕ → List ℕ → List ℕ
 from_fragment last n k bytes = cond last (slice_range bytes 4 (4 + n)) (slice_range bytes 4 (4 + n) ++ data_in k (drop (4 + n) bytes))
 
 slice_all : (bytes : List ℕ) (n : ℕ) → slice_range bytes 4 (4 + n) ≡ take n (drop 4 bytes)
 slice_all bytes n = let size : 4 + n - 4 ≡ n = omega arith in rw size refl
 
--- a fragment that ends in the front, or behind it
+-- a fragment that ends in the front, or after it
 fragment_grows : (a b : List ℕ) (last : Bool) (n k j : ℕ) → 4 ≤ length a
     → (4 + n ≤ length a → Grows (data_in j (drop (4 + n) a)) (data_in k (drop (4 + n) a ++ b)) (length b))
     → Grows (from_fragment last n j a) (from_fragment last n k (a ++ b)) (length b)
@@ -69,7 +69,7 @@ fragment_grows a b last n k j long later =
     front : drop 4 (a ++ b) ≡ drop 4 a ++ b
     front = drop-append-le 4 a b long
 
-    -- it ends behind
+    -- it ends after it
     by_cut : (l : Bool) → length a < 4 + n → Grows (from_fragment l n j a) (from_fragment l n k (a ++ b)) (length b)
     by_cut l cut = by_flag l
       where

@@ -1,4 +1,4 @@
--- The live rows and the removed ones that are kept for lists are together never more than there may be.
+-- The live rows and those that are retained for lists are together never more than there may be.
 use Rattle.std.specs.Prelude.{filter_map}
 use Rattle.std.specs.List.{list_any, list_all}
 use Rattle.std.proofs.Common.{◌≡◌, ◌≤◌, ◌<◌, ℕ, suc, ◌+◌, Bool, true, false, not, ◌||◌, eqb, nat_le, nat_lt, Option, Some, None, List, [], ◌∷◌, ◌++◌, length, map, filter, is_none, refl, ap, length-append, arith}
@@ -35,7 +35,7 @@ retained_by change (c ∷ all) = grind (arith, retained_by change all)
 either : (a b c d : Bool) → (a ≡ true → c ≡ true) → (b ≡ true → d ≡ true) → (a || b) ≡ true → (c || d) ≡ true
 either a b c d first further e = grind arith
 
--- Of the first so many changes, these connections keep no row that those didn't.
+-- Of the first changes, up to a number, these connections retain no row that those didn't.
 abbrev pub KeepsLess : ℕ → List Connection → List Connection → Type 0
 KeepsLess most new old = (change : ℕ) → change ≤ most → list_any (keeps change) new ≡ true → list_any (keeps change) old ≡ true
 
@@ -57,9 +57,9 @@ pub filtered-kept : (most : ℕ) (test : Connection → Bool) (all : List Connec
 filtered-kept most test [] change few is = grind arith
 filtered-kept most test (c ∷ all) change few is = grind (arith, filtered-kept most test all change few)
 
--- ---- how many rows are live or kept
+-- ---- how many rows are live or retained
 
--- a row that was removed by this change, if it was, is live or kept
+-- a row that was removed by this change, if it was, is live or retained
 abbrev counts_for : List Connection → Option ℕ → Bool
 counts_for all None = true
 counts_for all (Some change) = list_any (keeps change) all
@@ -183,7 +183,7 @@ module _ (change : ℕ) (changes : List ℕ) (m : ℕ) (low : list_all (λ n. na
   none-keep [] = refl
   none-keep (c ∷ all) = rw (none-keeps c) (none-keep all)
 
--- ---- fewer rows are kept
+-- ---- fewer rows are retained
 
 fewer : (p q : ℕ → Bool) → ((n : ℕ) → p n ≡ true → q n ≡ true) → (xs : List ℕ) → length (filter p xs) ≤ length (filter q xs)
 fewer p q also [] = grind arith

@@ -1,4 +1,4 @@
--- In each state that a run reaches, the live rows and the kept ones are together no more than there may be.
+-- In each state that a run reaches, the live rows and the retained ones are together no more than there may be.
 use Rattle.std.specs.Prelude.{take, ⊤}
 use Rattle.std.specs.List.{list_any}
 use Rattle.std.proofs.Common.{◌≡◌, ◌≤◌, ◌<◌, ℕ, ◌+◌, max, Bool, true, false, cond, nat_lt, eqb, Option, Some, None, Result, Ok, Err, List, [], ◌∷◌, ◌++◌, length, map, refl, sym, ap, subst, ◌∙◌, append-nil, arith}

@@ -6,8 +6,8 @@ use Rattle.rb_address.specs.declared.peer.Peer.{Peer}
 use Rattle.rb_address.specs.declared.who.Who.{Who}
 use Rattle.rb_rpc.specs.declared.caller.Caller.{Caller}
 use Rattle.rb_rpc.specs.declared.caller.Caller.TheVariants.{Udp}
-use Rattle.rb_forward.specs.declared.types.Outcome as target
-use Rattle.rb_forward.specs.declared.types.Outcome.TheVariants.{Failed}
+use Rattle.rb_forward.specs.declared.types.ForwardEnd as target
+use Rattle.rb_forward.specs.declared.types.ForwardEnd.TheVariants.{Failed}
 use Rattle.rb_forward.specs.declared.types.FwdId.{FwdId}
 use Rattle.rb_forward.specs.Forwards.{Entry, outcome_of, counts_for, is_due, id_of, ended_by, without_first, reply, due}
 use Rattle.rb_forward.specs.Ends.{NoneIs, IsFirst, IsReplyTo}
@@ -34,7 +34,7 @@ module _ (Is : Entry → Type 0) (test : Entry → Bool) (means : (e : Entry) �
 
 module _ (s : State) (now : ℕ) (message : List ℕ) where
   -- the entry ended so, and nothing else is shown
-  abbrev ends : (Option Told × State → Output × State) → (Entry → Bool) → target.Outcome → Option Entry → Output
+  abbrev ends : (Option Told × State → Output × State) → (Entry → Bool) → target.ForwardEnd → Option Entry → Output
   ends show test outcome found =
       (show (tell_end message (at_fresh_moment now s) (noted_end (option_map (ended_by outcome) found, record s.ledger.forwards { all = without_first test s.ledger.forwards.all }) s.ledger))).0
 
@@ -45,7 +45,7 @@ module _ (s : State) (now : ℕ) (message : List ℕ) where
       → (show_end (Some (tell call caller said (record (at_fresh_moment now s) { ledger = l })).0, (tell call caller said (record (at_fresh_moment now s) { ledger = l })).1)).0 ≡ later_output who said
   shown-for l call said caller who longest udp = grind (arith, common_steps, shown l call said who longest)
 
-  ended-shown : (test : Entry → Bool) (outcome : target.Outcome) (found : Option Entry) (e : Entry) (who : Who) (longest : ℕ) → found ≡ Some e → e.forward.caller ≡ Udp who longest
+  ended-shown : (test : Entry → Bool) (outcome : target.ForwardEnd) (found : Option Entry) (e : Entry) (who : Who) (longest : ℕ) → found ≡ Some e → e.forward.caller ≡ Udp who longest
       → ends show_end test outcome found ≡ later_output who (outcome_at_end message (ended_by outcome e))
   ended-shown test outcome found e who longest is udp = rw is (shown-for (noted_end (Some (ended_by outcome e), record s.ledger.forwards { all = without_first test s.ledger.forwards.all }) s.ledger).1 (id_of e) (outcome_at_end message (ended_by outcome e)) e.forward.caller who longest udp)
 

@@ -7,7 +7,7 @@ use Rattle.rb_rpc.specs.declared.caller.Caller.{Caller}
 use Rattle.rb_rpc.specs.declared.reply.ReplyStatus.TheVariants.{SystemErr}
 use Rattle.rb_forward.specs.declared.types.FwdId.{FwdId}
 use Rattle.rb_forward.specs.declared.types.Ended as entry
-use Rattle.rb_forward.specs.declared.types.Outcome.TheVariants.{Failed}
+use Rattle.rb_forward.specs.declared.types.ForwardEnd.TheVariants.{Failed}
 use Rattle.rb_forward.specs.Forwards.{Entry, is_due as entry_is_due, without_first, id_of, ended_by}
 use Rattle.rb_forward.specs.Ends.{NoneIs, IsFirst, EndsFirst}
 use Rattle.rb_forward.proofs.Ends.{ends_first, due_means, due_tested}

@@ -77,7 +77,7 @@ AreBytes-front front back are = subst AreBytes (take_at front back (length front
 abbrev all_of : List (List ℕ) → List ℕ
 all_of texts = flat_map (λ text. text) texts
 
--- the bytes behind the records are among those that were taken
+-- the bytes after the records are among those that were taken
 unfinished-bytes : (taken more rest : List ℕ) (texts : List (List ℕ)) → taken ≡ all_of texts ++ rest → AreBytes (taken ++ more) → AreBytes (rest ++ more)
 unfinished-bytes taken more rest texts whole are =
     AreBytes-back (all_of texts) (rest ++ more) (subst AreBytes (ap (λ (xs : List ℕ). xs ++ more) whole ∙ append_assoc (all_of texts) rest more) are)

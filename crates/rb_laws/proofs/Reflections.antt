@@ -18,8 +18,8 @@ use Rattle.rb_rpc.specs.declared.caller.Caller.{Caller}
 use Rattle.rb_rpc.specs.declared.caller.Caller.TheVariants.{Tcp, Udp}
 use Rattle.rb_feed.specs.Feeds.{arguments_of}
 use Rattle.rb_forward.specs.declared.types.Forward.{Forward as Asked}
-use Rattle.rb_forward.specs.declared.types.Outcome as target
-use Rattle.rb_forward.specs.declared.types.Outcome.TheVariants.{Passed, Refused, Failed, Dropped}
+use Rattle.rb_forward.specs.declared.types.ForwardEnd as target
+use Rattle.rb_forward.specs.declared.types.ForwardEnd.TheVariants.{Passed, Refused, Failed, Dropped}
 use Rattle.rb_forward.specs.declared.types.FwdId.{FwdId}
 use Rattle.rb_forward.specs.Forwards.{Entry, Forwards, is_unsent, as_sent, change_first as change_entry, sent, can_be_sent, next_entry, with_next_entry, without_first, id_of, ended_by, is_of_connection, counts_for, is_due, outcome_of, reply, due, drop_caller}
 use Rattle.rb_forward.proofs.Tables.{all_stay, sum-without}
@@ -149,7 +149,7 @@ forwarded-long context (verdicts.Call head place) n long arguments l is = long
 failure-most : (forward : Asked) (status : ReplyStatus) → length (reply_in (outcome_of_failure forward status)) ≤ 32
 failure-most forward status = grind (arith, short_head)
 
-end-most : (forward : Asked) (message : List ℕ) (outcome : target.Outcome) → length (reply_in (outcome_of_end forward message outcome)) ≤ most_told forward.caller
+end-most : (forward : Asked) (message : List ℕ) (outcome : target.ForwardEnd) → length (reply_in (outcome_of_end forward message outcome)) ≤ most_told forward.caller
 end-most forward message (Passed place) = let most = success-most forward.caller forward.xid (forwarded_bytes forward (drop place message)) in omega (arith, most)
 end-most forward message (Refused status) = omega (arith, failure-most forward status)
 end-most forward message Failed = omega (arith, failure-most forward replies.SystemErr)
@@ -240,7 +240,7 @@ module _ (test : Who → Bool) where
     before = s.ledger.forwards
 
     -- the first entry for which the test holds ends so, if there is one
-    module _ (now : ℕ) (message : List ℕ) (found : Entry → Bool) (outcome : target.Outcome) where
+    module _ (now : ℕ) (message : List ℕ) (found : Entry → Bool) (outcome : target.ForwardEnd) where
       abbrev ended : Option Entry → Option Told × State
       ended o = tell_end message (at_fresh_moment now s) (noted_end (option_map (ended_by outcome) o, record before { all = without_first found before.all }) s.ledger)
 

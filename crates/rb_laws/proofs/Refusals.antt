@@ -12,7 +12,7 @@ use Rattle.rb_model.specs.declared.types.Told.{Told}
 use Rattle.rb_model.specs.declared.types.Expired.{Expired}
 use Rattle.rb_model.specs.Step.{Event, Output, sent_call, show_end, show_expired, unless_refused, bytes_to, bytes, gave, open_connection, close_connection, output_or, show_taken, show_outcome, step}
 use Rattle.rb_model.specs.declared.types.Taken.{Taken}
-use Rattle.rb_model.specs.Step.Output.{Took, TookAndClosed}
+use Rattle.rb_model.specs.Step.Output.{Took, TookAndLost}
 use Rattle.rb_model.specs.Laws.{IsKeptIfRefused}
 
 -- a call that refuses leaves the state
@@ -42,7 +42,7 @@ lends : (s : State) (r : Result (List ℕ) CoreFault) → IsKept s (r, s)
 lends s r = grind arith
 
 shows_taken : (s : State) (t : Taken) (u : State) → IsKeptIfRefused (show_taken t) s u
-shows_taken s t u = elim (t.closed) as (λ b. IsKeptIfRefused (cond b (TookAndClosed t.count) (Took t.count)) s u) [ true ↦ tt | false ↦ tt ]
+shows_taken s t u = elim (t.lost) as (λ b. IsKeptIfRefused (cond b (TookAndLost t.count) (Took t.count)) s u) [ true ↦ tt | false ↦ tt ]
 
 shows_outcome : (s : State) (r : Outcome × State) → IsKeptIfRefused (show_outcome r).0 s (show_outcome r).1
 shows_outcome s r = grind arith

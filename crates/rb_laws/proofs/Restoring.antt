@@ -239,7 +239,7 @@ distinct-beside (row ∷ own) rows are distinct may apart =
     let parts = and_parts (not (list_any (is_of_key row) own)) (are_distinct own) distinct in
     rw (list_any-append (is_of_key row) own rows, not-true (list_any (is_of_key row) own) parts.0, none-own row rows here.0 may) (distinct-beside own rows here.1 parts.1 may apart)
 
--- the rows behind others
+-- the rows after others
 distinct-behind : (own rows : List Row) → are_distinct (own ++ rows) ≡ true → are_distinct rows ≡ true
 distinct-behind [] rows distinct = distinct
 distinct-behind (row ∷ own) rows distinct = distinct-behind own rows (and_parts (not (list_any (is_of_key row) (own ++ rows))) (are_distinct (own ++ rows)) distinct).1
@@ -276,7 +276,7 @@ restored s r good are =
     ∙ ap (λ (rows : List Row). own_rows s.setting.listener ++ rows) (all_left (set_rows s))
     ∙ ap (λ (own : List Row). own ++ set_rows s) (sym k.own)
 
--- where statistics begin anew behind some events, the rows are those after the events, and nothing was called
+-- where statistics begin anew after some events, the rows are those after the events, and nothing was called
 pub begun-anew : (s : State) (events : List Event) → let left : State = after s (events ++ ZeroStats ∷ []) in
     (rows_in left.ledger ≡ rows_in (after s events).ledger) × (left.ledger.history ≡ [])
 unfolding step zero_stats

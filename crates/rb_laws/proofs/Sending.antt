@@ -1,4 +1,4 @@
--- Behind bytes with which a call was forwarded, that call is there and was not sent.
+-- After bytes with which a call was forwarded, that call is there and was not sent.
 use Rattle.std.specs.Prelude.{find, not, is_some, option_map, ◌&&◌}
 use Rattle.std.specs.List.{list_any}
 use Rattle.std.proofs.Common.{◌≡◌, ◌<◌, ℕ, max, Bool, true, cond, eqb, Option, Some, None, Result, Ok, List, [], ◌∷◌, ◌++◌, take, refl, sym, ap, subst, ◌∙◌, arith}

@@ -21,7 +21,7 @@ use Rattle.rb_model.specs.Laws.{is_awaiting, owed_bytes, number_given, owed_in, 
 use Rattle.rb_model.specs.Step.{sender, Event, Output, pending, show_taken, step}
 use Rattle.rb_model.specs.declared.types.Taken.{Taken}
 use Rattle.rb_model.specs.Step.Event.{Bytes, Gave}
-use Rattle.rb_model.specs.Step.Output.{Opened, Took, TookAndClosed, Done}
+use Rattle.rb_model.specs.Step.Output.{Opened, Took, TookAndLost, Done}
 use Rattle.rb_model.specs.Sessions.{Exchange, Session, at_event, piece_to, taken_by, gave_to, given_by, empty_session, session_with, session_after, outcome_by, with_outcome, with_last_outcome, replies_to, marked_reply_in, is_answered, AwaitsLast, AreAnswered, IsFront}
 use Rattle.rb_model.specs.Bounds.{count_in}
 use Rattle.rb_model.specs.Losses.{lose as timed_out, evict_early, evict}
@@ -136,12 +136,12 @@ no-first : first_record [] ≡ None
 unfolding first_record
 no-first = refl
 
--- the part of the piece up to the record's end, behind what was fed
+-- the part of the piece up to the record's end, after what was fed
 up-to : (fed piece : List ℕ) (n : ℕ) → length fed ≤ n → fed ++ take (n - length fed) piece ≡ take n (fed ++ piece)
 up-to fed piece n low = grind (arith, common_steps, take-append-add fed piece (n - length fed))
 
 pub count-shown : (t : Taken) → count_in (show_taken t) ≡ t.count
-count-shown t = elim (t.closed) as (λ b. count_in (cond b (TookAndClosed t.count) (Took t.count)) ≡ t.count) [ true ↦ refl | false ↦ refl ]
+count-shown t = elim (t.lost) as (λ b. count_in (cond b (TookAndLost t.count) (Took t.count)) ≡ t.count) [ true ↦ refl | false ↦ refl ]
 
 -- ---- events that pass nothing
 
@@ -336,13 +336,13 @@ module _ (id : ℕ) (s : State) (t : Session) (h : Holds id s.connections t) whe
 
   -- what is told of a record that ended
   abbrev ended : ℕ → ℕ → Connection → List ℕ → List ℕ → ℕ → Taken
-  ended at k c piece fed n = record { count = n - length fed; closed = is_no_call (said_in s at k c (take n (fed ++ piece))) }
+  ended at k c piece fed n = record { count = n - length fed; lost = is_no_call (said_in s at k c (take n (fed ++ piece))) }
 
   abbrev told : ℕ → ℕ → Connection → List ℕ → List ℕ → ℕ → Output
   told at k c piece fed n = show_taken (ended at k c piece fed n)
 
   plain-told : (event : Event) (x : Taken) → given_by s id event (show_taken x) ≡ []
-  plain-told event x = elim (x.closed) as (λ b. given_by s id event (cond b (TookAndClosed x.count) (Took x.count)) ≡ []) [ true ↦ refl | false ↦ refl ]
+  plain-told event x = elim (x.lost) as (λ b. given_by s id event (cond b (TookAndLost x.count) (Took x.count)) ≡ []) [ true ↦ refl | false ↦ refl ]
 
   ends-at : (changes : List ℕ) (at k : ℕ) (piece : List ℕ) (c : Connection) (fed : List ℕ) (n : ℕ) (now : Connections) → Goes now → live_connection k s.connections.all ≡ Some c → fed_in c.phase ≡ Some fed → first_record (fed ++ piece) ≡ Some n
       → now ≡ changed_at k (settle (max s.clock at) (said_in s at k c (take n (fed ++ piece)))) (evict changes s.connections) → (b : Bool) → eqb k id ≡ b → Holds id now (with_event (Bytes at k piece) (told at k c piece fed n))

@@ -23,7 +23,7 @@ use Rattle.rb_laws.proofs.RepliesShown.{unsent-shown, datagram-shown, forward-sh
 
 -- ---- a piece of bytes
 
--- so many of its bytes are taken
+-- this many of its bytes are taken
 pub taken-counts : (s : State) (id : ℕ) (piece : List ℕ) (c : Connection) (t : Taking) → (when_taken s id piece c t).0.count ≡ count_taken piece t
 taken-counts s id piece c t = grind arith
 
@@ -50,7 +50,7 @@ module _ (s : State) (reached : IsReached s) (good : are_good s.setting.limits s
 
   module _ (now id : ℕ) (piece : List ℕ) where
     pub shows : (t : Taken) → count_in (show_taken t) ≡ t.count
-    shows t = elim t.closed as (λ b. count_in (cond b (Output.TookAndClosed t.count) (Output.Took t.count)) ≡ t.count) [ true ↦ refl | false ↦ refl ]
+    shows t = elim t.lost as (λ b. count_in (cond b (Output.TookAndLost t.count) (Output.Took t.count)) ≡ t.count) [ true ↦ refl | false ↦ refl ]
 
     piece_within : (m : Option Connection) → live_connection id s.connections.all ≡ m
         → bytes_cost s.setting.listener.announced (sizes_in s) piece m ≤ steps_bound s.setting.limits (count_in (output_or show_taken (bytes_to s now id piece m)).0) 0

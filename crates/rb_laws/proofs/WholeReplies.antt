@@ -22,7 +22,7 @@ ends-later : (o : Owed) → o.given < fragment_end o
 unfolding longest_fragment
 ends-later o = omega arith
 
--- behind what is pending
+-- after what is pending
 abbrev pub behind : Phase → List ℕ
 behind (Owing o) = drop (fragment_end o) o.marked
 behind Idle = []
@@ -86,7 +86,7 @@ some-given n (Owing o) = by_test (nat_lt (o.given + n) (length o.marked)) refl
           kept = λ is. absurd cc;
         }
 
--- ---- the connection behind it
+-- ---- the connection after it
 
 -- n bytes are given on one connection
 pub one-given : (clock n : ℕ) (c : Connection) → IsSoundPhase c.phase → n ≤ length (pending_in c.phase) → IsGiven n c.phase (give clock n c).1.phase

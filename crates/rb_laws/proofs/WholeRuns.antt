@@ -34,11 +34,11 @@ none_kept : length (kept_of (data_of [])) ≤ 0
 unfolding data_of arguments_of verdict
 none_kept = omega (arith, length-take longest_kept (arguments_of (data_of [])))
 
--- behind bytes that are fed
+-- after bytes that are fed
 fed_args : (p : Phase) (fed : List ℕ) → fed_in p ≡ Some fed → length (kept_of (data_of fed)) ≤ args_in p
 fed_args p fed is = grind (arith, common_steps, none_kept)
 
--- What a connection has behind a piece, and what it read, is within what it had and what was taken.
+-- What a connection has after a piece, and what it read, is within what it had and what was taken.
 abbrev IsWithin : Phase → List ℕ → Taking → Type 0
 IsWithin p piece TakesNone = Unit {0}
 IsWithin p piece (GoesOn fed) = length (kept_of (data_of fed)) ≤ args_in p + length piece
@@ -70,7 +70,7 @@ unfolding keep_reading
 read_args clock fed c = refl
 
 counted : (n : ℕ) (r : Bool × State) → waiting (with_count n r).1 ≡ waiting r.1
-counted n (closed, u) = refl
+counted n (lost, u) = refl
 
 module _ (s : State) (reached : IsReached s) (good : are_good s.setting.limits s.setting.listener ≡ true) where
   few : length s.connections.all ≤ s.setting.limits.conns

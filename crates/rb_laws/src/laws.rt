@@ -72,7 +72,7 @@ pub fn replies_are_given_whole()
 {}
 
 /// From every state, what is given into a room is given by steps: a look at what is pending and the giving of it, for the rest
-/// of the fragment that is pending and for each fragment behind it. The state is the same behind them.
+/// of the fragment that is pending and for each fragment after it. The state is the same after them.
 pub fn gives_are_steps()
     ensures { GivesAreSteps }
 {}
@@ -95,7 +95,7 @@ pub fn connections_await()
     ensures { ConnectionsAwait }
 {}
 
-/// In each state that a run reaches: where a connection stands as Sends behind bytes, its forwarded call is there and was not
+/// In each state that a run reaches: where a connection stands as Sends after bytes, its forwarded call is there and was not
 /// sent, and so the look for an unsent call finds one.
 pub fn sends_are_unsent()
     ensures { SendsAreUnsent }
@@ -110,7 +110,7 @@ pub fn calls_end_by_their_own()
     ensures over_udp { (s : State) → UdpCallersAreTold s }
 {}
 
-/// From every state, an event ends one of the forwarded calls, or begins one behind them, with the next number, or does
+/// From every state, an event ends one of the forwarded calls, or begins one after them, with the next number, or does
 /// neither. In every run from an opening, each that has begun has ended with exactly one event, or is still there, once.
 pub fn entries_end_once()
     ensures events { EventsChangeAtMostOne }
@@ -206,7 +206,7 @@ pub fn calls_are_noted()
 /// address of its netid. Where the run is of bytes and of uids of 32 bits, bytes can spell each, in a SET of at most 368 bytes.
 /// These SETs, from this machine and by the owners of the rows, are all answered TRUE in a run from any opening with room for
 /// them, and set just these rows, in their order. From the opening of the same setting, at good limits, the live rows are then
-/// the same; and where statistics begin anew behind these SETs, they stay so, and nothing was called.
+/// the same; and where statistics begin anew after these SETs, they stay so, and nothing was called.
 pub fn kept_rows_are_restored()
     ensures settable { RowsCanBeSet }
     ensures spelled { RowsAreSpelled }

@@ -34,7 +34,7 @@ use Rattle.rb_model.specs.declared.types.CoreFault.TheVariants.{NoMemory, BadLim
 use Rattle.rb_model.specs.State.{State, opening}
 use Rattle.rb_model.specs.Step.{Event, Output, step, run}
 use Rattle.rb_model.specs.Step.Event.{Datagram, Open, Bytes, Pending, Gave, Closed, NextLost, Unsent, Sent, Forward, Expire, ZeroStats}
-use Rattle.rb_model.specs.Step.Output.{Opened, Refused, TooMuch, Took, TookAndClosed, IsPending, Done, LostIs, Replied, Forwarded, Silent, UnsentIs, Ignored, Nothing, ConnectionClosed, Ready, RepliedTo}
+use Rattle.rb_model.specs.Step.Output.{Opened, Refused, TooMuch, Took, TookAndLost, IsPending, Done, LostIs, Replied, Forwarded, Silent, UnsentIs, Ignored, Nothing, ConnectionLost, Ready, RepliedTo}
 use Rattle.rb_record.specs.Printing.{hex_text, refusal_text, bytes_line, peer_line, source_line, output_text}
 use Rattle.rb_record.specs.Entries.{event_text, entry_text, run_entries, run_text, limits_text, announce_text, inet_text, inet6_text, local_text, lists_text, forwarding_text, terms_text, listener_text, options_text}
 use Rattle.rb_record.specs.Tapes.{last_line}
@@ -52,7 +52,7 @@ use mathlib.Core.Bool.{true≢false}
 
 -- ---- lines of a text
 
--- a line that ends, and the text behind it
+-- a line that ends, and the text after it
 line_then : (front rest : List ℕ) → IsWithout 10 front → lines_of (front ++ 10 ∷ rest) ≡ front ∷ lines_of rest
 unfolding lines_of
 line_then [] rest none = slice_split-cons_yes (λ b. eqb b 10) 10 rest refl
@@ -491,7 +491,7 @@ output_line Silent = plain_line (codes "silent") w_silent
 output_line (Opened id) = number_line (codes "open ") id [] w_open nothing
 output_line (Refused fault) = fault_line fault
 output_line (Took n) = number_line (codes "took ") n [] w_took nothing
-output_line (TookAndClosed n) = number_line (codes "took ") n (codes " closed") w_took w_and_closed
+output_line (TookAndLost n) = number_line (codes "took ") n (codes " closed") w_took w_and_closed
 output_line (IsPending bytes) = word_line (codes "pending ") bytes w_pending
 output_line Done = plain_line (codes "ok") w_ok
 output_line TooMuch = plain_line (codes "toomuch") w_toomuch
@@ -500,7 +500,7 @@ output_line Forwarded = plain_line (codes "forwarded") w_forwarded
 output_line (UnsentIs unsent) = unsent_is_line unsent
 output_line Ignored = plain_line (codes "ignored") w_ignored
 output_line Nothing = plain_line (codes "nothing") w_nothing
-output_line (ConnectionClosed id) = number_line (codes "closed ") id [] w_closed nothing
+output_line (ConnectionLost id) = number_line (codes "closed ") id [] w_closed nothing
 output_line (Ready id) = number_line (codes "ready ") id [] w_ready nothing
 output_line (RepliedTo who bytes) = back_line (codes "datagram ") who.source bytes w_datagram
 

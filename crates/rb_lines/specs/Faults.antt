@@ -12,6 +12,7 @@ use Rattle.rb_lines.specs.declared.limits.BadLimit.{BadLimit}
 use Rattle.rb_lines.specs.Limits.{bad_limit, limit_text}
 
 -- the exit status
+-- LINE-11 FAULT-1
 abbrev pub status_of : Fault → ℕ
 status_of NotText = 2
 status_of (Lines (reading.BadLine k)) = 2
@@ -27,6 +28,7 @@ status_of (Differs n) = 1
 status_of (Lacks n) = 1
 
 -- the line of a fault
+-- FAULT-1
 abbrev pub fault_line : Fault → List ℕ
 fault_line NotText = codes "rpcbind: a word is no text\n"
 fault_line (Lines (reading.BadLine n)) = codes "rpcbind: line " ++ (decimal n ++ codes ": bad event\n")
@@ -52,6 +54,7 @@ lines_before limits listener BadLimits = limit_line (bad_limit limits listener)
 lines_before limits listener other = []
 
 -- the lines of a fault of a run with these limits at this listener
+-- FAULT-2
 abbrev pub fault_lines : Limits → Listener → Fault → List ℕ
 fault_lines limits listener fault = lines_before limits listener fault ++ fault_line fault
 

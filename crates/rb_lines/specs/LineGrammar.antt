@@ -16,6 +16,7 @@ abbrev pub Spells : List ℕ → List ℕ → Type 0
 Spells word text = text ≡ word
 
 -- a number below 2^64 in decimal digits, leading zeros allowed
+-- LINE-6
 pub record SpellsNumber (n : ℕ) (text : List ℕ) : Type 0 where
   pub digits : IsNumeral 10 text
   pub value : digits_value 10 text ≡ n
@@ -33,6 +34,7 @@ SpellsBytes (byte ∷ bytes) (high ∷ low ∷ text) = SpellsByte byte high low 
 SpellsBytes _ _ = ⊥
 
 -- two digits for each byte, or `-` for no bytes
+-- LINE-9
 abbrev pub SpellsHex : List ℕ → List ℕ → Type 0
 SpellsHex [] text = text ≡ codes "-"
 SpellsHex (byte ∷ bytes) text = SpellsBytes (byte ∷ bytes) text
@@ -51,6 +53,7 @@ infixr 5 ◌␣◌
 abbrev pub ◌␣◌ : (List ℕ → Type 0) → (List ℕ → Type 0) → List ℕ → Type 0
 Front ␣ Back = IsSpaced Front Back
 
+-- LINE-5 LINE-7 LINE-8
 abbrev pub SpellsEvent : Event → List ℕ → Type 0
 SpellsEvent (Open now from) = Spells (codes "open") ␣ SpellsNumber now ␣ SpellsWho from
 SpellsEvent (Bytes now id bytes) = Spells (codes "bytes") ␣ SpellsNumber now ␣ SpellsNumber id ␣ SpellsHex bytes
@@ -68,6 +71,7 @@ SpellsEvent (Expire now) = Spells (codes "expire") ␣ SpellsNumber now
 SpellsEvent ZeroStats = Spells (codes "zero")
 
 -- an empty line, or one that begins with `#`
+-- LINE-10
 abbrev pub SaysNothing : List ℕ → Type 0
 SaysNothing text = (text ≡ []) ⊎ ((rest : List ℕ) × (text ≡ codes "#" ++ rest))
 

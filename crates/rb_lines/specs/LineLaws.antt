@@ -37,11 +37,13 @@ pub record IsFirstBad (texts : List (List ℕ)) (from n : ℕ) : Type 0 where
   pub number : n ≡ from + length before
 
 -- A text is refused at this line exactly where it is short enough and this is its first bad line, counted from 1.
+-- LINE-11
 abbrev pub StopsAtTheFirstBadLine : Type 0
 StopsAtTheFirstBadLine =
     (text : List ℕ) (n : ℕ)
     → (read text ≡ Err (BadLine n)) ↔ ((length text ≤ longest_input) × IsFirstBad (lines_of text) 1 n)
 
 -- A text is too long exactly where it has more bytes than the longest input, whatever they say.
+-- LINE-12
 abbrev pub RefusesLongText : Type 0
 RefusesLongText = (text : List ℕ) → (read text ≡ Err TooLong) ↔ (longest_input < length text)

@@ -62,7 +62,7 @@ gave_line text = do
   n ← number_below (2 ^ 64) second.1
   Some (Gave now id n)
 
--- the event of a line of more than one word: the first, and what stands behind the space after it
+-- the event of a line of more than one word: the first, and what stands after the space after it
 unfoldable pub event : List ℕ → List ℕ → Option Event
 event word rest =
     if bytes_eq word (codes "datagram") then datagram_line rest
@@ -111,6 +111,7 @@ add_line k (Happens event) (Ok events) = Ok (event ∷ events)
 add_line k (Happens event) (Err fault) = Err fault
 
 -- the events of the lines, the first of which has this number, or the number of the first bad line
+-- LINE-10
 unfoldable pub events_from : ℕ → List (List ℕ) → Result (List Event) ReadFault
 events_from k [] = Ok []
 events_from k (text ∷ texts) = add_line k (line text) (events_from (k + 1) texts)

@@ -6,7 +6,7 @@ use Rattle.rb_model.specs.Step.{Output}
 use Rattle.rb_record.specs.Printing.{output_text}
 use Rattle.rb_lines.specs.Lines.{lines_of}
 
--- The output line that stands behind `#> `, with the line feed that ends it. Another line has none.
+-- The output line that stands after `#> `, with the line feed that ends it. Another line has none.
 unfoldable pub output_line_in : List ℕ → List (List ℕ)
 output_line_in line = if bytes_eq (take 3 line) (codes "#> ") then (drop 3 line ++ codes "\n") ∷ [] else []
 

@@ -7,6 +7,7 @@ use Rattle.rb_model.specs.Step.{Output}
 use Rattle.rb_record.specs.Printing.{output_text}
 
 -- how many steps a run took, and how many it may
+-- STEPS-6
 abbrev pub steps_line : ℕ → ℕ → List ℕ
 steps_line taken bound = codes "steps " ++ (decimal taken ++ (codes " bound " ++ (decimal bound ++ codes "\n")))
 

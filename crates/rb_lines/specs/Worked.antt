@@ -14,7 +14,7 @@ use Rattle.rb_proto.specs.declared.listener.Forwarding.TheVariants.{Anywhere, Fo
 use Rattle.rb_proto.specs.declared.listener.Terms.{Terms}
 use Rattle.rb_model.specs.Step.Event.{Datagram, Open, Bytes, Pending, Gave, Closed, NextLost, Unsent, Sent, Forward, Expire, ZeroStats}
 use Rattle.rb_model.specs.declared.types.CoreFault.TheVariants.{Full, Spent, Gone}
-use Rattle.rb_model.specs.Step.Output.{Replied, Silent, Opened, Refused, Took, TookAndClosed, IsPending, Done, TooMuch, LostIs, Forwarded, UnsentIs, Ignored, Nothing, Ready, RepliedTo}
+use Rattle.rb_model.specs.Step.Output.{Replied, Silent, Opened, Refused, Took, TookAndLost, IsPending, Done, TooMuch, LostIs, Forwarded, UnsentIs, Ignored, Nothing, Ready, RepliedTo}
 use Rattle.rb_record.specs.Entries.{event_text, listener_text}
 use Rattle.rb_lines.specs.declared.lines.ReadFault.TheVariants.{BadLine}
 use Rattle.rb_lines.specs.Lines.{read}
@@ -136,7 +136,7 @@ ConnectionsAreRead =
 abbrev pub ConnectionsArePrinted : Type 0
 ConnectionsArePrinted =
     report_of
-    (Opened 1 ∷ Refused Full ∷ Refused Spent ∷ Refused Gone ∷ Took 360 ∷ TookAndClosed 12 ∷ IsPending (128 ∷ 0 ∷ 0 ∷ 24 ∷ []) ∷ IsPending [] ∷ Done ∷ TooMuch ∷ LostIs None ∷ LostIs (Some 10) ∷ [])
+    (Opened 1 ∷ Refused Full ∷ Refused Spent ∷ Refused Gone ∷ Took 360 ∷ TookAndLost 12 ∷ IsPending (128 ∷ 0 ∷ 0 ∷ 24 ∷ []) ∷ IsPending [] ∷ Done ∷ TooMuch ∷ LostIs None ∷ LostIs (Some 10) ∷ [])
     ≡ with_line_feed (codes "open 1") ++ with_line_feed (codes "full") ++ with_line_feed (codes "spent") ++ with_line_feed (codes "gone") ++ with_line_feed (codes "took 360")
     ++ with_line_feed (codes "took 12 closed") ++ with_line_feed (codes "pending 80000018") ++ with_line_feed (codes "pending -") ++ with_line_feed (codes "ok")
     ++ with_line_feed (codes "toomuch") ++ with_line_feed (codes "lost -") ++ with_line_feed (codes "lost 10")

@@ -27,7 +27,7 @@ pub enum Fault {
     ReadFailed,
     /// The output, or the file of a record, could not be written.
     WriteFailed,
-    /// An input that is to be checked has no output lines.
+    /// An input that must be checked has no output lines.
     NoOutputs,
     /// The line of this number says another output than the run gives there.
     Differs(usize),

@@ -138,7 +138,7 @@ fn gave_line(text: &[u8]) -> Option<Event>
     Some(Event::Gave(now, id, n))
 }
 
-/// The event of a line of more than one word: the first, and what stands behind the space after it.
+/// The event of a line of more than one word: the first, and what stands after the space after it.
 #[tactic(auto, unfolding(crate::specs::Lines::event))]
 fn read_event(alloc: Global, word: &[u8], rest: &[u8]) -> Result<Option<Event>, NoMemory>
     ensures { IfOk result (λ read. option_map event_of read ≡ event word.now rest.now) }

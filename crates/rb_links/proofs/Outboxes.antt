@@ -1,16 +1,16 @@
--- Bytes that an outbox takes over stand behind those that it held.
+-- Bytes that an outbox takes over stand after those that it held.
 use Rattle.std.proofs.Common.{◌≡◌, ◌≤◌, ◌+◌, ◌-◌, ℕ, List, ◌++◌, length, take, drop, arith, sym, ap, ◌∙◌}
 use Rattle.std.proofs.lemmas.List.{length-append, length-drop, length-take, length-take-le, take-take, take_at, drop_at, drop-append-le, take-append-le, take-append-drop, drop-take}
 use borrow.Rule.Slice.PartMut.{post_of}
 
--- what stands in front of a place and behind it, where the bytes behind it are new
+-- what stands in front of a place and after it, where the bytes after it are new
 front_and_new : (end n : ℕ) (front more : List ℕ) → length front ≡ end → take (end + n) (front ++ more) ≡ front ++ take n more
 front_and_new end n front more len =
     sym (take-append-drop end (take (end + n) (front ++ more)))
     ∙ ap (λ (xs : List ℕ). xs ++ drop end (take (end + n) (front ++ more))) (take-take end (end + n) (front ++ more) (omega arith) ∙ take_at front more end len)
     ∙ ap (λ (xs : List ℕ). front ++ xs) (drop-take end n (front ++ more) ∙ ap (λ (xs : List ℕ). take n xs) (drop_at front more end len))
 
--- the bytes that wait, and n more of those that are written behind them
+-- the bytes that wait, and n more of those that are written after them
 pub waits_more : (sent end n : ℕ) (held room behind : List ℕ) → sent ≤ end → end ≤ length held → n ≤ length room
     → drop sent (take (end + n) (take end held ++ (room ++ behind))) ≡ drop sent (take end held) ++ take n room
 waits_more sent end n held room behind before fits few =
@@ -19,7 +19,7 @@ waits_more sent end n held room behind before fits few =
     ∙ drop-append-le sent (take end held) (take n (room ++ behind)) (omega (arith, len, before))
     ∙ ap (λ (xs : List ℕ). drop sent (take end held) ++ xs) (take-append-le n room behind few)
 
--- an outbox keeps its room where so many bytes of it are written
+-- an outbox keeps its room where this many bytes of it are written
 pub room_stays : (end k : ℕ) (held new : List ℕ) → end ≤ length held → length new ≡ length (take k (drop end held)) → length (take end held ++ (new ++ post_of end k held)) ≡ length held
 room_stays end k held new fits as_many =
     let all = length-append (take end held) (new ++ post_of end k held) in

@@ -21,7 +21,7 @@ read_ahead = 1024
 
 -- ---- an outbox
 
--- The bytes that are on their way to the socket, how much of its room is free behind them, and all of its room.
+-- The bytes that are on their way to the socket, how much of its room is free after them, and all of its room.
 pub record Outgoing : Type 0 where
   pub bytes : List ℕ
   pub free : ℕ

@@ -61,7 +61,7 @@ impl Inbox {
         &self.bytes[self.start..self.end]
     }
 
-    /// The first so many of them were taken.
+    /// The first this many of them were taken.
     pub(crate) fn take(&mut self, count: usize)
         requires { count ≤ length self.old }
         ensures { self.new ≡ drop count self.old }

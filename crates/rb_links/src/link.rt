@@ -61,7 +61,7 @@ pub struct Link {
     read_was_short: bool,
     /// The last turn that served it.
     served_in: u64,
-    /// Whether it is to be served though no event shows it.
+    /// Whether it must be served though no event shows it.
     is_waiting: bool,
 }
 
@@ -187,12 +187,12 @@ impl Link {
         self.id.take()
     }
 
-    /// Whether it is to be served though no event shows it.
+    /// Whether it must be served though no event shows it.
     pub(crate) fn is_waiting(&self) -> bool {
         self.is_waiting
     }
 
-    /// It is to be served though no event shows it: its forwarded call has ended. It counts as owing the reply, until the
+    /// It must be served though no event shows it: its forwarded call has ended. It counts as owing the reply, until the
     /// core says whether there is one.
     pub(crate) fn wake(&mut self) {
         self.is_waiting = true;
@@ -214,7 +214,7 @@ impl Link {
         round_of(self.is_waiting, self.standing_outside())
     }
 
-    /// It is to be served though no event shows it again, if a connection has the place.
+    /// It must be served though no event shows it again, if a connection has the place.
     pub(crate) fn leave(&mut self) {
         self.is_waiting = !self.is_free();
     }
@@ -259,7 +259,7 @@ impl Link {
         }
     }
 
-    /// Whether it is left for the next turn, after so many socket calls for it in this one.
+    /// Whether it is left for the next turn, after this many socket calls for it in this one.
     pub fn is_cut_off(&self, calls: usize) -> bool {
         is_cut_off(calls, self.written)
     }
@@ -274,14 +274,14 @@ impl Link {
         self.standing
     }
 
-    /// Whether the core is to be called for it: bytes are to be handed in, or a reply is owed, and its socket has taken
+    /// Whether the core is to be called for it: bytes must be handed in, or a reply is owed, and its socket has taken
     /// all replies that were before.
     pub fn is_for_the_core(&self) -> bool {
         let has_some = !self.inbox.is_empty() || self.standing == Standing::Owing;
         has_some && self.outbox.is_empty()
     }
 
-    /// The core took so many of the bytes that were read, and says where it stands then. A record that ended is progress.
+    /// The core took this many of the bytes that were read, and says where it stands then. A record that ended is progress.
     pub fn note_taken(&mut self, count: usize, standing: Standing)
         requires { count ≤ length self.old.inbox }
     {
@@ -290,7 +290,7 @@ impl Link {
         self.made_progress |= count > 0 && standing != Standing::Reading;
     }
 
-    /// The core gave so many bytes of the reply, which are in the outbox, and says where it stands then.
+    /// The core gave this many bytes of the reply, which are in the outbox, and says where it stands then.
     pub fn note_given(&mut self, count: usize, standing: Standing) {
         self.standing = standing;
         self.made_progress |= count > 0;

@@ -26,13 +26,13 @@ pub struct Places {
     are_held: bool,
     /// Whether bytes may wait for the sockets of some.
     are_owed: bool,
-    /// Whether connections are to be served though no event shows them.
+    /// Whether connections must be served though no event shows them.
     are_left: bool,
     /// The key at which the last round of the next turn begins.
     first_left: usize,
 }
 
-/// So many free places. Each is written, so that its memory is the process's from here on.
+/// A number of free places. Each is written, so that its memory is the process's from here on.
 fn free_places(alloc: Global, count: usize) -> Result<Vec<Link>, AllocError>
     ensures { IfOk result (λ places. vec_len places ≡ count) }
 {
@@ -44,7 +44,7 @@ fn free_places(alloc: Global, count: usize) -> Result<Vec<Link>, AllocError>
 }
 
 impl Places {
-    /// So many places, which no connections have. An error where an allocation is refused.
+    /// A number of places, which no connections have. An error if an allocation is refused.
     pub fn new(alloc: Global, count: usize) -> Result<Places, AllocError>
         ensures count { IfOk result (λ places. vec_len places.links ≡ count) }
         ensures long { IfOk result (λ places. places.long_outbox ≡ nothing_in long_room) }
@@ -119,7 +119,7 @@ impl Places {
         }
     }
 
-    /// Whether connections are to be served though no event shows them.
+    /// Whether connections must be served though no event shows them.
     pub fn are_left(&self) -> bool {
         self.are_left
     }
@@ -139,7 +139,7 @@ impl Places {
         Some(self.first_left)
     }
 
-    /// Those that are left at this key and behind it are the first of the next turn's last round.
+    /// Those that are left at this key and after it are the first of the next turn's last round.
     pub fn leave_from(&mut self, key: usize) {
         self.first_left = key;
         self.are_left = true;
@@ -190,7 +190,7 @@ impl Places {
     }
 
     /// Gives a connection a place at this moment, in milliseconds. It is not opened yet.
-    pub fn give(&mut self, key: usize, stream: Stream, origin: Origin, moment: u64) {
+    pub fn seat(&mut self, key: usize, stream: Stream, origin: Origin, moment: u64) {
         if let Some(link) = self.links.get_mut(key) {
             link.take(stream, origin, moment);
             self.taken = self.taken.saturating_add(1);

@@ -1,4 +1,4 @@
--- Which bytes of a reply fit into a room: what is pending, and what fits behind it.
+-- Which bytes of a reply fit into a room: what is pending, and what fits after it.
 use Rattle.std.proofs.Common.{◌≡◌, ◌<◌, ◌≤◌, ◌+◌, ◌-◌, ◌*◌, ◌/◌, ℕ, nat_le, Bool, true, false, cond, List, [], ◌++◌, length, take, drop, min, refl, sym, ap, ◌∙◌, inl, inr, arith}
 use Rattle.std.proofs.lemmas.List.{length-take, length-drop, take_all, drop_all, drop-drop, drop-take, take-append-drop, drop-append-le, take-take}
 use Rattle.std.proofs.lemmas.Bool.{le-leb, lt-leb, cond-true, cond-false, cases_lt}
@@ -45,7 +45,7 @@ module _ (room : ℕ) (o : Owed) where
       ap (λ (n : ℕ). drop o.given (take n o.marked)) at
       ∙ ap (λ (xs : List ℕ). drop o.given xs) (take_all (length o.marked) o.marked (omega arith) ∙ sym (take_all (front_end o) o.marked last))
 
-  -- it fits, and there is another fragment behind it
+  -- it fits, and there is another fragment after it
   pub fits_more : length (pending_of o) ≤ room → front_end o < length o.marked
       → fitting_of room o ≡ pending_of o ++ fitting_of (room - length (pending_of o)) (record o { given = o.given + length (pending_of o) })
   unfolding fitting_of pending_of longest_fragment

@@ -6,7 +6,7 @@ use Rattle.rb_model.specs.declared.types.Limits.{Limits}
 use Rattle.rb_model.specs.Calls.{longest_reply}
 use Rattle.rb_model.specs.Connections.{longest_fragment}
 use Rattle.rb_model.specs.Step.{Event, Output, step}
-use Rattle.rb_model.specs.Step.Output.{Took, TookAndClosed, IsPending, Done, Replied, UnsentIs, RepliedTo}
+use Rattle.rb_model.specs.Step.Output.{Took, TookAndLost, IsPending, Done, Replied, UnsentIs, RepliedTo}
 use Rattle.rb_model.specs.Step.Event.{Gave, Datagram, Forward}
 use Rattle.rb_model.specs.State.{State}
 use Rattle.rb_forward.specs.Forwards.{entry_charge}
@@ -25,6 +25,7 @@ longest_address = 128
 abbrev pub connection_charge : ℕ
 connection_charge = 128
 
+-- HELD-3
 abbrev pub bytes_bound : Limits → ℕ
 bytes_bound limits =
     limits.conns * (connection_charge + longest_served_call + longest_fragment) + limits.rows * (32 + longest_address) + limits.forwards * (entry_charge + longest_forwarded_call)
@@ -35,7 +36,7 @@ bytes_bound limits =
 -- how many bytes of a piece were taken, as an output says
 abbrev pub count_in : Output → ℕ
 count_in (Took n) = n
-count_in (TookAndClosed n) = n
+count_in (TookAndLost n) = n
 count_in other = 0
 
 -- the bytes that an event takes, by its output: a datagram counts whole, and what is refused takes none
@@ -57,7 +58,8 @@ abbrev pub bytes_out : Event → Output → ℕ
 bytes_out (Gave now id n) Done = n
 bytes_out event output = bytes_lent output
 
--- the most steps of an event at these limits, where it takes so many bytes, and lends or reports as given so many
+-- the most steps of an event at these limits, where it takes this many bytes, and lends or reports as given this many
+-- STEPS-1
 abbrev pub steps_bound : Limits → ℕ → ℕ → ℕ
 steps_bound limits taken given =
     8 * taken + 8 * given + 64 * (limits.conns + limits.rows + most_keys + limits.forwards) + 16 * longest_served_call

@@ -21,6 +21,7 @@ pub record BringsFrom (s : State) (event : Event) (trust : Trust) : Type 0 where
   pub trusts : (who_of message.caller).trust ≡ trust
 
 -- From every state, a call of a stranger's leaves the accepted changes as they were.
+-- REGISTER-2
 abbrev pub StrangersChangeNothing : Type 0
 StrangersChangeNothing =
     (s : State) (event : Event) → BringsFrom s event Stranger
@@ -36,6 +37,7 @@ IsOfTheRegistered rows (LookedUp version target found) =
 IsOfTheRegistered rows (Forwarded version target proc passed indirect) = ⊥
 
 -- From every state, a call of a stranger's brings no key into the statistics but those of live rows.
+-- COUNT-2
 abbrev pub StrangersBringNoKeys : Type 0
 StrangersBringNoKeys =
     (s : State) (event : Event) → BringsFrom s event Stranger
@@ -53,6 +55,7 @@ rows_of_others owner rows = filter (λ (row : Row). not (is_same_owner owner row
 
 -- In each state that a run reaches, a call of a caller that is known as an owner other than uid 0 leaves the rows of all
 -- other owners, whatever its credential says.
+-- OWNER-1
 abbrev pub LocalOwnersKeepTheirs : Type 0
 LocalOwnersKeepTheirs =
     (s : State) → IsReached s → (event : Event) (owner : Owner) → is_superuser owner ≡ false → BringsFrom s event (Local owner)

@@ -29,6 +29,7 @@ use Rattle.rb_model.specs.declared.message.Message.TheVariants as says
 -- ---- what a message says
 
 -- the versions of program 100000 that are served
+-- VERSION-1
 unfoldable pub is_served : ℕ → Bool
 is_served vers = vers == 2 || vers == 3 || vers == 4
 
@@ -37,19 +38,21 @@ abbrev pub refusal : ℕ → ReplyStatus → Message
 refusal xid status = says.Refused (record { xid = xid; status = status })
 
 -- a call of a version that is served, with its arguments, or why they can't be read
+-- PROC-3 ARGS-4
 unfoldable pub request_of : CallHead → Result Request ArgumentFault → Message
 request_of head (Err faults.ProcUnavail) = refusal head.xid replies.ProcUnavail
 request_of head (Err faults.GarbageArgs) = says.Garbage head
 request_of head (Ok request) = says.Asked (record { head = head; request = request })
 
--- A call with a readable head, and the bytes behind its verifier: the first line that holds decides.
+-- A call with a readable head, and the bytes after its verifier: the first line that holds decides.
+-- PROGRAM-1 VERSION-1
 unfoldable pub call_of : CallHead → List ℕ → Message
 call_of head arguments =
     if not (head.prog == rpcb_prog) then refusal head.xid replies.ProgUnavail
     else if not (is_served head.vers) then refusal head.xid (replies.ProgMismatch 2 4)
     else request_of head (read_request head.vers head.proc arguments)
 
--- a message of this verdict, with the bytes behind its head
+-- a message of this verdict, with the bytes after its head
 abbrev pub message_with : Verdict → List ℕ → Message
 message_with verdicts.NoCall arguments = says.NoCall
 message_with (verdicts.RpcMismatch xid) arguments = refusal xid (replies.RpcMismatch 2 2)
@@ -84,6 +87,7 @@ reply_in Forwarded = []
 reply_in Silent = []
 
 -- the greatest length of a reply, but for a list that is streamed
+-- LENGTH-1
 unfoldable pub longest_reply : ℕ
 longest_reply = 9000
 
@@ -92,26 +96,31 @@ abbrev pub shortest_reply : ℕ
 shortest_reply = 24
 
 -- the most bytes of a reply to this caller, but for a list that is streamed
+-- REFLECT-1
 abbrev pub longest_for : Caller → ℕ
 longest_for (Tcp id who) = longest_reply
 longest_for (Udp who longest) = min (max longest shortest_reply) longest_reply
 
 -- a reply that has more bytes than the longest is SYSTEM_ERR
+-- LENGTH-1
 unfoldable pub fitting_reply : ℕ → ℕ → List ℕ → List ℕ
 fitting_reply longest xid reply = if nat_lt longest (length reply) then reply_head xid replies.SystemErr else reply
 
 -- the reply with results to this caller
+-- SUCCESS-1
 abbrev pub success : Caller → ℕ → List ℕ → List ℕ
 success caller xid results = fitting_reply (longest_for caller) xid (reply_head xid replies.Success ++ results)
 
--- Results of these bytes, after so many changes: a list of rows is streamed on a connection, of any length.
+-- Results of these bytes, after this many changes: a list of rows is streamed on a connection, of any length.
+-- LENGTH-1 LIST-4
 abbrev pub results_outcome : Caller → ℕ → ℕ → List ℕ → Results → Outcome
 results_outcome (Tcp id who) count xid bytes (results.Rows list) = Reply (reply_head xid replies.Success ++ bytes) (Some count)
 results_outcome (Udp who longest) count xid bytes (results.Rows list) = Reply (success (Udp who longest) xid bytes) None
 results_outcome caller count xid bytes (results.Value value) = Reply (success caller xid bytes) None
 results_outcome caller count xid bytes results.Statistics = Reply (success caller xid bytes) None
 
--- the outcome of an answer to a caller after so many changes; `bytes_of` gives the bytes of results
+-- the outcome of an answer to a caller after this many changes; `bytes_of` gives the bytes of results
+-- SUCCESS-1
 abbrev pub answer_outcome : Caller → ℕ → ℕ → (Results → List ℕ) → Answer → Outcome
 answer_outcome caller count xid bytes_of (answers.Results results) = results_outcome caller count xid (bytes_of results) results
 answer_outcome caller count xid bytes_of (answers.Refused status) = Reply (reply_head xid status) None
@@ -125,9 +134,10 @@ reply_with context xid (given, ledger) = (
   ledger,
 )
 
--- What a message is answered with in this context, and the ledger after it; `arguments` are the bytes behind its
+-- What a message is answered with in this context, and the ledger after it; `arguments` are the bytes after its
 -- head. A call of a procedure that is served is noted in the history of calls before it is answered; one that is
 -- refused before that is not.
+-- DATAGRAM-1 ARGS-4 COUNT-6 COUNT-7 NULL-1
 unfoldable pub outcome : Context → Message → List ℕ → Ledger → Outcome × Ledger
 outcome context says.NoCall arguments ledger = (NoCall, ledger)
 outcome context (says.Refused head) arguments ledger = (Reply (reply_head head.xid head.status) None, ledger)
@@ -139,9 +149,11 @@ outcome context (says.Asked call) arguments ledger =
 -- ---- the arguments that are kept of a record while it is read (RFC 5531 section 11)
 
 -- the greatest length of arguments that are served
+-- ARGS-5
 unfoldable pub longest_kept : ℕ
 longest_kept = 8816
 
--- What is kept of a record with this data: the first bytes behind the head of its call, nothing where it is no call.
+-- What is kept of a record with this data: the first bytes after the head of its call, nothing where it is no call.
+-- TAKE-4
 abbrev pub kept_of : List ℕ → List ℕ
 kept_of content = take longest_kept (arguments_of content)

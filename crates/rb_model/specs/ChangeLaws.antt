@@ -130,6 +130,7 @@ change_from s None = []
 change_from s (Some m) = change_told m.caller (said_to s m) (message_of m.content)
 
 -- the change of the call that an event brings, where it asks for one and is answered TRUE
+-- CHANGE-3
 abbrev pub change_by : State → Event → List Change
 change_by s event = change_from s (brought_by s event)
 
@@ -186,10 +187,12 @@ pub record ChangesByItsCall (s : State) (event : Event) : Type 0 where
   pub each : (change : Change) → Asks s event change → IsAppended s event change
   pub is : (step s event).1.ledger.changes ≡ s.ledger.changes ++ change_by s event
 
+-- CHANGE-3
 abbrev pub ChangesAreAccepted : Type 0
 ChangesAreAccepted = (s : State) (event : Event) → ChangesByItsCall s event
 
 -- In every run, the changes are those that its events made, in order.
+-- CHANGE-3
 abbrev pub ChangesAreThoseAccepted : Type 0
 ChangesAreThoseAccepted =
     (limits : Limits) (listener : Listener) (first_xid now : ℕ) (events : List Event)
@@ -257,6 +260,7 @@ abbrev pub set_bytes : Row → List ℕ
 set_bytes row = call_bytes (set_head row) ++ rpcb_spelling (rpcb_for row)
 
 -- the call comes from this machine
+-- KEEP-2
 abbrev pub set_call : ℕ → Row → Event
 set_call now row = Datagram now this_machine (set_bytes row)
 
@@ -275,6 +279,7 @@ pub record Sets (start : State) (calls : List Event) (rows : List Row) : Type 0 
 
 -- The rows of a state that a run of bytes reaches can be set again from any opening with room for them, whatever its
 -- listener, its first xid, its moment and that of the calls.
+-- KEEP-1
 abbrev pub RowsCanBeSetAgain : Type 0
 RowsCanBeSetAgain =
     (s : State) → IsReachedByBytes s → (limits : Limits) (listener : Listener) → are_good limits listener ≡ true
@@ -290,6 +295,7 @@ abbrev pub KeptCallsAreShort : Type 0
 KeptCallsAreShort = (s : State) → IsReachedByBytes s → All HasShortCall (set_rows s)
 
 -- the calls that set the rows of a state again, at its moment
+-- KEEP-1
 abbrev pub kept_calls : State → List Event
 kept_calls s = set_calls s.clock (set_rows s)
 
@@ -299,6 +305,7 @@ opened_again s = opening s.setting.limits s.setting.listener s.setting.first_xid
 
 -- In each state that a run of bytes reaches at good limits, these calls bring all live rows back from that opening, in the
 -- same order.
+-- KEEP-1
 abbrev pub KeptRowsAreRestored : Type 0
 KeptRowsAreRestored =
     (s : State) → IsReachedByBytes s → are_good s.setting.limits s.setting.listener ≡ true
@@ -309,6 +316,7 @@ abbrev pub restored : State → State
 restored s = after (opened_again s) (kept_calls s ++ ZeroStats ∷ [])
 
 -- Then the same rows are live, and in the statistics nothing was called.
+-- KEEP-1
 abbrev pub KeptRowsAreInNoStatistics : Type 0
 KeptRowsAreInNoStatistics =
     (s : State) → IsReachedByBytes s → are_good s.setting.limits s.setting.listener ≡ true

@@ -52,6 +52,7 @@ Brings s other now caller content = ⊥
 
 -- The event brings a SET that is accepted, the live rows and those that lists need reach the limit, and the connection is
 -- given a list that began before each change that removed a row which some list needs.
+-- EVICT-1
 pub record EndsForRoom (s : State) (c : Connection) (event : Event) : Type 0 where
   pub now : ℕ
   pub caller : Caller
@@ -69,6 +70,7 @@ pub record ClosesExactly (s : State) (event : Event) (id : ℕ) (c : Connection)
   pub lost : IsLost (step s event).1 id ↔ (EndsNoCall id c event ⊎ EndsAtDeadline s id c event ⊎ EndsForRoom s c event)
   pub gone : (is_there id (step s event).1.connections ≡ false) ↔ (event ≡ Closed id)
 
+-- LOST-1
 abbrev pub ConnectionsCloseExactly : Type 0
 ConnectionsCloseExactly =
     (s : State) → IsReached s → (event : Event) (id : ℕ) (c : Connection)

@@ -18,10 +18,11 @@ unfoldable pub longest_fragment : ℕ
 longest_fragment = 1028
 
 -- what is still to be given of the current fragment, in which the next byte to be given stands
+-- FRAGMENT-2 PENDING-1 LIST-5
 unfoldable pub pending_of : Owed → List ℕ
 pending_of o = drop o.given (take (longest_fragment * (o.given / longest_fragment + 1)) o.marked)
 
--- a reply of which so many marked bytes were given
+-- a reply of which this many marked bytes were given
 abbrev pub owed_of : List ℕ → Option ℕ → ℕ → Owed
 owed_of reply stamp given = record { marked = marked_reply reply; given = given; stamp = stamp }
 
@@ -36,6 +37,7 @@ pub data Taking : Type 0 where
   Ends : ℕ → List ℕ → Taking
 
 -- the bytes that came since the last record's end; None where the connection takes no bytes now
+-- TAKE-2 AWAIT-1
 abbrev pub fed_in : Phase → Option (List ℕ)
 fed_in Idle = Some []
 fed_in (Reading fed) = Some fed
@@ -51,16 +53,19 @@ taking_up_to fed piece (Some n) = Ends (n - length fed) (data_of (take n (fed ++
 abbrev pub taking_on : List ℕ → List ℕ → Taking
 taking_on fed piece = taking_up_to fed piece (first_record (fed ++ piece))
 
+-- TAKE-3
 abbrev pub taking_behind : Option (List ℕ) → List ℕ → Taking
 taking_behind None piece = TakesNone
 taking_behind (Some fed) [] = TakesNone
 taking_behind (Some fed) (byte ∷ piece) = taking_on fed (byte ∷ piece)
 
 -- what a connection in this phase takes of the piece
+-- TAKE-1
 unfoldable pub taking_of : Phase → List ℕ → Taking
 taking_of phase piece = taking_behind (fed_in phase) piece
 
 -- while a record is read, `since` is the moment of its first byte
+-- SINCE-1
 abbrev pub since_when_fed : ℕ → ℕ → Phase → ℕ
 since_when_fed clock since Idle = clock
 since_when_fed clock since (Reading fed) = since
@@ -72,6 +77,7 @@ since_when_fed clock since Lost = since
 unfoldable pub keep_reading : ℕ → List ℕ → Connection → Connection
 keep_reading clock fed c = record c { phase = Reading fed; since = since_when_fed clock c.since c.phase }
 
+-- LOST-1 OWING-1 AWAIT-3
 abbrev pub phase_after : Outcome → Phase
 phase_after NoCall = Lost
 phase_after (Reply bytes stamp) = Owing (owed_of bytes stamp 0)
@@ -79,11 +85,13 @@ phase_after Forwarded = Awaiting
 phase_after Silent = Idle
 
 -- the connection once its record is answered, or the call that was forwarded for it has ended
+-- OWING-1 SINCE-2
 unfoldable pub settle : ℕ → Outcome → Connection → Connection
 settle clock given c = record c { phase = phase_after given; since = clock }
 
 -- ---- bytes that are given on one
 
+-- AWAIT-1
 abbrev pub pending_in : Phase → List ℕ
 pending_in (Owing o) = pending_of o
 pending_in Idle = []
@@ -92,6 +100,7 @@ pending_in Awaiting = []
 pending_in Lost = []
 
 -- with its last byte given, the connection is Idle again
+-- GAVE-3
 abbrev pub phase_when_given : ℕ → Phase → Phase
 phase_when_given n (Owing o) =
     if nat_lt (o.given + n) (length o.marked) then Owing (record o { given = o.given + n }) else Idle
@@ -100,11 +109,13 @@ phase_when_given n (Reading fed) = Reading fed
 phase_when_given n Awaiting = Awaiting
 phase_when_given n Lost = Lost
 
--- so many of the pending bytes were given; none leaves it as it was
+-- this many of the pending bytes were given; none leaves it as it was
+-- PENDING-2 SINCE-2
 unfoldable pub with_given : ℕ → ℕ → Connection → Connection
 with_given clock n c = if n == 0 then c else record c { phase = phase_when_given n c.phase; since = clock }
 
 -- n bytes were given, or as many as are pending
+-- GAVE-1
 unfoldable pub give : ℕ → ℕ → Connection → Unit {0} × Connection
 give clock n c = (tt, with_given clock (min n (length (pending_in c.phase))) c)
 
@@ -121,6 +132,7 @@ abbrev pub has_number : ℕ → Connection → Bool
 has_number id c = c.number == id
 
 -- it has this number and is not Lost
+-- LOST-2
 unfoldable pub is_live : ℕ → Connection → Bool
 is_live id c = c.number == id && not (is_lost c.phase)
 
@@ -150,6 +162,7 @@ on_live id act connections = on_found id act connections (live_connection id con
 -- ---- how they come and go
 
 -- the number of a new connection, or why there is none: Lost ones count until they are closed
+-- NUMBER-1 NUMBER-2 NUMBER-3
 unfoldable pub number_for : ℕ → Connections → Result ℕ CoreFault
 number_for conns c =
     if not (nat_lt (length c.all) conns) then Err Full
@@ -157,6 +170,7 @@ number_for conns c =
     else Ok c.next
 
 -- a new connection among them, Idle from its opening
+-- SINCE-2 NUMBER-1
 abbrev pub with_new : Who → ℕ → Connections → Connections
 with_new who clock c =
     let new : Connection = record { number = c.next; who = who; phase = Idle; since = clock } in
@@ -171,6 +185,7 @@ unfoldable pub open_in_table : ℕ → Who → ℕ → Connections → Result �
 open_in_table conns who clock c = opening_as who clock c (number_for conns c)
 
 -- The connections are in the order of their numbers, so the first is that of least number.
+-- LOST-4 CLOSE-2
 unfoldable pub next_lost_in_table : Connections → Option ℕ
 next_lost_in_table c = option_map (λ (x : Connection). x.number) (find (λ (x : Connection). is_lost x.phase) c.all)
 
@@ -181,5 +196,6 @@ unfoldable pub without_number : ℕ → Connections → Connections
 without_number id c = record c { all = filter (λ (x : Connection). not (x.number == id)) c.all }
 
 -- the connection of the number, live or Lost, is removed
+-- LOST-3
 unfoldable pub close_in_table : ℕ → Connections → Result (Unit {0}) CoreFault × Connections
 close_in_table id c = if is_there id c then (Ok tt, without_number id c) else (Err Gone, c)

@@ -22,7 +22,7 @@ use Rattle.rb_model.specs.Step.Event.{Open, Bytes, Pending, Gave, Closed, NextLo
 
 -- how many connections there are, Lost ones too; how many looks a search for a row takes; how many forwarded calls there
 -- may be; and what a message costs by that changes or lists rows: how many connections may give lists, how many rows are
--- kept, live or retained, before a call and after it (`left`), and what the change of one row costs
+-- there, live or retained, before a call and after it (`left`), and what the change of one row costs
 pub record Sizes : Type 0 where
   pub connections : ℕ
   pub looks : ℕ
@@ -32,7 +32,7 @@ pub record Sizes : Type 0 where
   pub left : ℕ
   pub change : ℕ
 
--- what the change of a row costs among so many: two searches of so many looks, and what moves in the index
+-- what the change of a row costs among this many: two searches of this many looks, and what moves in the index
 abbrev pub change_cost : ℕ → ℕ → ℕ
 change_cost search rows = 2 * search + rows + 2
 
@@ -56,6 +56,7 @@ asks_for_list (says.Refused head) = false
 asks_for_list (says.Garbage head) = false
 
 -- or a SET or an UNSET, where its caller may register
+-- COST-2
 abbrev pub asks_for_rows : Bool → Message → Bool
 asks_for_rows may (says.Asked call) = walks_rows may call.request
 asks_for_rows may says.NoCall = false
@@ -80,13 +81,14 @@ sizes_for may message sizes = sizes_where (asks_for_rows may message) sizes
 
 -- ---- parts of calls
 
--- what it costs to put results of so many rows: those of a list are walked twice, a reply of so many bytes is written, and
+-- what it costs to put results of this many rows: those of a list are walked twice, a reply of this many bytes is written, and
 -- the statistics are shown
 abbrev pub results_cost : ℕ → ℕ → ℕ
 results_cost rows written = 4 * rows + 72 + written + statistics_cost
 
 -- what it costs to serve a message: a row of each netid is changed, or two searches find one, results are put in a reply of
--- so many bytes, a look-up is noted, and what is forwarded is kept, of so many bytes of arguments
+-- this many bytes, a look-up is noted, and what is forwarded is kept, of this many bytes of arguments
+-- METER-1
 abbrev pub serve_cost : Sizes → ℕ → ℕ → ℕ
 serve_cost sizes args written =
     5 * sizes.change + 2 * sizes.looks + results_cost sizes.left written + 4 + note_cost + forward_cost args
@@ -95,7 +97,7 @@ serve_cost sizes args written =
 abbrev pub show_cost : ℕ
 show_cost = 2054
 
--- the same of a list, whose fragment is made from so many rows and emptied from where it was made
+-- the same of a list, whose fragment is made from this many rows and emptied from where it was made
 abbrev pub listed_cost : ℕ → ℕ
 listed_cost rows = 3 * rows + part_room + 6 + show_cost
 
@@ -104,6 +106,7 @@ abbrev pub pending_cost : ℕ
 pending_cost = 1029
 
 -- what it costs to count the bytes that a connection holds, before a change and after it
+-- COST-1
 abbrev pub recount_cost : ℕ
 recount_cost = 4
 
@@ -111,12 +114,14 @@ recount_cost = 4
 abbrev pub given_cost : ℕ → ℕ
 given_cost rows = 3 + listed_cost rows
 
--- what it costs to look a connection up: under its hint, twice where a record comes whole, then among so many, and
+-- what it costs to look a connection up: under its hint, twice where a record comes whole, then among this many, and
 -- its slot
+-- COST-1
 abbrev pub find_cost : ℕ → ℕ
 find_cost connections = 2 * connections + 4
 
--- what it costs to take so many bytes of a piece: the look at the room for arguments, and each byte may be kept
+-- what it costs to take this many bytes of a piece: the look at the room for arguments, and each byte may be kept
+-- COST-1
 abbrev pub take_cost : ℕ → ℕ
 take_cost count = count + 1
 
@@ -124,11 +129,11 @@ take_cost count = count + 1
 abbrev pub swap_cost : ℕ
 swap_cost = 1
 
--- what it costs to look for the oldest of the lists that are given on so many connections
+-- what it costs to look for the oldest of the lists that are given on this many connections
 abbrev pub oldest_cost : ℕ → ℕ
 oldest_cost connections = 2 * connections + 1
 
--- what it costs to make those of so many connections Lost whose lists are in the way of a row
+-- what it costs to make those of this many connections Lost whose lists are in the way of a row
 abbrev pub evict_cost : ℕ → ℕ
 evict_cost connections = 3 * connections + 1
 
@@ -136,12 +141,12 @@ evict_cost connections = 3 * connections + 1
 abbrev pub room_cost : Sizes → ℕ
 room_cost sizes = 8 * sizes.rows + sizes.looks + 2 * oldest_cost sizes.lists + evict_cost sizes.lists + 12
 
--- what it costs to serve a message with so many bytes of arguments, once there is room for the row that it adds, where a
--- reply of so many bytes is written
+-- what it costs to serve a message with this many bytes of arguments, once there is room for the row that it adds, where a
+-- reply of this many bytes is written
 abbrev pub message_cost : Sizes → ℕ → ℕ → ℕ
 message_cost sizes args written = room_cost sizes + serve_cost sizes args written
 
--- what it costs to answer a record of whose arguments so many bytes are kept: the look at how many they are, they themselves,
+-- what it costs to answer a record of whose arguments this many bytes are kept: the look at how many they are, they themselves,
 -- and the buffer emptied; to serve it; and to begin a list on its connection, of the rows that are left, or a reply
 abbrev pub answer_cost : Sizes → ℕ → ℕ
 answer_cost sizes args =
@@ -150,23 +155,25 @@ answer_cost sizes args =
 
 -- what a message that asks for no rows costs at most to serve: by the looks of a search, by its bytes and by those of its
 -- reply, and by nothing that is registered or retained
+-- COST-2
 abbrev pub plain_cost : ℕ → ℕ → ℕ → ℕ
 plain_cost search args written = 4 * search + args + written + 1700
 
--- and a record of so many bytes with such a message, of whose arguments so many are kept, on one of so many connections
+-- and a record of this many bytes with such a message, of whose arguments this many are kept, on one of this many connections
+-- COST-2
 abbrev pub plain_record_cost : ℕ → ℕ → ℕ → ℕ → ℕ
 plain_record_cost search connections taken args =
     plain_cost search (2 * args) longest_reply + taken + 2 * find_cost connections + part_room + 2100
 
--- what it costs to end one of so many forwarded calls, and to note its outcome
+-- what it costs to end one of this many forwarded calls, and to note its outcome
 abbrev pub entry_cost : ℕ → ℕ
 entry_cost forwards = end_cost forwards + 2 + note_cost
 
--- what it costs to write what its caller is told: a reply of so many bytes
+-- what it costs to write what its caller is told: a reply of this many bytes
 abbrev pub put_end_cost : ℕ → ℕ
 put_end_cost written = 68 + written
 
--- what it costs to tell it to one of so many connections, or over UDP
+-- what it costs to tell it to one of this many connections, or over UDP
 abbrev pub tell_cost : ℕ → ℕ
 tell_cost connections = put_end_cost longest_reply + find_cost connections + show_cost + 1 + recount_cost
 
@@ -186,6 +193,7 @@ record_cost may sizes (Ends n content) =
     swap_cost + answer_cost (sizes_for may (message_of content) sizes) (length (kept_of content))
 
 -- to take bytes where this is the connection, if there is one
+-- COST-1
 abbrev pub bytes_cost : Announced → Sizes → List ℕ → Option Connection → ℕ
 bytes_cost announced sizes piece None = find_cost sizes.connections
 bytes_cost announced sizes piece (Some c) =
@@ -193,11 +201,13 @@ bytes_cost announced sizes piece (Some c) =
     + record_cost (may_register announced c.who) sizes (taking_of c.phase piece)
 
 -- a list is being given on the connection
+-- COST-3
 abbrev pub gives_list : Connection → Bool
 gives_list c = is_some (stamp_in c.phase)
 
--- to count bytes as given where this is the connection, if there is one, of so many, beside so many rows: only the next
+-- to count bytes as given where this is the connection, if there is one, of this many, beside this many rows: only the next
 -- fragment of a list walks them
+-- COST-3
 abbrev pub gave_cost : ℕ → ℕ → Option Connection → ℕ
 gave_cost connections rows None = find_cost connections
 gave_cost connections rows (Some c) =
@@ -207,7 +217,7 @@ gave_cost connections rows (Some c) =
 abbrev pub close_cost : Sizes → ℕ
 close_cost sizes = find_cost sizes.connections + 5 + entry_cost sizes.forwards
 
--- to answer a datagram of so many bytes by a reply of so many
+-- to answer a datagram of this many bytes by a reply of this many
 abbrev pub datagram_cost : Sizes → ℕ → ℕ → ℕ
 datagram_cost sizes count written = message_cost sizes count written + 2
 
@@ -225,7 +235,7 @@ reply_count s event = length (step s event).1.reply
 abbrev pub reply_cost : State → Event → ℕ
 reply_cost s event = 1 + reply_count s event
 
--- how many bytes the forwarded call has that is to be sent next, 0 where there is none
+-- how many bytes the forwarded call has that must be sent next, 0 where there is none
 abbrev pub unsent_count : Option UnsentCall → ℕ
 unsent_count None = 0
 unsent_count (Some unsent) = length unsent.call

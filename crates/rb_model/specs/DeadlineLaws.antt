@@ -50,19 +50,21 @@ pub record NothingEnded (now : ℕ) (s : State) (left : State) : Type 0 where
 -- what `expire` says that it did is what happened
 abbrev pub DoesOneThing : ℕ → State → Expired × State → Type 0
 DoesOneThing now s (expiries.Ended told, left) = EntryEnded now s told left
-DoesOneThing now s (expiries.ConnectionClosed id, left) = ConnectionEnded now s id left
+DoesOneThing now s (expiries.ConnectionLost id, left) = ConnectionEnded now s id left
 DoesOneThing now s (expiries.Nothing, left) = NothingEnded now s left
 
+-- EXPIRE-1
 abbrev pub ExpireDoesOneThing : Type 0
 ExpireDoesOneThing = (s : State) → IsReached s → (now : ℕ) → DoesOneThing now s (expire s now)
 
 -- ---- and then nothing
 
--- After so many calls at one moment nothing is due, and they are at most as many as connections and forwarded calls may be.
+-- After this many calls at one moment nothing is due, and they are at most as many as connections and forwarded calls may be.
 pub record ReachesNothing (s : State) (now : ℕ) : Type 0 where
   pub calls : ℕ
   pub few : calls ≤ s.setting.limits.conns + s.setting.limits.forwards
   pub nothing : (step (after s (replicate calls (Expire now))) (Expire now)).0 ≡ Nothing
 
+-- EXPIRE-2
 abbrev pub NothingIsDueSoon : Type 0
 NothingIsDueSoon = (s : State) → IsReached s → (now : ℕ) → ReachesNothing s now

@@ -9,8 +9,8 @@ use Rattle.rb_rpc.specs.declared.reply.ReplyStatus.TheVariants as replies
 use Rattle.rb_rpc.specs.Replies.{reply_head}
 use Rattle.rb_forward.specs.declared.types.Forward.{Forward}
 use Rattle.rb_forward.specs.declared.types.FwdId.{FwdId}
-use Rattle.rb_forward.specs.declared.types.Outcome as target
-use Rattle.rb_forward.specs.declared.types.Outcome.TheVariants.{Passed, Refused, Failed, Dropped}
+use Rattle.rb_forward.specs.declared.types.ForwardEnd as target
+use Rattle.rb_forward.specs.declared.types.ForwardEnd.TheVariants.{Passed, Refused, Failed, Dropped}
 use Rattle.rb_forward.specs.declared.types.Ended as entry
 use Rattle.rb_proto.specs.declared.answers.Answer.{Answer}
 use Rattle.rb_proto.specs.declared.answers.Answer.TheVariants as answers
@@ -18,7 +18,7 @@ use Rattle.rb_proto.specs.Ledger.{Ledger}
 use Rattle.rb_proto.specs.Forwarding.{refusal, target_replied, fell_due, forwarded_bytes}
 use Rattle.rb_model.specs.declared.types.Told.TheVariants.{TcpReady, Datagram}
 use Rattle.rb_model.specs.declared.types.Told.TheVariants as told
-use Rattle.rb_model.specs.declared.types.Expired.TheVariants.{Nothing, Ended, ConnectionClosed}
+use Rattle.rb_model.specs.declared.types.Expired.TheVariants.{Nothing, Ended, ConnectionLost}
 use Rattle.rb_model.specs.State.{Connections, State, at_moment}
 use Rattle.rb_model.specs.Calls.{Outcome, reply_in, success}
 use Rattle.rb_model.specs.Calls.Outcome.{NoCall, Reply, Forwarded, Silent}
@@ -42,7 +42,8 @@ outcome_of_failure forward status = refused_by forward.xid (refusal forward.kind
 
 -- what the caller is told where its forwarded call ended with this outcome; `message` is the datagram of the target,
 -- whose last bytes are the results
-abbrev pub outcome_of_end : Forward → List ℕ → target.Outcome → Outcome
+-- END-2
+abbrev pub outcome_of_end : Forward → List ℕ → target.ForwardEnd → Outcome
 outcome_of_end forward message (Passed place) = Reply (success forward.caller forward.xid (forwarded_bytes forward (drop place message))) None
 outcome_of_end forward message (Refused status) = outcome_of_failure forward status
 outcome_of_end forward message Failed = outcome_of_failure forward replies.SystemErr
@@ -52,6 +53,7 @@ abbrev pub outcome_at_end : List ℕ → entry.Ended → Outcome
 outcome_at_end message ended = outcome_of_end ended.forward message ended.outcome
 
 -- what is told of a forwarded call of this number that came over UDP
+-- END-1
 abbrev pub told_over_udp : FwdId → Who → Outcome → Told
 told_over_udp id who (Reply reply stamp) = Datagram id who
 told_over_udp id who NoCall = told.Silent id
@@ -62,6 +64,7 @@ told_over_udp id who Silent = told.Silent id
 
 -- A caller is told this at the end of its call, which has this number. A connection goes on with it; over UDP it is the last
 -- reply.
+-- AWAIT-3 END-1
 abbrev pub tell : FwdId → Caller → Outcome → State → Told × State
 tell call (Tcp id who) said s = (TcpReady id, on_connection id (settle s.clock said) s)
 tell call (Udp who longest) said s = (told_over_udp call who said, record s { reply = reply_in said })
@@ -75,17 +78,19 @@ tell_end message s (Some ended, ledger) =
     (Some after.0, after.1)
 
 -- the state at a moment, with no last reply over UDP
+-- DATAGRAM-2
 abbrev pub at_fresh_moment : ℕ → State → State
 at_fresh_moment now s = record (at_moment now s) { reply = [] }
 
 -- A datagram comes in where forwarded calls are sent from: None where it is no reply to an entry.
+-- END-3
 unfoldable pub forward_reply : State → ℕ → Peer → List ℕ → Option Told × State
 forward_reply s now from message =
     tell_end message (at_fresh_moment now s) (target_replied s.setting.first_xid (max s.clock now) from message s.ledger)
 
 abbrev pub lost_as : Option ℕ → Expired
 lost_as None = Nothing
-lost_as (Some id) = ConnectionClosed id
+lost_as (Some id) = ConnectionLost id
 
 -- The due connection of least number becomes Lost, if there is one.
 unfoldable pub expire_connection : State → Expired × State
@@ -98,5 +103,6 @@ expired_as (None, s) = expire_connection s
 expired_as (Some told, s) = (Ended told, s)
 
 -- One thing that is due is done: the due entry of least number ends, or where there is none, a connection becomes Lost.
+-- EXPIRE-1
 unfoldable pub expire : State → ℕ → Expired × State
 expire s now = expired_as (tell_end [] (at_fresh_moment now s) (fell_due (max s.clock now) s.ledger))

@@ -42,9 +42,10 @@ at_once_on room (Some c) = at_once_in room c.phase
 abbrev pub at_once_of : ℕ → ℕ → Connection → Result Taken CoreFault × State → ℕ
 at_once_of room id before (Err fault, s) = 0
 at_once_of room id before (Ok taken, s) =
-    if is_owing before.phase || taken.closed then 0 else at_once_on room (live_connection id s.connections.all)
+    if is_owing before.phase || taken.lost then 0 else at_once_on room (live_connection id s.connections.all)
 
 -- how many bytes are given at once where bytes came on the connection
+-- EXCHANGE-2
 abbrev pub at_once : ℕ → ℕ → Option Connection → Result Taken CoreFault × State → ℕ
 at_once room id None result = 0
 at_once room id (Some before) result = at_once_of room id before result
@@ -54,6 +55,7 @@ count_now now id piece room s = at_once room id (live_connection id s.connection
 
 -- Bytes arrive on a connection; where they end a record whose reply is one fragment, and no list, and there is room for the
 -- longest, the reply is given.
+-- EXCHANGE-1
 abbrev pub exchange : ℕ → ℕ → List ℕ → ℕ → State → (Result Taken CoreFault × List ℕ) × State
 exchange now id piece room s =
     then_gave now id (count_now now id piece room s) (bytes s now id piece)

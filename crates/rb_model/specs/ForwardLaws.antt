@@ -5,7 +5,7 @@ use Rattle.rb_address.specs.declared.peer.Peer.{Peer}
 use Rattle.rb_address.specs.declared.who.Who.{Who}
 use Rattle.rb_rpc.specs.declared.caller.Caller.{Caller}
 use Rattle.rb_rpc.specs.declared.caller.Caller.TheVariants.{Tcp, Udp}
-use Rattle.rb_forward.specs.declared.types.Outcome.TheVariants.{Failed}
+use Rattle.rb_forward.specs.declared.types.ForwardEnd.TheVariants.{Failed}
 use Rattle.rb_forward.specs.declared.types.FwdId.{FwdId}
 use Rattle.rb_forward.specs.Forwards.{Entry, outcome_of, is_of_connection, id_of, ended_by}
 use Rattle.rb_forward.specs.Ends.{NoneIs, IsFirst, IsReplyTo}
@@ -16,7 +16,7 @@ use Rattle.rb_model.specs.declared.types.Standing.TheVariants.{Sends}
 use Rattle.rb_model.specs.declared.types.Told.{Told}
 use Rattle.rb_model.specs.declared.types.Told.TheVariants.{TcpReady}
 use Rattle.rb_model.specs.declared.types.Expired.{Expired}
-use Rattle.rb_model.specs.declared.types.Expired.TheVariants.{Nothing, Ended, ConnectionClosed}
+use Rattle.rb_model.specs.declared.types.Expired.TheVariants.{Nothing, Ended, ConnectionLost}
 use Rattle.rb_model.specs.Calls.{Outcome, reply_in}
 use Rattle.rb_model.specs.Calls.Outcome.{NoCall, Reply, Forwarded, Silent}
 use Rattle.rb_model.specs.State.{Connection, State, opening}
@@ -37,6 +37,7 @@ count_awaiting None = 0
 count_awaiting (Some c) = if is_awaiting c.phase then 1 else 0
 
 -- While a connection is Awaiting, one entry is of it. No other connection, live, Lost or gone, has an entry.
+-- AWAIT-2
 abbrev pub ConnectionsAwait : Type 0
 ConnectionsAwait =
     (s : State) → IsReached s → (id : ℕ)
@@ -46,7 +47,8 @@ ConnectionsAwait =
 abbrev pub has_unsent : ℕ → State → Bool
 has_unsent id s = list_any (λ (e : Entry). is_of_connection id e && not e.sent) s.ledger.forwards.all
 
--- Where a connection stands as Sends behind bytes, its call is there and was not sent, so an unsent call is lent.
+-- Where a connection stands as Sends after bytes, its call is there and was not sent, so an unsent call is lent.
+-- STANDING-2
 abbrev pub SendsAreUnsent : Type 0
 SendsAreUnsent =
     (s : State) → IsReached s → (now id : ℕ) (piece : List ℕ) (taken : Taken) → (bytes s now id piece).0 ≡ Ok taken
@@ -58,6 +60,7 @@ SendsAreUnsent =
 
 -- The caller of the call of this number is told this, and nobody else: a connection goes on with it, or it is the reply over
 -- UDP.
+-- END-1
 abbrev pub CallerGets : State → ℕ → Outcome → FwdId → Caller → Told → State → Type 0
 CallerGets s clock said call (Tcp id who) told after =
     (told ≡ TcpReady id) × (after.connections ≡ changed_at id (settle clock said) s.connections) × (after.reply ≡ [])
@@ -72,6 +75,7 @@ pub record EndsFirst (Is : Entry → Type 0) (says : Entry → Outcome) (s : Sta
   pub tells : CallerGets s clock (says entry) (id_of entry) entry.forward.caller told after
 
 -- `Is` holds for no entry. But for the clock and the last reply over UDP, nothing changes.
+-- END-3
 pub record EndsNone (Is : Entry → Type 0) (s : State) (now : ℕ) (after : State) : Type 0 where
   pub none : NoneIs Is s.ledger.forwards.all
   pub stays : after ≡ at_fresh_moment now s
@@ -100,10 +104,11 @@ abbrev pub EndsByDeadline : State → ℕ → Expired → State → Type 0
 EndsByDeadline s now Nothing after = EndsNone (EntryIsDue (clock_at now s)) s now after
 EndsByDeadline s now (Ended told) after =
     EndsFirst (EntryIsDue (clock_at now s)) said_at_deadline s (max s.clock now) told after
-EndsByDeadline s now (ConnectionClosed id) after =
+EndsByDeadline s now (ConnectionLost id) after =
     NoneIs (EntryIsDue (clock_at now s)) s.ledger.forwards.all × (after.ledger ≡ s.ledger)
 
 -- The first entry whose deadline has come ends, if there is one. Where there is none, no entry changes.
+-- END-2
 abbrev pub DeadlinesEndOne : Type 0
 DeadlinesEndOne = (s : State) (now : ℕ) → EndsByDeadline s now (expire s now).0 (expire s now).1
 
@@ -147,7 +152,7 @@ pub record OneIsGone (numbers left : List ℕ) : Type 0 where
   pub were : numbers ≡ before ++ gone ∷ behind
   pub are_left : left ≡ before ++ behind
 
--- The entries that are there are the same, or one of them has ended, or one has begun behind them, with the next number.
+-- The entries that are there are the same, or one of them has ended, or one has begun after them, with the next number.
 pub data ChangesAtMostOne (old new : State) : Type 0 where
   Same : numbers_in new ≡ numbers_in old → next_in new ≡ next_in old → ChangesAtMostOne old new
   OneEnds : OneIsGone (numbers_in old) (numbers_in new) → next_in new ≡ next_in old
@@ -155,6 +160,7 @@ pub data ChangesAtMostOne (old new : State) : Type 0 where
   OneBegins : numbers_in new ≡ numbers_in old ++ next_in old ∷ [] → next_in new ≡ next_in old + 1
       → ChangesAtMostOne old new
 
+-- END-5
 abbrev pub EventsChangeAtMostOne : Type 0
 EventsChangeAtMostOne = (s : State) (event : Event) → ChangesAtMostOne s (step s event).1
 
@@ -172,6 +178,7 @@ abbrev pub has_begun : ℕ → State → Bool
 has_begun number s = nat_le 1 number && nat_lt number (next_in s)
 
 -- In every run, each entry that has begun has ended with one event, or is there, once. No other number occurs.
+-- END-5
 abbrev pub EntriesEndOnce : Type 0
 EntriesEndOnce =
     (limits : Limits) (listener : Listener) (first_xid now : ℕ) (events : List Event) (number : ℕ)

@@ -21,7 +21,7 @@ end_within room o =
     if nat_le (length o.marked) (o.given + room) then length o.marked
     else longest_fragment * ((o.given + room) / longest_fragment)
 
--- the rest of the fragment that is pending, and each fragment behind it, that fit whole
+-- the rest of the fragment that is pending, and each fragment after it, that fit whole
 unfoldable pub fitting_of : ℕ → Owed → List ℕ
 fitting_of room o = drop o.given (take (end_within room o) o.marked)
 
@@ -33,21 +33,23 @@ fitting_in room Awaiting = []
 fitting_in room Lost = []
 
 -- they are given
-unfoldable pub give_fitting : ℕ → ℕ → Connection → List ℕ × Connection
-give_fitting clock room c = (fitting_in room c.phase, with_given clock (length (fitting_in room c.phase)) c)
+unfoldable pub write_fitting : ℕ → ℕ → Connection → List ℕ × Connection
+write_fitting clock room c = (fitting_in room c.phase, with_given clock (length (fitting_in room c.phase)) c)
 
 -- ---- in a state
 
 -- where no byte was given the state stays, its clock too
+-- GIVE-2
 abbrev pub unless_nothing : State → Result (List ℕ) CoreFault × State → Result (List ℕ) CoreFault × State
 unless_nothing s (Ok [], new) = (Ok [], s)
 unless_nothing s (Ok (byte ∷ bytes), new) = (Ok (byte ∷ bytes), new)
 unless_nothing s (Err fault, new) = (Err fault, new)
 
 -- those of the live connection of the number are given
-unfoldable pub give_into : State → ℕ → ℕ → ℕ → Result (List ℕ) CoreFault × State
-give_into s now id room =
-    unless_nothing s (unless_refused now s (on_live id (give_fitting (max s.clock now) room) s.connections))
+-- GIVE-1 OUTBOX-3
+unfoldable pub write_into : State → ℕ → ℕ → ℕ → Result (List ℕ) CoreFault × State
+write_into s now id room =
+    unless_nothing s (unless_refused now s (on_live id (write_fitting (max s.clock now) room) s.connections))
 
 -- how many bytes a result says that were given
 abbrev pub given_in : Result Given CoreFault → ℕ
@@ -59,20 +61,20 @@ abbrev pub bytes_given : List ℕ → Result Given CoreFault → Result (List �
 bytes_given room (Ok given) = Ok (take given.count room)
 bytes_given room (Err fault) = Err fault
 
--- what it costs to give so many bytes so, beside so many rows: the look at how many are pending, and they themselves; each
--- fragment behind them, and the next one; or both buffers emptied
-abbrev pub given_into_cost : ℕ → ℕ → ℕ
-given_into_cost rows n = n + 3 + (n / longest_fragment + 1) * listed_cost rows
+-- what it costs to give this many bytes so, beside this many rows: the look at how many are pending, and they themselves; each
+-- fragment after them, and the next one; or both buffers emptied
+abbrev pub written_into_cost : ℕ → ℕ → ℕ
+written_into_cost rows n = n + 3 + (n / longest_fragment + 1) * listed_cost rows
 
--- and to find the connection among so many, if there is one
-abbrev pub give_into_cost : ℕ → ℕ → ℕ → Option Connection → ℕ
-give_into_cost connections rows n None = find_cost connections
-give_into_cost connections rows n (Some c) =
-    find_cost connections + given_into_cost (walked (gives_list c) rows) n + recount_cost
+-- and to find the connection among this many, if there is one
+abbrev pub write_into_cost : ℕ → ℕ → ℕ → Option Connection → ℕ
+write_into_cost connections rows n None = find_cost connections
+write_into_cost connections rows n (Some c) =
+    find_cost connections + written_into_cost (walked (gives_list c) rows) n + recount_cost
 
 -- ---- the same as steps
 
--- the first so many bytes, then fragment by fragment; in at most k pieces
+-- the first this many bytes, then fragment by fragment; in at most k pieces
 abbrev pub cut_from : ℕ → ℕ → List ℕ → List (List ℕ)
 cut_from zero first bytes = []
 cut_from (suc k) first [] = []
@@ -102,4 +104,4 @@ pub record GivesBySteps (s : State) (now id : ℕ) (bytes : List ℕ) (new : Sta
 abbrev pub GivesAreSteps : Type 0
 GivesAreSteps =
     (s : State) (now id room : ℕ) (bytes : List ℕ) (new : State)
-    → give_into s now id room ≡ (Ok bytes, new) → GivesBySteps s now id bytes new
+    → write_into s now id room ≡ (Ok bytes, new) → GivesBySteps s now id bytes new

@@ -25,22 +25,25 @@ pub record IsOfServedVersion (head : CallHead) : Type 0 where
   pub to_4 : head.vers ≤ 4
 
 -- of any other program
+-- PROGRAM-1
 abbrev pub IsOfOtherProgram : CallHead → Type 0
 IsOfOtherProgram head = head.prog ≡ rpcb_prog → ⊥
 
 -- of any other version of this program
+-- VERSION-1
 pub record IsOfOtherVersion (head : CallHead) : Type 0 where
   pub program : head.prog ≡ rpcb_prog
   pub other : (head.vers < 2) ⊎ (4 < head.vers)
 
 -- of one of its versions, which has no procedure of this number
+-- PROC-3
 pub record IsOfNoProcedure (head : CallHead) : Type 0 where
   pub served : IsOfServedVersion head
   pub none : procedure_at head.vers head.proc ≡ None
 
 -- ---- messages
 
--- The bytes begin with a call of program 100000, and behind its head with the arguments of the request; its procedure
+-- The bytes begin with a call of program 100000, and after its head with the arguments of the request; its procedure
 -- is the one that the head's version and number name.
 pub record BeginsWithRequest (call : Call) (bytes : List ℕ) : Type 0 where
   pub place : ℕ
@@ -48,8 +51,9 @@ pub record BeginsWithRequest (call : Call) (bytes : List ℕ) : Type 0 where
   pub program : call.head.prog ≡ rpcb_prog
   pub asks : Asks call.head.vers call.head.proc call.request (drop place bytes)
 
--- They begin with a call of a procedure that the version has, and behind its head with the
+-- They begin with a call of a procedure that the version has, and after its head with the
 -- arguments of no request.
+-- ARGS-4
 pub record HasUnreadableArguments (head : CallHead) (bytes : List ℕ) : Type 0 where
   pub place : ℕ
   pub procedure : Procedure

@@ -92,6 +92,7 @@ call_ended_by s (Closed id) = if is_there id s.connections then (caller_dropped 
 call_ended_by s event = None
 
 -- the notes of the call that an event brings whole, and of the forwarded call that it ends
+-- HISTORY-1
 abbrev pub notes_by : State → Event → List Note
 notes_by s event = notes_from s (brought_by s event) ++ end_notes (call_ended_by s event)
 
@@ -100,24 +101,27 @@ abbrev pub begins_anew : Event → Bool
 begins_anew ZeroStats = true
 begins_anew event = false
 
--- the notes, unless statistics begin anew behind them
+-- the notes, unless statistics begin anew after them
 abbrev pub unless_anew : Bool → List Note → List Note
 unless_anew anew notes = if anew then [] else notes
 
--- those of the events of a run, in order, but for events behind which statistics begin anew
+-- those of the events of a run, in order, but for events after which statistics begin anew
+-- HISTORY-1
 abbrev pub history_by : State → List Event → List Note
 history_by s [] = []
 history_by s (event ∷ events) =
     unless_anew (list_any begins_anew events) (notes_by s event) ++ history_by (step s event).1 events
 
--- From every state, the history after an event is the one before it, or nothing where statistics begin anew, and behind it
+-- From every state, the history after an event is the one before it, or nothing where statistics begin anew, and after it
 -- the notes of the event.
+-- HISTORY-1
 abbrev pub EventsAreNoted : Type 0
 EventsAreNoted =
     (s : State) (event : Event)
     → (step s event).1.ledger.history ≡ unless_anew (begins_anew event) s.ledger.history ++ notes_by s event
 
 -- In every run, the history is the notes of its events, in order, from where statistics last began anew.
+-- HISTORY-1
 abbrev pub HistoryIsOfItsEvents : Type 0
 HistoryIsOfItsEvents =
     (limits : Limits) (listener : Listener) (first_xid now : ℕ) (events : List Event)

@@ -41,6 +41,7 @@ IsKeptIfRefused TooMuch old new = new ≡ old
 IsKeptIfRefused other old new = ⊤
 
 -- A refused event changes nothing, not even the clock.
+-- REFUSED-1
 abbrev pub RefusedEventsChangeNothing : Type 0
 RefusedEventsChangeNothing =
     (s : State) (event : Event) → IsKeptIfRefused (step s event).0 s (step s event).1
@@ -67,7 +68,7 @@ NumbersNeverRecur =
 -- two pieces are taken one after the other
 abbrev pub one_after_another :
     Result Taken CoreFault → Result Taken CoreFault → Result Taken CoreFault
-one_after_another (Ok a) (Ok b) = Ok (record { count = a.count + b.count; closed = b.closed })
+one_after_another (Ok a) (Ok b) = Ok (record { count = a.count + b.count; lost = b.lost })
 one_after_another (Ok a) (Err fault) = Err fault
 one_after_another (Err fault) later = Err fault
 
@@ -143,13 +144,13 @@ since_of_record a = since_when_fed (clock_of a) a.connection.since a.connection.
 
 -- Nothing is taken, and the connection stays.
 pub record TakesNothing (a : Arrival) : Type 0 where
-  pub taken : taken_of a ≡ Ok (record { count = 0; closed = false })
+  pub taken : taken_of a ≡ Ok (record { count = 0; lost = false })
   pub stays : IsLive (state_after a) a.id a.connection
 
--- No record ends in the piece behind these bytes: it is taken whole. `since` is the moment of the record's first byte.
+-- No record ends in the piece after these bytes: it is taken whole. `since` is the moment of the record's first byte.
 pub record ReadsOn (a : Arrival) (fed : List ℕ) : Type 0 where
   pub none : HasNoRecord (fed ++ a.piece)
-  pub taken : taken_of a ≡ Ok (record { count = length a.piece; closed = false })
+  pub taken : taken_of a ≡ Ok (record { count = length a.piece; lost = false })
   pub reads : IsNow a (Reading (fed ++ a.piece)) (since_of_record a)
 
 -- the outcome of the record with these bytes
@@ -165,9 +166,9 @@ GoesOnWith a Forwarded = IsNow a Awaiting (clock_of a)
 GoesOnWith a Silent = IsNow a Idle (clock_of a)
 GoesOnWith a NoCall = live_connection a.id (state_after a).connections.all ≡ None
 
--- so many bytes of the piece are taken, with which a record ended that is answered so
+-- this many bytes of the piece are taken, with which a record ended that is answered so
 pub record IsAnswered (a : Arrival) (count : ℕ) (said : Outcome) : Type 0 where
-  pub taken : taken_of a ≡ Ok (record { count = count; closed = is_no_call said })
+  pub taken : taken_of a ≡ Ok (record { count = count; lost = is_no_call said })
   pub settles : GoesOnWith a said
 
 -- The first record ends with the last byte of the piece that is taken, and it is answered.
@@ -182,6 +183,7 @@ TakesExactly a None piece = TakesNothing a
 TakesExactly a (Some fed) [] = TakesNothing a
 TakesExactly a (Some fed) (byte ∷ piece) = AreBytes (fed ++ a.piece) → ReadsOn a fed ⊎ EndsRecord a fed
 
+-- TAKE-1
 abbrev pub BytesAreTakenExactly : Type 0
 BytesAreTakenExactly =
     (a : Arrival) → IsReached a.state → IsLive a.state a.id a.connection
@@ -234,6 +236,7 @@ pub record GivesInOrder (s : State) (id : ℕ) (c : Connection) : Type 0 where
   pub gives : (now n : ℕ) → n ≤ length front
       → (d : Connection) × IsLive (gave s now id n).1 id d × IsGiven n c.phase d.phase
 
+-- PENDING-2
 abbrev pub RepliesAreGivenWhole : Type 0
 RepliesAreGivenWhole =
     (s : State) → IsReached s → (id : ℕ) (c : Connection) → IsLive s id c → GivesInOrder s id c
@@ -261,6 +264,7 @@ OwedRepliesStay =
 -- ---- the ledger
 
 -- What is true of all that is remembered of the calls.
+-- ROWS-1
 pub record IsWellKept (s : State) : Type 0 where
   -- The own rows are the listener's, and each change was accepted by the rows that were live before it.
   pub own : s.ledger.own ≡ own_rows s.setting.listener

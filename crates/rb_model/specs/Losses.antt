@@ -31,6 +31,7 @@ owing_time = 30000
 
 -- How long a connection may stay in this phase, from `since` on. One that is Awaiting has no
 -- deadline: its forwarded call has one.
+-- DEADLINE-1
 abbrev pub time_in : Phase → Option ℕ
 time_in Idle = Some idle_time
 time_in (Reading fed) = Some reading_time
@@ -41,13 +42,16 @@ time_in Lost = None
 -- ---- what is due
 
 -- the moment from which a connection is due, by its `since` and its phase; at most the greatest moment
+-- DEADLINE-2
 abbrev pub deadline : ℕ → Phase → Option ℕ
 deadline since phase = option_map (later since) (time_in phase)
 
+-- DEADLINE-2
 abbrev pub has_come : ℕ → Option ℕ → Bool
 has_come clock None = false
 has_come clock (Some moment) = nat_le moment clock
 
+-- DEADLINE-2
 unfoldable pub is_due : ℕ → Connection → Bool
 is_due clock c = has_come clock (deadline c.since c.phase)
 
@@ -91,12 +95,14 @@ abbrev pub removals_by : Ledger → List ℕ
 removals_by l = filter_map (λ (slot : Slot). slot.removed) (all_slots l.own l.changes)
 
 -- the changes that removed rows which some unfinished list needs: it began before them
+-- NEEDED-1
 unfoldable pub needed_removals : List Connection → Ledger → List ℕ
 needed_removals all l = filter (is_needed_for (list_stamps all)) (removals_by l)
 
 -- ---- room for a row
 
 -- the message is a SET that is accepted
+-- EVICT-2
 abbrev pub asks_room : Context → Message → Ledger → Bool
 asks_room context (says.Asked call) l = wants_room context call l
 asks_room context says.NoCall l = false
@@ -127,6 +133,7 @@ evict changes c = record c { all = map (evict_early changes) c.all }
 
 -- Before a message is answered that wants room, the connections become Lost whose lists began before the earliest change
 -- that removed a row which some list needs, where the live rows and those that lists need reach the limit.
+-- LOST-1 EVICT-1
 abbrev pub with_room : Context → Message → State → State
 with_room context message s =
     record s { connections = evict (removals_in_the_way context message s.connections.all s.ledger) s.connections }

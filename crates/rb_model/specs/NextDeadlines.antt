@@ -18,6 +18,7 @@ abbrev pub next_connection_deadline : Connections → Option ℕ
 next_connection_deadline c = soonest_of (connection_deadlines c.all)
 
 -- the least deadline of the connections and of the forwarded calls
+-- DEADLINE-3 WAIT-4
 unfoldable pub next_deadline : State → Option ℕ
 next_deadline s = sooner_of (next_connection_deadline s.connections) (next_entry_deadline s.ledger.forwards)
 
@@ -32,6 +33,7 @@ abbrev pub FindsSomething : State → ℕ → Type 0
 FindsSomething s now = (expire s now).0 ≡ Nothing → ⊥
 
 -- The clock never goes back, so a moment before it counts as the clock.
+-- DEADLINE-3
 abbrev pub IsNextDeadline : State → ℕ → Option ℕ → Type 0
 IsNextDeadline s now None = FindsNothing s now
 IsNextDeadline s now (Some moment) =

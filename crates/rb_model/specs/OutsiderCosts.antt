@@ -67,6 +67,7 @@ datagram_allowance = 2048
 -- In each state that a run reaches at good limits, an event of an outsider that is for no list costs at most 16 steps for
 -- each of its bytes, and the allowance, whatever is registered, retained, open or forwarded. SETs and UNSETs are among
 -- them.
+-- OUTSIDER-1
 abbrev pub OutsidersCostFew : Type 0
 OutsidersCostFew =
     (s : State) → IsReached s → are_good s.setting.limits s.setting.listener ≡ true → (event : Event)
@@ -75,6 +76,7 @@ OutsidersCostFew =
     ≤ 16 * (bytes_in event (step s event).0 + bytes_reported event (step s event).0) + outsider_allowance
 
 -- A datagram costs at most a step for each of its bytes, two for each of its reply's, and its allowance.
+-- OUTSIDER-1
 abbrev pub OutsidersDatagramsCostFew : Type 0
 OutsidersDatagramsCostFew =
     (s : State) → are_good s.setting.limits s.setting.listener ≡ true → (now : ℕ) (who : Who) (content : List ℕ)

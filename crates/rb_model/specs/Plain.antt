@@ -10,7 +10,7 @@ use Rattle.rb_model.specs.declared.events.Output as output
 use Rattle.rb_model.specs.declared.events.Output.TheVariants as outputs
 use Rattle.rb_model.specs.Step.{Event, Output}
 use Rattle.rb_model.specs.Step.Event.{Open, Bytes, Pending, Gave, Closed, NextLost, Datagram, Unsent, Sent, Forward, Expire, ZeroStats}
-use Rattle.rb_model.specs.Step.Output.{Opened, Refused, TooMuch, Took, TookAndClosed, IsPending, Done, LostIs, Replied, Forwarded, Silent, UnsentIs, Ignored, Nothing, ConnectionClosed, Ready, RepliedTo}
+use Rattle.rb_model.specs.Step.Output.{Opened, Refused, TooMuch, Took, TookAndLost, IsPending, Done, LostIs, Replied, Forwarded, Silent, UnsentIs, Ignored, Nothing, ConnectionLost, Ready, RepliedTo}
 
 -- ---- over bytes of any type, of which this gives the list
 
@@ -36,7 +36,7 @@ plain_output bytes_of (outputs.Opened number) = Opened number
 plain_output bytes_of (outputs.Refused fault) = Refused fault
 plain_output bytes_of outputs.TooMuch = TooMuch
 plain_output bytes_of (outputs.Took count) = Took count
-plain_output bytes_of (outputs.TookAndClosed count) = TookAndClosed count
+plain_output bytes_of (outputs.TookAndLost count) = TookAndLost count
 plain_output bytes_of (outputs.Pending bytes) = IsPending (bytes_of bytes)
 plain_output bytes_of outputs.Done = Done
 plain_output bytes_of (outputs.Lost number) = LostIs number
@@ -46,7 +46,7 @@ plain_output bytes_of outputs.Silent = Silent
 plain_output bytes_of (outputs.Unsent unsent) = UnsentIs (option_map (plain_unsent bytes_of) unsent)
 plain_output bytes_of outputs.Ignored = Ignored
 plain_output bytes_of outputs.Nothing = Nothing
-plain_output bytes_of (outputs.ConnectionClosed number) = ConnectionClosed number
+plain_output bytes_of (outputs.ConnectionLost number) = ConnectionLost number
 plain_output bytes_of (outputs.Ready number) = Ready number
 plain_output bytes_of (outputs.RepliedTo who reply) = RepliedTo who (bytes_of reply)
 

@@ -31,6 +31,7 @@ RepliesAreAtMostTwice =
 
 -- In every run that begins so, strangers are sent over UDP, at once and at the end of forwarded calls, at most twice the
 -- bytes that came in their names: all of them together, those at one host, or each alone.
+-- REFLECT-1
 abbrev pub StrangersAreSentAtMostTwice : Type 0
 StrangersAreSentAtMostTwice =
     (limits : Limits) (listener : Listener) (first_xid now : ℕ) (events : List Event) (test : Who → Bool)

@@ -6,8 +6,8 @@ use Rattle.rb_proto.specs.ListParts.{list_reply}
 use Rattle.rb_model.specs.Calls.{Outcome, Outcome as said, is_no_call}
 use Rattle.rb_model.specs.declared.served.Served.{Served}
 use Rattle.rb_model.specs.declared.served.Served.TheVariants.{Answered, Listed}
-use Rattle.rb_model.specs.declared.served.Outcome.{Outcome as Written}
-use Rattle.rb_model.specs.declared.served.Outcome.TheVariants as outcomes
+use Rattle.rb_model.specs.declared.served.Response.{Response as Written}
+use Rattle.rb_model.specs.declared.served.Response.TheVariants as outcomes
 
 -- the outcome of the model for this outcome of the code, with the reply that it wrote
 abbrev pub outcome_with : Written → List ℕ → Outcome

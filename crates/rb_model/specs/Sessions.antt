@@ -29,7 +29,7 @@ pub record Exchange : Type 0 where
   pub content : List ℕ
   pub said : Outcome
 
--- What passed on a connection so far: all bytes that were taken, all that were given, those taken behind the last
+-- What passed on a connection so far: all bytes that were taken, all that were given, those taken after the last
 -- whole record, and the calls in the records.
 pub record Session : Type 0 where
   pub taken : List ℕ
@@ -213,6 +213,7 @@ pub record IsWholeSession (id : ℕ) (s : State) (t : Session) : Type 0 where
   pub in_turn : (event : Event) → taken_by id event (step s event).0 ≢ [] → AllGiven t
 
 -- for each connection, in each run
+-- TAKE-2
 abbrev pub SessionsAreWhole : Type 0
 SessionsAreWhole =
     (limits : Limits) (listener : Listener) (first_xid now : ℕ) (events : List Event) (id : ℕ)

@@ -20,11 +20,13 @@ standing_on None = stands.Lost
 standing_on (Some c) = standing_in c.phase
 
 -- where the connection of the number stands
+-- STANDING-1
 abbrev pub standing_of : ℕ → State → Standing
 standing_of id s = standing_on (live_connection id s.connections.all)
 
--- Where it stands behind so many bytes that were taken of a piece: the call that was forwarded with the last of them waits
+-- Where it stands after this many bytes that were taken of a piece: the call that was forwarded with the last of them waits
 -- to be sent.
+-- STANDING-2 PROGRESS-1 EVENT-2
 abbrev pub standing_behind : ℕ → Standing → Standing
 standing_behind count stands.Idle = stands.Idle
 standing_behind count stands.Reading = stands.Reading

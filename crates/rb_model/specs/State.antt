@@ -55,6 +55,7 @@ pub record State : Type 0 where
   pub reply : List ℕ
 
 -- there is room for the own rows and two more
+-- LIMITS-1 LIMITS-2
 abbrev pub are_good : Limits → Listener → Bool
 are_good limits listener =
     nat_le 1 limits.conns && nat_le limits.conns 256
@@ -70,10 +71,12 @@ opening limits listener first_xid now = record {
 }
 
 -- the greatest moment, and the greatest number of a connection or of changes
+-- NUMBER-3
 abbrev pub greatest_number : ℕ
 greatest_number = 2 ^ 64 - 1
 
 -- a moment earlier than the last one counts as the last one
+-- CLOCK-1
 abbrev pub at_moment : ℕ → State → State
 at_moment now s = record s { clock = max s.clock now }
 

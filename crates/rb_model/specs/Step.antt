@@ -46,7 +46,7 @@ abbrev pub with_ledger : State → Outcome × Ledger → Outcome × State
 with_ledger s (given, ledger) = (given, record s { ledger = ledger })
 
 -- A message from a caller is answered, once there is room for the row that it may add; `arguments` are the bytes
--- behind its head.
+-- after its head.
 abbrev pub serve_message : State → Caller → Message → List ℕ → Outcome × State
 serve_message s caller message arguments =
     with_ledger (with_room (context_in s caller) message s) (outcome (context_in s caller) message arguments s.ledger)
@@ -58,6 +58,7 @@ serve s caller content = serve_message s caller (message_of content) (arguments_
 -- ---- connections
 
 -- A call on the connections at a moment: where it is refused the state stays, its clock too.
+-- REFUSED-1
 abbrev pub unless_refused : {A : Type 0} → ℕ → State → Result A CoreFault × Connections → Result A CoreFault × State
 unless_refused now s (Err fault, connections) = (Err fault, s)
 unless_refused now s (Ok x, connections) = (Ok x, record (at_moment now s) { connections = connections })
@@ -73,12 +74,12 @@ unfoldable pub serve_record : State → ℕ → Who → List ℕ → Bool × Sta
 serve_record s id who content = settle_on id (serve s (Tcp id who) content)
 
 abbrev pub with_count : ℕ → Bool × State → Taken × State
-with_count n (closed, s) = (record { count = n; closed = closed }, s)
+with_count n (lost, s) = (record { count = n; lost = lost }, s)
 
 -- Nothing is taken; or all, and no record ends; or all up to the end of a record, which is answered.
 abbrev pub when_taken : State → ℕ → List ℕ → Connection → Taking → Taken × State
-when_taken s id piece c TakesNone = (record { count = 0; closed = false }, s)
-when_taken s id piece c (GoesOn fed) = (record { count = length piece; closed = false }, on_connection id (keep_reading s.clock fed) s)
+when_taken s id piece c TakesNone = (record { count = 0; lost = false }, s)
+when_taken s id piece c (GoesOn fed) = (record { count = length piece; lost = false }, on_connection id (keep_reading s.clock fed) s)
 when_taken s id piece c (Ends n content) = with_count n (serve_record s id c.who content)
 
 abbrev pub bytes_to : State → ℕ → ℕ → List ℕ → Option Connection → Result Taken CoreFault × State
@@ -108,6 +109,7 @@ unfoldable pub gave : State → ℕ → ℕ → ℕ → Result (Unit {0}) CoreFa
 gave s now id n = unless_refused now s (on_live id (give (max s.clock now) n) s.connections)
 
 -- more than is pending
+-- GAVE-2
 abbrev pub is_too_much : ℕ → Result (List ℕ) CoreFault → Bool
 is_too_much n (Err fault) = false
 is_too_much n (Ok bytes) = nat_lt (length bytes) n
@@ -118,6 +120,7 @@ unfoldable pub open_connection : State → ℕ → Who → Result ℕ CoreFault 
 open_connection s now who = unless_refused now s (open_in_table s.setting.limits.conns who (max s.clock now) s.connections)
 
 -- where a connection is closed, the call that was forwarded for it ends
+-- END-4
 abbrev pub dropped_with : State → ℕ → Result (Unit {0}) CoreFault × Connections → Result (Unit {0}) CoreFault × State
 dropped_with s id (Err fault, connections) = (Err fault, s)
 dropped_with s id (Ok u, connections) =
@@ -134,11 +137,13 @@ next_lost s = next_lost_in_table s.connections
 -- ---- datagrams
 
 -- the last reply over UDP is replaced by this one, or by nothing where there is none
+-- DATAGRAM-2
 abbrev pub with_reply : Outcome × State → Outcome × State
 with_reply (given, s) = (given, record s { reply = reply_in given })
 
--- The most bytes of the reply to a datagram of so many: to a stranger at most twice as many, where replies over UDP are held
+-- The most bytes of the reply to a datagram of this many: to a stranger at most twice as many, where replies over UDP are held
 -- to that.
+-- REFLECT-1
 unfoldable pub longest_to : Terms → Who → ℕ → ℕ
 longest_to terms who count =
     if terms.long_replies || not (is_stranger who) then longest_reply else min longest_reply (2 * count)
@@ -147,12 +152,13 @@ longest_to terms who count =
 abbrev pub sender : State → Who → List ℕ → Caller
 sender s who content = Udp who (longest_to s.setting.listener.terms who (length content))
 
+-- DATAGRAM-1
 unfoldable pub datagram : State → ℕ → Who → List ℕ → Outcome × State
 datagram s now who content = with_reply (serve (at_moment now s) (sender s who content) content)
 
 -- ---- calls that are forwarded
 
--- the one that is to be sent next: the unsent entry of least number
+-- the one that must be sent next: the unsent entry of least number
 unfoldable pub unsent_call : State → Option UnsentCall
 unsent_call s = unsent s.setting.first_xid s.ledger.forwards
 
@@ -164,6 +170,7 @@ sent_call s number =
 -- ---- statistics
 
 -- statistics begin anew: nothing was called yet, and nothing else changes
+-- STAT-7
 unfoldable pub zero_stats : State → State
 zero_stats s = record s { ledger = record s.ledger { history = [] } }
 
@@ -189,7 +196,7 @@ pub data Output : Type 0 where
   Refused : CoreFault → Output
   TooMuch : Output
   Took : ℕ → Output
-  TookAndClosed : ℕ → Output
+  TookAndLost : ℕ → Output
   IsPending : List ℕ → Output
   Done : Output
   LostIs : Option ℕ → Output
@@ -199,7 +206,7 @@ pub data Output : Type 0 where
   UnsentIs : Option UnsentCall → Output
   Ignored : Output
   Nothing : Output
-  ConnectionClosed : ℕ → Output
+  ConnectionLost : ℕ → Output
   Ready : ℕ → Output
   RepliedTo : Who → List ℕ → Output
 
@@ -208,7 +215,7 @@ output_or show (Ok x, s) = (show x, s)
 output_or show (Err fault, s) = (Refused fault, s)
 
 abbrev pub show_taken : Taken → Output
-show_taken t = if t.closed then TookAndClosed t.count else Took t.count
+show_taken t = if t.lost then TookAndLost t.count else Took t.count
 
 abbrev pub show_done : Unit {0} → Output
 show_done u = Done
@@ -233,8 +240,9 @@ show_end (Some told, s) = (show_told s.reply told, s)
 abbrev pub show_expired : Expired × State → Output × State
 show_expired (expiries.Nothing, s) = (Nothing, s)
 show_expired (Ended told, s) = (show_told s.reply told, s)
-show_expired (expiries.ConnectionClosed id, s) = (ConnectionClosed id, s)
+show_expired (expiries.ConnectionLost id, s) = (ConnectionLost id, s)
 
+-- GAVE-2 EVENT-1
 unfoldable pub step : State → Event → Output × State
 step s (Open now who) = output_or Opened (open_connection s now who)
 step s (Bytes now id piece) = output_or show_taken (bytes s now id piece)
@@ -252,6 +260,7 @@ step s ZeroStats = (Done, zero_stats s)
 -- ---- runs
 
 -- the outputs of a list of events
+-- OUTPUT-1
 abbrev pub run : State → List Event → List Output
 run s [] = []
 run s (event ∷ events) = (step s event).0 ∷ run (step s event).1 events

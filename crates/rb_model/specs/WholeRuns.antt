@@ -57,6 +57,7 @@ event_allowance limits = 64 * (limits.conns + limits.rows + most_keys + limits.f
 
 -- The bound of a whole run: 16 steps for each byte that is taken or given and for each that was in a buffer as the run
 -- began, and the allowance of each event.
+-- STEPS-2
 abbrev pub whole_bound : Limits → ℕ → List Event → List Output → ℕ
 whole_bound limits buffered events outputs =
     16 * (total_in events outputs + total_out events outputs + buffered) + length events * event_allowance limits
@@ -65,6 +66,7 @@ whole_bound limits buffered events outputs =
 
 -- An event costs at most 16 steps for each of its bytes, and its allowance. This bound is amortised: the event that
 -- brings a byte of arguments pays two steps ahead for it, and the event that answers the record spends them.
+-- STEPS-2
 abbrev pub EventsArePaidAhead : Type 0
 EventsArePaidAhead =
     (s : State) → IsReached s → are_good s.setting.limits s.setting.listener ≡ true → (event : Event)

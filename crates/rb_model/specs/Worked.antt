@@ -85,7 +85,7 @@ abbrev pub OwnRowsAreAsked : Type 0
 OwnRowsAreAsked =
     run fresh (Datagram 0 loopback (call2 7 3 (100000 ∷ 9 ∷ 6 ∷ 0 ∷ [])) ∷ []) ≡ Replied (success_reply 7 (0x6f ∷ [])) ∷ []
 
--- at a limit of eight rows there is room for two behind the own ones
+-- at a limit of eight rows there is room for two after the own ones
 abbrev pub LimitIsReached : Type 0
 LimitIsReached =
     run (fresh_with 8)
@@ -142,7 +142,7 @@ OtherRpcVersion = answer_to (words (5 ∷ 0 ∷ 3 ∷ [])) ≡ denied_reply (5 �
 abbrev pub TooShort : Type 0
 TooShort = answer_to (words (5 ∷ 0 ∷ [])) ≡ Silent ∷ []
 
--- a NULL call whose credential has so many bytes, as it says
+-- a NULL call whose credential has this many bytes, as it says
 abbrev pub with_credential : ℕ → ℕ → List ℕ
 with_credential says count = words (9 ∷ 0 ∷ 2 ∷ 100000 ∷ 2 ∷ 0 ∷ 0 ∷ says ∷ []) ++ replicate count 0 ++ words (0 ∷ 0 ∷ [])
 
@@ -160,7 +160,7 @@ SysBodyCutShort =
 abbrev pub OverlongVerifier : Type 0
 OverlongVerifier = answer_to (words (12 ∷ 0 ∷ 2 ∷ 100000 ∷ 2 ∷ 0 ∷ 0 ∷ 0 ∷ 0 ∷ 401 ∷ [])) ≡ denied_reply (12 ∷ 1 ∷ 1 ∷ 1 ∷ 3 ∷ [])
 
--- a credential of one byte, behind which stand three residual ones
+-- a credential of one byte, after which stand three residual ones
 abbrev pub with_residue : ℕ → List ℕ
 with_residue byte_and_residue = words (13 ∷ 0 ∷ 2 ∷ 100000 ∷ 2 ∷ 0 ∷ 0 ∷ 1 ∷ byte_and_residue ∷ 0 ∷ 0 ∷ [])
 

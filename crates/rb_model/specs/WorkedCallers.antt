@@ -58,7 +58,7 @@ LastQuarterIsKept =
 abbrev pub getaddr : List ℕ
 getaddr = call_by_none 2 100000 3 3 ++ words (200001 ∷ 1 ∷ 0 ∷ 0 ∷ 0 ∷ [])
 
--- the reply to it, with a text of so many bytes, and zeros behind it
+-- the reply to it, with a text of this many bytes, and zeros after it
 abbrev pub told : ℕ → List ℕ → List ℕ
 told count text = success_reply 2 (count ∷ []) ++ text
 

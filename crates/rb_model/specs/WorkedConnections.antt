@@ -6,7 +6,7 @@ use Rattle.rb_model.specs.declared.types.Limits.{Limits}
 use Rattle.rb_model.specs.State.{State, are_good, opening}
 use Rattle.rb_model.specs.Step.{Event, run}
 use Rattle.rb_model.specs.Step.Event.{Open, Bytes, Pending, Gave, Closed, NextLost}
-use Rattle.rb_model.specs.Step.Output.{Opened, Refused, TooMuch, Took, TookAndClosed, IsPending, Done, LostIs}
+use Rattle.rb_model.specs.Step.Output.{Opened, Refused, TooMuch, Took, TookAndLost, IsPending, Done, LostIs}
 use Rattle.rb_model.specs.Calls.Outcome.{NoCall, Reply}
 use Rattle.rb_model.specs.Sessions.{Exchange, session}
 use Rattle.rb_model.specs.Worked.{listener, loopback, fresh, success_reply, call_by_none}
@@ -36,7 +36,7 @@ abbrev pub NoCallCloses : Type 0
 NoCallCloses =
     run fresh
     (open_event ∷ Bytes 0 1 (words (0x80000008 ∷ 5 ∷ 0 ∷ [])) ∷ NextLost ∷ Pending 1 ∷ Closed 1 ∷ NextLost ∷ [])
-    ≡ Opened 1 ∷ TookAndClosed 12 ∷ LostIs (Some 1) ∷ Refused Gone ∷ Done ∷ LostIs None ∷ []
+    ≡ Opened 1 ∷ TookAndLost 12 ∷ LostIs (Some 1) ∷ Refused Gone ∷ Done ∷ LostIs None ∷ []
 
 abbrev pub OtherRpcVersionOnTcp : Type 0
 OtherRpcVersionOnTcp =
@@ -58,7 +58,7 @@ SingleByteFragmentsByteByByte =
     run fresh (open_event ∷ one_by_one (take 359 (single_byte_fragments (null_call 1))) ++ Pending 1 ∷ [] ++ one_by_one (drop 359 (single_byte_fragments (null_call 1))) ++ Pending 1 ∷ [])
     ≡ Opened 1 ∷ replicate 359 (Took 1) ++ IsPending [] ∷ Took 1 ∷ IsPending (null_reply 1) ∷ []
 
--- so many pieces of seven bytes
+-- this many pieces of seven bytes
 abbrev pub pieces_of_seven : ℕ → List ℕ → List Event
 pieces_of_seven zero bytes = []
 pieces_of_seven (suc k) bytes = Bytes 0 1 (take 7 bytes) ∷ pieces_of_seven k (drop 7 bytes)
@@ -67,7 +67,7 @@ abbrev pub SingleByteFragmentsInSevens : Type 0
 SingleByteFragmentsInSevens =
     run fresh (open_event ∷ pieces_of_seven 52 (single_byte_fragments (null_call 1)) ++ Pending 1 ∷ []) ≡ Opened 1 ∷ replicate 51 (Took 7) ++ Took 3 ∷ IsPending (null_reply 1) ∷ []
 
--- bytes behind the arguments are taken with the record, and count for nothing
+-- bytes after the arguments are taken with the record, and count for nothing
 abbrev pub BytesBehindArguments : Type 0
 BytesBehindArguments =
     run fresh (open_event ∷ Bytes 0 1 (in_one (null_call 1 ++ replicate 10000 0xff)) ∷ Pending 1 ∷ [])
@@ -102,7 +102,7 @@ OneRecordAtATimePasses =
 abbrev pub no_call : List ℕ
 no_call = words (5 ∷ 0 ∷ [])
 
--- what is no call is a record without a reply, and nothing is taken behind it
+-- what is no call is a record without a reply, and nothing is taken after it
 abbrev pub NoCallPasses : Type 0
 NoCallPasses =
     session fresh 1

@@ -34,7 +34,7 @@ indirect xid prog = call_by_none xid 100000 4 10 ++ words (prog ∷ 1 ∷ 0 ∷ 
 abbrev pub callit : ℕ → ℕ → List ℕ
 callit xid prog = call_by_none xid 100000 2 5 ++ words (prog ∷ 1 ∷ 0 ∷ 0 ∷ [])
 
--- an accepted reply with this status, and these words behind it
+-- an accepted reply with this status, and these words after it
 abbrev pub reply_with_status : ℕ → ℕ → List ℕ → List ℕ
 reply_with_status xid stat more = words (xid ∷ 1 ∷ 0 ∷ 0 ∷ 0 ∷ stat ∷ []) ++ words more
 
@@ -113,7 +113,7 @@ NoPlace =
     run with_none (set_event ∷ Datagram 0 loopback (indirect 2 200001) ∷ Datagram 0 loopback (callit 3 200001) ∷ Unsent ∷ [])
     ≡ was_set ∷ Replied (reply_with_status 2 5 []) ∷ Silent ∷ UnsentIs None ∷ []
 
--- a CALLIT with so many bytes of arguments, and so many behind them
+-- a CALLIT with this many bytes of arguments, and this many after them
 abbrev pub with_args : ℕ → ℕ → List ℕ
 with_args count pad = call_by_none 18 100000 2 5 ++ words (200001 ∷ 1 ∷ 0 ∷ count ∷ []) ++ replicate count 7 ++ replicate pad 0
 

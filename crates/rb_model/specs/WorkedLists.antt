@@ -10,7 +10,7 @@ use Rattle.rb_model.specs.Worked.{loopback, fresh, fresh_with, call2, success_re
 use Rattle.rb_rpc.specs.Records.{marked_reply}
 use Rattle.rb_model.specs.declared.types.CoreFault.{CoreFault}
 use Rattle.rb_model.specs.State.{State}
-use Rattle.rb_model.specs.Gives.{give_into}
+use Rattle.rb_model.specs.Gives.{write_into}
 use Rattle.rb_model.specs.WorkedConnections.{open_event, in_one}
 
 -- SET and UNSET of version 1 of a program on tcp, port 2049, without a credential
@@ -30,7 +30,7 @@ was_false = Replied (success_reply 1 (0 ∷ []))
 abbrev pub dump : ℕ → Event
 dump id = Bytes 0 id (in_one (call2 1 4 []))
 
--- the reply to it, where these programs were SET behind the six own rows
+-- the reply to it, where these programs were SET after the six own rows
 abbrev pub dump_reply : List ℕ → List ℕ
 dump_reply progs =
     success_reply 1 [] ++ own 4 6 ++ own 3 6 ++ own 2 6 ++ own 4 17 ++ own 3 17 ++ own 2 17
@@ -122,7 +122,7 @@ long_list = marked_reply (dump_reply (range_with_len A 140))
 -- into room for two fragments and a half go two, and the third one goes later
 abbrev pub ListIntoRoom : Type 0
 ListIntoRoom =
-    let given : Result (List ℕ) CoreFault × State = give_into with_long_list 0 1 2570 in
-    let ended : Result (List ℕ) CoreFault × State = give_into given.1 0 1 2570 in
-    given.0 ∷ (give_into given.1 0 1 900).0 ∷ ended.0 ∷ (give_into ended.1 0 1 2570).0 ∷ []
+    let given : Result (List ℕ) CoreFault × State = write_into with_long_list 0 1 2570 in
+    let ended : Result (List ℕ) CoreFault × State = write_into given.1 0 1 2570 in
+    given.0 ∷ (write_into given.1 0 1 900).0 ∷ ended.0 ∷ (write_into ended.1 0 1 2570).0 ∷ []
     ≡ Ok (take 2056 long_list) ∷ Ok [] ∷ Ok (drop 2056 long_list) ∷ Ok [] ∷ []

@@ -10,7 +10,7 @@ pub enum Event<B = Vec<u8>> {
     Open(u64, Who),
     /// Bytes arrive on a connection: the moment, its number, and the bytes.
     Bytes(u64, u64, B),
-    /// Asks which bytes are to be sent next on the connection of this number.
+    /// Asks which bytes must be sent next on the connection of this number.
     Pending(u64),
     /// Pending bytes were given on a connection: the moment, its number, and how many.
     Gave(u64, u64, u64),
@@ -20,7 +20,7 @@ pub enum Event<B = Vec<u8>> {
     NextLost,
     /// A datagram: the moment, who sent it, and its bytes.
     Datagram(u64, Who, B),
-    /// Asks for the forwarded call that is to be sent next.
+    /// Asks for the forwarded call that must be sent next.
     Unsent,
     /// The forwarded call of the number was sent.
     Sent(u64),
@@ -32,7 +32,7 @@ pub enum Event<B = Vec<u8>> {
     ZeroStats,
 }
 
-/// A forwarded call that is to be sent.
+/// A forwarded call that must be sent.
 #[derive(Debug, Drop)]
 pub struct UnsentCall<B = Vec<u8>> {
     /// Its number; the first is 1.
@@ -52,10 +52,10 @@ pub enum Output<B = Vec<u8>> {
     Refused(CoreFault),
     /// More bytes were reported as given than are pending, so `gave` was not called.
     TooMuch,
-    /// So many bytes were taken.
+    /// The number of bytes that were taken.
     Took(usize),
-    /// So many bytes were taken, and the connection is Lost now, since its record is no call.
-    TookAndClosed(usize),
+    /// The number of bytes that were taken; the connection is Lost now, since its record is no call.
+    TookAndLost(usize),
     /// The rest of the current fragment, at most 1,028 bytes; none where no reply is owed.
     Pending(B),
     /// The event was accepted, and has no other result.
@@ -68,14 +68,14 @@ pub enum Output<B = Vec<u8>> {
     Forwarded,
     /// A datagram has no reply, or a forwarded call that came over UDP has ended without one.
     Silent,
-    /// The forwarded call that is to be sent next, if there is one.
+    /// The forwarded call that must be sent next, if there is one.
     Unsent(Option<UnsentCall<B>>),
     /// The datagram is no reply to a forwarded call.
     Ignored,
     /// Nothing was due.
     Nothing,
     /// The deadline of the connection of the number has come: it is Lost now, and the caller has to close it.
-    ConnectionClosed(u64),
+    ConnectionLost(u64),
     /// A forwarded call has ended, and its connection, of this number, awaits it no longer.
     Ready(u64),
     /// A forwarded call has ended, and this is the reply to its caller.

@@ -12,7 +12,7 @@ mod worked;
 
 pub use events::{Event, Output, UnsentCall};
 pub use message::{LONGEST_KEPT, Message};
-pub use served::{LONGEST_REPLY, Outcome, Served};
+pub use served::{LONGEST_REPLY, Response, Served};
 pub use types::{CoreFault, Exchanged, Expired, Given, Limits, Standing, Taken, Told};
 pub use worked::{
     worked_bounds, worked_callers, worked_changes, worked_connections, worked_deadlines,

@@ -6,7 +6,7 @@ pub const LONGEST_REPLY: usize = 9_000;
 
 /// What a datagram, or a record, is answered with.
 #[derive(Clone, Copy, Debug, PartialEq, Eq)]
-pub enum Outcome {
+pub enum Response {
     /// Nothing: it is no call (RFC 5531 section 9). A connection on which it came is Lost.
     NoCall,
     /// A reply of at most 9,000 bytes, which is written.
@@ -21,7 +21,7 @@ pub enum Outcome {
 #[derive(Clone, Copy, Debug, PartialEq, Eq)]
 pub enum Served {
     /// A reply that is written, or none.
-    Answered(Outcome),
+    Answered(Response),
     /// A streamed list in reply to the call of this xid, of which nothing is written yet.
     Listed(u32, Listing),
 }
@@ -35,6 +35,6 @@ impl Served {
     pub fn is_no_call(self) -> bool
         ensures { (registry : Registry) (reply : List ℕ) → result ≡ is_lost_by registry self reply }
     {
-        matches!(self, Served::Answered(Outcome::NoCall))
+        matches!(self, Served::Answered(Response::NoCall))
     }
 }

@@ -36,7 +36,7 @@ pub struct Taken {
     pub count: usize,
     /// Whether the connection is Lost now, since its record is no call: it takes and gives nothing more, and the caller has
     /// to close it.
-    pub closed: bool,
+    pub lost: bool,
 }
 
 /// What came of bytes that arrived on a connection, where a reply may be given at once.
@@ -70,7 +70,7 @@ pub enum Standing {
     Owing,
     /// It waits for the end of a forwarded call.
     Awaiting,
-    /// Its call is forwarded, and waits to be sent: `unsent` of the core lends it. That is told once, behind the bytes that
+    /// Its call is forwarded, and waits to be sent: `unsent` of the core lends it. That is told once, after the bytes that
     /// brought the call; later it is `Awaiting`.
     Sends,
     /// It is given up and to be closed, or is closed.
@@ -96,7 +96,7 @@ pub enum Expired {
     /// A forwarded call, at its deadline, 5,000 ms after it came. Its caller gets this.
     Ended(Told),
     /// The connection of this number, at its deadline: it is Lost now, and is to be closed.
-    ConnectionClosed(u64),
+    ConnectionLost(u64),
 }
 
 /// Why a call on a core was refused. It changed nothing.

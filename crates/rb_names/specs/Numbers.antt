@@ -14,6 +14,7 @@ abbrev pub is_between : ℕ → ℕ → ℕ → Bool
 is_between least most n = nat_le least n && nat_le n most
 
 -- the number that the digits are, where it is between the bounds
+-- DIGITS-1
 abbrev pub number_in : ℕ → ℕ → List ℕ → Option ℕ
 number_in least most text =
     if is_numeral text && is_between least most (digits_value 10 text) then Some (digits_value 10 text) else None

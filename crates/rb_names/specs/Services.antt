@@ -18,11 +18,11 @@ NamedNumber = List ℕ × ℕ
 abbrev pub named_numbers : List Service → List NamedNumber
 named_numbers services = map (λ service. (service.name.items, service.number)) services
 
--- these names stand behind those that were there
+-- these names stand after those that were there
 abbrev pub AddsNames : Vec Service → Vec Service → List NamedNumber → Type 0
 AddsNames old new names = named_numbers (vec_items new) ≡ named_numbers (vec_items old) ++ names
 
--- the texts behind their borrows
+-- the texts after their borrows
 abbrev pub borrowed_texts : List (Bor (List ℕ)) → List (List ℕ)
 borrowed_texts texts = map (λ text. text.now) texts
 
@@ -52,15 +52,18 @@ services_of (name ∷ number ∷ aliases) = each_with_number (name ∷ aliases) 
 services_of _ = []
 
 -- a longer line has no names
+-- NAMES-2
 abbrev pub longest_line : ℕ
 longest_line = 1024
 
--- the comment behind `#` says nothing
+-- the comment after `#` says nothing
+-- NAMES-1
 abbrev pub services_in_line : List ℕ → List NamedNumber
 services_in_line line =
     if nat_lt longest_line (length line) then [] else services_of (words_of (before_first is_hash line))
 
 -- a longer text has none
+-- NAMES-2
 abbrev pub longest_services : ℕ
 longest_services = 65536
 
@@ -71,8 +74,10 @@ services_in text =
 
 -- ---- what is looked up: the first one is it
 
+-- NAMES-3
 abbrev pub number_of : List Service → List ℕ → Option ℕ
 number_of services name = option_map (λ service. service.number) (find (λ service. bytes_eq service.name.items name) services)
 
+-- NAMES-3
 abbrev pub name_of : List Service → ℕ → Option (List ℕ)
 name_of services number = option_map (λ service. service.name.items) (find (λ service. service.number == number) services)

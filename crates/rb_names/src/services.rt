@@ -1,5 +1,5 @@
 //! Names of programs, as rpc(5) writes them: a line has a name, a number and further names, with white space between
-//! them, and a comment behind `#`.
+//! them, and a comment after `#`.
 ghost use Rattle.std.specs.Prelude.{◌≡◌, [], ◌∷◌, List, option_map, IfOk, OnOk};
 ghost use Rattle.std.specs.List.{slice_split, before_first};
 ghost use Rattle.std.specs.Char.{is_ascii_whitespace};

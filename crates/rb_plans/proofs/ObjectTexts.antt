@@ -19,7 +19,7 @@ use Rattle.rb_words.specs.declared.plan.Request.{Request}
 use Rattle.rb_words.specs.declared.plan.Source.{Source}
 use Rattle.rb_words.specs.declared.refusal.Refusal.{Refusal}
 use Rattle.rb_words.specs.declared.refusal.Spot.TheVariants as spots
-use Rattle.rb_words.specs.declared.refusal.Wanted.TheVariants as wants
+use Rattle.rb_words.specs.declared.refusal.Expected.TheVariants as wants
 use Rattle.rb_words.specs.declared.shape.Shape.{Shape}
 use Rattle.rb_words.specs.Words.{◌>>=◌, flag_of, check_options, option_number, plan_of, only_where, is_here, has_layout, layout_of, request_of}
 use Rattle.rb_ask.specs.declared.fault.InfoFault.{InfoFault}

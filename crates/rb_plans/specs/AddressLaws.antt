@@ -10,7 +10,8 @@ abbrev pub NoneAnswers : (IpAddr → Result Shown Fault) → List IpAddr → Typ
 NoneAnswers gives [] = ⊤
 NoneAnswers gives (address ∷ more) = (is_unanswered (gives address) ≡ true) × NoneAnswers gives more
 
--- behind those that do not answer the first is asked that does, and none behind it
+-- after those that do not answer the first is asked that does, and none after it
+-- ADDRESS-2
 abbrev pub AskedUpToAnAnswer : Type 0
 AskedUpToAnAnswer =
     (gives : IpAddr → Result Shown Fault) (before after : List IpAddr) (address : IpAddr) → NoneAnswers gives before → is_unanswered (gives address) ≡ false

@@ -22,12 +22,14 @@ family_of (ways.Port transport port) = None
 family_of (ways.Address netid address) = None
 
 -- an address is asked where those of a family are, or each is
+-- ADDRESS-1
 abbrev pub is_asked : Option Family → IpAddr → Bool
 is_asked (Some Inet) ip = is_ipv4 ip
 is_asked (Some Inet6) ip = is_ipv6 ip
 is_asked None ip = true
 
--- why none of so many addresses of a host is asked: it has none, or none of the family
+-- why none of this many addresses of a host is asked: it has none, or none of the family
+-- ADDRESS-1
 abbrev pub none_asked : Option Family → ℕ → Fault
 none_asked (Some family) count = if nat_lt 0 count then NoAddress family else NoHost
 none_asked None count = NoHost
@@ -42,10 +44,12 @@ is_no_socket (Err NoSocket) = true
 is_no_socket answer = false
 
 -- 127.0.0.1 is asked in place of the socket of this path, which gave this
+-- ADDRESS-3
 abbrev pub falls_back : List ℕ → Result Shown Fault → Bool
 falls_back path answer = bytes_eq path default_path && is_no_socket answer
 
 -- nobody answered at an address
+-- ADDRESS-2
 abbrev pub is_unanswered : Result Shown Fault → Bool
 is_unanswered (Err NoConnection) = true
 is_unanswered (Err NoSocket) = true
@@ -58,6 +62,7 @@ asked_of gives [] = []
 asked_of gives (address ∷ more) = address ∷ (if is_unanswered (gives address) then asked_of gives more else [])
 
 -- somebody answered; where memory was refused that is not known
+-- ADDRESS-4
 abbrev pub has_answered : Result Shown Fault → Bool
 has_answered (Err NoConnection) = false
 has_answered (Err NoSocket) = false
@@ -69,6 +74,7 @@ has_answered (Err (Info Memory)) = false
 has_answered answer = true
 
 -- the address, where it is one of several and somebody answered there
+-- ADDRESS-4
 abbrev pub answered_at : IpAddr → ℕ → Result Shown Fault → Option IpAddr
 answered_at address count answer = if nat_lt 1 count && has_answered answer then Some address else None
 

@@ -31,17 +31,20 @@ AsksNoOther (Call aim place) = IsOfSeveral aim
 AsksNoOther (End end) = ⊤
 
 -- whatever is replied, another of them follows, or the end
+-- COURSE-10
 abbrev pub SeveralStay : Type 0
 SeveralStay =
     (course : Course) (stage : Stage) (reply : Result Shown Fault) → AsksOfSeveral stage
     → IfOk (follow course stage reply) (λ step. AsksNoOther step.stage)
 
 -- a fault that ends the course is no reason to ask at the next address
+-- COURSE-10
 abbrev pub FaultsAreLast : Type 0
 FaultsAreLast =
     (course : Course) (stage : Stage) (reply : Result Shown Fault) → AsksOfSeveral stage
     → IfErr (follow course stage reply) (λ fault. is_unanswered (Err fault) ≡ false)
 
 -- nor is the end of a course
+-- COURSE-10
 abbrev pub EndsAreLast : Type 0
 EndsAreLast = (prog xid : ℕ) (stage : Stage) → is_unanswered (course_end prog xid stage) ≡ false

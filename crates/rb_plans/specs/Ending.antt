@@ -31,7 +31,7 @@ info_text (Refused head) = codes "refused"
 info_text TooMany = codes "too many rows"
 info_text Memory = codes "no memory"
 
--- behind the command's name
+-- after the command's name
 abbrev pub own_line : List ℕ → List ℕ
 own_line text = codes "rpcinfo: " ++ (text ++ codes "\n")
 
@@ -40,6 +40,7 @@ family_text Inet = codes "IPv4"
 family_text Inet6 = codes "IPv6"
 
 -- the first line; where versions had their own lines there is none
+-- COURSE-11
 abbrev pub fault_line : Fault → List ℕ
 fault_line (Info fault) = own_line (info_text fault)
 fault_line NoConnection = codes "rpcinfo: no connection\n"
@@ -120,16 +121,19 @@ line_of None = []
 abbrev pub detail_line : Fault → List ℕ
 detail_line fault = line_of (status_in fault)
 
+-- STATUS-1 STATUS-4
 abbrev pub fault_lines : Fault → List ℕ
 fault_lines fault = fault_line fault ++ detail_line fault
 
 -- a word of the command line that is no text
+-- STATUS-3
 abbrev pub text_line : List ℕ
 text_line = codes "rpcinfo: a word is no text\n"
 
 -- ---- the end by an answer
 
 -- UNSET that removed nothing is no success
+-- STATUS-2
 abbrev pub shown_status : Shown → ℕ
 shown_status (Rows n) = 0
 shown_status (Statistics n) = 0
@@ -148,6 +152,7 @@ no_row_line Null = []
 no_row_line (Removed true) = []
 no_row_line (Removed false) = codes "rpcinfo: there is no such row, or it is another user's\n"
 
+-- STATUS-1
 abbrev pub status_of : Result Shown Fault → ℕ
 status_of (Ok shown) = shown_status shown
 status_of (Err fault) = 1
@@ -181,7 +186,7 @@ pub record EndsBy {E : Type 0} (contents : E → Option (List ℕ)) (faults faul
   pub status : ending.status ≡ status_of answer
   pub said : Says contents faults faults' ending (notice_lines notices ++ answer_lines answer)
 
--- nothing is to be noticed
+-- nothing needs to be noticed
 pub record IsNothing (notices : Notices) : Type 0 where
   pub answered : notices.answered ≡ None
   pub old : notices.is_old ≡ false

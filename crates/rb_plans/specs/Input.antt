@@ -24,6 +24,7 @@ abbrev pub digits_of : List ℕ → List ℕ
 digits_of text = filter (λ b. not (is_white b)) text
 
 -- the greatest length of a text
+-- HEX-2
 unfoldable pub longest_text : ℕ
 longest_text = 67108864
 
@@ -32,6 +33,7 @@ or_unreadable (Ok bytes) = Ok bytes
 or_unreadable (Err fault) = Err Unreadable
 
 -- two digits of either case for each byte, with white space anywhere
+-- HEX-1
 abbrev pub read_hex : List ℕ → Result (List ℕ) InfoFault
 read_hex text = or_unreadable (decode_of (digits_of text))
 

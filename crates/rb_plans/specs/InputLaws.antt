@@ -7,6 +7,7 @@ use Rattle.rb_ask.specs.declared.fault.InfoFault.TheVariants.{TooLong, Unreadabl
 use Rattle.rb_plans.specs.Input.{digits_of, longest_text, read_hex, bytes_of}
 
 -- beside white space, an even number of hexadecimal digits of either case
+-- HEX-1
 pub record IsHexText (text : List ℕ) : Type 0 where
   pub even : length (digits_of text) % 2 ≡ 0
   pub digits : AllPass is_hex_digit (digits_of text)

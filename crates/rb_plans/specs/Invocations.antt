@@ -72,6 +72,7 @@ is_at_host (ways.Getaddr netid) = true
 is_at_host (ways.Port transport port) = true
 is_at_host (ways.Address netid address) = false
 
+-- HOSTNAME-1
 abbrev pub names_host : Plan → Bool
 names_host (Show listing source) = is_named source
 names_host (Entries source prog vers) = is_named source
@@ -86,6 +87,7 @@ ReadsShape contents shape faults faults' (Err ending) =
     (refusal : Refusal) × ((request_of shape ≡ Err refusal) × Says contents faults faults' ending (refusal_lines shape refusal))
 
 -- The words are what their shape says; a host that is asked has a name.
+-- HOSTNAME-1
 pub record AreOf (shape : Shape) (words : Invocation) : Type 0 where
   pub request : request_of shape ≡ Ok words.request
   pub host : words.host.now ≡ first_word shape

@@ -39,6 +39,7 @@ plan_question (Delete netid prog vers) = Some (Here, questions.Unset netid prog 
 plan_question (Ping way prog vers) = None
 plan_question (Broadcast prog vers) = None
 
+-- COURSE-12
 abbrev pub aim_of : Option ℕ → Aim
 aim_of (Some vers) = aims.Only vers
 aim_of None = aims.Least
@@ -75,10 +76,12 @@ follow_answer course stage (Ok answer) = Ok (next course stage answer)
 follow_answer course stage (Err fault) = passed_over course stage fault
 
 -- what follows of a reply
+-- COURSE-6
 abbrev pub follow : Course → Stage → Result Shown Fault → Result Step Fault
 follow course stage reply = follow_answer course stage (answer_of reply)
 
 -- the end of a program's course
+-- COURSE-11
 abbrev pub course_end : ℕ → ℕ → Stage → Result Shown Fault
 course_end prog xid (End ends.Ready) = Ok shown.Null
 course_end prog xid (End ends.SomeLack) = Err SomeLack

@@ -34,6 +34,7 @@ ShowsAs remaining contents ask form input output output' answer =
     IfSome (remaining input) (λ text. IsToldAs (tell_text ask form text) (contents output) (contents output') answer)
 
 -- the same of a question of the user that the words name, in their form
+-- INPUT-1
 abbrev pub Asks : {I O : Type 0} → (I → Option (List ℕ)) → (O → Option (List ℕ)) → Invocation → Question → I → O → O → Result Shown Fault → Type 0
 Asks remaining contents words question input output output' answer = ShowsAs remaining contents (ask_of words question) words.form input output output' answer
 

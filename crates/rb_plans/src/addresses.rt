@@ -31,7 +31,7 @@ pub fn is_asked(family: Option<Family>, address: SocketAddr) -> bool
     }
 }
 
-/// Why none of so many addresses of a host is asked: it has none, or none of the family.
+/// Why none of this many addresses of a host is asked: it has none, or none of the family.
 pub fn none_asked(family: Option<Family>, count: usize) -> Fault
     ensures { result ≡ none_asked family count }
 {
@@ -123,7 +123,7 @@ fn answered_at(address: IpAddr, count: usize, answer: Result<Shown, Fault>) -> O
     }
 }
 
-/// What there is to notice of the answer at one of so many addresses of a host.
+/// What there is to notice of the answer at one of this many addresses of a host.
 pub fn notices_at(
     address: IpAddr,
     count: usize,

@@ -8,7 +8,7 @@ use crate::ending::{Ending, UNREADABLE};
 use rb_names::Service;
 use rb_show::{Ask, Form, Question};
 use rb_words::{
-    Layout, Listing, Plan, Refusal, Request, Shape, Source, Spot, Wanted, Way, read_words,
+    Expected, Layout, Listing, Plan, Refusal, Request, Shape, Source, Spot, Way, read_words,
     write_refusal,
 };
 use std::io::Write;
@@ -93,7 +93,7 @@ fn read_network<E: Write>(
         Err(_) => {
             let refusal = Refusal {
                 at: Spot::Broadcast,
-                wanted: Wanted::Broadcast,
+                wanted: Expected::Broadcast,
             };
             Err(refuse(shape, refusal, faults))
         }
@@ -146,7 +146,7 @@ fn read_host<'a, E: Write>(
     if names_host(plan) && host.is_empty() {
         let refusal = Refusal {
             at: Spot::Word(0),
-            wanted: Wanted::Host,
+            wanted: Expected::Host,
         };
         return Err(refuse(shape, refusal, faults));
     }

@@ -24,5 +24,5 @@ pub use laws::{
     addresses_are_asked_in_order, objects_are_shown, texts_are_hexadecimal, versions_are_asked_once,
 };
 pub use plans::{aim_of, course_end, follow, plan_question};
-pub use told::{ask_input, flushed};
+pub use told::{ask_input, flush_answer};
 pub use waits::{WAITS, Waits, wait_left};

@@ -25,7 +25,7 @@ pub fn ask_input<I: Read, O: Write>(
 }
 
 /// The answer, once all that was written is out.
-pub fn flushed<O: Write>(answer: Result<Shown, Fault>, output: &mut O) -> Result<Shown, Fault>
+pub fn flush_answer<O: Write>(answer: Result<Shown, Fault>, output: &mut O) -> Result<Shown, Fault>
     ensures { IsFlushed O.contents output.old output.new answer result }
 {
     match (output.flush(), answer) {

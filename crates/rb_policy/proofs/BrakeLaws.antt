@@ -176,7 +176,7 @@ parts (x ∷ a) (y ∷ b) c d same = ap (λ (e : Bool). nat_eq x y && e) (parts 
 octet : (x y : ℕ) → x < 256 → y < 256 → bytes_eq (octet_bits x) (octet_bits y) ≡ nat_eq x y
 octet x y small_x small_y = grind (arith, nat_tests, small_x, small_y)
 
--- so many bytes have eight times as many bits
+-- this many bytes have eight times as many bits
 front : (n : ℕ) (a b : List ℕ) → n ≤ length a → n ≤ length b → All (λ x. x < 256) a → All (λ x. x < 256) b
     → is_same_front (8 * n) a b ≡ bytes_eq (take n a) (take n b)
 front zero a b long_a long_b bytes_a bytes_b = refl

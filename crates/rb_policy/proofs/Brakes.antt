@@ -22,7 +22,7 @@ count_cons now m more = sum_by-cons (λ k. cond (nat_lt now (k + one_second)) 1 
 count_le : (now : ℕ) (moments : List ℕ) → count_at now moments ≤ length moments
 count_le now moments = count_by-le-length (λ m. nat_lt now (m + one_second)) moments
 
--- behind one that counts all count
+-- after one that counts all count
 all_count : (now m : ℕ) (more : List ℕ) → AllByRecursion (λ later. m ≤ later) more → now < m + one_second → count_at now more ≡ length more
 all_count now m [] later counts = refl
 all_count now m (x ∷ more) later counts =

@@ -30,14 +30,17 @@ abbrev pub has_host : Host → List Host → Bool
 has_host wanted hosts = list_any (λ host. is_same host wanted) hosts
 
 -- :: is every host of both families
+-- BIND-1
 abbrev pub has_every_host : List Host → Bool
 has_every_host hosts = list_any is_any6 hosts
 
 -- 0.0.0.0 is not bound by itself where :: is, which has it
+-- BIND-1
 abbrev pub is_bound : List Host → Host → Bool
 is_bound hosts host = not (has_every_host hosts && is_same_host host (V4 every_inet))
 
 -- ::1 is bound besides, where that is wanted, it is none of them, and :: is none
+-- BIND-2
 abbrev pub binds_loopback6 : List Host → Bool → Bool
 binds_loopback6 hosts wanted = wanted && not (has_every_host hosts) && not (has_host (V6 loopback6) hosts)
 
@@ -75,9 +78,11 @@ announced_for None given = None
 announced_for (Some first) None = Some first
 announced_for (Some first) (Some given) = Some given
 
+-- ANNOUNCE-1
 abbrev pub announced_inet : Option (List ℕ) → List Host → Option (List ℕ)
 announced_inet given hosts = announced_for (served_inet hosts) given
 
+-- ANNOUNCE-1
 abbrev pub announced_inet6 : Option (List ℕ) → List Host → Bool → Option (List ℕ)
 announced_inet6 given hosts wanted = announced_for (served_inet6 hosts wanted) given
 
@@ -85,6 +90,7 @@ abbrev pub inet_or_loopback : Option (List ℕ) → Host
 inet_or_loopback (Some octets) = V4 octets
 inet_or_loopback None = V4 loopback
 
+-- BIND-3
 abbrev pub forwards_inet : List Host → Host
 forwards_inet hosts = inet_or_loopback (served_inet hosts)
 
@@ -92,5 +98,6 @@ abbrev pub inet6_host : Option (List ℕ) → Option Host
 inet6_host (Some octets) = Some (V6 octets)
 inet6_host None = None
 
+-- BIND-3
 abbrev pub forwards_inet6 : List Host → Bool → Option Host
 forwards_inet6 hosts wanted = inet6_host (served_inet6 hosts wanted)

@@ -61,6 +61,7 @@ abbrev pub admits_at : Rate → List Datagram → ℕ → Host → Bool
 admits_at rate served now host = has_room_at network_place rate.network served now host && has_room_at host_place rate.host served now host
 
 -- whether a datagram is served, after these that were
+-- BRAKE-1
 unfoldable pub admits : Rate → List Datagram → ℕ → Host → Bool
 admits rate served now host = admits_at rate served (moment_of served now) host
 
@@ -72,6 +73,7 @@ admit rate served now host =
 -- ---- whose datagrams count
 
 -- the host of a stranger
+-- BRAKE-3
 abbrev pub host_counted : Trust → Source → Option Host
 host_counted Stranger (Inet peer) = Some peer.host
 host_counted Stranger Local = None

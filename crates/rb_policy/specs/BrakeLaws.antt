@@ -34,25 +34,28 @@ served_in_second is_one since served =
     count_by (λ d. is_one d.host && (nat_le since d.moment && nat_lt d.moment (since + one_second))) served
 
 -- In no second are more served of one network, or of one host.
+-- BRAKE-1
 pub record NeverMore : Type 0 where
   pub network : (rate : Rate) (came : List Datagram) (since : ℕ) (host : Host)
       → served_in_second (is_same_network host) since (serve rate came) ≤ rate.network
   pub host : (rate : Rate) (came : List Datagram) (since : ℕ) (host : Host)
       → served_in_second (is_same_host host) since (serve rate came) ≤ rate.host
 
--- so many were served, of the place of its network or of its host, within the second before it
+-- this many were served, of the place of its network or of its host, within the second before it
 abbrev pub WereServed : Rate → List Datagram → ℕ → Host → Type 0
 WereServed rate served now host =
     (rate.network ≤ served_within network_place (network_place host) now served)
     ⊎ (rate.host ≤ served_within host_place (host_place host) now served)
 
--- One is dropped only where so many were.
+-- One is dropped only where this many were.
+-- BRAKE-2
 abbrev pub NeverHeldBack : Type 0
 NeverHeldBack =
     (rate : Rate) (came : List Datagram) (now : ℕ) (host : Host) → admits rate (serve rate came) now host ≡ false
     → WereServed rate (serve rate came) (moment_of (serve rate came) now) host
 
 -- Networks are not split over places, nor are hosts.
+-- BRAKE-2
 pub record HaveOnePlace : Type 0 where
   pub network : (a b : Host) → is_same_network a b ≡ true → network_place a ≡ network_place b
   pub host : (a b : Host) → is_same_host a b ≡ true → host_place a ≡ host_place b
@@ -62,10 +65,12 @@ network_bits (V4 octets) = 24
 network_bits (V6 octets) = 56
 
 -- They are the networks of 24 bits of IPv4, and of 56 of IPv6.
+-- BRAKE-1
 abbrev pub AreNetworks : Type 0
 AreNetworks = (a b : Host) → IsBytesOf a → IsBytesOf b → has_front a (network_bits a) b ≡ is_same_network a b
 
 -- Over UDP those count whose claims are not believed and who are not of this machine, and nobody else.
+-- BRAKE-3
 abbrev pub StrangersCount : Type 0
 StrangersCount =
     (claims : Bool) (peer : Peer)

@@ -11,6 +11,7 @@ loopback_of (V4 octets) = V4 loopback
 loopback_of (V6 octets) = V6 loopback6
 
 -- a row of every host is asked at the loopback, one of this machine at its own host, and no other one
+-- KEEPCHECK-1
 abbrev pub checked_at : List Host → List Host → Host → Option Host
 checked_at bound announced host =
     if is_any host then Some (loopback_of host)

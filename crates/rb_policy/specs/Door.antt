@@ -28,11 +28,13 @@ is_free (Some holder) = false
 -- ---- what is kept of a connection
 
 -- of this host are 127.0.0.0/8, ::1 and the local socket, which has the host 127.0.0.1
+-- DOOR-5
 abbrev pub origin_of : Source → Origin
 origin_of (Inet peer) = record { host = peer.host; is_local = is_loopback peer.host }
 origin_of Local = record { host = V4 (127 ∷ 0 ∷ 0 ∷ 1 ∷ []); is_local = true }
 
 -- where it stands outside: what the core gave is owed until the socket has taken it
+-- DOOR-6
 abbrev pub standing_outside : Standing → Bool → Standing
 standing_outside Sends is_owed = Awaiting
 standing_outside Awaiting is_owed = Awaiting
@@ -46,12 +48,13 @@ abbrev pub owed_for : ℕ
 owed_for = 30000
 
 -- the moment from which it is given up where its socket has taken nothing since another one
+-- STUCK-1
 abbrev pub stuck_at : ℕ → ℕ
 stuck_at since = later since owed_for
 
 -- ---- shares
 
--- so many places one host may hold while others want some
+-- the number of places that one host may hold while others want some
 abbrev pub share : ℕ → ℕ
 share places = max (places / 2) 1
 
@@ -63,6 +66,7 @@ abbrev pub count_held_by : Places → Host → ℕ
 count_held_by places host = count_by (is_held_by host) places
 
 -- whether a peer may hold one place more; of this host it always may
+-- DOOR-4
 abbrev pub may_hold_more : Places → Origin → Bool
 may_hold_more places peer = peer.is_local || nat_lt (count_held_by places peer.host) (share (length places))
 
@@ -74,6 +78,7 @@ is_within_share places peer = peer.is_local || not (nat_lt (share (length places
 
 -- Idle before Reading before Owing before Awaiting; one that Sends goes as one that is Awaiting, and one that is Lost as one
 -- that is Idle
+-- DOOR-3
 abbrev pub rank : Standing → ℕ
 rank Idle = 0
 rank Lost = 0
@@ -100,6 +105,7 @@ candidate_of places now place holder = record {
 -- The order in which holders are given up. Of two that differ in one of these, and in none before it, first goes: who
 -- is over the share; who is of another host; who made no progress of late; who stands earlier; who has made none for
 -- longer; and who has the lower place.
+-- DOOR-2 DOOR-3
 abbrev pub by_precedence : Candidate → Candidate → Ordering
 by_precedence =
     then_cmp (then_cmp (then_cmp (then_cmp (then_cmp
@@ -115,11 +121,13 @@ GoesBefore a b = by_precedence a b ≡ Less
 
 -- The holder of a place may be given up for a newcomer: any, where the newcomer may hold one place more, and else one
 -- of its own host.
+-- DOOR-4
 pub record MayBeGivenUp (places : Places) (newcomer : Origin) (place : ℕ) (holder : Holder) : Type 0 where
   pub holds : slice_get places place ≡ Some (Some holder)
   pub may : IsTrue (may_hold_more places newcomer || is_same_host holder.origin.host newcomer.host)
 
 -- Of those that may be given up, it is the one that no other goes before.
+-- DOOR-2
 pub record IsGivenUp (places : Places) (newcomer : Origin) (now : ℕ) (place : ℕ) : Type 0 where
   pub holder : Holder
   pub may : MayBeGivenUp places newcomer place holder
@@ -129,6 +137,7 @@ pub record IsGivenUp (places : Places) (newcomer : Origin) (now : ℕ) (place : 
 
 -- It takes the first place that is free. Where none is, it takes that of the one that is given up for it. It is
 -- closed where there are no places at all.
+-- DOOR-1
 abbrev pub IsAdmitted : Places → Origin → ℕ → Admission → Type 0
 IsAdmitted places newcomer now (Take place) = position is_free places ≡ Some place
 IsAdmitted places newcomer now (GiveUp place) = (position is_free places ≡ None) × IsGivenUp places newcomer now place

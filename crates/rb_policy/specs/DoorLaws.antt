@@ -5,6 +5,7 @@ use Rattle.rb_policy.specs.declared.door.Holder.{Holder}
 use Rattle.rb_policy.specs.Door.{Places, share, count_held_by, IsGivenUp}
 
 -- Whoever was given up, the newcomer's host then holds no more than its share, or no more than before.
+-- DOOR-4
 abbrev pub SharesAreKept : Type 0
 SharesAreKept =
     (places : Places) (newcomer : Origin) (now place : ℕ) (holder : Holder) → newcomer.is_local ≡ false

@@ -10,10 +10,12 @@ use Rattle.rb_policy.specs.declared.evidence.Evidence.{Evidence}
 use Rattle.rb_policy.specs.declared.evidence.Evidence.TheVariants.{Found, NotFound, Unread}
 
 -- of peers of this host alone, where what callers claim is not believed
+-- TABLES-1
 abbrev pub is_shown : Bool → Peer → Bool
 is_shown claims peer = not claims && is_loopback peer.host
 
 -- the table of IPv4 has peers of IPv4 alone; that of IPv6 is looked at where the first shows nothing
+-- TABLES-2
 abbrev pub looks_in : Family → Family → Evidence → Bool
 looks_in Inet Inet NotFound = true
 looks_in Inet6 peer NotFound = true
@@ -25,6 +27,7 @@ uid_by Inet6 Inet text theirs ours = uid_of_mapped text theirs ours
 uid_by Inet6 Inet6 text theirs ours = uid_of text theirs ours
 uid_by Inet peer text theirs ours = uid_of text theirs ours
 
+-- TABLES-2
 abbrev pub uid_in : Family → List ℕ → Peer → Peer → Option ℕ
 uid_in table text theirs ours = uid_by table (family_of theirs.host) text theirs ours
 
@@ -33,6 +36,7 @@ evidence_in (Some uid) = Found uid
 evidence_in None = NotFound
 
 -- by the text of a table, where it was read
+-- TABLES-2
 abbrev pub evidence_of : Family → Option (List ℕ) → Peer → Peer → Evidence
 evidence_of table (Some text) theirs ours = evidence_in (uid_in table text theirs ours)
 evidence_of table None theirs ours = Unread
@@ -44,10 +48,12 @@ abbrev pub between_readings : ℕ
 between_readings = 20
 
 -- the moment from which they may be read, where they were last read at another
+-- TABLES-4
 abbrev pub next_reading : Option ℕ → ℕ
 next_reading (Some last) = later last between_readings
 next_reading None = 0
 
+-- TABLES-4
 abbrev pub may_read : ℕ → Option ℕ → Bool
 may_read now last = nat_le (next_reading last) now
 
@@ -56,5 +62,6 @@ abbrev pub longest_table : ℕ
 longest_table = 1048576
 
 -- the first bytes of the room, where they are no more than a table may have
+-- TABLES-3
 abbrev pub whole_text : List ℕ → ℕ → Option (List ℕ)
 whole_text room count = if nat_le count longest_table then Some (take count room) else None

@@ -16,13 +16,15 @@ abbrev pub others_may_write : ℕ → Bool
 others_may_write mode = not (bit_and mode 0o022 == 0)
 
 -- a plain file is read where its owner is trusted and nobody else may write to it
-abbrev pub judged : ℕ → Writers → KeepAction
-judged own file =
+-- FILE-2
+abbrev pub action_on_file : ℕ → Writers → KeepAction
+action_on_file own file =
     if not (is_trusted own file.owner) then GiveUp (OtherOwner file.owner)
     else (if others_may_write file.mode then GiveUp (OthersMayWrite file.mode) else Read)
 
 -- what is done by the daemon of a user
+-- FILE-2
 abbrev pub keep_action : ℕ → KeepState → KeepAction
 keep_action own Absent = Begin
-keep_action own (Plain file) = judged own file
+keep_action own (Plain file) = action_on_file own file
 keep_action own Other = GiveUp NoPlainFile

@@ -13,12 +13,14 @@ use Rattle.rb_policy.specs.declared.local_file.FileAction.TheVariants.{Bind, Rem
 -- ---- what is at the path
 
 -- ENOENT alone says that nothing is there
+-- LOCAL-2
 abbrev pub is_nothing_there : ErrorKind → Bool
 is_nothing_there kinds.NotFound = true
 is_nothing_there _ = false
 
 -- what a try to connect says of a socket there: ECONNREFUSED that nobody listens, and EAGAIN that somebody does who has no
 -- room for one more (connect(2))
+-- LOCAL-2
 abbrev pub state_by_connect : ErrorKind → Option FileState
 state_by_connect kinds.ConnectionRefused = Some Refuses
 state_by_connect kinds.WouldBlock = Some Answers
@@ -27,6 +29,7 @@ state_by_connect _ = None
 -- ---- what is done about it
 
 -- a file is removed where it is a socket that nobody listens on any more, and in no other case
+-- LOCAL-1
 abbrev pub file_action : FileState → FileAction
 file_action Absent = Bind
 file_action NotASocket = GiveUp
@@ -34,6 +37,7 @@ file_action Refuses = RemoveAndBind
 file_action Answers = GiveUp
 
 -- what is said if the file stays, so that the daemon does not start
+-- LOCAL-1
 abbrev pub obstacle_text : FileState → List ℕ
 obstacle_text Absent = []
 obstacle_text NotASocket = codes "the file is no socket, and stays"
@@ -48,9 +52,11 @@ lets_in_root_by None = false
 lets_in_root_by (Some mode) = lets_in_root_alone mode
 
 -- it is root's if the mode with which the file was made, and the one that it has, let in root alone
+-- TRUST-3
 abbrev pub entrance_of : Option ℕ → ℕ → Entrance
 entrance_of made mode = if lets_in_root_by made && lets_in_root_alone mode then RootSocket else OpenSocket
 
 -- the abstract name is taken on the port of the portmapper (RFC 1833 section 3.1)
+-- LOCAL-3
 abbrev pub takes_abstract_name : ℕ → Bool
 takes_abstract_name port = port == 111

@@ -15,18 +15,21 @@ lines_got rate [] = 0
 lines_got rate (now ∷ more) = (if gets_line rate now then 1 else 0) + lines_got (rate_after rate now) more
 
 -- Whatever was asked for before, of lines that are asked for in one second the log gets at most 20.
+-- LOG-1
 abbrev pub FewOfASecond : Type 0
 FewOfASecond =
     (before moments : List ℕ) (second : ℕ) → AllByRecursion (λ now. second_of now ≡ second) moments
     → lines_got (rate_then new_rate before) moments ≤ lines_a_second
 
 -- Each line that the log does not get is counted.
+-- LOG-1
 abbrev pub NoneIsLost : Type 0
 NoneIsLost =
     (moments : List ℕ) → length moments < 2 ^ 64
     → lines_got new_rate moments + (rate_then new_rate moments).left_out ≡ length moments
 
 -- How many were left out is told from their moment on, and not before it.
+-- LOG-1
 abbrev pub TheyAreToldThen : Type 0
 TheyAreToldThen =
     (rate : LogRate) (at now : ℕ) → next_line rate ≡ Some at → rate.second ≤ second_of now → now < 2 ^ 64 - 1

@@ -16,6 +16,7 @@ use Rattle.rb_policy.specs.declared.log_lines.LogLine.TheVariants as lines
 -- ---- texts that callers sent
 
 -- a byte that is no printable ASCII character, or a space, is shown as `?`
+-- LOG-2
 abbrev pub shown_byte : ℕ → ℕ
 shown_byte b = if nat_le 33 b && nat_le b 126 then b else 63
 
@@ -24,6 +25,7 @@ abbrev pub most_shown : ℕ
 most_shown = 128
 
 -- the first bytes of it; an empty text is shown as `-`
+-- LOG-2
 abbrev pub shown_text : List ℕ → List ℕ
 shown_text [] = codes "-"
 shown_text (b ∷ text) = map shown_byte (take most_shown (b ∷ text))
@@ -78,11 +80,13 @@ row_part line =
     decimal line.prog ++ codes " " ++ decimal line.vers ++ codes " " ++ shown_text line.netid.now
     ++ address_part line.adds line.addr.now
 
+-- LOG-3
 abbrev pub change_line : ChangeLine → List ℕ
 change_line line =
     codes "rpcbind: " ++ changes_text line.adds ++ codes " " ++ row_part line
     ++ codes " of " ++ owner_text line.owner ++ codes " by " ++ caller_text line.who ++ codes ": " ++ end_text line.is_accepted
 
+-- LOG-3
 abbrev pub log_line : LogLine → List ℕ
 log_line (lines.Change change) = change_line change
 log_line (lines.RefusedCall who status) = codes "rpcbind: call by " ++ caller_text who ++ codes " refused: " ++ status_text status

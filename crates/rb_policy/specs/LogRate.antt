@@ -20,6 +20,7 @@ rate_at rate now =
     else record { second = second_of now; written = 0; left_out = rate.left_out }
 
 -- whether the log gets a line: so long as it has fewer than the most of this second
+-- LOG-1
 abbrev pub gets_line : LogRate → ℕ → Bool
 gets_line rate now = nat_lt (rate_at rate now).written lines_a_second
 
@@ -31,17 +32,21 @@ with_line rate = record rate { written = rate.written + 1 }
 abbrev pub without_line : LogRate → LogRate
 without_line rate = record rate { left_out = min (rate.left_out + 1) (2 ^ 64 - 1) }
 
+-- LOG-1
 abbrev pub rate_after : LogRate → ℕ → LogRate
 rate_after rate now = if gets_line rate now then with_line (rate_at rate now) else without_line (rate_at rate now)
 
 -- how many are told as left out: none in the second of the last line
+-- LOG-1
 abbrev pub tells : LogRate → ℕ → ℕ
 tells rate now = if second_of now == rate.second then 0 else rate.left_out
 
+-- LOG-1
 abbrev pub rate_told : LogRate → ℕ → LogRate
 rate_told rate now = if second_of now == rate.second then rate else record rate { left_out = 0 }
 
 -- the moment from which they are told, where some were left out: the end of their second, or the greatest one
+-- LOG-1
 abbrev pub next_line : LogRate → Option ℕ
 next_line rate =
     if rate.left_out == 0 then None else Some (min ((rate.second + 1) * one_second) (2 ^ 64 - 1))

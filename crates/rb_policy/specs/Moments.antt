@@ -1,18 +1,20 @@
 -- The moments that the core is handed.
 use Rattle.std.specs.Prelude.{ℕ, ◌+◌, ◌-◌, ◌^◌, min, max, Bool, true, false, Option, Some, None}
 
--- what failed is tried again after so many milliseconds
+-- the milliseconds after which what failed is tried again
 abbrev pub retry_after : ℕ
 retry_after = 100
 
 -- The moment after another one: so much later as the monotonic clock went on, or the greatest one. Where the wall clock
 -- may be followed, and is later than that, its moment.
+-- MOMENT-1 MOMENT-2
 abbrev pub next_moment : ℕ → ℕ → ℕ → ℕ → Bool → ℕ
 next_moment last before monotonic wall false = min (last + (monotonic - before)) (2 ^ 64 - 1)
 next_moment last before monotonic wall true = max (min (last + (monotonic - before)) (2 ^ 64 - 1)) wall
 
 -- how much is left of a wait, which has no end or began at a time of the monotonic clock or later: as much as is tried again
 -- after, at most
+-- WAIT-1
 abbrev pub rest_of_wait : ℕ → Option ℕ → ℕ → ℕ
 rest_of_wait before None monotonic = retry_after
 rest_of_wait before (Some wait) monotonic = min (wait - (monotonic - before)) retry_after

@@ -12,10 +12,12 @@ abbrev pub is_in_one : Host → List Network → Bool
 is_in_one host networks = list_any (λ network. has network host) networks
 
 -- everybody, where no networks are given; else hosts of this machine, and those in one of them
+-- FROM-1
 abbrev pub may_ask : List Network → Host → Bool
 may_ask networks host = length networks == 0 || is_loopback host || is_in_one host networks
 
 -- what comes from a host that may not ask is from nobody
+-- FROM-1
 abbrev pub asker : List Network → Option Peer → Option Peer
 asker networks None = None
 asker networks (Some peer) = if may_ask networks peer.host then Some peer else None

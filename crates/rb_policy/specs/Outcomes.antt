@@ -4,13 +4,14 @@ use Rattle.std.specs.declared.io.ErrorKind.{ErrorKind}
 use Rattle.std.specs.declared.io.ErrorKind.TheVariants as kinds
 use Rattle.std.specs.declared.io.Error.{Error}
 use Rattle.std.specs.IoError.{error_kind, raw_os_error}
-use Rattle.rb_policy.specs.declared.outcome.Outcome.{Outcome}
-use Rattle.rb_policy.specs.declared.outcome.Outcome.TheVariants.{Done, Ended, WouldBlock, Interrupted, PeerFailed, NoRoom, Failed}
+use Rattle.rb_policy.specs.declared.outcome.SocketResult.{SocketResult}
+use Rattle.rb_policy.specs.declared.outcome.SocketResult.TheVariants.{Done, Ended, WouldBlock, Interrupted, PeerFailed, NoRoom, Failed}
 use Rattle.rb_policy.specs.declared.outcome.Next.{Next}
 use Rattle.rb_policy.specs.declared.outcome.Next.TheVariants.{GoOn, AwaitEvent, AwaitTurn, Close}
 
 -- what is done after an accept (accept(2))
-abbrev pub after_accept : Outcome → Next
+-- ACCEPT-1
+abbrev pub after_accept : SocketResult → Next
 after_accept Done = GoOn
 after_accept Ended = GoOn
 after_accept WouldBlock = AwaitEvent
@@ -20,7 +21,8 @@ after_accept NoRoom = AwaitTurn
 after_accept Failed = AwaitTurn
 
 -- what is done after a read of a connection, which waits for a forwarded call or does not
-abbrev pub after_read : Outcome → Bool → Next
+-- READ-1
+abbrev pub after_read : SocketResult → Bool → Next
 after_read Done waits = GoOn
 after_read Ended true = AwaitEvent
 after_read Ended false = Close
@@ -31,7 +33,8 @@ after_read NoRoom waits = Close
 after_read Failed waits = Close
 
 -- what is done after a write to a connection
-abbrev pub after_write : Outcome → Next
+-- WRITE-1
+abbrev pub after_write : SocketResult → Next
 after_write Done = GoOn
 after_write Ended = Close
 after_write WouldBlock = AwaitEvent
@@ -41,7 +44,8 @@ after_write NoRoom = Close
 after_write Failed = Close
 
 -- what is done after a receive: a fault loses one datagram
-abbrev pub after_receive : Outcome → Next
+-- RECEIVE-1
+abbrev pub after_receive : SocketResult → Next
 after_receive Done = GoOn
 after_receive Ended = GoOn
 after_receive WouldBlock = AwaitEvent
@@ -52,14 +56,15 @@ after_receive Failed = GoOn
 
 -- what an error of Linux means that has no kind of its own in std: EMFILE, ENFILE and ENOBUFS are want of room, and
 -- ENONET, EPROTO, ENOPROTOOPT and EHOSTDOWN are told by accept(2) of one connection
-abbrev pub outcome_of_number : Option ℤ → Outcome
+abbrev pub outcome_of_number : Option ℤ → SocketResult
 outcome_of_number (Some (pos n)) =
     if n == 24 || n == 23 || n == 105 then NoRoom
     else (if n == 64 || n == 71 || n == 92 || n == 112 then PeerFailed else Failed)
 outcome_of_number _ = Failed
 
 -- what an error means, by its kind, and else by its number
-abbrev pub outcome_of : ErrorKind → Option ℤ → Outcome
+-- ACCEPT-2
+abbrev pub outcome_of : ErrorKind → Option ℤ → SocketResult
 outcome_of kinds.WouldBlock number = WouldBlock
 outcome_of kinds.Interrupted number = Interrupted
 outcome_of kinds.OutOfMemory number = NoRoom
@@ -74,6 +79,6 @@ outcome_of kinds.Unsupported number = PeerFailed
 outcome_of _ number = outcome_of_number number
 
 -- what came of a read or a write: a count of 0 is an end
-abbrev pub outcome_of_count : Result ℕ Error → Outcome
+abbrev pub outcome_of_count : Result ℕ Error → SocketResult
 outcome_of_count (Ok n) = if n == 0 then Ended else Done
 outcome_of_count (Err error) = outcome_of (error_kind error) (raw_os_error error)

@@ -8,23 +8,28 @@ use Rattle.rb_address.specs.declared.peer.Peer.{Peer}
 use Rattle.rb_address.specs.Hosts.{is_any, mapped_host}
 
 -- a host of 0.0.0.0/8, or ::, which has no address yet
+-- NOBODY-1
 abbrev pub is_no_host : Host → Bool
 is_no_host (V4 octets) = slice_index octets 0 == 0
 is_no_host (V6 octets) = is_any (V6 octets)
 
 -- such a host, and port 0, to which nothing can be sent
+-- NOBODY-1
 abbrev pub is_nobody : Peer → Bool
 is_nobody peer = is_no_host peer.host || peer.port == 0
 
+-- NOBODY-1
 abbrev pub somebody : Peer → Option Peer
 somebody peer = if is_nobody peer then None else Some peer
 
 -- for a socket of IPv6 a host in IPv6's form
+-- MAPPED-2
 abbrev pub host_for : Host → Host → Host
 host_for (V4 bound) host = host
 host_for (V6 bound) host = mapped_host host
 
 -- the address is the host's
+-- MAPPED-2
 abbrev pub IsIpOf : Host → IpAddr → Type 0
 IsIpOf (V4 octets) ip = IsV4And ip (λ a. ipv4_octets a ≡ octets)
 IsIpOf (V6 octets) ip = IsV6And ip (λ a. ipv6_segments a ≡ segments_of octets)

@@ -5,7 +5,7 @@ use Rattle.std.specs.Prelude.{◌≡◌, ℕ, ◌+◌, ◌-◌, ◌≤◌, nat_l
 abbrev pub one_second : ℕ
 one_second = 1000
 
--- the moments of the last that were served of one place, in their order, at most so many
+-- the moments of the last that were served of one place, in their order, at most this many
 pub record RecentMoments : Type 0 where
   pub most : ℕ
   pub moments : List ℕ
@@ -15,7 +15,7 @@ pub record IsRecent (moments : List ℕ) (capacity most : ℕ) : Type 0 where
   pub within : length moments ≤ most
   pub memory : most ≤ capacity
 
--- the last of a list, so many of them
+-- the last of a list, this many of them
 abbrev pub last_of : ℕ → List ℕ → List ℕ
 last_of most moments = drop (length moments - most) moments
 

@@ -5,6 +5,7 @@ use Rattle.rb_policy.specs.declared.record_file.RecordAction.{RecordAction}
 use Rattle.rb_policy.specs.declared.record_file.RecordAction.TheVariants.{Make, RemoveAndMake, GiveUp}
 
 -- a plain file is replaced, and one of any other kind stays
+-- FILE-1
 abbrev pub record_action : RecordState → RecordAction
 record_action Absent = Make
 record_action Plain = RemoveAndMake

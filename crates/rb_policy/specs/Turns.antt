@@ -12,7 +12,7 @@ use Rattle.rb_policy.specs.declared.turns.Round.TheVariants.{First, Last}
 abbrev pub socket_calls : ℕ
 socket_calls = 64
 
--- so many bytes that were written to a connection are enough for a turn
+-- the number of bytes written to a connection that are enough for a turn
 abbrev pub enough_written : ℕ
 enough_written = 65536
 
@@ -21,6 +21,7 @@ abbrev pub last_round : ℕ
 last_round = 8
 
 -- when a socket is served again on which all receives or accepts of a turn were made, where some of them got something
+-- TURN-1
 abbrev pub after_all_calls : Bool → Again
 after_all_calls true = AtOnce
 after_all_calls false = AfterWait
@@ -31,29 +32,35 @@ time_until now None = None
 time_until now (Some due) = Some (due - now)
 
 -- the wait of a turn, where something is left or is not: until something is due, and no longer than it may; none has no end
+-- WAIT-2
 abbrev pub wait_of : Bool → ℕ → Option ℕ → Option ℕ → Option ℕ
 wait_of true now due longest = Some 0
 wait_of false now due longest = sooner_of (time_until now due) longest
 
 -- how many connections a turn accepts, where so many of all places are free as its accepting begins
+-- ACCEPT-3
 abbrev pub accept_count : ℕ → ℕ → ℕ
 accept_count free all = if free == 0 then min (max (all / 2) 1) socket_calls else min free socket_calls
 
 -- how many places there are, of so many that are asked for, where of so many descriptors so many are others': one more
 -- is kept for who comes where all places are taken
+-- PLACES-1
 abbrev pub place_count : ℕ → ℕ → ℕ → ℕ
 place_count asked descriptors others = max (min asked (descriptors - others - 1)) 1
 
 -- whether a connection is left for the next turn, for which so many socket calls were made, and so many bytes written
+-- TURN-2
 abbrev pub is_cut_off : ℕ → ℕ → Bool
 is_cut_off calls written = nat_le socket_calls calls || nat_le enough_written written
 
 -- in which round a connection is served that was left by the last turn or was not, by where it stands
+-- TURN-3
 abbrev pub round_of : Bool → Standing → Round
 round_of true standing = Last
 round_of false Owing = Last
 round_of false standing = First
 
 -- whether one more is served in the last round
+-- TURN-3
 abbrev pub serves_another : ℕ → Bool
 serves_another served = nat_lt served last_round

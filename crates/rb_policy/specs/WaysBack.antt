@@ -3,7 +3,7 @@ use Rattle.std.specs.Prelude.{◌≡◌, ◌≢◌, ◌<◌, ℕ, List, [], ◌�
 use Rattle.std.specs.Option.{option_map}
 use Rattle.rb_policy.specs.declared.ways_back.Way.{Way}
 
--- at most so many, in the order in which they were noted
+-- at most this many, in the order in which they were noted
 pub record Ways : Type 0 where
   pub most : ℕ
   pub all : List Way
@@ -18,6 +18,7 @@ abbrev pub is_of : ℕ → Way → Bool
 is_of number way = way.number == number
 
 -- the socket of the first that has this number
+-- WAYBACK-1
 abbrev pub socket_of : ℕ → List Way → Option ℕ
 socket_of number all = option_map (λ w. w.socket) (find (is_of number) all)
 
@@ -28,12 +29,14 @@ without number ways = record { most = ways.most; all = filter (λ w. not (is_of 
 -- ---- what follows
 
 -- The end of a call goes out on the socket that was noted for it.
+-- WAYBACK-1
 abbrev pub EndsGoBack : Type 0
 EndsGoBack =
     (ways : Ways) (number socket : ℕ) → length ways.all < ways.most → socket_of number ways.all ≡ None
     → socket_of number (noted ways number socket).all ≡ Some socket
 
 -- What is noted of other calls, and their ends, change nothing of that.
+-- WAYBACK-1
 abbrev pub OthersStay : Type 0
 OthersStay =
     (ways : Ways) (number other socket : ℕ) → number ≢ other

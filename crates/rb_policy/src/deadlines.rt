@@ -2,12 +2,12 @@
 ghost use Rattle.std.specs.Prelude.{◌≡◌};
 ghost use Rattle.rb_policy.specs.Deadlines.{is_behind, puts_off};
 
-/// So many turns in a row put off what is due, at most. So many show and serve each socket that there may be, also
+/// This many turns in a row put off what is due, at most. This many show and serve each socket that there may be, also
 /// where each of 256 connections is owed bytes.
 pub const MOST_PUT_OFF: u32 = 64;
 
 /// Whether a turn may have left unread what came before its moment: where it is not fresh, which is one that looked
-/// for events after it read its moment; where its look showed so many sockets and can show no more than the most; or
+/// for events after it read its moment; where its look showed this many sockets and can show no more than the most; or
 /// where something is left for the next turn.
 pub fn is_behind(is_fresh: bool, shown: usize, most: usize, is_something_left: bool) -> bool
     ensures { result ≡ is_behind is_fresh shown most is_something_left }
@@ -18,7 +18,7 @@ pub fn is_behind(is_fresh: bool, shown: usize, most: usize, is_something_left: b
 /// How long what is due has been put off.
 #[derive(Clone, Copy, Debug, PartialEq, Eq)]
 pub struct Deadlines {
-    /// So many turns in a row, up to the last one, put it off.
+    /// The number of turns in a row, up to the last one, that put it off.
     put_off: u32,
 }
 
@@ -48,7 +48,7 @@ impl Deadlines {
     }
 }
 
-/// Whether a turn puts off what is due, where so many in a row before it did.
+/// Whether a turn puts off what is due, where this many in a row before it did.
 fn puts_off(turns: u32, is_due: bool, is_behind: bool) -> bool
     ensures { result ≡ puts_off turns is_due is_behind }
 {

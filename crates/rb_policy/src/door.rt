@@ -6,14 +6,14 @@ ghost use Rattle.rb_policy.specs.Candidates.{candidate_at, first_of, NobodyMayBe
 use rb_address::{Host, Source};
 use rb_model::Standing;
 
-/// For so many milliseconds after its last progress a connection is active.
+/// The milliseconds after its last progress for which a connection is active.
 pub const ACTIVE: u64 = 1_000;
 
-/// Bytes that are owed may wait so many milliseconds for the socket to take some.
+/// The milliseconds that bytes that are owed may wait for the socket to take some.
 pub const OWED: u64 = 30_000;
 
 /// Where a connection stands outside, of which the core says where it stands: bytes that the core gave are owed until the
-/// socket has taken them. A call that is to be sent counts as one that is awaited.
+/// socket has taken them. A call that must be sent counts as one that is awaited.
 pub fn standing_outside(told: Standing, is_owed: bool) -> Standing
     ensures { result ≡ standing_outside told is_owed }
 {
@@ -219,7 +219,7 @@ fn is_within_share(places: &[Option<Holder>], peer: &Origin) -> bool
     peer.is_local || count_held_by(places, &peer.host) <= share(places.len())
 }
 
-/// So many places one host may hold while others want some.
+/// The number of places that one host may hold while others want some.
 fn share(places: usize) -> usize
     ensures { result ≡ share places }
 {

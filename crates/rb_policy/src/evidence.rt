@@ -9,7 +9,7 @@ use rb_evidence::{uid_of, uid_of_mapped};
 /// A table of more bytes counts as one that can't be read.
 pub const LONGEST_TABLE: usize = 1_048_576;
 
-/// At least so many milliseconds lie between two readings.
+/// The fewest milliseconds between two readings.
 pub const BETWEEN_READINGS: u64 = 20;
 
 /// What the kernel's tables show of a connection from this host.
@@ -32,7 +32,7 @@ pub fn is_shown(are_claims_believed: bool, peer: Peer) -> bool
 }
 
 /// Whether the table of a family is looked at for a peer of a family of which this is known so far. That of IPv6 is
-/// looked at behind the other, and has peers of IPv4 too, in IPv6's form.
+/// looked at after the other, and has peers of IPv4 too, in IPv6's form.
 pub fn looks_in(table: Family, peer: Family, known: Evidence) -> bool
     ensures { result ≡ looks_in table peer known }
 {
@@ -91,7 +91,7 @@ pub fn may_read(now: u64, last: Option<u64>) -> bool
     now >= next_reading(last)
 }
 
-/// The text of a table of which so many bytes were read into the room, where these are all of it.
+/// The text of a table of which this many bytes were read into the room, where these are all of it.
 pub fn whole_text(room: &[u8], count: usize) -> Option<&[u8]>
     requires { count ≤ length room.now }
     ensures { option_map (λ t. t.now) result ≡ whole_text room.now count }

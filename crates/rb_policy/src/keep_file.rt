@@ -1,6 +1,6 @@
 //! What is done about a file at the path where rows are kept, as the daemon starts.
 ghost use Rattle.std.specs.Prelude.{◌≡◌};
-ghost use Rattle.rb_policy.specs.KeepFile.{keep_action, is_trusted, others_may_write, judged};
+ghost use Rattle.rb_policy.specs.KeepFile.{keep_action, is_trusted, others_may_write, action_on_file};
 
 /// Who may have written a plain file.
 #[derive(Clone, Copy, Debug, PartialEq, Eq)]
@@ -50,13 +50,13 @@ pub fn keep_action(own: u32, state: KeepState) -> KeepAction
 {
     match state {
         KeepState::Absent => KeepAction::Begin,
-        KeepState::Plain(file) => judged(own, file),
+        KeepState::Plain(file) => action_on_file(own, file),
         KeepState::Other => KeepAction::GiveUp(Distrust::NoPlainFile),
     }
 }
 
-fn judged(own: u32, file: Writers) -> KeepAction
-    ensures { result ≡ judged own file }
+fn action_on_file(own: u32, file: Writers) -> KeepAction
+    ensures { result ≡ action_on_file own file }
 {
     if !is_trusted(own, file.owner) {
         KeepAction::GiveUp(Distrust::OtherOwner(file.owner))

@@ -49,7 +49,7 @@ pub use log_rate::{LINES, LogRate};
 pub use moments::Moments;
 pub use networks::{asker, may_ask};
 pub use outcome::{
-    Next, Outcome, after_accept, after_read, after_receive, after_write, outcome_of,
+    Next, SocketResult, after_accept, after_read, after_receive, after_write, outcome_of,
     outcome_of_count,
 };
 pub use peers::{address_for, ip_of, somebody};

@@ -13,7 +13,7 @@ pub const MOST_SHOWN: usize = 128;
 /// The most bytes of a line, its line break among them.
 pub const LONGEST_LOG_LINE: usize = 320;
 
-/// A kind of lines, of which a log gets so many in a second.
+/// A kind of lines, of which a log gets this many in a second.
 #[derive(Clone, Copy, Debug, PartialEq, Eq)]
 pub enum LogKind {
     /// SETs and UNSETs that were accepted.
@@ -56,7 +56,7 @@ pub enum LogLine<'a> {
     RefusedCall(Who, ReplyStatus),
     /// A connection from there that was given up.
     GivenUp(Source),
-    /// So many lines of a kind were left out.
+    /// The number of lines of a kind that were left out.
     More(u64, LogKind),
 }
 
@@ -170,7 +170,7 @@ impl fmt::Display for CallerText {
     }
 }
 
-/// The address of a SET, behind a space.
+/// The address of a SET, after a space.
 #[derive(Clone, Copy)]
 struct AddressPart<'a> {
     is_shown: bool,

@@ -71,7 +71,7 @@ impl LogRate {
         gets
     }
 
-    /// How many lines were left out that are to be told at this moment, in milliseconds: none of its own second, since
+    /// How many lines were left out that must be told at this moment, in milliseconds: none of its own second, since
     /// more may follow. They are told then.
     pub fn take_left_out(&mut self, now: u64) -> u64
         ensures told { result ≡ tells self.old now }

@@ -56,7 +56,7 @@ impl Moments {
         self.last
     }
 
-    /// How long a turn goes on to wait, in milliseconds, whose wait, of so many or without an end, showed nothing and is
+    /// How long a turn goes on to wait, in milliseconds, whose wait, of this many or without an end, showed nothing and is
     /// over: where it was no longer than that by the monotonic clock, a signal ended it. No longer than `RETRY`: then
     /// the next turn waits.
     pub fn rest_of_wait(&self, wait: Option<u64>, monotonic: u64) -> u64

@@ -8,7 +8,7 @@ use std::io::ErrorKind;
 
 /// What came of a socket call.
 #[derive(Clone, Copy, Debug, PartialEq, Eq)]
-pub enum Outcome {
+pub enum SocketResult {
     /// It was done: there is a connection, a datagram, or bytes that were read or written.
     Done,
     /// The peer sends no more bytes, or takes no more.
@@ -30,7 +30,7 @@ pub enum Outcome {
 pub enum Next {
     /// It is called again in this turn.
     GoOn,
-    /// An event shows when it is to be called again.
+    /// An event shows when it must be called again.
     AwaitEvent,
     /// The next turn calls it again, after that turn's wait.
     AwaitTurn,
@@ -39,52 +39,61 @@ pub enum Next {
 }
 
 /// What is done after an accept. What fails on a connection that was just accepted counts as its accept's.
-pub fn after_accept(outcome: Outcome) -> Next
+pub fn after_accept(outcome: SocketResult) -> Next
     ensures { result ≡ after_accept outcome }
 {
     match outcome {
-        Outcome::WouldBlock => Next::AwaitEvent,
-        Outcome::NoRoom | Outcome::Failed => Next::AwaitTurn,
-        Outcome::Done | Outcome::Ended | Outcome::Interrupted | Outcome::PeerFailed => Next::GoOn,
+        SocketResult::WouldBlock => Next::AwaitEvent,
+        SocketResult::NoRoom | SocketResult::Failed => Next::AwaitTurn,
+        SocketResult::Done
+        | SocketResult::Ended
+        | SocketResult::Interrupted
+        | SocketResult::PeerFailed => Next::GoOn,
     }
 }
 
 /// What is done after a read of a connection. While it waits for a forwarded call, the end of what its peer sends is
 /// not yet its end: the answer can still be sent.
-pub fn after_read(outcome: Outcome, waits: bool) -> Next
+pub fn after_read(outcome: SocketResult, waits: bool) -> Next
     ensures { result ≡ after_read outcome waits }
 {
     match outcome {
-        Outcome::Done | Outcome::Interrupted => Next::GoOn,
-        Outcome::WouldBlock => Next::AwaitEvent,
-        Outcome::Ended if waits => Next::AwaitEvent,
-        Outcome::Ended | Outcome::PeerFailed | Outcome::NoRoom | Outcome::Failed => Next::Close,
+        SocketResult::Done | SocketResult::Interrupted => Next::GoOn,
+        SocketResult::WouldBlock => Next::AwaitEvent,
+        SocketResult::Ended if waits => Next::AwaitEvent,
+        SocketResult::Ended
+        | SocketResult::PeerFailed
+        | SocketResult::NoRoom
+        | SocketResult::Failed => Next::Close,
     }
 }
 
 /// What is done after a write to a connection.
-pub fn after_write(outcome: Outcome) -> Next
+pub fn after_write(outcome: SocketResult) -> Next
     ensures { result ≡ after_write outcome }
 {
     match outcome {
-        Outcome::Done | Outcome::Interrupted => Next::GoOn,
-        Outcome::WouldBlock => Next::AwaitEvent,
-        Outcome::Ended | Outcome::PeerFailed | Outcome::NoRoom | Outcome::Failed => Next::Close,
+        SocketResult::Done | SocketResult::Interrupted => Next::GoOn,
+        SocketResult::WouldBlock => Next::AwaitEvent,
+        SocketResult::Ended
+        | SocketResult::PeerFailed
+        | SocketResult::NoRoom
+        | SocketResult::Failed => Next::Close,
     }
 }
 
 /// What is done after a receive. A fault loses one datagram.
-pub fn after_receive(outcome: Outcome) -> Next
+pub fn after_receive(outcome: SocketResult) -> Next
     ensures { result ≡ after_receive outcome }
 {
     match outcome {
-        Outcome::WouldBlock => Next::AwaitEvent,
-        Outcome::Done
-        | Outcome::Ended
-        | Outcome::Interrupted
-        | Outcome::PeerFailed
-        | Outcome::NoRoom
-        | Outcome::Failed => Next::GoOn,
+        SocketResult::WouldBlock => Next::AwaitEvent,
+        SocketResult::Done
+        | SocketResult::Ended
+        | SocketResult::Interrupted
+        | SocketResult::PeerFailed
+        | SocketResult::NoRoom
+        | SocketResult::Failed => Next::GoOn,
     }
 }
 
@@ -104,13 +113,13 @@ const EHOSTDOWN: i32 = 112;
 
 /// What an error means. An accept reports errors of the network that are pending on the connection (accept(2)); they
 /// count as that connection's.
-pub fn outcome_of(error: &io::Error) -> Outcome
+pub fn outcome_of(error: &io::Error) -> SocketResult
     ensures { result ≡ outcome_of (error_kind error.now) (raw_os_error error.now) }
 {
     match error.kind() {
-        ErrorKind::WouldBlock => Outcome::WouldBlock,
-        ErrorKind::Interrupted => Outcome::Interrupted,
-        ErrorKind::OutOfMemory => Outcome::NoRoom,
+        ErrorKind::WouldBlock => SocketResult::WouldBlock,
+        ErrorKind::Interrupted => SocketResult::Interrupted,
+        ErrorKind::OutOfMemory => SocketResult::NoRoom,
         ErrorKind::ConnectionAborted
         | ErrorKind::ConnectionReset
         | ErrorKind::TimedOut
@@ -118,28 +127,28 @@ pub fn outcome_of(error: &io::Error) -> Outcome
         | ErrorKind::NetworkUnreachable
         | ErrorKind::HostUnreachable
         | ErrorKind::PermissionDenied
-        | ErrorKind::Unsupported => Outcome::PeerFailed,
+        | ErrorKind::Unsupported => SocketResult::PeerFailed,
         _ => outcome_of_number(error.raw_os_error()),
     }
 }
 
-fn outcome_of_number(number: Option<i32>) -> Outcome
+fn outcome_of_number(number: Option<i32>) -> SocketResult
     ensures { result ≡ outcome_of_number number }
 {
     match number {
-        Some(libc::EMFILE | ENFILE | ENOBUFS) => Outcome::NoRoom,
-        Some(ENONET | EPROTO | ENOPROTOOPT | EHOSTDOWN) => Outcome::PeerFailed,
-        Some(_) | None => Outcome::Failed,
+        Some(libc::EMFILE | ENFILE | ENOBUFS) => SocketResult::NoRoom,
+        Some(ENONET | EPROTO | ENOPROTOOPT | EHOSTDOWN) => SocketResult::PeerFailed,
+        Some(_) | None => SocketResult::Failed,
     }
 }
 
 /// What came of a read or a write. A count of 0 is an end.
-pub fn outcome_of_count(came: &io::Result<usize>) -> Outcome
+pub fn outcome_of_count(came: &io::Result<usize>) -> SocketResult
     ensures { result ≡ outcome_of_count came.now }
 {
     match came {
-        Ok(0) => Outcome::Ended,
-        Ok(_) => Outcome::Done,
+        Ok(0) => SocketResult::Ended,
+        Ok(_) => SocketResult::Done,
         Err(error) => outcome_of(error),
     }
 }

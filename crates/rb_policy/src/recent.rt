@@ -32,7 +32,7 @@ impl Model for Recent {
     ghost invariant = { λ r. IsRecent r.moments.items (deque_capacity r.moments) r.most };
 }
 
-/// Memory for so many moments, each of which was written.
+/// Memory for this many moments, each of which was written.
 fn memory_for(alloc: Global, most: usize) -> Result<VecDeque<u64>, AllocError>
     ensures empty { IfOk result (λ moments. moments.items ≡ []) }
     ensures room { IfOk result (λ moments. deque_capacity moments ≡ most) }

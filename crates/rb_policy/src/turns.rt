@@ -8,13 +8,13 @@ use rb_model::Standing;
 /// The most socket calls for one socket in a turn.
 pub const SOCKET_CALLS: usize = 64;
 
-/// So many bytes that were written to a connection are enough for a turn.
+/// The number of bytes written to a connection that are enough for a turn.
 pub const STEP: usize = 65_536;
 
-/// So many connections are served in the last round of a turn.
+/// The number of connections that are served in the last round of a turn.
 pub const LAST_ROUND: usize = 8;
 
-/// What failed is tried again after so many milliseconds: a socket that is served after a wait, and a wait that a
+/// The milliseconds after which what failed is tried again: a socket that is served after a wait, and a wait that a
 /// signal ended.
 pub const RETRY: u64 = 100;
 
@@ -61,7 +61,7 @@ pub fn wait_of(
     }
 }
 
-/// Whether a read that got so many bytes is followed by another: where it filled its room, or the peer may have ended
+/// Whether a read that got this many bytes is followed by another: where it filled its room, or the peer may have ended
 /// what it sends, since no other event tells of that end. Else an event shows what arrives next.
 pub fn reads_on(count: usize, room: usize, may_end: bool) -> bool
     ensures { result ≡ (count == room || may_end) }
@@ -69,7 +69,7 @@ pub fn reads_on(count: usize, room: usize, may_end: bool) -> bool
     count == room || may_end
 }
 
-/// How many connections a turn accepts, on all listeners together, where so many of all places are free as its
+/// How many connections a turn accepts, on all listeners together, where this many of all places are free as its
 /// accepting begins: as many as are free, since the next turn may first free some that are taken now. Where none is
 /// free, half of all places, and at least one: so who takes one is served before others of this kind push it out. At
 /// most as many as socket calls of a turn.
@@ -80,8 +80,8 @@ pub fn accept_count(free: usize, all: usize) -> usize
     most.min(SOCKET_CALLS)
 }
 
-/// How many places there are for connections, where so many are asked for, and of so many descriptors that the process may
-/// have so many are others': one is kept for who comes where all places are taken, before another one is given up. At
+/// How many places there are for connections, where this many are asked for, and of this many descriptors that the process may
+/// have this many are others': one is kept for who comes where all places are taken, before another one is given up. At
 /// least one.
 pub fn place_count(asked: usize, descriptors: u64, others: u64) -> usize
     ensures { result ≡ place_count asked descriptors others }
@@ -93,7 +93,7 @@ pub fn place_count(asked: usize, descriptors: u64, others: u64) -> usize
     }
 }
 
-/// Whether a connection is left for the next turn, after so many socket calls for it in this one, and so many bytes
+/// Whether a connection is left for the next turn, after this many socket calls for it in this one, and this many bytes
 /// that were written.
 pub fn is_cut_off(calls: usize, written: usize) -> bool
     ensures { result ≡ is_cut_off calls written }
@@ -106,12 +106,12 @@ pub fn is_cut_off(calls: usize, written: usize) -> bool
 pub enum Round {
     /// When its event is looked at.
     First,
-    /// Behind all of those.
+    /// After all of those.
     Last,
 }
 
 /// The round of a connection that the last turn left, or did not, by where it stands: who is owed bytes, as of a
-/// list, comes behind who has a call.
+/// list, comes after who has a call.
 pub fn round_of(is_left: bool, standing: Standing) -> Round
     ensures { result ≡ round_of is_left standing }
 {
@@ -121,7 +121,7 @@ pub fn round_of(is_left: bool, standing: Standing) -> Round
     }
 }
 
-/// Whether one more connection is served in the last round of a turn, in which so many were.
+/// Whether one more connection is served in the last round of a turn, in which this many were.
 pub fn serves_another(served: usize) -> bool
     ensures { result ≡ serves_another served }
 {

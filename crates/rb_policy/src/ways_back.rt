@@ -34,7 +34,7 @@ impl WaysBack {
     ghost use Rattle.std.specs.Prelude.{◌≡◌, [], IfOk};
     ghost use Rattle.rb_policy.specs.WaysBack.{noted, socket_of, without};
 
-    /// No call, and room for so many. An error where the allocation is refused.
+    /// No call, and room for this many. An error where the allocation is refused.
     pub fn new(alloc: Global, most: usize) -> Result<WaysBack, AllocError>
         ensures { IfOk result (λ w. w ≡ record { most = most; all = [] }) }
     {

@@ -228,7 +228,7 @@ changed-alike test f g [] c is same = refl
 changed-alike test f g (d ∷ all) c is same = grind (arith, changed-alike test f g all c)
 
 module _ (s : State) (now id : ℕ) (c : Connection) where
-  -- the state once so many bytes were given
+  -- the state once this many bytes were given
   abbrev given : ℕ → State
   given n = record (at_moment now s) { connections = changed_at id (λ x. (give (max s.clock now) n x).1) s.connections }
 

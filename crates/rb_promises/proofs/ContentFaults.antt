@@ -31,9 +31,9 @@ not-all-zero (x ∷ xs) e = by_test (eqb x 0) refl e (not-all-zero xs)
 one-not-zero : (xs : List ℕ) → Any (λ byte. byte ≡ 0 → ⊥) xs → are_zero xs ≡ false
 one-not-zero xs (k, y, low, at, wrong) = list_all_at (λ b. eqb b 0) xs k y low (ap (λ b. eqb b 0) at ∙ ne_eqb y 0 wrong)
 
--- ---- behind the count
+-- ---- after the count
 
--- what is read of the bytes behind the count
+-- what is read of the bytes after the count
 abbrev behind_count : ℕ → ℕ → List ℕ → Reading (List ℕ)
 behind_count limit count rest = behind 4 ((cond (ltb limit count) (refuse TooLong) (read_content count)) rest)
 

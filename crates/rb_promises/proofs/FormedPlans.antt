@@ -22,8 +22,8 @@ use Rattle.rb_words.specs.declared.plan.Source.{Source}
 use Rattle.rb_words.specs.declared.plan.Source.TheVariants.{Here, Input, Named}
 use Rattle.rb_words.specs.declared.refusal.Spot.{Spot}
 use Rattle.rb_words.specs.declared.refusal.Spot.TheVariants as spots
-use Rattle.rb_words.specs.declared.refusal.Wanted.{Wanted}
-use Rattle.rb_words.specs.declared.refusal.Wanted.TheVariants as wants
+use Rattle.rb_words.specs.declared.refusal.Expected.{Expected}
+use Rattle.rb_words.specs.declared.refusal.Expected.TheVariants as wants
 use Rattle.rb_words.specs.declared.shape.Flag.{Flag}
 use Rattle.rb_words.specs.declared.shape.Flag.TheVariants as flags
 use Rattle.rb_words.specs.declared.shape.Shape.{Shape}
@@ -134,14 +134,14 @@ no_flag [] h = refl
 no_flag (only ∷ []) h = let same : None ≡ Some only = sym (same_Ok _ _ h) in absurd (none-some only same)
 no_flag (first ∷ second ∷ more) h = absurd cc
 
-barred : (option : Option (Bor (List ℕ))) (at : Spot) (wanted : Wanted) (x : Unit {0}) → only_where (is_some option) false at wanted ≡ Ok x → option ≡ None
+barred : (option : Option (Bor (List ℕ))) (at : Spot) (wanted : Expected) (x : Unit {0}) → only_where (is_some option) false at wanted ≡ Ok x → option ≡ None
 barred None at wanted x h = refl
 barred (Some text) at wanted x h = absurd cc
 
-pub absent : (option : Option (Bor (List ℕ))) (has : Bool) (at : Spot) (wanted : Wanted) → option ≡ None → only_where (is_some option) has at wanted ≡ Ok tt
+pub absent : (option : Option (Bor (List ℕ))) (has : Bool) (at : Spot) (wanted : Expected) → option ≡ None → only_where (is_some option) has at wanted ≡ Ok tt
 absent option has at wanted none = ap (λ (o : Option (Bor (List ℕ))). only_where (is_some o) has at wanted) none
 
-pub free : (given : Bool) (at : Spot) (wanted : Wanted) → only_where given true at wanted ≡ Ok tt
+pub free : (given : Bool) (at : Spot) (wanted : Expected) → only_where given true at wanted ≡ Ok tt
 free true at wanted = refl
 free false at wanted = refl
 

@@ -20,8 +20,8 @@ use Rattle.rb_words.specs.declared.plan.Source.TheVariants.{Here, Input, Named}
 use Rattle.rb_words.specs.declared.refusal.Refusal.{Refusal}
 use Rattle.rb_words.specs.declared.refusal.Spot.{Spot}
 use Rattle.rb_words.specs.declared.refusal.Spot.TheVariants as spots
-use Rattle.rb_words.specs.declared.refusal.Wanted.{Wanted}
-use Rattle.rb_words.specs.declared.refusal.Wanted.TheVariants as wants
+use Rattle.rb_words.specs.declared.refusal.Expected.{Expected}
+use Rattle.rb_words.specs.declared.refusal.Expected.TheVariants as wants
 use Rattle.rb_words.specs.declared.shape.Shape.{Shape}
 use Rattle.rb_words.specs.Words.{◌>>=◌, or_refusal, some_or_refusal, option_number, word_number, number_at, program_of, word_program, program_at, no_word, ends_at, source_of, source_in, source_at, host_in, host_at}
 use Rattle.rb_promises.specs.WordForms.{SpellsWithin, SpellsNumber, SpellsPort, IsFirstNamed, SpellsProgram, NamesHost, SpellsSource, NoWord, ◌▹◌, IsProgram, MayHave, IsPort}
@@ -73,21 +73,21 @@ number_read least most n text s =
     let between : is_between least most (digits_value 10 text) ≡ true = and_from _ _ low high in
     ap (λ (b : Bool). cond b (Some (digits_value 10 text)) None) (and_from _ _ numeral between) ∙ ap Some value
 
-some_found : {A : Type 0} (at : Spot) (wanted : Wanted) (o p : Option A) → some_or_refusal at wanted o ≡ Ok p → (x : A) × (o ≡ Some x) × (p ≡ Some x)
+some_found : {A : Type 0} (at : Spot) (wanted : Expected) (o p : Option A) → some_or_refusal at wanted o ≡ Ok p → (x : A) × (o ≡ Some x) × (p ≡ Some x)
 some_found at wanted (Some x) p h = (x, refl, sym (same_Ok _ _ h))
 some_found at wanted None p h = absurd cc
 
-pub option_spelled : {A : Type 0} (Spells : A → List ℕ → Type 0) (read : List ℕ → Option A) (at : Spot) (wanted : Wanted) (text : Bor (List ℕ)) (p : Option A) → ((x : A) → read text.now ≡ Some x → Spells x text.now)
+pub option_spelled : {A : Type 0} (Spells : A → List ℕ → Type 0) (read : List ℕ → Option A) (at : Spot) (wanted : Expected) (text : Bor (List ℕ)) (p : Option A) → ((x : A) → read text.now ≡ Some x → Spells x text.now)
     → some_or_refusal at wanted (read text.now) ≡ Ok p → MayHave Spells p (Some text)
 option_spelled Spells read at wanted text p spelled h =
     let (x, is, same) = some_found at wanted (read text.now) p h in
     subst (λ p. MayHave Spells p (Some text)) (sym same) (spelled x is)
 
-pub number_option_spelled : (least most : ℕ) (at : Spot) (wanted : Wanted) (option : Option (Bor (List ℕ))) (p : Option ℕ) → option_number option at wanted least most ≡ Ok p → MayHave (SpellsWithin least most) p option
+pub number_option_spelled : (least most : ℕ) (at : Spot) (wanted : Expected) (option : Option (Bor (List ℕ))) (p : Option ℕ) → option_number option at wanted least most ≡ Ok p → MayHave (SpellsWithin least most) p option
 number_option_spelled least most at wanted None p h = subst (λ p. MayHave (SpellsWithin least most) p None) (same_Ok _ _ h) refl
 number_option_spelled least most at wanted (Some text) p h = option_spelled (SpellsWithin least most) (number_in least most) at wanted text p (λ n is. number_spelled least most n text.now is) h
 
-pub number_option_read : (least most : ℕ) (at : Spot) (wanted : Wanted) (option : Option (Bor (List ℕ))) (p : Option ℕ) → MayHave (SpellsWithin least most) p option → option_number option at wanted least most ≡ Ok p
+pub number_option_read : (least most : ℕ) (at : Spot) (wanted : Expected) (option : Option (Bor (List ℕ))) (p : Option ℕ) → MayHave (SpellsWithin least most) p option → option_number option at wanted least most ≡ Ok p
 number_option_read least most at wanted option None h = ap (λ (o : Option (Bor (List ℕ))). option_number o at wanted least most) h
 number_option_read least most at wanted None (Some n) h = absurd h
 number_option_read least most at wanted (Some text) (Some n) h = ap (λ (o : Option ℕ). some_or_refusal at wanted o) (number_read least most n text.now h)
@@ -237,18 +237,18 @@ pub record Read (words : List (Bor (List ℕ))) (i : ℕ) (Spells : List ℕ →
   pub there : slice_get words i ≡ Some word
   pub spells : Spells word.now
 
-or_found : {A : Type 0} (at : Spot) (wanted : Wanted) (o : Option A) (x : A) → or_refusal at wanted o ≡ Ok x → o ≡ Some x
+or_found : {A : Type 0} (at : Spot) (wanted : Expected) (o : Option A) (x : A) → or_refusal at wanted o ≡ Ok x → o ≡ Some x
 or_found at wanted (Some y) x h = ap Some (same_Ok _ _ h)
 or_found at wanted None x h = absurd cc
 
-pub number_there : (words : List (Bor (List ℕ))) (i n : ℕ) (wanted : Wanted) → number_at words i wanted ≡ Ok n → Read words i (SpellsNumber n)
+pub number_there : (words : List (Bor (List ℕ))) (i n : ℕ) (wanted : Expected) → number_at words i wanted ≡ Ok n → Read words i (SpellsNumber n)
 number_there words i n wanted h = by_word (slice_get words i) refl h
   where
     by_word : (o : Option (Bor (List ℕ))) → slice_get words i ≡ o → word_number i wanted o ≡ Ok n → Read words i (SpellsNumber n)
     by_word None is h = absurd cc
     by_word (Some word) is h = record { word = word; there = is; spells = number_spelled 0 4294967295 n word.now (or_found (spots.Word i) wanted (number_in 0 4294967295 word.now) n h) }
 
-pub number_here : (words : List (Bor (List ℕ))) (i n : ℕ) (wanted : Wanted) (word : Bor (List ℕ)) → slice_get words i ≡ Some word → SpellsNumber n word.now → number_at words i wanted ≡ Ok n
+pub number_here : (words : List (Bor (List ℕ))) (i n : ℕ) (wanted : Expected) (word : Bor (List ℕ)) → slice_get words i ≡ Some word → SpellsNumber n word.now → number_at words i wanted ≡ Ok n
 number_here words i n wanted word there s = ap (word_number i wanted) there ∙ ap (or_refusal (spots.Word i) wanted) (number_read 0 4294967295 n word.now s)
 
 pub program_there : (shape : Shape) (i n : ℕ) → program_at shape i ≡ Ok n → Read shape.words.now i (IsProgram shape n)

@@ -1,4 +1,4 @@
--- What the reader comes to behind the parts of a text that the grammar has.
+-- What the reader comes to after the parts of a text that the grammar has.
 use Rattle.std.proofs.Common.{◌≡◌, ◌≢◌, ◌⊎◌, ℕ, suc, ◌<◌, ◌≤◌, Bool, true, false, List, [], ◌∷◌, ◌++◌, length, get_or, inl, inr, refl, sym, ap, ◌∙◌, subst, append_assoc, append-nil, arith}
 use Rattle.std.specs.Prelude.{codes, nat_le, nat_eq, encode_utf8}
 use Rattle.std.specs.List.{list_all}
@@ -22,7 +22,7 @@ pub run-append : (state : State) (a b : List ℕ) → run state (a ++ b) ≡ run
 run-append state [] b = refl
 run-append state (x ∷ a) b = run-append (step state x) a b
 
--- behind two parts
+-- after two parts
 run_both : (state middle last : State) (a b : List ℕ) → run state a ≡ middle → run middle b ≡ last → run state (a ++ b) ≡ last
 run_both state middle last a b first second = run-append state a b ∙ ap (λ (s : State). run s b) first ∙ second
 
@@ -160,7 +160,7 @@ at_stop AtExponent Tab brackets names = refl
 at_stop AtExponent LineFeed brackets names = refl
 at_stop AtExponent Return brackets names = refl
 
--- behind a value, a mark is read as behind any other
+-- after a value, a mark is read as after any other
 stops_before : {mode : Mode} → EndMode mode → {mark : ℕ} → IsStop mark → (before rest : List ℕ) (brackets : List Bool) (names : List (List ℕ)) → AreWhite before
     → run (At mode brackets names) (before ++ mark ∷ rest) ≡ run (At After brackets names) (before ++ mark ∷ rest)
 stops_before end stop [] rest brackets names white = ap (λ (s : State). run s rest) (at_stop end stop brackets names)
@@ -244,7 +244,7 @@ module _ (brackets : List Bool) (names : List (List ℕ)) where
       great_letter (OfWhole AtDigits) = refl
       great_letter AtFraction = refl
 
-  -- the digits behind a letter and perhaps a sign
+  -- the digits after a letter and perhaps a sign
   power : (sign digits : List ℕ) → Perhaps IsSign sign → AreDigits digits → run (At Letter brackets names) (sign ++ digits) ≡ At Exponent brackets names
   power sign digits (inl none) are =
       ap (λ (xs : List ℕ). run (At Letter brackets names) (xs ++ digits)) none

@@ -121,7 +121,7 @@ module _ (id : ℕ) (s : State) (t : Session) (h : Holds id s.connections t) (c 
       let all : taken now piece r ≡ piece = taken-by now piece (output_or show_taken r).0 (length piece) count ∙ take_all (length piece) piece (omega arith) in
       inl (is-whole piece (taken now piece r) all (ap (λ (xs : List ℕ). first_record (xs ++ piece)) (unfinished-here id s t h d here fed feeds) ∙ ends))
   piece-ends now piece none waits r (Ended d fed n here feeds ends is) =
-      let shown : Taken = record { count = n - length fed; closed = is_no_call (said_in s now id d (take n (fed ++ piece))) } in
+      let shown : Taken = record { count = n - length fed; lost = is_no_call (said_in s now id d (take n (fed ++ piece))) } in
       let count : count_in (output_or show_taken r).0 ≡ n - length fed = ap (λ (x : Result Taken CoreFault × State). count_in (output_or show_taken x).0) is ∙ count-shown shown in
       let part : taken now piece r ≡ take (n - length fed) piece = taken-by now piece (output_or show_taken r).0 (n - length fed) count in
       let all : t.unfinished ++ taken now piece r ≡ take n (fed ++ piece) = ap (λ (xs : List ℕ). t.unfinished ++ xs) part ∙ ends-whole id s t h d here piece fed n feeds ends in

@@ -20,7 +20,7 @@ use Rattle.rb_words.specs.declared.plan.Source.{Source}
 use Rattle.rb_words.specs.declared.plan.Source.TheVariants.{Here, Input, Named}
 use Rattle.rb_words.specs.declared.refusal.Refusal.{Refusal}
 use Rattle.rb_words.specs.declared.refusal.Spot.TheVariants as spots
-use Rattle.rb_words.specs.declared.refusal.Wanted.TheVariants as wants
+use Rattle.rb_words.specs.declared.refusal.Expected.TheVariants as wants
 use Rattle.rb_words.specs.declared.shape.Flag.{Flag}
 use Rattle.rb_words.specs.declared.shape.Flag.TheVariants as flags
 use Rattle.rb_words.specs.declared.shape.Shape.{Shape}

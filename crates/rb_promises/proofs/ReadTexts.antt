@@ -34,7 +34,7 @@ is_end_mode (OfFractional (OfWhole AtDigits)) = refl
 is_end_mode (OfFractional AtFraction) = refl
 is_end_mode AtExponent = refl
 
--- white space behind a value
+-- white space after a value
 accepts_white : {mode : Mode} → EndMode mode → (names : List (List ℕ)) (bytes : List ℕ) → AreWhite bytes → accepts (run (At mode [] names) bytes) ≡ true
 accepts_white end names [] white = is_end_mode end
 accepts_white end names (b ∷ bytes) white =

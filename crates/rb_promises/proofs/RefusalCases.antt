@@ -19,7 +19,7 @@ use Rattle.rb_model.specs.Connections.{is_lost, is_live, live_connection, has_nu
 use Rattle.rb_model.specs.Ending.{forward_reply, expire}
 use Rattle.rb_model.specs.Step.{Event, Output, unless_refused, bytes, pending, pending_on, gave, is_too_much, open_connection, dropped_with, close_connection, datagram, sent_call, output_or, show_taken, show_done, show_outcome, show_end, show_expired, step}
 use Rattle.rb_model.specs.Step.Event.{Open, Bytes, Pending, Gave, Closed, NextLost, Datagram, Unsent, Sent, Forward, Expire, ZeroStats}
-use Rattle.rb_model.specs.Step.Output.{Opened, Refused, TooMuch, Took, TookAndClosed, IsPending}
+use Rattle.rb_model.specs.Step.Output.{Opened, Refused, TooMuch, Took, TookAndLost, IsPending}
 use Rattle.rb_laws.proofs.Happenings.{Arriving, arriving}
 use Rattle.rb_laws.proofs.Happenings.Arriving.{NotThere, NotTaken, ReadOn, Ended}
 use Rattle.rb_promises.specs.Refusals.{HasNoLive, HasNone, HasNoUnsent, IsGone, IsRefusedWith, RefusalsAreTheNamedOnes, GivesTooMuch, TooMuchIsTheNamedOne}
@@ -194,7 +194,7 @@ open-case s now who = by_room (ltb (length s.connections.all) s.setting.limits.c
 -- ---- events of connections and forwarded calls
 
 shows-taken : (t : Taken) → fault_in (show_taken t) ≡ None
-shows-taken t = elim (t.closed) as (λ b. fault_in (cond b (TookAndClosed t.count) (Took t.count)) ≡ None) [ true ↦ refl | false ↦ refl ]
+shows-taken t = elim (t.lost) as (λ b. fault_in (cond b (TookAndLost t.count) (Took t.count)) ≡ None) [ true ↦ refl | false ↦ refl ]
 
 bytes-case : (s : State) (now id : ℕ) (piece : List ℕ) (r : Result Taken CoreFault × State) → Arriving s now id piece r → Case s (Bytes now id piece) (output_or show_taken r).0
 bytes-case s now id piece r (NotThere none is) = rw is (gone s (Bytes now id piece) (Refused Gone) refl refl (no-live s id none))
@@ -283,7 +283,7 @@ other-event s event none shows = (
 )
 
 plain-taken : (t : Taken) → is_excess (show_taken t) ≡ false
-plain-taken t = elim (t.closed) as (λ b. is_excess (cond b (TookAndClosed t.count) (Took t.count)) ≡ false) [ true ↦ refl | false ↦ refl ]
+plain-taken t = elim (t.lost) as (λ b. is_excess (cond b (TookAndLost t.count) (Took t.count)) ≡ false) [ true ↦ refl | false ↦ refl ]
 
 plain-or : {A : Type 0} (show : A → Output) → ((x : A) → is_excess (show x) ≡ false) → (r : Result A CoreFault × State) → is_excess (output_or show r).0 ≡ false
 plain-or show plain r = grind arith

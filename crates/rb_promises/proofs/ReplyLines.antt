@@ -32,7 +32,7 @@ use Rattle.rb_show.specs.Lines.{is_json, heading, mapping_line, row_line, short_
 use Rattle.rb_show.specs.Replies.{tell_list, tell_rows, tell_summary, tell_items_summary, tell_columns, tell_table, tell_results, by_status, by_head, tell_reply}
 use Rattle.rb_promises.specs.RowLists.{ShowsLines, ShowsSum, rpcbs, dump, DumpsAreShown, mappings, pmap_dump, table_lines, MappingsAreShown, entries, address_list, EntriesAreShown}
 
--- behind no lines
+-- after no lines
 no_lines : {A : Type 0} (told : Told A) → add_lines [] told ≡ told
 no_lines (Done more x left) = refl
 no_lines (Stop more fault) = refl
@@ -52,7 +52,7 @@ head-passes : (form : Form) (question : Question) (xid : ℕ) (end : InfoFault) 
 unfolding by_head
 head-passes form question xid end content = ap (λ (b : Bool). (cond b (by_status form question (head-of xid)) (stop Unreadable)) end content) (eq-eqb xid xid refl)
 
--- results that are told so whatever stands behind them
+-- results that are told so whatever stands after them
 abbrev TellsResults : Form → Question → List ℕ → List (List ℕ) → ℕ → Type 0
 TellsResults form question bytes lines count = (rest : List ℕ) (end : InfoFault) → tell_results form question end (bytes ++ rest) ≡ Done lines (shown.Rows count) rest
 

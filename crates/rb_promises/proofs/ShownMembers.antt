@@ -205,7 +205,7 @@ each_has_its_members = each_line IsLineOf objects_have
 
 -- ---- no name is twice
 
--- whether each differs from those behind it
+-- whether each differs from those after it
 abbrev differ : List (List ℕ) → Bool
 differ [] = true
 differ (name ∷ names) = list_all (λ other. not (bytes_eq name other)) names && differ names

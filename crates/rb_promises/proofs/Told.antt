@@ -81,7 +81,7 @@ every_v4 = let zero : 0 < 256 = omega arith in four_bytes 0 0 0 0 zero zero zero
 pub every_v6 : IsBytes 16 any_host6
 every_v6 = record { count = refl; small = All-replicate (λ b. b < 256) 16 0 (omega arith) }
 
--- it is of so many bytes, as the announced one and the one that was asked are
+-- it is of this many bytes, as the announced one and the one that was asked are
 host_fits : (of : List ℕ → Host) (every : List ℕ) (n : ℕ) (announced : Option (List ℕ)) (asked : Host) (host : List ℕ)
     → IsBytes n every → ((own : List ℕ) → announced ≡ Some own → IsBytes n own) → ((own : List ℕ) → asked ≡ of own → IsBytes n own)
     → StandsIn of every announced asked host → IsBytes n host

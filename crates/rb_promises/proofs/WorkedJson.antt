@@ -19,7 +19,7 @@ use Rattle.rb_promises.proofs.JsonSteps.{run, start}
 
 -- ---- parts
 
--- a mark with white space behind it, or before it
+-- a mark with white space after it, or before it
 opens : (mark : ℕ) (gap : List ℕ) → AreWhite gap → IsMark mark (mark ∷ gap)
 opens mark gap white = record { before = []; after = gap; is = refl; before_is = refl; after_is = white }
 

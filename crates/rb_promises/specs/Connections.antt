@@ -78,7 +78,7 @@ NumbersAreDistinct =
 
 -- ---- bytes that are given
 
--- how many of so many bytes are pending on the connection
+-- how many of this many bytes are pending on the connection
 abbrev pub as_many : Connection → ℕ → ℕ
 as_many c n = min n (length (pending_in c.phase))
 

@@ -4,12 +4,12 @@ use Rattle.rb_xdr.specs.declared.fault.XdrFault.{XdrFault}
 use Rattle.rb_xdr.specs.declared.fault.XdrFault.TheVariants.{Short, TooLong, BadBool, BadPadding}
 use Rattle.rb_xdr.specs.Xdr.{AreBytes, number, read_opaque}
 
--- The bytes begin with this count, an unsigned int of four bytes, and these stand behind it.
+-- The bytes begin with this count, an unsigned int of four bytes, and these stand after it.
 pub record Counts (bytes : List ℕ) (count : ℕ) (rest : List ℕ) : Type 0 where
   pub fits : count < 2 ^ 32
   pub text : bytes ≡ number count ++ rest
 
--- So many residual bytes, 0 to 3, make the total of so much content a multiple of four.
+-- This many residual bytes, 0 to 3, make the total of so much content a multiple of four.
 pub record Completes (count residual : ℕ) : Type 0 where
   pub few : residual < 4
   pub whole : (count + residual) % 4 ≡ 0
@@ -37,7 +37,7 @@ pub record IsBadPadding (limit : ℕ) (bytes : List ℕ) : Type 0 where
   pub completes : Completes (length content) (length residual)
   pub wrong : Any (λ byte. byte ≡ 0 → ⊥) residual
 
--- what is wrong with the bytes as opaque data of at most so many bytes
+-- what is wrong with the bytes as opaque data of at most this many bytes
 abbrev pub HasFault : ℕ → List ℕ → XdrFault → Type 0
 HasFault limit bytes Short = IsShort limit bytes
 HasFault limit bytes TooLong = IsTooLong limit bytes

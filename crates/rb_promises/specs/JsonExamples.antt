@@ -8,7 +8,7 @@ use Rattle.rb_show.specs.JsonGrammar.{IsText}
 abbrev pub TextsAreUtf8 : Type 0
 TextsAreUtf8 = (bytes : List ℕ) → IsText bytes → IsUtf8 bytes
 
--- each line, and a line feed behind it
+-- each line, and a line feed after it
 abbrev pub lined : List (List ℕ) → List ℕ
 lined [] = []
 lined (line ∷ lines) = line ++ (codes "\n" ++ lined lines)

@@ -67,6 +67,7 @@ forwards_names =
     ∷ codes "success" ∷ codes "failure" ∷ codes "indirect" ∷ []
 
 -- The objects of a question's reply have these names.
+-- JSON-4
 pub data AreNamesOf : Question → List (List ℕ) → Type 0 where
   OfRow : AreNamesOf Rows row_names
   OfOldRow : AreNamesOf OldRows row_names
@@ -80,6 +81,7 @@ pub data AreNamesOf : Question → List (List ℕ) → Type 0 where
 
 -- An object and a line feed. However the grammar reads the object, its members have these names,
 -- in this order.
+-- JSON-4
 pub record HasMembers (names : List (List ℕ)) (line : List ℕ) : Type 0 where
   pub object : List ℕ
   pub is : line ≡ object ++ codes "\n"
@@ -96,7 +98,7 @@ EachHasItsMembers =
     (ask : Ask) (xid : ℕ) (bytes : List ℕ) → has_objects ask.question ≡ true → AreBytes bytes
     → AllByRecursion (IsLineOf ask.question) (told_lines (tell_bytes ask Json xid bytes))
 
--- each differs from those behind it
+-- each differs from those after it
 abbrev pub AreDistinct : List (List ℕ) → Type 0
 AreDistinct [] = ⊤
 AreDistinct (name ∷ names) = AllByRecursion (λ other. name ≢ other) names × AreDistinct names

@@ -56,7 +56,7 @@ Announces announced texts =
 
 -- ---- networks
 
--- a host alone, or a host, a slash and how many of its first bits count, with none set behind them
+-- a host alone, or a host, a slash and how many of its first bits count, with none set after them
 pub data SpellsNetwork (network : Network) (text : List ℕ) : Type 0 where
   OfOneHost : SpellsHost network.host text → network.length ≡ bit_count network.host → SpellsNetwork network text
   WithLength : (front : List ℕ) → text ≡ front ++ codes "/" ++ decimal network.length → SpellsHost network.host front

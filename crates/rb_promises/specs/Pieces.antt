@@ -9,7 +9,7 @@ use Rattle.rb_model.specs.Step.{Event, step, after}
 use Rattle.rb_model.specs.Step.Event.{Bytes}
 use Rattle.rb_model.specs.Sessions.{Session, taken_by, session}
 
--- All of the piece is taken, and no record ends in it behind the unfinished bytes.
+-- All of the piece is taken, and no record ends in it after the unfinished bytes.
 pub record IsWhole (unfinished piece taken : List ℕ) : Type 0 where
   pub all : taken ≡ piece
   pub none : first_record (unfinished ++ taken) ≡ None

@@ -28,6 +28,7 @@ RecordsUpTo bytes limit None = bytes ≡ 0
 RecordsUpTo bytes limit (Some path) = bytes ≡ limit
 
 -- Each option sets its own field, and no other. The limit of open files is the system's.
+-- SETTING-1
 pub record AreSettings (open_files : ℕ) (texts : ServeTexts) (settings : Settings) : Type 0 where
   pub bind : SpellEach SpellsHost settings.bind (borrowed_texts texts.bind.now)
   pub few_hosts : length texts.bind.now ≤ 16

@@ -88,7 +88,7 @@ pub record IsAccepted (context : Context) (l : Ledger) (row : Row) : Type 0 wher
 
 -- ---- what it leaves
 
--- The row is live behind those that were, the SET is noted, and nothing else is changed.
+-- The row is live after those that were, the SET is noted, and nothing else is changed.
 pub record IsAddedTo (head : CallHead) (row : Row) (l new : Ledger) : Type 0 where
   pub live : rows_in new ≡ rows_in l ++ row ∷ []
   pub own : new.own ≡ l.own

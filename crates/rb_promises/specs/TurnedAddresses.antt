@@ -52,7 +52,7 @@ pub data TurnsBytes (form text : List ℕ) : Type 0 where
 
 -- ---- the time
 
--- So many whole seconds are in so many milliseconds, or the most that there can be told, from the year 2106 on.
+-- This many whole seconds are in this many milliseconds, or the most that there can be told, from the year 2106 on.
 pub data AreSeconds (milliseconds number : ℕ) : Type 0 where
   Whole : number < 2 ^ 32 → number * 1000 ≤ milliseconds → milliseconds < number * 1000 + 1000 → AreSeconds milliseconds number
   TheMost : 2 ^ 32 * 1000 ≤ milliseconds → number ≡ 2 ^ 32 - 1 → AreSeconds milliseconds number

@@ -156,6 +156,7 @@ pub record IsNetidPing (shape : Shape) (netid : Netid) (program : ℕ) (version 
   pub others : NotGiven (shape.target ∷ shape.address ∷ shape.local ∷ shape.broadcast ∷ [])
 
 -- -a address -T netid program [version]
+-- WORDS-10
 pub record IsAddressPing (shape : Shape) (netid : Netid) (called : Uaddr) (program : ℕ) (version : Option ℕ) : Type 0 where
   pub flag : shape.flags.now ≡ []
   pub address : Given (SpellsAddress called) shape.address
@@ -176,6 +177,7 @@ pub record IsBroadcast (shape : Shape) (program version : ℕ) : Type 0 where
   pub words : (IsProgram shape program ▹ SpellsNumber version ▹ NoWord) (words_in shape)
   pub others : NotGiven (shape.target ∷ shape.netid ∷ shape.address ∷ shape.local ∷ [])
 
+-- WORDS-6
 abbrev pub IsLine : Shape → Plan → Type 0
 IsLine shape (Show listing source) = IsList shape listing source
 IsLine shape (Entries source program version) = IsEntries shape source program version

@@ -6,7 +6,7 @@ ghost use Rattle.rb_promises.specs.Unsets.{UnsetsAreAcceptedExactly};
 /// machine; its program is not the portmapper's; its address is one of its netid, with a port other than 0; no live row
 /// is of its program, version and netid; there is a place for one more row, which for a caller that is known as another
 /// owner than the superuser is none of the last quarter; and there is a number for one more change. It is then live
-/// behind the others, and nothing else is changed but that the SET is noted. Every other SET is answered FALSE and
+/// after the others, and nothing else is changed but that the SET is noted. Every other SET is answered FALSE and
 /// changes nothing.
 pub fn sets_are_accepted_exactly()
     ensures { SetsAreAcceptedExactly }

@@ -22,7 +22,7 @@ use Rattle.rb_proto.specs.ListReplies.{longest_row, head_unless, rows_behind, by
 use Rattle.rb_proto.specs.ListParts.{Fills, IsShort}
 use Rattle.rb_proto.proofs.Lists.{Passes, left}
 
--- ---- the rows behind a cursor
+-- ---- the rows after a cursor
 
 module _ (list : Listing) where
   first_row : (rows : List Row) (p : ℕ) (row : Row) → slice_get rows p ≡ Some row → rows_bytes (drop p rows) list ≡ row_bytes list row ++ rows_bytes (drop (p + 1) rows) list
@@ -93,13 +93,13 @@ filling_begins kept r most base began out first meter place head cap out_tie bas
 }
 
 module _ (kept : Registry) (old now : ListReply) (most base : ℕ) (began out : Kept) (first meter : Meter) (f : Filling kept old now most base began out first meter) where
-  -- what stands at the cursor is behind what is shown
+  -- what stands at the cursor is after what is shown
   at_cursor : drop base (bytes_behind kept old) ≡ rows_bytes (rows_behind kept now.stamp now.cursor) now.list
   at_cursor =
       rw (f.base_is, ← f.shows) (drop-append_seam out.bytes (rows_bytes (rows_behind kept now.stamp now.cursor) now.list))
 
   module _ (row : Row) (next : Option ℕ) (passes : Passes kept now.stamp now.cursor row next) (more : Kept) (added : more ≡ record out { bytes = out.bytes ++ row_bytes now.list row }) where
-    -- what is shown with the row, and what stands behind it
+    -- what is shown with the row, and what stands after it
     shows_row : more.bytes ++ rows_bytes (rows_behind kept now.stamp next) now.list ≡ bytes_behind kept old
     shows_row =
         let row_first = first_row now.list (rows_at kept now.stamp) (rows_passed kept now.stamp now.cursor) row passes.here in
@@ -111,7 +111,7 @@ module _ (kept : Registry) (old now : ListReply) (most base : ℕ) (began out : 
     longer : length more.bytes ≡ length out.bytes + length (row_bytes now.list row)
     longer = ap (λ (k : Kept). length k.bytes) added ∙ length-append out.bytes (row_bytes now.list row)
 
-    -- the row is within so many bytes, and the cursor goes on
+    -- the row is within this many bytes, and the cursor goes on
     pub row_passed : (asked wrote paid : Meter) (len cost : ℕ) → PaysAtMost meter asked cost → asked.steps + 2 * slots_left kept next ≤ meter.steps + 2 * slots_left kept now.cursor → PaysAtMost asked wrote (length (row_bytes now.list row))
         → len ≡ length more.bytes → len ≤ most → paid ≡ record wrote { steps = wrote.steps + 1 } → Filling kept old (record now { cursor = next }) most len began more first paid
     row_passed asked wrote paid len cost looked passed writes len_is within pays =
@@ -130,7 +130,7 @@ module _ (kept : Registry) (old now : ListReply) (most base : ℕ) (began out : 
           steps = omega (arith, f.steps, passed, writes.steps, one_paid, longer, passes.passed, within_rows);
         }
 
-    -- the row goes past so many bytes
+    -- the row goes past this many bytes
     pub row_crosses : IsShort (row_bytes now.list row) → most < length more.bytes → Fills kept old now most more.bytes base
     row_crosses short past = record {
       moved = f.moved;
@@ -147,7 +147,7 @@ module _ (kept : Registry) (old now : ListReply) (most base : ℕ) (began out : 
   pub end_fits : most + longest_row ≤ began.cap → length out.bytes + length (boolean false) ≤ out.cap
   end_fits room = omega (arith, f.base_is, f.before, f.cap, room, length-boolean false)
 
-  -- there is no row behind the cursor
+  -- there is no row after the cursor
   module _ (more : Kept) (end : rows_passed kept now.stamp now.cursor ≡ length (rows_at kept now.stamp)) (added : more ≡ record out { bytes = out.bytes ++ boolean false }) where
     shows_end : more.bytes ≡ bytes_behind kept old
     shows_end =

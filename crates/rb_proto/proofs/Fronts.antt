@@ -1,4 +1,4 @@
--- A call is answered the same whatever stands behind its arguments.
+-- A call is answered the same whatever stands after its arguments.
 use Rattle.std.proofs.Common.{◌≡◌, ◌≤◌, ◌+◌, ◌-◌, ℕ, List, take, drop, refl, ap, ◌∙◌, arith}
 use Rattle.std.proofs.lemmas.List.{length-take, drop-take, take-take}
 use Rattle.rb_rpc.specs.declared.call.CallHead.{CallHead}

@@ -158,7 +158,7 @@ module _ (f : Row → List ℕ) (kept : Registry) (stamp : ℕ) (cursor : Option
   size : length out.bytes ≡ length began.bytes + length (passed_bytes f kept stamp cursor)
   size = ap (λ (k : Kept). length k.bytes) w.written ∙ length-append began.bytes (passed_bytes f kept stamp cursor)
 
-  -- what is written now stands behind all that was written before
+  -- what is written now stands after all that was written before
   behind : (xs : List ℕ) → record out { bytes = out.bytes ++ xs } ≡ record began { bytes = began.bytes ++ (passed_bytes f kept stamp cursor ++ xs) }
   behind xs =
       ap (λ (k : Kept). record k { bytes = k.bytes ++ xs }) w.written

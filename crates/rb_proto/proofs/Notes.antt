@@ -12,8 +12,8 @@ use Rattle.rb_stats.proofs.Items.{count_by-push}
 use Rattle.rb_forward.specs.declared.types.Forward.{Forward}
 use Rattle.rb_rpc.specs.declared.caller.Kind.{Kind}
 use Rattle.rb_rpc.specs.declared.caller.Kind.TheVariants.{Callit2, Callit3, Bcast, Indirect}
-use Rattle.rb_forward.specs.declared.types.Outcome.{Outcome}
-use Rattle.rb_forward.specs.declared.types.Outcome.TheVariants.{Failed, Dropped}
+use Rattle.rb_forward.specs.declared.types.ForwardEnd.{ForwardEnd}
+use Rattle.rb_forward.specs.declared.types.ForwardEnd.TheVariants.{Failed, Dropped}
 use Rattle.rb_forward.specs.Forwards.{Entry, without_first, change_first, as_sent, is_unsent, ended_by, with_end, can_start, next_entry, with_next_entry, sent, counts_for, outcome_of, reply, is_due, due, is_of_connection, drop_caller}
 use Rattle.rb_forward.proofs.Tables.{all_stay}
 use Rattle.rb_proto.specs.declared.answers.Answer.{Answer}
@@ -50,7 +50,7 @@ as_many test change (x ∷ all) = by_cases (test x) refl (as_many test change al
 one_noted : (note : Note) (history : List Note) → is_outcome note ≡ true → count_by is_outcome (history ++ note ∷ []) ≡ count_by is_outcome history + 1
 one_noted note history is = count_by-push is_outcome history note ∙ ap (λ (b : Bool). count_by is_outcome history + cond b 1 0) is
 
-is_of_end : (e : Entry) (outcome : Outcome) → is_outcome (end_note (ended_by outcome e)) ≡ true
+is_of_end : (e : Entry) (outcome : ForwardEnd) → is_outcome (end_note (ended_by outcome e)) ≡ true
 unfolding end_note outcome_note
 is_of_end e outcome = refl
 
@@ -102,7 +102,7 @@ module _ (context : Context) (xid : ℕ) (kind : Kind) (remote : RemoteCall) (l 
 
 -- ---- an entry ends
 
-end_counts : (test : Entry → Bool) (outcome : Outcome) (l : Ledger) → CountsOn uncounted_at_end (asked_so_far l) (noted_end (with_end test outcome l.forwards) l)
+end_counts : (test : Entry → Bool) (outcome : ForwardEnd) (l : Ledger) → CountsOn uncounted_at_end (asked_so_far l) (noted_end (with_end test outcome l.forwards) l)
 end_counts test outcome l = by_found (find test l.forwards.all) refl
   where
     all : List Entry

@@ -46,14 +46,16 @@ pub use Rattle.rb_proto.specs.declared.context.Context.{Context}
 -- ---- changes
 
 -- the caller is on this machine, as far as it is trusted
+-- REGISTER-2
 unfoldable pub comes_from_here : Context → Bool
 comes_from_here context = may_register context.announced (who_of context.caller)
 
 -- as whom a call of this head registers
+-- OWNER-1
 abbrev pub owner_in : Context → CallHead → Owner
 owner_in context head = owner_of (who_of context.caller).trust head.cred
 
--- the change and the note of it behind the others, where it is accepted, and whether it is
+-- the change and the note of it after the others, where it is accepted, and whether it is
 abbrev pub change_if : Bool → Change → Note → Ledger → Bool × Ledger
 change_if accepted change note l = (
   accepted,
@@ -66,6 +68,7 @@ change_if accepted change note l = (
 -- ---- SET (RPCBPROC_SET, PMAPPROC_SET)
 
 -- version 2 names a transport by its protocol and an address by its port, at every host
+-- SET-4
 unfoldable pub row_of_mapping : Owner → Mapping → Option Row
 row_of_mapping owner m =
     if nat_le m.port 65535 then option_map on (transport_of_protocol m.prot) else None
@@ -74,6 +77,7 @@ row_of_mapping owner m =
     on transport = record { prog = m.prog; vers = m.vers; netid = netid_of transport; owner = owner; addr = text_of (V4 any_host m.port) }
 
 -- the address is kept as it is given, and r_owner is ignored
+-- SET-5
 unfoldable pub row_of_rpcb : Owner → Rpcb → Option Row
 row_of_rpcb owner r = option_map on (netid_named r.netid)
   where
@@ -81,22 +85,26 @@ row_of_rpcb owner r = option_map on (netid_named r.netid)
     on netid = record { prog = r.prog; vers = r.vers; netid = netid; owner = owner; addr = r.addr }
 
 -- another program than the portmapper's own, at an address that may be set on its netid
+-- SET-3
 unfoldable pub can_be_set : Row → Bool
 can_be_set row = not (row.prog == rpcb_prog) && is_address row.netid row.addr
 
 -- these live rows are fewer than those among which the caller may set one more
+-- QUOTA-1
 unfoldable pub has_share : Context → List Row → Bool
 has_share context rows = nat_lt (length rows) (share_in context)
 
--- a caller on this machine may set the row, and there is a place for it beside these live rows, after so many changes
+-- a caller on this machine may set the row, and there is a place for it beside these live rows, after this many changes
 abbrev pub accepts : Context → List Row → ℕ → Row → Bool
 accepts context rows count row =
     comes_from_here context && can_be_set row && has_share context rows && has_place context.limit rows count row
 
+-- SET-2
 unfoldable pub accepts_row : Context → Ledger → Row → Bool
 accepts_row context l row = accepts context (rows_in l) (length l.changes) row
 
 -- A SET of the row that is asked for, if there is one: TRUE, the row added and the SET noted, else FALSE.
+-- COUNT-1
 unfoldable pub set_row : Context → CallHead → Option Row → Ledger → Bool × Ledger
 set_row context head None l = (false, l)
 set_row context head (Some row) l = change_if (accepts_row context l row) (Added row) (WasSet (version_of head.vers)) l
@@ -112,7 +120,7 @@ row_asked context head _ = None
 unfoldable pub row_to_set : Context → Call → Option Row
 row_to_set context call = row_asked context call.head call.request
 
--- some row is asked for, and it is accepted beside these live rows, after so many changes
+-- some row is asked for, and it is accepted beside these live rows, after this many changes
 abbrev pub adds : Context → List Row → ℕ → Option Row → Bool
 adds context rows count None = false
 adds context rows count (Some row) = accepts context rows count row
@@ -122,12 +130,14 @@ unfoldable pub adds_row : Context → Call → List Row → ℕ → Bool
 adds_row context call rows count = adds context rows count (row_to_set context call)
 
 -- a SET that is accepted wants room for its row
+-- ROOM-1
 abbrev pub wants_room : Context → Call → Ledger → Bool
 wants_room context call l = adds_row context call (rows_in l) (length l.changes)
 
 -- ---- UNSET (RPCBPROC_UNSET, PMAPPROC_UNSET)
 
 -- a caller on this machine may remove some row by it
+-- UNSET-3
 unfoldable pub accepts_removal : Context → Ledger → Change → Bool
 accepts_removal context l removal = comes_from_here context && removes_some (rows_in l) (length l.changes) removal
 
@@ -137,6 +147,7 @@ removal_of context head prog vers which = Removed prog vers which (owner_in cont
 
 -- An UNSET of a version of a program on these netids, if they are known: TRUE where some row is removed, and the UNSET
 -- noted, else FALSE.
+-- UNSET-4 COUNT-1
 unfoldable pub unset_rows : Context → CallHead → ℕ → ℕ → Option Which → Ledger → Bool × Ledger
 unset_rows context head prog vers None l = (false, l)
 unset_rows context head prog vers (Some which) l =
@@ -145,6 +156,7 @@ unset_rows context head prog vers (Some which) l =
 -- ---- rows that are asked for
 
 -- the row's universal address as callers are told it: a host of its family stands in for 0.0.0.0 or ::
+-- TOLD-2
 unfoldable pub shown_address : Hosts → Row → Option Uaddr
 shown_address hosts row = option_map (merged_address hosts) (address_in row.netid row.addr)
 
@@ -159,10 +171,12 @@ told_text hosts row (Some (V4 own port)) = text_of (merged_address hosts (V4 own
 told_text hosts row (Some (V6 own port)) = if is_replaced hosts own then text_of (V6 hosts.inet6 port) else row.addr
 told_text hosts row None = row.addr
 
+-- GETADDRLIST-1
 unfoldable pub shown_text : Hosts → Row → List ℕ
 shown_text hosts row = told_text hosts row (address_in row.netid row.addr)
 
 -- 0 where there is no port
+-- DUMP-3
 unfoldable pub shown_port : Row → ℕ
 shown_port row = option_map_or port_of (address_in row.netid row.addr) 0
 
@@ -171,6 +185,7 @@ abbrev pub port_found : Option Row → ℕ
 port_found found = option_map_or shown_port found 0
 
 -- the name of a local socket stays as it was set
+-- TOLD-2
 abbrev pub addr_told : Hosts → Row → List ℕ
 addr_told hosts row = option_map_or text_of (shown_address hosts row) row.addr
 
@@ -179,6 +194,7 @@ abbrev pub addr_found : Hosts → Option Row → List ℕ
 addr_found hosts found = option_map_or (addr_told hosts) found []
 
 -- a look-up of the target, in a call of this head, is noted with whether it found a row, where it counts
+-- COUNT-3
 abbrev pub with_lookup : Context → CallHead → Target → Option Row → Ledger → Ledger
 with_lookup context head target found l =
     note_where (counts_look_up (who_of context.caller) target.vers found) (LookedUp (version_of head.vers) target (is_some found)) l
@@ -193,6 +209,7 @@ port_on context head m (Some transport) l =
     port_told context head (record { prog = m.prog; vers = m.vers; netid = netid_of transport }) (find_row m.prog m.vers (netid_of transport) (rows_in l)) l
 
 -- PMAPPROC_GETPORT: by the transport of prot; port is ignored. Where prot is of none, nothing is looked up.
+-- GETPORT-1 COUNT-3
 unfoldable pub getport : Context → CallHead → Mapping → Ledger → ℕ × Ledger
 getport context head m l = port_on context head m (transport_of_protocol m.prot) l
 
@@ -210,24 +227,29 @@ text_found context head r found l =
     (addr_found (hosts_in context) found, with_lookup context head (target_of context r) found l)
 
 -- RPCBPROC_GETADDR
+-- GETADDR-1 GETADDR-2 COUNT-3
 unfoldable pub getaddr : Context → CallHead → Rpcb → Ledger → List ℕ × Ledger
 getaddr context head r l = text_found context head r (find_row r.prog r.vers (netid_asked context) (rows_in l)) l
 
 -- RPCBPROC_GETVERSADDR: the same, of the exact version alone
+-- GETVERSADDR-1 COUNT-3
 unfoldable pub getversaddr : Context → CallHead → Rpcb → Ledger → List ℕ × Ledger
 getversaddr context head r l = text_found context head r (find_exact r.prog r.vers (netid_asked context) (rows_in l)) l
 
 -- ---- the rest
 
 -- whole seconds since the start of 1970, as far as an unsigned int goes
+-- GETTIME-1
 unfoldable pub seconds : ℕ → ℕ
 seconds clock = min (clock / 1000) (2 ^ 32 - 1)
 
 -- empty where the text is no address
+-- UADDR2TADDR-1
 unfoldable pub taddr_of : List ℕ → Netbuf
 taddr_of text = let buf = option_map_or transport_of (parse text) [] in record { maxlen = length buf; buf = buf }
 
 -- empty where the form is none of an address; its maxlen is ignored
+-- UADDR2TADDR-1
 unfoldable pub uaddr_of : Netbuf → List ℕ
 uaddr_of netbuf = option_map_or text_of (from_transport netbuf.buf) []
 
@@ -246,6 +268,7 @@ abbrev pub tell_done : {A : Type 0} → (A → Value) → A × Ledger → Answer
 tell_done value done = (answers.Results (results.Value (value done.0)), done.1)
 
 -- what a procedure without arguments is answered, and the ledger stays
+-- NULL-1
 abbrev pub answer_void : Context → VoidProcedure → Results
 answer_void context voids.Null = results.Value values.Void
 answer_void context voids.PmapDump = results.Rows Mappings
@@ -256,6 +279,7 @@ answer_void context voids.Getstat = results.Statistics
 -- What a call of this head is answered that asks for this, and what it leaves behind. SET, UNSET, the look-ups and calls
 -- that can't be forwarded note what they did. A call that is forwarded has its args in the bytes of the arguments, which
 -- count for nothing else.
+-- UNSET-5 GETSTAT-1
 abbrev pub answer_to : Context → CallHead → Request → List ℕ → Ledger → Answer × Ledger
 answer_to context head (requests.Void procedure) arguments l = (answers.Results (answer_void context procedure), l)
 answer_to context head (requests.Mapping mappings.Set m) arguments l = tell_done values.Bool (set_row context head (row_of_mapping (owner_in context head) m) l)

@@ -19,7 +19,7 @@ use Rattle.rb_forward.specs.declared.types.Ended.{Ended}
 use Rattle.rb_proto.specs.declared.books.Books.{Books}
 use Rattle.rb_proto.specs.declared.call.Call.{Call}
 use Rattle.rb_proto.specs.declared.context.Context.{Context}
-use Rattle.rb_proto.specs.declared.forwarding.Asked.{Asked}
+use Rattle.rb_proto.specs.declared.forwarding.ForwardNote.{ForwardNote}
 use Rattle.rb_arguments.specs.declared.remote.RemoteCall.{RemoteCall}
 use Rattle.rb_proto.specs.declared.answers.Answer.{Answer}
 use Rattle.rb_proto.specs.declared.answers.Answer.TheVariants as answers
@@ -29,7 +29,7 @@ use Rattle.rb_proto.specs.Ledger.{Ledger, StandsForLedger, version_of}
 use Rattle.rb_proto.specs.Answers.{adds, adds_row}
 use Rattle.rb_proto.specs.Forwarding.{outcome_note, forward_call, target_replied}
 
--- the changes behind the first n that removed rows, in the order of these rows
+-- the changes after the first n that removed rows, in the order of these rows
 abbrev pub removals_after : ℕ → Ledger → List ℕ
 removals_after n l = filter_map (λ slot. slot.removed) (slots_from n l.own l.changes)
 
@@ -48,7 +48,7 @@ pub record ActsAs {A : Type 0} (act : Ledger → A × Ledger) (old new : Books) 
 abbrev pub BooksShow : {A : Type 0} → (Ledger → A) → Books → A → Type 0
 BooksShow show books result = (l : Ledger) → StandsForLedger books l → result ≡ show l
 
--- The history that the statistics stand for has the note behind it, where it counts, and else stays.
+-- The history that the statistics stand for has the note after it, where it counts, and else stays.
 abbrev pub HasNotedWhere : Bool → Note → Stats → Stats → Type 0
 HasNotedWhere counts note old new =
     (notes : List Note) → StandsForHistory old notes → StandsForHistory new (if counts then notes ++ note ∷ [] else notes)
@@ -107,11 +107,11 @@ HasRowRoom context call kept = wants_room_in context call kept ≡ true → HasP
 -- ---- forwarded calls
 
 -- the note of how a call ended that was asked for so
-abbrev pub note_asked : Asked → Bool → Note
+abbrev pub note_asked : ForwardNote → Bool → Note
 note_asked asked passed = outcome_note asked.kind asked.caller asked.prog asked.vers asked.proc passed
 
 -- That a forwarded call ended so is noted, where it counts.
-abbrev pub NotesForward : Asked → Bool → Stats → Stats → Type 0
+abbrev pub NotesForward : ForwardNote → Bool → Stats → Stats → Type 0
 NotesForward asked passed old new = HasNotedWhere (counts_forward asked.caller passed) (note_asked asked passed) old new
 
 -- A look-up of a call with this head is noted, where it counts, with whether it found a row.
@@ -136,6 +136,6 @@ ForwardsAs context xid kind remote arguments old new result =
 abbrev pub reply_to : Books → ℕ → Peer → List ℕ → Ledger → Option Ended × Ledger
 reply_to books clock from bytes = target_replied books.forwards.first_xid clock from bytes
 
--- the call that is to be sent next, where the books number the entries
+-- the call that must be sent next, where the books number the entries
 abbrev pub unsent_of : Books → Ledger → Option Unsent
 unsent_of books l = unsent books.forwards.first_xid l.forwards

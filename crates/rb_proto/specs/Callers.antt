@@ -58,6 +58,7 @@ abbrev pub own_local : Option (List ℕ) → List Row
 own_local None = []
 own_local (Some path) = own_pair netids.Local path
 
+-- OWN-1
 unfoldable pub own_rows : Listener → List Row
 own_rows listener =
     own_inet6 listener.port listener.announced.inet6
@@ -70,6 +71,7 @@ who_of (callers.Tcp id who) = who
 who_of (callers.Udp who longest) = who
 
 -- the netid by which the call came
+-- GETADDR-1
 abbrev pub netid_of_caller : Caller → Netid
 netid_of_caller (callers.Tcp id who) = netid_from transports.Tcp who.source
 netid_of_caller (callers.Udp who longest) = netid_from transports.Udp who.source
@@ -89,10 +91,12 @@ abbrev pub is_announced_as : List ℕ → Option (List ℕ) → Bool
 is_announced_as octets announced = option_map_or (λ own. bytes_eq octets own) announced false
 
 -- by its address alone: 127.0.0.0/8, ::1, or the announced host of its family
+-- REGISTER-1
 unfoldable pub is_local : Announced → Host → Bool
 is_local announced (hosts.V4 octets) = is_loopback (hosts.V4 octets) || is_announced_as octets announced.inet
 is_local announced (hosts.V6 octets) = is_loopback (hosts.V6 octets) || is_announced_as octets announced.inet6
 
+-- REGISTER-1
 abbrev pub is_here : Announced → Source → Bool
 is_here announced (sources.Inet peer) = is_local announced peer.host
 is_here announced sources.Local = true
@@ -103,6 +107,7 @@ is_trusted announced source trusts.Claims = is_here announced source
 is_trusted announced source (trusts.Local owner) = true
 is_trusted announced source trusts.Stranger = false
 
+-- REGISTER-2
 abbrev pub may_register : Announced → Who → Bool
 may_register announced who = is_trusted announced who.source who.trust
 
@@ -112,6 +117,7 @@ owner_named credentials.None = Unknown
 owner_named (credentials.Sys uid) = Uid uid
 
 -- whose owner is known is that owner, whatever the credential says
+-- OWNER-1
 abbrev pub owner_of : Trust → Credential → Owner
 owner_of trusts.Claims cred = owner_named cred
 owner_of (trusts.Local owner) cred = owner
@@ -126,6 +132,7 @@ abbrev pub share_of : Owner → ℕ → ℕ
 share_of owner limit = if is_superuser owner then limit else limit - limit / 4
 
 -- how many rows there may be with the one that a caller sets
+-- QUOTA-1
 abbrev pub share_by : Trust → ℕ → ℕ
 share_by trusts.Claims limit = limit
 share_by (trusts.Local owner) limit = share_of owner limit
@@ -145,16 +152,19 @@ announced_hosts announced = record {
 
 -- In place of every host of a family a caller is told the host that it asked, where that is one of the family; else
 -- the announced one.
+-- TOLD-1
 unfoldable pub hosts_told : Announced → Host → Hosts
 hosts_told announced (hosts.V4 asked) =
     record (announced_hosts announced) { inet = merged_host (announced_hosts announced).inet asked }
 hosts_told announced (hosts.V6 asked) =
     record (announced_hosts announced) { inet6 = merged_host6 (announced_hosts announced).inet6 asked }
 
+-- TOLD-1
 abbrev pub hosts_in : Context → Hosts
 hosts_in context = hosts_told context.announced (who_of context.caller).asked
 
 -- r_owner as DUMP shows it
+-- DUMP-2
 unfoldable pub owner_text : Owner → List ℕ
 owner_text Unknown = codes "unknown"
 owner_text (Uid uid) = if uid == 0 then codes "superuser" else decimal uid

@@ -7,7 +7,7 @@ use Rattle.rb_forward.specs.Costs.{start_cost}
 abbrev pub note_cost : ℕ
 note_cost = 2 * most_keys
 
--- a new entry of forwarded calls, whose call has so many bytes of arguments
+-- a new entry of forwarded calls, whose call has this many bytes of arguments
 abbrev pub forward_cost : ℕ → ℕ
 forward_cost args = start_cost args
 
@@ -16,5 +16,6 @@ abbrev pub statistics_cost : ℕ
 statistics_cost = 6 * most_keys
 
 -- each key of the statistics is removed, and none is left
+-- STAT-7
 abbrev pub zero_cost : ℕ
 zero_cost = 2 * most_keys + 1

@@ -38,6 +38,7 @@ pub record IsRegisteredAt (netid : Netid) (rows : List Row) (remote : RemoteCall
 
 -- What is asked where, and what its caller is shown: another host in place of 0.0.0.0 and ::, else the one that was
 -- registered.
+-- CALLIT-3 CALLIT-7
 pub record AsksRegistered (context : Context) (rows : List Row) (remote : RemoteCall) (forward : Forward) : Type 0 where
   pub address : Uaddr
   pub may : may_go context remote (peer_of_address address).host ≡ true
@@ -55,6 +56,7 @@ pub record IsForwarded (context : Context) (xid : ℕ) (kind : Kind) (remote : R
   pub asks : AsksRegistered context (rows_in l) remote forward
   pub left : (forward_call context xid kind remote arguments l).1 ≡ record l { forwards = with_next_entry context.clock forward (args_of remote arguments) l.forwards }
 
+-- CALLIT-1
 abbrev pub ForwardsGoToRows : Type 0
 ForwardsGoToRows =
     (context : Context) (xid : ℕ) (kind : Kind) (remote : RemoteCall) (arguments : List ℕ) (l : Ledger)
@@ -94,5 +96,6 @@ pub record IsNotedOnce (l : Ledger) : Type 0 where
   pub is_dropped : (id : ℕ) → CountsOn uncounted_at_end (asked_so_far l) (caller_dropped id l)
 
 -- Each call that asks for another is noted once, at its outcome; a stranger's only where it passed.
+-- COUNT-5
 abbrev pub ForwardsAreNotedOnce : Type 0
 ForwardsAreNotedOnce = (l : Ledger) → IsNotedOnce l

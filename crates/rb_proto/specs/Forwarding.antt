@@ -28,8 +28,8 @@ use Rattle.rb_stats.specs.Statistics.Note.{Forwarded}
 use Rattle.rb_rpc.specs.declared.caller.Kind.{Kind}
 use Rattle.rb_rpc.specs.declared.caller.Kind.TheVariants.{Callit2, Callit3, Bcast, Indirect}
 use Rattle.rb_forward.specs.declared.types.Forward.{Forward}
-use Rattle.rb_forward.specs.declared.types.Outcome.{Outcome}
-use Rattle.rb_forward.specs.declared.types.Outcome.TheVariants as outcomes
+use Rattle.rb_forward.specs.declared.types.ForwardEnd.{ForwardEnd}
+use Rattle.rb_forward.specs.declared.types.ForwardEnd.TheVariants as outcomes
 use Rattle.rb_forward.specs.declared.types.Ended.{Ended}
 use Rattle.rb_forward.specs.Forwards.{Forwards, reply, due, drop_caller, can_start, with_next_entry, sent}
 use Rattle.rb_proto.specs.declared.context.Context.{Context}
@@ -58,6 +58,7 @@ is_indirect Bcast = false
 is_indirect Indirect = true
 
 -- a call of this kind at its outcome, by what it calls and by which netid it came
+-- COUNT-5
 unfoldable pub outcome_note : Kind → Caller → ℕ → ℕ → ℕ → Bool → Note
 outcome_note kind caller prog vers proc passed =
     Forwarded (version_of_kind kind) (record { prog = prog; vers = vers; netid = netid_of_caller caller }) proc passed (is_indirect kind)
@@ -65,6 +66,7 @@ outcome_note kind caller prog vers proc passed =
 -- ---- where a call is forwarded
 
 -- over IPv6 for a caller of IPv6, else over IPv4
+-- CALLIT-2
 abbrev pub netid_to_forward : Source → Netid
 netid_to_forward (sources.Inet peer) = netid_on transports.Udp (family_of peer.host)
 netid_to_forward sources.Local = netids.Udp
@@ -92,6 +94,7 @@ merged_peer hosts registered = peer_of_address (merged_address hosts registered)
 
 -- What is asked at the registered address. In place of 0.0.0.0 the call goes to 127.0.0.1, in place of :: to ::1, and
 -- the caller is shown the host that it is told.
+-- CALLIT-3 CALLIT-4
 unfoldable pub forward_of : Context → ℕ → Kind → RemoteCall → Uaddr → Forward
 forward_of context xid kind remote registered = record {
   caller = context.caller;
@@ -107,6 +110,7 @@ forward_of context xid kind remote registered = record {
 -- ---- what its caller is told
 
 -- INDIRECT answers a failure; CALLIT and BCAST are silent, as calls to all hosts have to be
+-- CALLIT-6
 abbrev pub refusal : Kind → ReplyStatus → Answer
 refusal Callit2 status = answers.Silent
 refusal Callit3 status = answers.Silent
@@ -119,6 +123,7 @@ refuse context kind remote status l =
     (refusal kind status, note_where (counts_forward context.caller false) (outcome_note kind context.caller remote.prog remote.vers remote.proc false) l)
 
 -- a call of these arguments, to the registered address if there is one
+-- CALLIT-5
 abbrev pub forward_to : Context → ℕ → Kind → RemoteCall → List ℕ → Option Uaddr → Ledger → Answer × Ledger
 forward_to context xid kind remote args None l = refuse context kind remote replies.ProgUnavail l
 forward_to context xid kind remote args (Some registered) l =
@@ -133,6 +138,7 @@ if_may_go context remote (Some registered) =
     if may_go context remote (peer_of_address registered).host then Some registered else None
 
 -- where the call that is asked for goes, for this caller
+-- CALLIT-1
 abbrev pub address_asked : Context → RemoteCall → List Row → Option Uaddr
 address_asked context remote rows =
     if_may_go context remote (address_to_forward (netid_to_forward (who_of context.caller).source) remote.prog remote.vers rows)
@@ -144,12 +150,13 @@ forward_call context xid kind remote arguments l =
 
 -- ---- how it ends
 
-abbrev pub is_pass : Outcome → Bool
+abbrev pub is_pass : ForwardEnd → Bool
 is_pass (outcomes.Passed place) = true
 is_pass (outcomes.Refused status) = false
 is_pass outcomes.Failed = false
 is_pass outcomes.Dropped = false
 
+-- COUNT-5
 unfoldable pub end_note : Ended → Note
 end_note ended =
     outcome_note ended.forward.kind ended.forward.caller ended.forward.prog ended.forward.vers ended.forward.proc (is_pass ended.outcome)
@@ -166,7 +173,7 @@ end_notes (Some ended) = notes_where (counts_end ended) (end_note ended)
 abbrev pub noted_end : Option Ended × Forwards → Ledger → Option Ended × Ledger
 noted_end ended l = (ended.0, record l { history = l.history ++ end_notes ended.0; forwards = ended.1 })
 
--- a datagram comes in: from whom, at which moment, behind the xid of the first entry
+-- a datagram comes in: from whom, at which moment, after the xid of the first entry
 unfoldable pub target_replied : ℕ → ℕ → Peer → List ℕ → Ledger → Option Ended × Ledger
 target_replied first_xid clock from message l = noted_end (reply first_xid clock from message l.forwards) l
 
@@ -200,5 +207,6 @@ place_bytes Bcast shown = opaque (text_of (uaddr_at shown))
 place_bytes Indirect shown = opaque (text_of (uaddr_at shown))
 
 -- rpcb_rmtcallres (RFC 1833 section 2.1) or call_result (section 3.1)
+-- CALLIT-10
 unfoldable pub forwarded_bytes : Forward → List ℕ → List ℕ
 forwarded_bytes forward results = place_bytes forward.kind forward.shown ++ opaque results

@@ -31,14 +31,15 @@ rows_in l = live l.own l.changes
 -- ---- the history
 
 -- the version that counts a call (one of another number has no procedures)
+-- COUNT-4
 unfoldable pub version_of : ℕ → Version
 version_of vers = if vers == 2 then Two else if vers == 3 then Three else Four
 
--- a note behind the others
+-- a note after the others
 abbrev pub with_note : Note → Ledger → Ledger
 with_note note l = record l { history = l.history ++ note ∷ [] }
 
--- a note behind the others, where it counts
+-- a note after the others, where it counts
 abbrev pub note_where : Bool → Note → Ledger → Ledger
 note_where counts note l = record l { history = if counts then l.history ++ note ∷ [] else l.history }
 
@@ -48,6 +49,7 @@ notes_where true note = note ∷ []
 notes_where false note = []
 
 -- a call of a procedure that its version has is noted before it is answered, whether its arguments can be read or not
+-- COUNT-6
 unfoldable pub with_call_noted : CallHead → Ledger → Ledger
 with_call_noted head l = with_note (Called (version_of head.vers) head.proc) l
 

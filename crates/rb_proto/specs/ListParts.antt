@@ -27,7 +27,7 @@ abbrev pub list_reply : ℕ → List Row → Listing → List ℕ
 list_reply xid rows list = reply_head xid Success ++ list_bytes rows list
 
 -- A buffer shows the bytes from the old cursor on, all of them or more than `most`. The first `base` of them stand before
--- the new cursor, and what is shown behind these is no more than a row adds.
+-- the new cursor, and what is shown after these is no more than a row adds.
 pub record Fills (kept : Registry) (old new : ListReply) (most : ℕ) (shown : List ℕ) (base : ℕ) : Type 0 where
   pub moved : new ≡ record old { cursor = new.cursor }
   pub place : StandsIn kept new.stamp new.cursor
@@ -46,7 +46,7 @@ ListsRows xid list kept r = rest_of kept r ≡ list_reply xid (rows_of kept) lis
 abbrev pub IsNextPart : Registry → ListReply → List ℕ → ListPart → Type 0
 IsNextPart kept r shown part = slice_range shown part.start part.end ≡ take fragment_size (rest_of kept r)
 
--- the new reply goes on behind the next part of the old one
+-- the new reply goes on after the next part of the old one
 abbrev pub IsBehindPart : Registry → ListReply → ListReply → Type 0
 IsBehindPart kept old new = rest_of kept new ≡ drop fragment_size (rest_of kept old)
 
@@ -61,5 +61,6 @@ pub record ContinuesAlike (old new : Registry) (r : ListReply) : Type 0 where
   pub rest : rest_of new r ≡ rest_of old r
 
 -- Whatever is called in between, the same is yet to be given, as long as the floor isn't above the reply's stamp.
+-- LIST-3
 abbrev pub ListRepliesGoOn : Type 0
 ListRepliesGoOn = (old new : Registry) (r : ListReply) → GoesOn old new → new.floor ≤ r.stamp → CanBeContinued old r → ContinuesAlike old new r

@@ -15,7 +15,7 @@ abbrev pub longest_row : ℕ
 longest_row = max_number + max_rpcb
 
 -- A part of a list has the data of a fragment. It is made in so much room: what was given of a row before it, the part,
--- and the rest of a row behind it.
+-- and the rest of a row after it.
 abbrev pub part_room : ℕ
 part_room = fragment_size + 2 * longest_row
 
@@ -24,7 +24,7 @@ abbrev pub head_unless : Bool → ℕ → List ℕ
 head_unless true xid = []
 head_unless false xid = reply_head xid Success
 
--- the rows behind a cursor, of those that were live after so many changes
+-- the rows after a cursor, of those that were live after this many changes
 abbrev pub rows_behind : Registry → ℕ → Option ℕ → List Row
 rows_behind kept stamp cursor = drop (rows_passed kept stamp cursor) (rows_at kept stamp)
 
@@ -34,5 +34,6 @@ bytes_behind kept r =
     head_unless r.begun r.xid ++ rows_bytes (rows_behind kept r.stamp r.cursor) r.list
 
 -- what is yet to be given
+-- LIST-3
 unfoldable pub rest_of : Registry → ListReply → List ℕ
 rest_of kept r = drop r.given (bytes_behind kept r)

@@ -11,6 +11,7 @@ use Rattle.rb_registry.specs.declared.row.Which.TheVariants.{All, One}
 use Rattle.rb_address.specs.Netids.{netid_named, protocol_of}
 
 -- the netids that UNSET means: every one where the name is empty
+-- UNSET-4
 unfoldable pub which_of : List ℕ → Option Which
 which_of [] = Some All
 which_of (c ∷ text) = option_map One (netid_named (c ∷ text))
@@ -55,6 +56,7 @@ proto_text Local = codes "-"
 
 -- The universal address of the netid's family that the text spells: of tcp and udp an IPv4 address, of tcp6 and udp6 an
 -- IPv6 address (RFC 5665 section 5.2.3). The address of a local socket is none.
+-- SET-3
 unfoldable pub address_in : Netid → List ℕ → Option Uaddr
 address_in Tcp text = parse_ipv4 text
 address_in Udp text = parse_ipv4 text
@@ -66,6 +68,7 @@ abbrev pub has_port : Option Uaddr → Bool
 has_port address = option_map_or (λ u. not (port_of u == 0)) address false
 
 -- What may be set on the netid: a universal address of its family that has a port, or the name of a local socket.
+-- SET-3
 unfoldable pub is_address : Netid → List ℕ → Bool
 is_address Tcp text = has_port (address_in Tcp text)
 is_address Udp text = has_port (address_in Udp text)

@@ -46,15 +46,16 @@ abbrev pub removal_cost : Registry → Option Which → ℕ
 removal_cost kept None = 0
 removal_cost kept (Some which) = unset_cost kept which
 
--- a search for the row, a new entry for so many bytes of arguments, and what notes that there is none
+-- a search for the row, a new entry for this many bytes of arguments, and what notes that there is none
 abbrev pub forwarding_cost : Books → ℕ → ℕ
 forwarding_cost books args = looks books.registry.limit + 3 + note_cost + forward_cost args
 
 -- what a SET or an UNSET costs its caller: where that may not register, it is refused before anything is looked up
+-- REGISTER-3
 abbrev pub registering_cost : Bool → ℕ → ℕ
 registering_cost may cost = if may then cost else 0
 
--- to do what a call of a caller asks for that may register or not, with so many bytes of arguments; the rows of a list are
+-- to do what a call of a caller asks for that may register or not, with this many bytes of arguments; the rows of a list are
 -- walked when it is put
 abbrev pub request_cost : Bool → Books → Request → ℕ → ℕ
 request_cost may books (requests.Void procedure) args = 0
@@ -85,15 +86,15 @@ PaysToRegister context most before now = PaysAtMost before now (registering_cost
 abbrev pub room_cost : Books → ℕ
 room_cost books = looks books.registry.limit + 2
 
--- a walk over the rows, with a look at how much is written behind each, and what is written in the room of a part
+-- a walk over the rows, with a look at how much is written after each, and what is written in the room of a part
 abbrev pub part_cost : Registry → ℕ
 part_cost kept = 3 * length (slots_of kept) + part_room + 6
 
--- a walk over the rows, with a look at how much is written behind each, and what is written
+-- a walk over the rows, with a look at how much is written after each, and what is written
 abbrev pub fill_cost : Registry → Kept → ℕ
 fill_cost kept out = 3 * length (slots_of kept) + length out.bytes + 5
 
--- an unsent entry is looked for, and so many bytes of its call are lent
+-- an unsent entry is looked for, and this many bytes of its call are lent
 abbrev pub lending_cost : Books → ℕ → ℕ
 lending_cost books count = unsent_cost books.forwards.cap count
 
@@ -125,6 +126,7 @@ changes_rows (requests.Rpcb rpcbs.Unset r) = true
 changes_rows _ = false
 
 -- A list walks rows, and so does a SET or an UNSET of a caller that may register: that of another is refused before.
+-- REGISTER-3
 abbrev pub walks_rows : Bool → Request → Bool
 walks_rows may request = lists_rows request || may && changes_rows request
 

@@ -37,9 +37,11 @@ value_bytes (values.Netbuf netbuf) = netbuf_spelling netbuf
 -- ---- lists of rows
 
 -- version 2 shows tcp and udp alone
+-- DUMP-3
 abbrev pub is_inet : Row → Bool
 is_inet row = is_among row.netid Inet
 
+-- GETADDRLIST-1
 abbrev pub is_version : ℕ → ℕ → Row → Bool
 is_version prog vers row = row.prog == prog && row.vers == vers
 
@@ -47,9 +49,11 @@ abbrev pub mapping_of : Row → Mapping
 mapping_of row = record { prog = row.prog; vers = row.vers; prot = prot_on row.netid; port = shown_port row }
 
 -- DUMP shows addresses as they were set
+-- DUMP-1
 abbrev pub rpcb_of : Row → Rpcb
 rpcb_of row = record { prog = row.prog; vers = row.vers; netid = netid_text row.netid; addr = row.addr; owner = owner_text row.owner }
 
+-- GETADDRLIST-1
 abbrev pub entry_of : Hosts → Row → Entry
 entry_of hosts row = record {
   maddr = shown_text hosts row;
@@ -72,6 +76,7 @@ pub record Shown : Type 0 where
   pub rows : List Row
   pub statistics : List ℕ
 
+-- GETSTAT-1
 abbrev pub shown_of : Ledger → Shown
 shown_of l = record { rows = rows_in l; statistics = statistics l.history }
 
@@ -114,7 +119,7 @@ rows_bytes rows list = flat_map (row_bytes list) rows ++ boolean false
 abbrev pub mapping_item : Row → List ℕ
 mapping_item row = boolean true ++ mapping_spelling (mapping_of row)
 
--- the first eight bytes of the netid's spelling, and those behind them
+-- the first eight bytes of the netid's spelling, and those after them
 abbrev pub netid_front : Netid → List ℕ
 netid_front netid = take 8 (opaque (netid_text netid))
 

@@ -23,6 +23,7 @@ open_terms = record { long_replies = true; forwarding = Anywhere }
 
 -- programs that go by the host of who calls them, which would be this one: ypserv, ypbind, yppasswdd, and mountd but for
 -- its procedure 0, which does nothing
+-- CALLIT-8
 unfoldable pub goes_by_host : ℕ → ℕ → Bool
 goes_by_host prog proc = prog == 100004 || prog == 100007 || prog == 100009 || prog == 100005 && not (proc == 0)
 
@@ -31,6 +32,7 @@ is_any_host (V4 octets) = bytes_eq octets any_host
 is_any_host (V6 octets) = bytes_eq octets any_host6
 
 -- every host of the listener, one of the loopback, an announced one, or the one that the caller asked
+-- CALLIT-7
 unfoldable pub is_this_host : Context → Host → Bool
 is_this_host context host =
     is_any_host host || is_local context.announced host || is_same_host host (who_of context.caller).asked
@@ -39,12 +41,14 @@ is_this_host context host =
 abbrev pub is_harmless : Context → RemoteCall → Host → Bool
 is_harmless context remote host = is_this_host context host && not (goes_by_host remote.prog remote.proc)
 
+-- CALLIT-9
 abbrev pub may_go_by : Forwarding → Context → RemoteCall → Host → Bool
 may_go_by Anywhere context remote host = true
 may_go_by ForAll context remote host = is_harmless context remote host
 may_go_by ForLocal context remote host = is_harmless context remote host && not (is_stranger (who_of context.caller))
 
 -- the call that is asked for may be made to this host, for this caller
+-- CALLIT-7
 unfoldable pub may_go : Context → RemoteCall → Host → Bool
 may_go context remote host = may_go_by context.terms.forwarding context remote host
 
@@ -57,9 +61,11 @@ is_exact vers (Some row) = row.vers == vers
 
 -- A look-up that found this counts. A stranger's counts only where what it names is registered, so that strangers bring
 -- no other keys into the statistics.
+-- COUNT-2
 abbrev pub counts_look_up : Who → ℕ → Option Row → Bool
 counts_look_up who vers found = not (is_stranger who) || is_exact vers found
 
 -- A forwarded call counts that passed, or not. A stranger's counts only where it did.
+-- COUNT-2
 abbrev pub counts_forward : Caller → Bool → Bool
 counts_forward caller passed = not (is_stranger (who_of caller)) || passed

@@ -109,7 +109,7 @@ results_within limit calls = results_from limit (fresh_ledger (own_rows listener
 abbrev pub results_of : List Message → List (Result (List ℕ) ArgumentFault)
 results_of calls = results_within 300 calls
 
--- the results without the first so many
+-- the results without the first this many
 abbrev pub results_behind : ℕ → List Message → List (Result (List ℕ) ArgumentFault)
 results_behind n calls = drop n (results_of calls)
 
@@ -292,7 +292,7 @@ GetstatOfOtherCalls =
     ++ 0 ∷ 0 ∷ 0 ∷ 2 ∷ replicate 11 0 ++ 1 ∷ 0x30d41 ∷ 1 ∷ 1 ∷ 1 ∷ 3 ∷ 0x75647000 ∷ 0 ∷ 0 ∷ []
     ++ 0 ∷ 1 ∷ 1 ∷ replicate 6 0 ++ 1 ∷ 0 ∷ 0 ∷ 1 ∷ 1 ∷ 1 ∷ 1 ∷ 0x30d41 ∷ 7 ∷ 0 ∷ 1 ∷ 3 ∷ 0x75647000 ∷ 0 ∷ 0 ∷ []) ∷ []
 
--- GETPORTs on tcp of so many programs, from this one on
+-- GETPORTs on tcp of this many programs, from this one on
 abbrev pub getports : ℕ → ℕ → List Message
 getports zero prog = []
 getports (suc k) prog = getport 6 prog ∷ getports k (prog + 1)
@@ -303,7 +303,7 @@ GetstatFirstKeys = map size (results_behind 33 (getports 33 200001 ++ call 4 12 
 
 -- ---- long lists
 
--- SETs by uid 0 of so many programs, from this one on
+-- SETs by uid 0 of this many programs, from this one on
 abbrev pub sets : ℕ → ℕ → List Message
 sets zero prog = []
 sets (suc k) prog = call_as 0 2 1 (prog ∷ 1 ∷ 6 ∷ 2049 ∷ []) ∷ sets k (prog + 1)
@@ -312,7 +312,7 @@ sets (suc k) prog = call_as 0 2 1 (prog ∷ 1 ∷ 6 ∷ 2049 ∷ []) ∷ sets k 
 abbrev pub LongDump : Type 0
 LongDump = map size (results_behind 166 (sets 166 200001 ++ call 3 4 [] ∷ [])) ≡ 8972 ∷ []
 
--- so many rows on tcp, of programs from this one on
+-- this many rows on tcp, of programs from this one on
 abbrev pub more_rows : ℕ → ℕ → List Row
 more_rows zero prog = []
 more_rows (suc k) prog = record { prog = prog; vers = 1; netid = netids.Tcp; owner = owners.Uid 0; addr = codes "0.0.0.0.8.1" } ∷ more_rows k (prog + 1)

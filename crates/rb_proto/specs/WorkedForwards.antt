@@ -16,8 +16,8 @@ use Rattle.rb_forward.specs.declared.types.Forward.{Forward}
 use Rattle.rb_rpc.specs.declared.caller.Kind.{Kind}
 use Rattle.rb_rpc.specs.declared.caller.Kind.TheVariants.{Callit2, Callit3, Bcast, Indirect}
 use Rattle.rb_forward.specs.declared.types.Ended.{Ended}
-use Rattle.rb_forward.specs.declared.types.Outcome.{Outcome}
-use Rattle.rb_forward.specs.declared.types.Outcome.TheVariants as outcomes
+use Rattle.rb_forward.specs.declared.types.ForwardEnd.{ForwardEnd}
+use Rattle.rb_forward.specs.declared.types.ForwardEnd.TheVariants as outcomes
 use Rattle.rb_forward.specs.Forwards.{no_forwards, with_next_entry}
 use Rattle.rb_proto.specs.declared.answers.Answer.TheVariants as answers
 use Rattle.rb_arguments.specs.declared.request.ArgumentFault.{ArgumentFault}
@@ -43,7 +43,7 @@ abbrev pub answer_of : ℕ → Message → Ledger → Result Request ArgumentFau
 answer_of places m l (Ok request) = Some (answer (record (context_of 300 m) { forwards = places }) (call_of m request) m.args l)
 answer_of places m l (Err fault) = None
 
--- what a call is answered where so many calls may be forwarded at a time, and what it leaves
+-- what a call is answered where this many calls may be forwarded at a time, and what it leaves
 abbrev pub answer_to : ℕ → Message → Ledger → Option (Answer × Ledger)
 answer_to places m l = answer_of places m l (read_request m.vers m.proc m.args)
 
@@ -65,7 +65,7 @@ indirect_failed prog vers = Forwarded versions.Four (record { prog = prog; vers 
 abbrev pub callit_failed : ℕ → ℕ → Note
 callit_failed prog vers = Forwarded versions.Two (record { prog = prog; vers = vers; netid = netids.Udp }) 0 false false
 
--- where so many calls may be forwarded, the INDIRECT is refused so, and the CALLIT is silent
+-- where this many calls may be forwarded, the INDIRECT is refused so, and the CALLIT is silent
 abbrev pub IsRefused : ℕ → ℕ → ℕ → Answer → Ledger → Type 0
 IsRefused places prog vers refused l =
     (answer_to places (indirect prog vers) l ≡ Some (refused, with_note (indirect_failed prog vers) l))
@@ -137,7 +137,7 @@ AnyHostIsThisMachine =
 abbrev pub elsewhere : Ledger
 elsewhere = left_by fresh (call_with credentials.None 4 1 (rpcb_args 200001 1 (codes "udp") (codes "10.0.0.5.8.1")) ∷ [])
 
--- any other host is called and shown; the content of args is passed on, and bytes behind it count for nothing
+-- any other host is called and shown; the content of args is passed on, and bytes after it count for nothing
 abbrev pub OtherHostsStay : Type 0
 OtherHostsStay =
     let m : Message = call 4 5 (200001 ∷ 1 ∷ 0 ∷ 4 ∷ 7 ∷ 9 ∷ []) in
@@ -155,7 +155,7 @@ one_sent kind caller =
     call_sent 1 (record fresh { forwards = with_next_entry 1000 (forward_at kind caller loopback listener_host) [] no_forwards })
 
 -- the entry ended so, and this was noted
-abbrev pub EndsWithNote : Kind → Caller → Outcome → Note → Option Ended × Ledger → Type 0
+abbrev pub EndsWithNote : Kind → Caller → ForwardEnd → Note → Option Ended × Ledger → Type 0
 EndsWithNote kind caller outcome note given =
     given ≡ (
       Some (record { id = record { number = 1 }; forward = forward_at kind caller loopback listener_host; outcome = outcome }),

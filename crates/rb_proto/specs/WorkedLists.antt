@@ -52,11 +52,11 @@ FullTableWantsNone =
 
 -- ---- lists in parts
 
--- a DUMP of version 2 under xid 1, as of so many changes
+-- a DUMP of version 2 under xid 1, as of this many changes
 abbrev pub fresh_dump : ℕ → ListReply
 fresh_dump stamp = record { xid = 1; list = Mappings; stamp = stamp; cursor = None; given = 0; begun = false }
 
--- that dump up to the row of a key, of which so many bytes were given
+-- that dump up to the row of a key, of which this many bytes were given
 abbrev pub dump_behind : ℕ → ℕ → ℕ → ListReply
 dump_behind stamp key given = record (fresh_dump stamp) { cursor = Some key; given = given; begun = true }
 

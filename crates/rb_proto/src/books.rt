@@ -8,7 +8,7 @@ use crate::forwarding::note_end;
 use crate::listener::{Listener, own_rows};
 use crate::sets::{accepts, row_to_set};
 use rb_address::Peer;
-use rb_forward::{Ended, Forwards, FwdId, Gone, Outcome, Unsent};
+use rb_forward::{Ended, ForwardEnd, Forwards, FwdId, Gone, Unsent};
 use rb_registry::{Registry, RegistryFault};
 use rb_rpc::CallHead;
 use rb_stats::{Stats, Version};
@@ -222,7 +222,7 @@ impl Books {
         requires { AreTied meter.old.tie self.old }
         ensures acts { ActsAs (fell_due clock) self.old self.new result }
         ensures registry { self.new.registry ≡ self.old.registry }
-        ensures failed { IfSome result (λ ended. ended.outcome ≡ Outcome.Failed) }
+        ensures failed { IfSome result (λ ended. ended.outcome ≡ ForwardEnd.Failed) }
         ensures alone { IfSome result
             (λ ended. IsNew ended.forward.caller (slots_of self.new.forwards)) }
         ensures waiting { NoneWaitsAnew (slots_of self.old.forwards) (slots_of self.new.forwards) }

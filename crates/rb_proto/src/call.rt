@@ -43,7 +43,7 @@ fn answer_void(context: &Context, procedure: VoidProcedure) -> Results
 }
 
 /// A value that is an answer.
-fn told(value: Value) -> Answer
+fn value_answer(value: Value) -> Answer
     ensures { result ≡ Answer.Results (Results.Value value) }
 {
     Answer::Results(Results::Value(value))
@@ -82,37 +82,37 @@ pub fn answer(
         Request::Void(procedure) => Answer::Results(answer_void(context, *procedure)),
         Request::Mapping(MappingProcedure::Set, mapping) => {
             let row = row_of_mapping(context.owner(head), mapping);
-            told(Value::Bool(set_row(books, context, head, row, meter)))
+            value_answer(Value::Bool(set_row(books, context, head, row, meter)))
         }
         Request::Mapping(MappingProcedure::Unset, mapping) => {
             let (prog, vers) = (mapping.prog, mapping.vers);
             let done = unset_rows(books, context, head, prog, vers, Some(Which::Inet), meter);
-            told(Value::Bool(done))
+            value_answer(Value::Bool(done))
         }
         Request::Mapping(MappingProcedure::Getport, mapping) => {
-            told(Value::Number(getport(books, context, head, mapping, meter)))
+            value_answer(Value::Number(getport(books, context, head, mapping, meter)))
         }
         Request::Rpcb(RpcbProcedure::Set, rpcb) => {
             let row = row_of_rpcb(context.owner(head), rpcb);
-            told(Value::Bool(set_row(books, context, head, row, meter)))
+            value_answer(Value::Bool(set_row(books, context, head, row, meter)))
         }
         Request::Rpcb(RpcbProcedure::Unset, rpcb) => {
             let which = which_of(rpcb.netid());
             let done = unset_rows(books, context, head, rpcb.prog(), rpcb.vers(), which, meter);
-            told(Value::Bool(done))
+            value_answer(Value::Bool(done))
         }
         Request::Rpcb(RpcbProcedure::Getaddr, rpcb) => {
-            told(Value::Text(getaddr(books, context, head, rpcb, meter)))
+            value_answer(Value::Text(getaddr(books, context, head, rpcb, meter)))
         }
         Request::Rpcb(RpcbProcedure::Getversaddr, rpcb) => {
-            told(Value::Text(getversaddr(books, context, head, rpcb, meter)))
+            value_answer(Value::Text(getversaddr(books, context, head, rpcb, meter)))
         }
         Request::Rpcb(RpcbProcedure::Getaddrlist, rpcb) => {
             let list = Listing::Entries(rpcb.prog(), rpcb.vers(), context.hosts());
             Answer::Results(Results::Rows(list))
         }
-        Request::Uaddr2taddr(text) => told(Value::Netbuf(uaddr2taddr(text))),
-        Request::Taddr2uaddr(netbuf) => told(Value::Text(taddr2uaddr(netbuf))),
+        Request::Uaddr2taddr(text) => value_answer(Value::Netbuf(uaddr2taddr(text))),
+        Request::Taddr2uaddr(netbuf) => value_answer(Value::Text(taddr2uaddr(netbuf))),
         Request::Forward(kind, remote) => {
             forward_call(books, context, head.xid, *kind, remote, arguments, meter)
         }

@@ -19,7 +19,7 @@ use crate::netids::address_in;
 use crate::terms::{counts_forward, may_go};
 use rb_address::{Host, Netid, Peer, Source, Transport};
 use rb_arguments::RemoteCall;
-use rb_forward::{Ended, Forward, Outcome};
+use rb_forward::{Ended, Forward, ForwardEnd};
 use rb_registry::{RPCB_PROG, Registry, Row};
 use rb_rpc::{Caller, Kind, ReplyStatus};
 use rb_stats::{Stats, Target, Version};
@@ -44,7 +44,7 @@ fn version_of_kind(kind: Kind) -> Version
 
 /// What a forwarded call was for.
 #[derive(Clone, Copy)]
-struct Asked {
+struct ForwardNote {
     kind: Kind,
     caller: Caller,
     prog: u32,
@@ -54,7 +54,7 @@ struct Asked {
 
 /// Notes a forwarded call at its outcome, where that counts.
 #[tactic(auto, unfolding(crate::specs::Forwarding::outcome_note))]
-fn note_outcome(stats: &mut Stats, asked: Asked, passed: bool, meter: &mut Meter)
+fn note_outcome(stats: &mut Stats, asked: ForwardNote, passed: bool, meter: &mut Meter)
     requires { meter.old.tie ≡ stats.old.tie }
     ensures history { NotesForward asked passed stats.old stats.new }
     ensures memory { stats.new.memory ≡ stats.old.memory }
@@ -98,14 +98,14 @@ pub(crate) fn note_end(stats: &mut Stats, ended: &Ended, meter: &mut Meter)
         proc,
         ..
     } = ended.forward;
-    let asked = Asked {
+    let asked = ForwardNote {
         kind,
         caller,
         prog,
         vers,
         proc,
     };
-    let passed = matches!(ended.outcome, Outcome::Passed(_));
+    let passed = matches!(ended.outcome, ForwardEnd::Passed(_));
     note_outcome(stats, asked, passed, meter);
 }
 
@@ -232,7 +232,7 @@ fn refuse(
     ensures frame { SameFrame books.old books.new }
     ensures cost { PaysAtMost meter.old meter.new (note_cost + 2) }
 {
-    let asked = Asked {
+    let asked = ForwardNote {
         kind,
         caller: context.caller,
         prog: remote.prog,

@@ -47,7 +47,7 @@ fn layout(reply: &ListReply) {
 pub struct ListPart {
     /// The place of its first byte.
     pub start: usize,
-    /// The place behind its last byte.
+    /// The place after its last byte.
     pub end: usize,
     /// Whether the reply ends with it.
     pub last: bool,
@@ -130,8 +130,8 @@ impl ListReply {
         };
     }
 
-    /// Writes what stands at the cursor and behind it into the buffer, whose bytes are cleared before: as far as the first
-    /// row that goes past so many bytes, or to the end. The cursor moves on to that row, or behind all.
+    /// Writes what stands at the cursor and after it into the buffer, whose bytes are cleared before: as far as the first
+    /// row that goes past this many bytes, or to the end. The cursor moves on to that row, or after all.
     ///
     /// It says how many bytes stand before the new cursor.
     fn fill(&mut self, registry: &Registry, most: usize, out: &mut Kept, meter: &mut Meter) -> usize

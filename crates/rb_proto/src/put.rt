@@ -1,4 +1,4 @@
-//! Results, written behind the head of a reply.
+//! Results, written after the head of a reply.
 ghost use Rattle.std.specs.Prelude.{◌≡◌, ◌≤◌, ◌+◌, length};
 ghost use Rattle.rb_xdr.specs.Meter.{PaysAtMost};
 ghost use Rattle.rb_registry.specs.Registry.{rows_of};
@@ -104,7 +104,7 @@ fn put_statistics(
     stats.put(limit, out, meter)
 }
 
-/// Puts the results of a procedure behind what the buffer has, its head: rows and statistics are those of the books.
+/// Puts the results of a procedure after what the buffer has, its head: rows and statistics are those of the books.
 ///
 /// `Full`, and nothing is written, where the buffer would then have more than `limit` bytes. A list walks the rows
 /// twice: to count its bytes, and to write them.

@@ -35,7 +35,7 @@ fn is_shown(list: Listing, row: &Row) -> bool
     }
 }
 
-/// The room that is left of so much behind what a row adds to a list, if that fits.
+/// The room that is left of so much after what a row adds to a list, if that fits.
 #[tactic(auto, unfolding(crate::specs::Results::row_bytes))]
 fn room_after_row(list: Listing, row: &Row, room: usize) -> Option<usize>
     ensures { Leaves (row_bytes list row.now) room result }
@@ -79,7 +79,7 @@ fn netid_front(netid: Netid) -> [u8; 8]
     }
 }
 
-/// Writes those behind them, which local alone has.
+/// Writes those after them, which local alone has.
 #[tactic(auto, unfolding(rb_xdr::specs::Xdr::number, rb_xdr::specs::Xdr::opaque))]
 fn write_netid_rest(netid: Netid, out: &mut Kept, meter: &mut Meter)
     requires tie { meter.old.tie ≡ out.old.tie }
@@ -188,7 +188,7 @@ pub(crate) fn write_row(list: Listing, row: &Row, out: &mut Kept, meter: &mut Me
     }
 }
 
-/// The room that is left of so much behind all rows that a list shows, as they were after so many changes, and its end,
+/// The room that is left of so much after all rows that a list shows, as they were after this many changes, and its end,
 /// if they fit.
 pub(crate) fn room_after_rows(
     list: Listing,
@@ -212,7 +212,7 @@ pub(crate) fn room_after_rows(
     false.room_after(left)
 }
 
-/// Writes the rows that a list shows, as they were after so many changes, and its end.
+/// Writes the rows that a list shows, as they were after this many changes, and its end.
 pub(crate) fn write_rows(
     list: Listing,
     registry: &Registry,

@@ -1,4 +1,4 @@
--- Entries on a tape, one behind the other.
+-- Entries on a tape, one after the other.
 use Rattle.std.specs.List.{concat}
 use Rattle.std.proofs.Common.{◌≡◌, ◌+◌, ◌<◌, ◌≤◌, ℕ, Bool, true, false, List, [], ◌∷◌, ◌++◌, length, take, drop, arith, refl, sym, ap, subst, ◌∙◌, inl, inr, append_assoc, append-nil, length-append, length-drop, nat_le, codes}
 use Rattle.std.proofs.lemmas.List.{take-append-le, take_all, drop-append-le}
@@ -7,7 +7,7 @@ use Rattle.std.proofs.lemmas.List.Folds.{concat-append}
 use mathlib.Core.Bool.{true≢false}
 use Rattle.rb_record.specs.Tapes.{Tape, last_line, entry_fits, IsFull, EndsWithin, Records, HasFirst, IsRecordOf, empty_tape}
 
--- some entries behind others
+-- some entries after others
 behind : (front : List ℕ) (xs ys : List (List ℕ)) → (front ++ concat xs) ++ concat ys ≡ front ++ concat (xs ++ ys)
 behind front xs ys =
     append_assoc front (concat xs) (concat ys) ∙ ap (λ (t : List ℕ). front ++ t) (sym (concat-append xs ys))
@@ -30,7 +30,7 @@ some_are_left limit text entries count full =
     let left : length (drop count entries) ≡ length (full.next ∷ full.left) = ap length full.is_next in
     omega (arith, left, length-drop count entries)
 
--- of entries behind others
+-- of entries after others
 full_behind : (limit : ℕ) (front : List ℕ) (xs ys : List (List ℕ)) (k : ℕ) → IsFull limit (front ++ concat xs) ys k → IsFull limit front (xs ++ ys) (length xs + k)
 full_behind limit front xs ys k full = record {
   next = full.next;
@@ -71,13 +71,13 @@ ended_at_once entry old new on off too_long text written limit within = record {
   within = within;
 }
 
--- an event and its output, which have so many bytes together
+-- an event and its output, which have this many bytes together
 pub entry_too_long : (limit : ℕ) (text event output : List ℕ) (a b : ℕ) → a ≡ length event → b ≡ length output → nat_le (length text + (a + 3 + b) + length last_line) limit ≡ false → entry_fits limit text (event ++ (codes "#> " ++ output)) ≡ false
 entry_too_long limit text event output a b first second too_long =
     let count : length (event ++ (codes "#> " ++ output)) ≡ a + 3 + b = omega (arith, first, second, length-append event (codes "#> " ++ output), length-append (codes "#> ") output) in
     rw count too_long
 
--- entries behind others that were recorded
+-- entries after others that were recorded
 pub records_more : (first second : List (List ℕ)) (old mid new : Tape) → Records first old mid → Records second mid new → Records (first ++ second) old new
 records_more first second old mid new one two = record {
   on = λ is. one.on (two.on is);
@@ -134,7 +134,7 @@ new_record limit =
     let first = all_first limit [] [] refl in
     record { all = λ on. refl; first = first.0; ends = first.1; within = omega arith }
 
--- a record goes on by the entries that are recorded behind it
+-- a record goes on by the entries that are recorded after it
 pub record_goes_on : (entries more : List (List ℕ)) (old new : Tape) → IsRecordOf entries old → Records more old new → IsRecordOf (entries ++ more) new
 record_goes_on entries more old new was records =
     let first = by_old old.is_on refl in
@@ -174,7 +174,7 @@ record_goes_on entries more old new was records =
           λ line. full_before new.limit [] entries more f.count (subst (λ (l : ℕ). IsFull l [] entries f.count) (sym records.limit) (was.ends line)),
         )
 
--- a record is the same behind a write, or has ended
+-- a record is the same after a write, or has ended
 pub record_stays : (entries : List (List ℕ)) (old new : Tape) → new.text ≡ old.text → new.limit ≡ old.limit → (new.is_on ≡ true → old.is_on ≡ true) → IsRecordOf entries old → IsRecordOf entries new
 record_stays entries old new text limit on was = record {
   all = λ is. text ∙ was.all (on is);

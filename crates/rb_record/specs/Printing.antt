@@ -12,7 +12,7 @@ use Rattle.rb_model.specs.declared.types.CoreFault.TheVariants.{NoMemory, BadLim
 use Rattle.rb_model.specs.declared.events.Output as output_type
 use Rattle.rb_model.specs.Plain.{plain_output}
 use Rattle.rb_model.specs.Step.{Output}
-use Rattle.rb_model.specs.Step.Output.{Opened, Refused, TooMuch, Took, TookAndClosed, IsPending, Done, LostIs, Replied, Forwarded, Silent, UnsentIs, Ignored, Nothing, ConnectionClosed, Ready, RepliedTo}
+use Rattle.rb_model.specs.Step.Output.{Opened, Refused, TooMuch, Took, TookAndLost, IsPending, Done, LostIs, Replied, Forwarded, Silent, UnsentIs, Ignored, Nothing, ConnectionLost, Ready, RepliedTo}
 use Rattle.hex.specs.Hex.{encode_lower}
 
 -- two hexadecimal digits for each byte, in lower case, or `-` for no bytes
@@ -44,13 +44,14 @@ abbrev pub unsent_line : Unsent → List ℕ
 unsent_line unsent = codes "unsent " ++ (decimal unsent.number ++ peer_line (codes " ") unsent.target unsent.call)
 
 -- the line of an output
+-- LINE-1
 abbrev pub output_text : Output → List ℕ
 output_text (Replied bytes) = bytes_line (codes "reply ") bytes
 output_text Silent = codes "silent\n"
 output_text (Opened id) = codes "open " ++ (decimal id ++ codes "\n")
 output_text (Refused fault) = refusal_text fault
 output_text (Took n) = codes "took " ++ (decimal n ++ codes "\n")
-output_text (TookAndClosed n) = codes "took " ++ (decimal n ++ codes " closed\n")
+output_text (TookAndLost n) = codes "took " ++ (decimal n ++ codes " closed\n")
 output_text (IsPending bytes) = bytes_line (codes "pending ") bytes
 output_text Done = codes "ok\n"
 output_text TooMuch = codes "toomuch\n"
@@ -61,7 +62,7 @@ output_text (UnsentIs None) = codes "unsent -\n"
 output_text (UnsentIs (Some unsent)) = unsent_line unsent
 output_text Ignored = codes "ignored\n"
 output_text Nothing = codes "nothing\n"
-output_text (ConnectionClosed id) = codes "closed " ++ (decimal id ++ codes "\n")
+output_text (ConnectionLost id) = codes "closed " ++ (decimal id ++ codes "\n")
 output_text (Ready id) = codes "ready " ++ (decimal id ++ codes "\n")
 output_text (RepliedTo who bytes) = source_line (codes "datagram ") who.source bytes
 

@@ -29,7 +29,8 @@ HasRoom limit text bytes = length text + length bytes + length last_line ≤ lim
 abbrev pub entry_fits : ℕ → List ℕ → List ℕ → Bool
 entry_fits limit text entry = nat_le (length text + length entry + length last_line) limit
 
--- After a text and the first of these entries, so many, the next entry does not fit.
+-- After a text and the first of these entries, this many, the next entry does not fit.
+-- TAPE-3
 pub record IsFull (limit : ℕ) (text : List ℕ) (entries : List (List ℕ)) (count : ℕ) : Type 0 where
   pub next : List ℕ
   pub left : List (List ℕ)
@@ -44,6 +45,7 @@ pub record EndsWithin (limit : ℕ) (entries : List (List ℕ)) (old new : List 
 
 -- While the recording goes on, it went on before, and these entries are recorded after what was. It ends in front of the
 -- first entry that does not fit, and nowhere else. If it had ended, all stays. No byte is written out.
+-- TAPE-1 TAPE-2
 pub record Records (entries : List (List ℕ)) (old new : Tape) : Type 0 where
   pub on : new.is_on ≡ true → old.is_on ≡ true
   pub grows : new.is_on ≡ true → new.text ≡ old.text ++ concat entries
@@ -63,6 +65,7 @@ pub record HasFirst (entries : List (List ℕ)) (text : List ℕ) : Type 0 where
 
 -- A tape is a record of these entries: it has all of them while the recording goes on, and the first ones in any case. It has
 -- the last line only if the next entry does not fit.
+-- TAPE-2
 pub record IsRecordOf (entries : List (List ℕ)) (tape : Tape) : Type 0 where
   pub all : tape.is_on ≡ true → tape.text ≡ concat entries
   pub first : HasFirst entries tape.text

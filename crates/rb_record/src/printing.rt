@@ -1,6 +1,6 @@
 //! The lines that outputs are printed as.
 ghost use Rattle.std.specs.Prelude.{◌≡◌, codes, OnOk, option_map};
-ghost use Rattle.rb_model.specs.Step.Output.{TookAndClosed, LostIs, UnsentIs};
+ghost use Rattle.rb_model.specs.Step.Output.{TookAndLost, LostIs, UnsentIs};
 ghost use Rattle.rb_record.specs.Lines.{line_text};
 ghost use Rattle.rb_model.specs.Plain.{plain_unsent};
 ghost use Rattle.rb_record.specs.Printing.{source_line, unsent_line, refusal_text, output_text, output_line, Writes};
@@ -23,7 +23,7 @@ fn reply_line<'a>(source: Source, bytes: &'a [u8]) -> Line<'a>
     Line::with(front, bytes)
 }
 
-/// The line of a forwarded call that is to be sent.
+/// The line of a forwarded call that must be sent.
 fn call_line<'a, B: AsSlice<u8>>(unsent: &'a UnsentCall<B>) -> Line<'a>
     ensures { line_text result ≡ unsent_line (plain_unsent B.items unsent.now) }
 {
@@ -35,7 +35,7 @@ fn call_line<'a, B: AsSlice<u8>>(unsent: &'a UnsentCall<B>) -> Line<'a>
     Line::with(front, unsent.call.as_slice())
 }
 
-/// The line of a look for a forwarded call that is to be sent.
+/// The line of a look for a forwarded call that must be sent.
 fn unsent_line<'a, B: AsSlice<u8>>(call: &'a Option<UnsentCall<B>>) -> Line<'a>
     ensures { line_text result
         ≡ output_text (UnsentIs (option_map (plain_unsent B.items) call.now)) }
@@ -48,7 +48,7 @@ fn unsent_line<'a, B: AsSlice<u8>>(call: &'a Option<UnsentCall<B>>) -> Line<'a>
 
 /// The line of bytes that were taken by a connection that is lost now.
 fn closed_line<'a>(count: usize) -> Line<'a>
-    ensures { line_text result ≡ output_text (TookAndClosed count) }
+    ensures { line_text result ≡ output_text (TookAndLost count) }
 {
     let mut front = Front::new("took ");
     front.push_number(count as u64);
@@ -89,7 +89,7 @@ pub(crate) fn output_line<'a, B: AsSlice<u8>>(output: &'a Output<B>) -> Line<'a>
         Output::Opened(id) => Line::number("open ", *id),
         Output::Refused(fault) => refusal_line(*fault),
         Output::Took(n) => Line::number("took ", *n as u64),
-        Output::TookAndClosed(n) => closed_line(*n),
+        Output::TookAndLost(n) => closed_line(*n),
         Output::Pending(bytes) => Line::bytes("pending ", bytes.as_slice()),
         Output::Done => Line::word("ok"),
         Output::TooMuch => Line::word("toomuch"),
@@ -98,7 +98,7 @@ pub(crate) fn output_line<'a, B: AsSlice<u8>>(output: &'a Output<B>) -> Line<'a>
         Output::Unsent(call) => unsent_line(call),
         Output::Ignored => Line::word("ignored"),
         Output::Nothing => Line::word("nothing"),
-        Output::ConnectionClosed(id) => Line::number("closed ", *id),
+        Output::ConnectionLost(id) => Line::number("closed ", *id),
         Output::Ready(id) => Line::number("ready ", *id),
         Output::RepliedTo(who, bytes) => reply_line(who.source, bytes.as_slice()),
     }

@@ -18,7 +18,7 @@ const ENDING: &[u8] = b"# the limit of this record is reached: what follows is n
 /// What stands in front of the line of an output.
 const MARK: &[u8] = b"#> ";
 
-/// An empty text with room for so many bytes. It is written to, so that its memory is the process's from here on.
+/// An empty text with room for a number of bytes. It is written to, so that its memory is the process's from here on.
 fn empty_text(alloc: Global, room: usize) -> Result<Vec<u8>, AllocError>
     ensures empty { IfOk result (λ text. text.items ≡ []) }
     ensures room { IfOk result (λ text. room ≤ vec_capacity text) }
@@ -46,7 +46,7 @@ impl Page {
     ghost use Rattle.rb_record.specs.Lines.{line_text};
     ghost use Rattle.rb_record.specs.Tapes.{HasRoom};
 
-    /// Whether so many bytes fit, with the last line after them.
+    /// Whether this many bytes fit, with the last line after them.
     fn has_room(&self, count: u128) -> bool
         requires { self.now.is_on ≡ true }
         ensures { result

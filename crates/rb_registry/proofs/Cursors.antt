@@ -70,7 +70,7 @@ module _ (kept inside : Registry) (stamp : ℕ) (cursor place : Option ℕ) (sam
   here : count_passed (table_of kept stamp) cursor ≡ Some (rows_passed kept stamp cursor)
   here = counted (count_passed (table_of kept stamp) cursor) h.place
 
-  -- what is behind the cursor now and was live then, is what was behind it then
+  -- what is after the cursor now and was live then, is what was after it then
   come : table_at stamp (to_come inside.entries place) ≡ to_come (table_of kept stamp) cursor
   come =
       let there : table_at stamp (to_come kept.entries cursor) ≡ to_come (table_of kept stamp) cursor = to_come_at stamp cursor kept.entries d h.place in

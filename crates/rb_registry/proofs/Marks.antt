@@ -344,7 +344,7 @@ is_one Tcp6 = refl
 is_one Udp6 = refl
 is_one Local = refl
 
--- of them a removal names so many
+-- of them a removal names this many
 pub all_named : (which : Which) → count_by (λ n. is_among n which) netids ≡ count_named which
 unfolding is_among is_netid
 all_named All = refl

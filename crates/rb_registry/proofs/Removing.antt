@@ -18,7 +18,7 @@ module _ {T : Type 0} where
   passed-to_come entries None = refl
   passed-to_come entries (Some key) = up_to-behind entries key
 
-  -- up to the place only what stays is left, and behind it nothing was looked at
+  -- up to the place only what stays is left, and after it nothing was looked at
   pub record Removing (goes : T → Bool) (before now : List (ℕ × T)) (place : Option ℕ) : Type 0 where
     pub distinct : HasDistinctKeys now
     pub kept : passed now place ++ filter (λ e. not (goes e.1)) (to_come now place) ≡ filter (λ e. not (goes e.1)) before

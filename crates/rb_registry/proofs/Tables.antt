@@ -232,7 +232,7 @@ distinct_at n (e ∷ rest) d =
     elim (is_live_at n e.1) as (λ b. HasDistinctKeys (cond b ((e.0, e.1.row) ∷ table_at n rest) (table_at n rest)))
     [ true ↦ (missing_at n e.0 rest d.0, distinct_at n rest d.1) | false ↦ distinct_at n rest d.1 ]
 
--- where a key is in the table at a moment, what was behind it then is what is behind it now and was live then
+-- where a key is in the table at a moment, what was after it then is what is after it now and was live then
 no_count : {T : Type 0} (entries : List (ℕ × T)) (key : ℕ) → value_at entries key ≡ None → count_to entries key ≡ None
 no_count [] key h = refl
 no_count {T} (e ∷ rest) key h = by_test (eqb e.0 key) refl (no_count rest key)

@@ -10,11 +10,11 @@ use Rattle.rb_registry.specs.Cursors.{StandsIn}
 use Rattle.rb_registry.specs.Walks.{WalkStep, rows_given, IsWalk, WalksGiveRowsAsTheyWere}
 use Rattle.rb_registry.specs.Walks.WalkStep.{Given, Changed}
 
--- the rows behind a place begin with the one that is there
+-- the rows after a place begin with the one that is there
 drop_at : {A : Type 0} (xs : List A) (n : ℕ) (x : A) → slice_get xs n ≡ Some x → drop n xs ≡ x ∷ drop (n + 1) xs
 drop_at {A} xs n x h = rw add-one (drop-cons xs n x (slice_get_within xs n x h) ∙ ap (λ (y : A). y ∷ drop (suc n) xs) (get_or_from_slice_get xs n x x h))
 
--- what a walk gives from here on are the rows behind its cursor
+-- what a walk gives from here on are the rows after its cursor
 rest_given : (stamp : ℕ) (kept : Registry) (cursor : Option ℕ) (steps : List WalkStep) → StandsIn kept stamp cursor → IsWalk stamp kept cursor steps
     → rows_given steps ≡ drop (rows_passed kept stamp cursor) (rows_at kept stamp)
 rest_given stamp kept cursor [] st w = sym (drop_all (rows_passed kept stamp cursor) (rows_at kept stamp) (omega (arith, w)))

@@ -11,6 +11,7 @@ use Rattle.rb_registry.specs.Registry.{Registry, rows_of}
 -- ---- of the calls
 
 -- two searches in the index, what moves in it, and 1 for the table of rows
+-- LOOKUP-3
 abbrev pub set_cost : Registry → ℕ
 set_cost kept = 2 * looks kept.limit + length (rows_of kept) + 2
 
@@ -21,10 +22,11 @@ count_named Inet = 2
 count_named (One only) = 1
 
 -- as much for each netid that is named
+-- LOOKUP-3
 abbrev pub unset_cost : Registry → Which → ℕ
 unset_cost kept which = count_named which * set_cost kept
 
--- ---- of a removal, where the index has so many numbers
+-- ---- of a removal, where the index has this many numbers
 
 -- of the row on one netid: two searches, what moves, and 1 for the table
 abbrev pub removal_cost : ℕ → ℕ

@@ -39,6 +39,7 @@ AreRanked [] = Unit {0}
 AreRanked (e ∷ rest) = (e.1.row.vers < 2 ^ 32) × AreRanked rest
 
 -- The index has the key of each live row under its rank, and no other. No two live rows have the same rank.
+-- LOOKUP-3
 pub record IsIndexed (entries : List (ℕ × Slot)) (index : List (ℕ × ℕ)) : Type 0 where
   pub ranked : AreRanked entries
   pub distinct : HasDistinctKeys (ranks entries)

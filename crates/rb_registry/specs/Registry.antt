@@ -15,6 +15,7 @@ abbrev pub table_at : ℕ → List (ℕ × Slot) → List (ℕ × Row)
 table_at n [] = []
 table_at n (e ∷ rest) = if is_live_at n e.1 then (e.0, e.1.row) ∷ table_at n rest else table_at n rest
 
+-- LIST-2
 abbrev pub live_at : ℕ → List (ℕ × Slot) → List Row
 live_at n entries = values_of (table_at n entries)
 
@@ -45,7 +46,7 @@ pub record SameFrame (old new : Registry) : Type 0 where
 abbrev pub slots_of : Registry → List Slot
 slots_of kept = values_of kept.entries
 
--- the rows that were live after so many changes, under their keys
+-- the rows that were live after this many changes, under their keys
 abbrev pub table_of : Registry → ℕ → List (ℕ × Row)
 table_of kept stamp = table_at stamp kept.entries
 
@@ -63,7 +64,8 @@ removals_of kept = removals kept.entries
 abbrev pub retained_count : Registry → ℕ
 retained_count kept = length (removals_of kept)
 
--- the rows after so many changes can be listed
+-- the rows after this many changes can be listed
+-- RETAIN-2
 pub record Reaches (kept : Registry) (stamp : ℕ) : Type 0 where
   pub from_floor : kept.floor ≤ stamp
   pub made : stamp ≤ kept.stamp
@@ -75,6 +77,7 @@ AreOwn rows = IsTrue (list_all (λ (row : Row). row.prog == rpcb_prog) rows)
 -- A registry that keeps this stands for its own rows and these changes: it has the rows that they leave, and from the
 -- floor on those that the first n of them left. The retained rows are those that they removed after the floor, and
 -- with the live ones they are within the limit.
+-- CHANGE-1
 pub record StandsForChanges (kept : Registry) (own : List Row) (changes : List Change) : Type 0 where
   pub are_own : AreOwn own
   pub rows : rows_of kept ≡ live own changes
@@ -86,6 +89,6 @@ pub record StandsForChanges (kept : Registry) (own : List Row) (changes : List C
 
 -- ---- a cursor
 
--- how many of the rows that were live after so many changes a cursor has passed that stands there
+-- how many of the rows that were live after this many changes a cursor has passed that stands there
 abbrev pub rows_passed : Registry → ℕ → Option ℕ → ℕ
 rows_passed kept stamp cursor = unwrap_or (count_passed (table_of kept stamp) cursor) 0

@@ -27,12 +27,13 @@ removed_by None oldest = false
 removed_by (Some removed) None = true
 removed_by (Some removed) (Some oldest) = nat_le removed oldest
 
+-- RETAIN-1
 unfoldable pub is_dropped : Option ℕ → Slot → Bool
 is_dropped oldest slot = removed_by slot.removed oldest
 
 -- ---- those of a list of changes
 
--- the number of the first of these changes that covers the row, where so many came before them
+-- the number of the first of these changes that covers the row, where this many came before them
 abbrev pub removal_of : ℕ → Row → List Change → Option ℕ
 removal_of count row [] = None
 removal_of count row (change ∷ later) =
@@ -56,5 +57,6 @@ slots_from floor own changes = filter (λ slot. not (is_dropped (Some floor) slo
 -- ---- what is held
 
 -- the bytes of a row's address text count, and 32 for its fixed part
+-- HELD-1
 abbrev pub held_in : List Slot → ℕ
 held_in slots = sum_by (λ (slot : Slot). 32 + length slot.row.addr) slots

@@ -33,7 +33,7 @@ abbrev pub AreStamped : ℕ → List (ℕ × Slot) → Type 0
 AreStamped stamp [] = Unit {0}
 AreStamped stamp (e ∷ rest) = IsStamped stamp e.1 × AreStamped stamp rest
 
--- What is true of a registry between two calls, where it counts so many bytes as held, and so many rows as retained.
+-- What is true of a registry between two calls, where it counts this many bytes as held, and this many rows as retained.
 pub record IsTable (stamp floor limit held retained : ℕ) (entries : List (ℕ × Slot)) (tie : ℕ) (index : Ordered) : Type 0 where
   pub distinct : HasDistinctKeys entries
   pub stamped : AreStamped stamp entries
@@ -74,12 +74,12 @@ entries_left oldest entries = filter (λ e. not (is_dropped oldest e.1)) entries
 
 -- ---- places in the table
 
--- the next row behind a place that was live after n changes is this one, or there is none
+-- the next row after a place that was live after n changes is this one, or there is none
 abbrev pub IsNextLive : ℕ → List (ℕ × Slot) → Option ℕ → Option (ℕ × Bor Row) → Type 0
 IsNextLive n entries place None = table_at n (to_come entries place) ≡ []
 IsNextLive n entries place (Some next) = table_at n (to_come entries place) ≡ (next.0, next.1.now) ∷ table_at n (to_come entries (Some next.0))
 
--- how many rows, live or retained, are behind a place
+-- how many rows, live or retained, are after a place
 abbrev pub count_left : List (ℕ × Slot) → Option ℕ → ℕ
 count_left entries place = length (to_come entries place)
 
@@ -102,18 +102,21 @@ pub record IsLeast (numbers : List ℕ) (least : ℕ) : Type 0 where
   pub one : (numbers ≡ [] → ⊥) → Contains numbers least
   pub all : All (λ number. least ≤ number) numbers
 
--- of changes that removed rows, those behind that one, none where none is named
+-- of changes that removed rows, those after that one, none where none is named
+-- RETAIN-1 RETAIN-3
 abbrev pub later_than : Option ℕ → List ℕ → List ℕ
 later_than oldest numbers = filter (λ number. not (removed_by (Some number) oldest)) numbers
 
 -- ---- what calls leave
 
 -- the row may be set, and there is room for it beside the live and the retained rows
+-- SET-1
 abbrev pub takes : Registry → Row → Bool
 takes kept row =
     has_place kept.limit (rows_of kept) kept.stamp row && nat_lt (length (rows_of kept) + retained_count kept) kept.limit
 
 -- the stamp that a trim names, where None or one to come counts as the present one
+-- RETAIN-2
 abbrev pub stamp_named : Registry → Option ℕ → ℕ
 stamp_named kept oldest = min (unwrap_or oldest kept.stamp) kept.stamp
 

@@ -5,7 +5,7 @@ use Rattle.rb_registry.specs.Rows.{Change, live}
 use Rattle.rb_registry.specs.Registry.{Registry, StandsForChanges, rows_passed}
 use Rattle.rb_registry.specs.Cursors.{StandsIn, PassesOne, IsAtEnd, row_behind, GoesOn}
 
--- what happens in a walk: the next row is given, with the cursor behind it, or another call leaves the registry so
+-- what happens in a walk: the next row is given, with the cursor after it, or another call leaves the registry so
 pub data WalkStep : Type 0 where
   Given : Option ℕ → Row → WalkStep
   Changed : Registry → WalkStep
@@ -27,7 +27,8 @@ IsWalk stamp kept cursor [] = IsAtEnd kept stamp cursor
 IsWalk stamp kept cursor (Given next row ∷ later) = Gives kept stamp cursor next row × IsWalk stamp kept next later
 IsWalk stamp kept cursor (Changed new ∷ later) = GoesOn kept new × (new.floor ≤ stamp) × IsWalk stamp new cursor later
 
--- A whole walk for a stamp gives the rows that were live after so many changes, whatever is called on the way.
+-- A whole walk for a stamp gives the rows that were live after this many changes, whatever is called on the way.
+-- LIST-2
 abbrev pub WalksGiveRowsAsTheyWere : Type 0
 WalksGiveRowsAsTheyWere = (own : List Row) (changes : List Change) (kept : Registry) (stamp : ℕ) (cursor : Option ℕ) (steps : List WalkStep)
     → StandsForChanges kept own changes → StandsIn kept stamp cursor → rows_passed kept stamp cursor ≡ 0 → IsWalk stamp kept cursor steps

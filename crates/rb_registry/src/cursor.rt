@@ -5,7 +5,7 @@ ghost use Rattle.rb_registry.specs.Cursors.{StandsIn, slots_left};
 
 use std::marker::Model;
 
-/// A place among the rows of a registry: before all of them, or behind one.
+/// A place among the rows of a registry: before all of them, or after one.
 #[derive(Clone, Copy, PartialEq, Eq, Debug)]
 pub struct Cursor {
     // the key of the row before it

@@ -19,7 +19,7 @@ use std::marker::Model;
 /// The most own rows that a registry has.
 pub const MOST_OWN_ROWS: usize = 12;
 
-// A table of so many rows would take more than 2^63 bytes.
+// A table of this many rows would take more than 2^63 bytes.
 const TOO_MANY: usize = 1 << 56;
 
 /// The rows in the order in which they were set, the own rows first, and the number of changes that were accepted.
@@ -337,11 +337,11 @@ impl Registry {
         self.held
     }
 
-    /// The row behind the cursor, of those that were live after `stamp` changes, and the cursor behind it.
+    /// The row after the cursor, of those that were live after `stamp` changes, and the cursor after it.
     ///
     /// From [`Cursor::start`] on each of these rows comes once, in order, and then `None`, whatever is set and
     /// removed meanwhile, as long as no `trim` raises the floor above `stamp`. `stamp` is at least the floor and at
-    /// most [`Registry::stamp`]. It costs at most 2 steps for each row behind the cursor, retained ones among them,
+    /// most [`Registry::stamp`]. It costs at most 2 steps for each row after the cursor, retained ones among them,
     /// and 1.
     pub fn next_row(&self, stamp: u64, cursor: Cursor, meter: &mut Meter) -> Option<(Cursor, &Row)>
         requires tie { meter.old.tie ≡ self.now.tie }

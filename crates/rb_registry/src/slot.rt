@@ -36,7 +36,7 @@ impl Slot {
         }
     }
 
-    /// Whether the row was live after so many changes.
+    /// Whether the row was live after this many changes.
     #[tactic(auto, unfolding(crate::specs::Slots::is_live_at))]
     pub(crate) fn is_live_at(&self, stamp: u64) -> bool
         ensures { result ≡ is_live_at stamp self.now }

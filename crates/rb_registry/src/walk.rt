@@ -243,7 +243,7 @@ fn lesser(least: Option<u64>, number: u64) -> u64
     }
 }
 
-/// The next row behind the place that was live after so many changes, with its key.
+/// The next row after the place that was live after this many changes, with its key.
 pub(crate) fn live_after<'a>(
     slots: &'a Pool<Slot>,
     stamp: u64,

@@ -186,7 +186,7 @@ pub same_output : (outputs : List OwnedOutput) (next : ℕ) (line said : List �
 same_output outputs next line said there is lt at same =
     rw (← is) (same_next (output_lines (outputs_of outputs)) next said (omega (arith, printed_length outputs, lt)) (rw (← same) (printed_at outputs next there at)))
 
--- where the lines of so many outputs were found, and no more lines are there
+-- where the lines of this many outputs were found, and no more lines are there
 pub all_found : (text : List ℕ) (outputs : List OwnedOutput) (n next : ℕ) → length (lines_of text) ≤ n → flat_map output_line_in (take n (lines_of text)) ≡ take next (output_lines (outputs_of outputs)) → output_lines_in text ≡ take next (output_lines (outputs_of outputs))
 unfolding output_lines_in
 all_found text outputs n next le agree = ap (flat_map output_line_in) (sym (take_all n (lines_of text) le)) ∙ agree

@@ -11,19 +11,19 @@ use Rattle.rb_model.specs.declared.message.Message.{Message}
 use Rattle.rb_model.specs.Calls.{message_of}
 use Rattle.rb_model.specs.Costs.{Sizes, sizes_in, asks_for_rows, sizes_for, find_cost, take_cost, recount_cost, bytes_cost, count_taken, record_cost, gives_list, gave_cost, close_cost, ended_cost, datagram_cost}
 use Rattle.rb_model.proofs.CostBounds.{walked_more}
-use Rattle.rb_core.specs.StandsFor.{Held, StandsFor}
+use Rattle.rb_core.specs.StandsFor.{CoreView, StandsFor}
 use Rattle.rb_core.specs.CallCosts.{sizes_of}
 use Rattle.rb_core.proofs.Spending.{at_most, connections_held, rows_held, AreWithin, within_where}
 
 -- a bound by the connections that are held is one by those of the state
-pub by_count : (f : ℕ → ℕ) (held : Held) (s : State) (a b : Meter) → StandsFor held s → PaysAtMost a b (f (length held.connections.slots)) → PaysAtMost a b (f (length s.connections.all))
+pub by_count : (f : ℕ → ℕ) (held : CoreView) (s : State) (a b : Meter) → StandsFor held s → PaysAtMost a b (f (length held.connections.slots)) → PaysAtMost a b (f (length s.connections.all))
 by_count f held s a b h pays = subst (λ n. PaysAtMost a b (f n)) (connections_held held s h) pays
 
 -- a search takes as many looks
-looks_held : (held : Held) (s : State) → StandsFor held s → looks held.books.registry.limit ≤ looks s.setting.limits.rows
+looks_held : (held : CoreView) (s : State) → StandsFor held s → looks held.books.registry.limit ≤ looks s.setting.limits.rows
 looks_held held s h = rw h.limit (omega arith)
 
-pub sizes_held : (old new : Held) (s t : State) → StandsFor old s → StandsFor new t → t.setting ≡ s.setting → AreWithin (sizes_of old new) (sizes_in s)
+pub sizes_held : (old new : CoreView) (s t : State) → StandsFor old s → StandsFor new t → t.setting ≡ s.setting → AreWithin (sizes_of old new) (sizes_in s)
 sizes_held old new s t h k same = record {
   connections = connections_held old s h;
   looks = looks_held old s h;
@@ -35,7 +35,7 @@ sizes_held old new s t h k same = record {
 }
 
 -- where the rows stay
-pub sizes_stay : (held : Held) (s : State) → StandsFor held s → AreWithin (sizes_of held held) (sizes_in s)
+pub sizes_stay : (held : CoreView) (s : State) → StandsFor held s → AreWithin (sizes_of held held) (sizes_in s)
 sizes_stay held s h = sizes_held held held s s h h refl
 
 module _ (less more : Sizes) (within : AreWithin less more) (a b : Meter) where

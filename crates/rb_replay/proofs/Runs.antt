@@ -8,14 +8,14 @@ use Rattle.rb_model.specs.State.{State}
 use Rattle.rb_model.specs.Step.{Event, Output, step, run, after}
 use Rattle.rb_model.specs.Plain.{OwnedEvent, OwnedOutput, event_of, output_of, events_of, outputs_of}
 use Rattle.rb_laws.proofs.RunLaws.{run-append, after-append}
-use Rattle.rb_core.specs.StandsFor.{Held, StandsFor}
+use Rattle.rb_core.specs.StandsFor.{CoreView, StandsFor}
 use Rattle.rb_replay.specs.Runs.{answered_events, Happened}
 
 one_further : (events : List OwnedEvent) (i : ℕ) (next : OwnedEvent) → i < length events → next ≡ get_or events i next → take (i + 1) (events_of events) ≡ take i (events_of events) ++ event_of next ∷ []
 one_further events i next lt is =
     take-map event_of (i + 1) events ∙ map_more event_of events i next lt ∙ rw (← is) (ap (λ (xs : List Event). xs ++ event_of next ∷ []) (sym (take-map event_of i events)))
 
-pub one_more : (s : State) (events : List OwnedEvent) (i : ℕ) (next : OwnedEvent) (before now : List Output) (old new : Held) (given : Output) → i < length events → next ≡ get_or events i next → Happened s (take i (events_of events)) before now old → ((t : State) → StandsFor old t → (given ≡ (step t (event_of next)).0) × StandsFor new (step t (event_of next)).1) → Happened s (take (i + 1) (events_of events)) before (now ++ given ∷ []) new
+pub one_more : (s : State) (events : List OwnedEvent) (i : ℕ) (next : OwnedEvent) (before now : List Output) (old new : CoreView) (given : Output) → i < length events → next ≡ get_or events i next → Happened s (take i (events_of events)) before now old → ((t : State) → StandsFor old t → (given ≡ (step t (event_of next)).0) × StandsFor new (step t (event_of next)).1) → Happened s (take (i + 1) (events_of events)) before (now ++ given ∷ []) new
 one_more s events i next before now old new given lt is h goes =
     let done = take i (events_of events) in
     let more : take (i + 1) (events_of events) ≡ done ++ event_of next ∷ [] = one_further events i next lt is in
@@ -59,7 +59,7 @@ run-length s [] = refl
 run-length s (x ∷ xs) = ap (λ (n : ℕ). suc n) (run-length (step s x).1 xs)
 
 -- where the first i events have happened, theirs are the outputs that were appended
-pub answered_are : (s : State) (events : List OwnedEvent) (i : ℕ) → i ≤ length events → (before now : List OwnedOutput) (core : Held)
+pub answered_are : (s : State) (events : List OwnedEvent) (i : ℕ) → i ≤ length events → (before now : List OwnedOutput) (core : CoreView)
     → Happened s (take i (events_of events)) (outputs_of before) (outputs_of now) core → answered_events events before now ≡ take i (events_of events)
 answered_are s events i within before now core h =
     let all : length (outputs_of now) ≡ length (outputs_of before) + length (run s (take i (events_of events))) =
@@ -69,7 +69,7 @@ answered_are s events i within before now core h =
     ap (λ (n : ℕ). take n (events_of events)) (omega (arith, all, ran, length-map now output_of, length-map before output_of))
 
 -- where all of them have happened, all outputs were appended
-pub all_answered : (s : State) (events : List OwnedEvent) (before now : List OwnedOutput) (core : Held)
+pub all_answered : (s : State) (events : List OwnedEvent) (before now : List OwnedOutput) (core : CoreView)
     → Happened s (events_of events) (outputs_of before) (outputs_of now) core → answered_events events before now ≡ events_of events
 all_answered s events before now core h =
     let all : take (length events) (events_of events) ≡ events_of events =

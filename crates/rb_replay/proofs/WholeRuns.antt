@@ -17,7 +17,7 @@ use Rattle.rb_connections.specs.declared.slot.Stage.{Stage}
 use Rattle.rb_connections.specs.declared.slot.Stage.TheVariants as stages
 use Rattle.rb_registry.specs.Registry.{Registry}
 use Rattle.rb_connections.specs.StandsFor.{StandsForPhase, StandsForConnection}
-use Rattle.rb_core.specs.StandsFor.{Held, StandsFor}
+use Rattle.rb_core.specs.StandsFor.{CoreView, StandsFor}
 use Rattle.rb_core.specs.Events.{count_shown, greatest_count}
 use Rattle.rb_replay.specs.Runs.{buffer_bytes}
 use Rattle.rb_core.proofs.Spending.{at_most}
@@ -41,10 +41,10 @@ all_buffers registry (slot ∷ slots) (c ∷ all) z =
     let rest = all_buffers registry slots all z.1 in
     omega (arith, one, rest, sum_by-cons (λ (x : Slot). length x.buffer.bytes) slot slots, sum_by-cons (λ (x : Connection). args_in x.phase) c all)
 
-pub waits_in_buffers : (core : Held) (s : State) → StandsFor core s → args_waiting s.connections.all ≤ buffer_bytes core
+pub waits_in_buffers : (core : CoreView) (s : State) → StandsFor core s → args_waiting s.connections.all ≤ buffer_bytes core
 waits_in_buffers core s h = all_buffers core.books.registry (values_of core.connections.slots) s.connections.all h.connections.all
 
-pub paid_within_whole : (core : Held) (s : State) (events : List Event) (a b : Meter) → StandsFor core s → IsReached s → are_good s.setting.limits s.setting.listener ≡ true
+pub paid_within_whole : (core : CoreView) (s : State) (events : List Event) (a b : Meter) → StandsFor core s → IsReached s → are_good s.setting.limits s.setting.listener ≡ true
     → PaysAtMost a b (run_cost s events) → PaysAtMost a b (whole_bound s.setting.limits (buffer_bytes core) events (run s events))
 paid_within_whole core s events a b h reached good pays =
     let cost = whole_runs_are_bounded s reached good events in
@@ -54,7 +54,7 @@ paid_within_whole core s events a b h reached good pays =
 -- ---- what is told of a run
 
 -- the buffers are empty where no connection is there
-pub no_buffer_bytes : (core : Held) (s : State) → StandsFor core s → s.connections.all ≡ [] → buffer_bytes core ≡ 0
+pub no_buffer_bytes : (core : CoreView) (s : State) → StandsFor core s → s.connections.all ≡ [] → buffer_bytes core ≡ 0
 no_buffer_bytes core s h none = by_slots (values_of core.connections.slots) s.connections.all h.connections.all none
   where
     by_slots : (slots : List Slot) (all : List Connection) → AllZip (StandsForConnection core.books.registry) slots all → all ≡ [] → sum_by (λ (slot : Slot). length slot.buffer.bytes) slots ≡ 0

@@ -30,6 +30,7 @@ IsFrontOf some all = (rest : List (List ℕ)) × (all ≡ some ++ rest)
 
 -- This is the number of the first line at which the text and the outputs differ: the output lines before it are a front
 -- of those of the outputs, and with this line they are none.
+-- CHECK-2
 pub record IsFirstOther (text : List ℕ) (outputs : List Output) (n : ℕ) : Type 0 where
   pub before : List (List ℕ)
   pub line : List ℕ
@@ -40,6 +41,7 @@ pub record IsFirstOther (text : List ℕ) (outputs : List Output) (n : ℕ) : Ty
   pub differ : IsFrontOf (flat_map output_line_in before ++ output_line_in line) (output_lines outputs) → ⊥
 
 -- The text has the lines of the first outputs, and none for the one of this number, counted from 1.
+-- CHECK-2
 pub record IsLacking (text : List ℕ) (outputs : List Output) (n : ℕ) : Type 0 where
   pub agree : IsFrontOf (output_lines_in text) (output_lines outputs)
   pub some : 1 < n
@@ -47,12 +49,14 @@ pub record IsLacking (text : List ℕ) (outputs : List Output) (n : ℕ) : Type 
   pub there : n ≤ length outputs
 
 -- The text has output lines, and they are those of the outputs.
+-- CHECK-1
 pub record Agrees (text : List ℕ) (outputs : List Output) : Type 0 where
   pub same : output_lines_in text ≡ output_lines outputs
   pub some : 0 < length outputs
 
--- The text has output lines, so many. They are those of the outputs, or where its last line was cut off, those of the
+-- The text has output lines, this many. They are those of the outputs, or where its last line was cut off, those of the
 -- first outputs.
+-- CHECK-3
 abbrev pub AgreesWith : List ℕ → Bool → ℕ → List Output → Type 0
 AgreesWith text false n outputs = Agrees text outputs × (n ≡ length outputs)
 AgreesWith text true n outputs =
@@ -74,6 +78,7 @@ whole_len text zero = 0
 whole_len text (suc n) = if slice_index text n == 10 then suc n else whole_len text n
 
 -- what is checked of a text: all of it, but for a last line that no line feed ends, which is cut off
+-- CHECK-3
 unfoldable pub whole_lines : List ℕ → List ℕ
 whole_lines text = if nat_lt longest_input (length text) then text else take (whole_len text (length text)) text
 
@@ -86,7 +91,8 @@ whole_input remaining reader = option_map whole_lines (remaining reader)
 
 -- ---- the command
 
--- the line that says that so many agree, and where it is so, that the input is cut off
+-- the line that says that this many agree, and where it is so, that the input is cut off
+-- CHECK-3
 abbrev pub agreement : Agreement → List ℕ
 agreement a =
     if a.is_cut then decimal a.count ++ codes " outputs agree; the last line is cut off\n"
@@ -97,7 +103,7 @@ abbrev pub OfRun : Beginning → (List Output → Type 0) → Result (List Event
 OfRun beginning Holds (Ok events) = Holds (run (first_state beginning) events)
 OfRun beginning Holds (Err fault) = ⊥
 
--- The output lines of what is checked of an input are those of the run of its events, so many.
+-- The output lines of what is checked of an input are those of the run of its events, this many.
 abbrev pub HasAgreed : Beginning → Agreement → List ℕ → Type 0
 HasAgreed beginning a input = OfRun beginning (AgreesWith (whole_lines input) a.is_cut a.count) (read (whole_lines input))
 
@@ -113,6 +119,7 @@ FindsAgreed beginning remaining reader contents old new =
     (a : Agreement) × IsAgreed beginning remaining reader a × BufWrites contents old new (agreement a)
 
 -- The input is no event lines, or has no output lines.
+-- CHECK-4
 abbrev pub CannotBeChecked : List ℕ → Type 0
 CannotBeChecked input = IsRefused (read input) ⊎ (output_lines_in input ≡ [])
 
@@ -163,11 +170,11 @@ IsEnd found count NoOutputs = found ≡ 0
 IsEnd found count (Lacks n) = (n ≡ found + 1) × (found < count) × (0 < found)
 IsEnd found count other = ⊥
 
--- From so many outputs of these lines that agree, the line goes on to so many.
+-- From this many outputs of these lines that agree, the line goes on to this many.
 abbrev pub GoesOn : List (List ℕ) → List ℕ → ℕ → ℕ → Type 0
 GoesOn all line old new = take new all ≡ take old all ++ output_line_in line
 
--- what may be wrong with the line of this number, behind so many outputs of these lines that agree
+-- what may be wrong with the line of this number, after this many outputs of these lines that agree
 abbrev pub IsWrongAt : ℕ → List (List ℕ) → List ℕ → ℕ → Fault → Type 0
 IsWrongAt number all line next NoMemory = Unit {0}
 IsWrongAt number all line next (Differs n) = (n ≡ number) × (IsFrontOf (take next all ++ output_line_in line) all → ⊥)

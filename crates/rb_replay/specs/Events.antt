@@ -6,11 +6,11 @@ use Rattle.rb_model.specs.State.{State}
 use Rattle.rb_model.specs.Step.{Event, step}
 use Rattle.rb_model.specs.Plain.{OwnedOutput, output_of}
 use Rattle.rb_model.specs.Costs.{event_cost}
-use Rattle.rb_core.specs.StandsFor.{Held, StandsFor}
+use Rattle.rb_core.specs.StandsFor.{CoreView, StandsFor}
 use Rattle.rb_core.specs.Metered.{Metered}
 
 -- Letting the event happen from the state gives this, and what is held stands for the state after it.
-abbrev pub Happens : State → Event → OwnedOutput → Held → Type 0
+abbrev pub Happens : State → Event → OwnedOutput → CoreView → Type 0
 Happens s event given held = (output_of given ≡ (step s event).0) × StandsFor held (step s event).1
 
 -- The event has happened to a core, which pays at most its cost on its meter.

@@ -15,7 +15,7 @@ use Rattle.rb_model.specs.ForwardLaws.{UdpCallersAreTold}
 use Rattle.rb_model.specs.Sessions.{session, IsWholeSession}
 use Rattle.rb_model.specs.Costs.{event_cost}
 use Rattle.rb_model.specs.Bounds.{bytes_bound, bytes_in, bytes_out, steps_bound}
-use Rattle.rb_core.specs.StandsFor.{Held, StandsFor}
+use Rattle.rb_core.specs.StandsFor.{CoreView, StandsFor}
 use Rattle.rb_core.specs.HeldBytes.{held, IsListener}
 
 -- what the sender of a datagram gets
@@ -44,7 +44,7 @@ pub record IsServedWithin (limits : Limits) (start : State) (events : List Event
   -- a call that was forwarded over UDP gets at its end what its target said, or what the deadline says;
   pub later : UdpCallersAreTold (after start events)
   -- what is held has not passed its bound;
-  pub bytes : (core : Held) → StandsFor core (after start events) → held core ≤ bytes_bound limits
+  pub bytes : (core : CoreView) → StandsFor core (after start events) → held core ≤ bytes_bound limits
   -- and whatever event is next, its steps stay within theirs.
   pub steps : (event : Event)
       → let output : Output = (step (after start events) event).0 in

@@ -10,7 +10,7 @@ use Rattle.rb_record.specs.Printing.{Writes}
 use Rattle.rb_xdr.specs.Meter.{Meter, PaysAtMost}
 use Rattle.rb_core.specs.CallCosts.{making_cost}
 use Rattle.rb_core.specs.Events.{count_shown}
-use Rattle.rb_core.specs.StandsFor.{Held, StandsFor}
+use Rattle.rb_core.specs.StandsFor.{CoreView, StandsFor}
 use Rattle.rb_lines.specs.declared.lines.ReadFault.{ReadFault}
 use Rattle.rb_lines.specs.declared.beginning.Beginning.{Beginning}
 use Rattle.rb_lines.specs.declared.faults.Fault.{Fault}
@@ -23,6 +23,7 @@ use Rattle.rb_replay.specs.declared.running.Ran.{Ran}
 use Rattle.rb_replay.specs.Runs.{bound_shown}
 
 -- the core with which a replay begins
+-- REPLAY-1
 abbrev pub first_state : Beginning → State
 first_state beginning =
     opening beginning.limits beginning.listener beginning.first_xid beginning.moment
@@ -59,6 +60,7 @@ IsCoreFault beginning other = ⊥
 
 -- How a replay of a text that reads as this may fail: by what is wrong with the text, and where nothing is, by limits
 -- out of their ranges, by want of memory or by the writer.
+-- REPLAY-2
 abbrev pub IsReplayFault : Beginning → Fault → Result (List Event) ReadFault → Type 0
 IsReplayFault beginning NotText given = ⊥
 IsReplayFault beginning (Lines fault) given = Fails fault given
@@ -77,6 +79,7 @@ abbrev pub BufWrites : {W A : Type 0} → (W → Option (List ℕ)) → BufWrite
 BufWrites contents old new text = Writes (writer_contents contents) old new text
 
 -- how many steps the run of these events may take, or 2^128 - 1 where they are more
+-- STEPS-6
 abbrev pub bound_of : Beginning → List Event → ℕ
 bound_of beginning events = bound_shown beginning.limits events (run (first_state beginning) events)
 
@@ -94,7 +97,7 @@ abbrev pub ran_text : Ran → Bool → List ℕ
 ran_text ran shows_steps = report ran.outputs.items ++ steps_line_if shows_steps ran.steps ran.bound
 
 -- The run from such a state, which the core stands for.
-abbrev pub RunsFrom : Limits → List Event → Held → Result Ran Fault → Type 0
+abbrev pub RunsFrom : Limits → List Event → CoreView → Result Ran Fault → Type 0
 RunsFrom limits events core result =
     (s : State) → StandsFor core s → IfOk result (IsRunFrom limits events s)
 
@@ -105,7 +108,7 @@ KeepsBound ran = ran.steps ≤ ran.bound
 abbrev pub BeginsFrom : Beginning → Meter → Meter → Type 0
 BeginsFrom beginning old begun = PaysAtMost old begun (making_cost beginning.limits beginning.listener)
 
--- So many steps were counted from where the core was made.
+-- This many steps were counted from where the core was made.
 pub record AreCounted (beginning : Beginning) (taken : ℕ) (old now : Meter) : Type 0 where
   pub begun : Meter
   pub begins : BeginsFrom beginning old begun
@@ -113,6 +116,7 @@ pub record AreCounted (beginning : Beginning) (taken : ℕ) (old now : Meter) : 
 
 -- The printed outputs of the run of these events were written, and where it is asked for, how many steps the meter counted of
 -- the run, which are no more than they may be; and nothing else.
+-- REPLAY-3
 abbrev pub PrintsRun : {W A : Type 0} → Beginning → Meter → Meter → (W → Option (List ℕ))
     → BufWriter W A → BufWriter W A → Result (List Event) ReadFault → Type 0
 PrintsRun beginning before now contents old new (Ok events) =
@@ -141,6 +145,7 @@ Refuses beginning remaining reader fault =
     status_of fault ≡ 2 → Reads remaining reader (IsReplayFault beginning fault)
 
 -- A replay that does not end well ends by a fault, which at status 2 is what is wrong with the input.
+-- FAULT-1
 abbrev pub Explains : {R E : Type 0} → Beginning → (R → Option (List ℕ)) → R
     → (E → Option (List ℕ)) → E → E → Ending → Type 0
 Explains beginning remaining reader contents old new result =

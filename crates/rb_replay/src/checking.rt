@@ -28,7 +28,7 @@ pub struct Agreement {
     pub is_cut: bool,
 }
 
-/// What an output line says, which stands behind `#> `.
+/// What an output line says, which stands after `#> `.
 #[tactic(auto, unfolding(rb_lines::specs::OutputLines::output_line_in))]
 fn output_line_in(line: &[u8]) -> Option<&[u8]>
     ensures { output_line_of result ≡ output_line_in line.now }

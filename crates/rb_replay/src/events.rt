@@ -14,7 +14,7 @@ ghost use Rattle.rb_connections.specs.Costs.{look_cost};
 use rb_address::{Peer, Who};
 use rb_core::Metered;
 use rb_forward::{FwdId, LONGEST_FORWARDED_CALL};
-use rb_model::{Event, Expired, LONGEST_REPLY, Outcome, Output, Taken, Told, UnsentCall};
+use rb_model::{Event, Expired, LONGEST_REPLY, Output, Response, Taken, Told, UnsentCall};
 use rb_rpc::LONGEST_FRAGMENT;
 use rb_xdr::NoMemory;
 use std::alloc::Global;
@@ -42,8 +42,8 @@ fn bytes(core: &mut Metered, now: u64, id: u64, piece: &[u8]) -> Output
 fn show_taken(taken: Taken) -> Output
     ensures { output_of result ≡ show_taken taken }
 {
-    if taken.closed {
-        Output::TookAndClosed(taken.count)
+    if taken.lost {
+        Output::TookAndLost(taken.count)
     } else {
         Output::Took(taken.count)
     }
@@ -126,9 +126,9 @@ fn datagram(
         return Err(NoMemory);
     };
     match core.datagram(now, who, content) {
-        Outcome::NoCall | Outcome::Silent => Ok(Output::Silent),
-        Outcome::Forwarded => Ok(Output::Forwarded),
-        Outcome::Reply => {
+        Response::NoCall | Response::Silent => Ok(Output::Silent),
+        Response::Forwarded => Ok(Output::Forwarded),
+        Response::Reply => {
             reply.extend_from_slice(core.udp_reply()).unwrap();
             reply.shrink_to_fit();
             Ok(Output::Replied(reply))
@@ -136,7 +136,7 @@ fn datagram(
     }
 }
 
-/// Looks for the forwarded call that is to be sent.
+/// Looks for the forwarded call that must be sent.
 #[tactic(auto, unfolding(rb_model::specs::Step::step, rb_rpc::specs::Forwarded::longest_forwarded))]
 fn unsent(alloc: Global, core: &mut Metered) -> Result<Output, NoMemory>
     ensures ok { MayHappen Unsent core.old core.new result }
@@ -219,7 +219,7 @@ fn expire(alloc: Global, core: &mut Metered, now: u64) -> Result<Output, NoMemor
     };
     match core.expire(now) {
         Expired::Ended(told) => Ok(show_told(core, told, reply)),
-        Expired::ConnectionClosed(id) => Ok(Output::ConnectionClosed(id)),
+        Expired::ConnectionLost(id) => Ok(Output::ConnectionLost(id)),
         Expired::Nothing => Ok(Output::Nothing),
     }
 }

@@ -15,7 +15,7 @@ fn bytes_in(event: &Event, output: &Output) -> usize
     match (event, output) {
         (Event::Datagram(_, _, content), _) => content.len(),
         (Event::Forward(_, _, message), _) => message.len(),
-        (_, Output::Took(count) | Output::TookAndClosed(count)) => *count,
+        (_, Output::Took(count) | Output::TookAndLost(count)) => *count,
         _ => 0,
     }
 }

@@ -80,7 +80,7 @@ header_data fragments front are short =
     open_data (length (markings fragments ++ front)) j fragments front are (omega (arith, at_least fragments, length-append (markings fragments) front))
     ∙ ap (λ (xs : List ℕ). joined_data fragments ++ xs) (none_yet j front short) ∙ append-nil (joined_data fragments)
 
--- behind a header, the data as far as it goes
+-- after a header, the data as far as it goes
 some_data : (j len : ℕ) (last : Bool) (content : List ℕ) → length content ≤ len → len < 2 ^ 31 → data_in (suc j) (fragment_header len last ++ content) ≡ content
 some_data j len last content few small =
     let header : List ℕ = fragment_header len last in
@@ -135,7 +135,7 @@ at_start = record { seen_is = refl; few = omega arith; bytes = λ i. omega arith
 cut_short : (rest : List ℕ) → length rest < 4 → is_cut rest ≡ true
 cut_short rest short = lt-ltb _ _ (omega (arith, short))
 
--- behind the last byte of a fragment
+-- after the last byte of a fragment
 at_end : (fragments : List Fragment) (last : Bool) (content : List ℕ) → AreOpen fragments → length content < 2 ^ 31 → Reached (Header 0 0, last) (markings fragments ++ (fragment_header (length content) last ++ content))
 at_end fragments true content are small =
     let f : Fragment = record { last = true; content = content } in
@@ -237,7 +237,7 @@ whole_header xs are len =
     let is : number n ≡ xs = number-number_at 0 xs are long ∙ take_all 4 xs (omega (arith, len)) in
     sym is ∙ sym (header_of n (number_at_small 0 xs are)) ∙ ap (λ (k : ℕ). fragment_header (k % 2 ^ 31) (not (ltb k (2 ^ 31)))) (sym (four_are xs len)) ∙ sym (append-nil _)
 
--- behind the last byte of a header
+-- after the last byte of a header
 at_header : (fragments : List Fragment) (left : ℕ) (last : Bool) → AreOpen fragments → left < 2 ^ 31 → Reached (behind left last) (markings fragments ++ (fragment_header left last ++ []))
 at_header fragments left last are small =
     subst (λ (k : ℕ). Reached (behind left last) (markings fragments ++ (fragment_header k last ++ []))) (zero-add left) (at_data fragments left last [] are (omega (arith, small)))

@@ -20,7 +20,7 @@ words_more numbers i lt =
     ap words (take_more numbers i 0 lt) ∙ flat_map-append number (take i numbers) (get_or numbers i 0 ∷ [])
     ∙ ap (λ (xs : List ℕ). words (take i numbers) ++ xs) (append-nil (number (get_or numbers i 0)))
 
--- the buffer behind so many of the numbers
+-- the buffer after this many of the numbers
 abbrev pub with_words : Kept → List ℕ → Kept
 with_words old numbers = record old { bytes = old.bytes ++ words numbers }
 

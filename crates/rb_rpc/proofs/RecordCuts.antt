@@ -40,7 +40,7 @@ same_end a b long = ap (λ x. 4 + x % 2 ^ 31) (same_number a b long)
 same_flag : (a b : List ℕ) → 4 ≤ length a → is_last (a ++ b) ≡ is_last a
 same_flag a b long = ap (λ x. not (ltb x (2 ^ 31))) (same_number a b long)
 
--- a fragment that is cut in the front ends behind it
+-- a fragment that is cut in the front ends after it
 behind_cut : (a b : List ℕ) (n : ℕ) → is_cut a ≡ true → fragment_end (a ++ b) ≤ n → length a < n
 behind_cut a b n cut end =
     elim (cases_lt (length a) 4) [

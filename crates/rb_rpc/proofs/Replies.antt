@@ -31,7 +31,7 @@ some_is x y e = cc
 some_stat : (x y : AuthStat) → Some x ≡ Some y → x ≡ y
 some_stat x y e = cc
 
--- the head stands behind a verifier at the place
+-- the head stands after a verifier at the place
 record TailThere (status : ReplyStatus) (place : ℕ) (bytes : List ℕ) (end : ℕ) : Type 0 where
   rest : List ℕ
   fits : IsReplyStatus status
@@ -351,7 +351,7 @@ few_stats stats.GssContext = omega arith
 made_error : (x y k place : ℕ) (stat : AuthStat) → x ≡ y → k ≡ auth_stat_number stat → 20 ≡ place → refused_by (auth_stat_of k) x ≡ says y (AuthError stat) place
 made_error x y k place stat e f g = rw (e, f, stat_again_of stat, ← g) refl
 
--- a number behind others
+-- a number after others
 behind_at : (place k n : ℕ) (bytes front rest : List ℕ) → IsNumber n → length front ≡ k → drop place bytes ≡ front ++ (number n ++ rest) → number_at (place + k) bytes ≡ n
 behind_at place k n bytes front rest small len e =
     sym (number_at-drop place k bytes) ∙ ap (number_at k) e ∙ ap (λ (i : ℕ). number_at i (front ++ (number n ++ rest))) (omega arith) ∙ number_at-append front (number n ++ rest) k 0 len ∙ number_at-number n rest small

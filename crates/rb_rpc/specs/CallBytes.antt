@@ -19,6 +19,7 @@ abbrev pub call_words : CallHead → List ℕ
 call_words head = number head.xid ++ number 0 ++ number 2 ++ number head.prog ++ number head.vers ++ number head.proc
 
 -- The head of a call as these programs write it: these words, the credential, and the null verifier.
+-- CALL-4
 unfoldable pub call_bytes : CallHead → List ℕ
 call_bytes head = call_words head ++ credential head.cred ++ auth_none
 

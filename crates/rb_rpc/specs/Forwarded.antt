@@ -2,5 +2,6 @@
 use Rattle.std.specs.Prelude.{ℕ}
 
 -- the most bytes of arguments of such a call: the limit of args
+-- ARGS-2
 unfoldable pub longest_forwarded : ℕ
 longest_forwarded = 8800

@@ -48,6 +48,7 @@ pub record IsHead (head : CallHead) : Type 0 where
 -- ---- calls
 
 -- The bytes begin with a call of this head, which ends at the place: its words, a credential and a verifier.
+-- CALL-3
 pub record BeginsWithCall (head : CallHead) (place : ℕ) (bytes : List ℕ) : Type 0 where
   pub flavor : ℕ
   pub body : List ℕ
@@ -68,6 +69,7 @@ VerdictIsOfTheGrammar =
 -- ---- refusals, in their order
 
 -- The bytes begin with xid, CALL, and another version of RPC than 2.
+-- RPCVERS-1
 pub record BeginsWithOtherVersion (xid : ℕ) (bytes : List ℕ) : Type 0 where
   pub version : ℕ
   pub rest : List ℕ
@@ -76,7 +78,7 @@ pub record BeginsWithOtherVersion (xid : ℕ) (bytes : List ℕ) : Type 0 where
   pub other : version ≡ 2 → ⊥
   pub whole : bytes ≡ (number xid ++ number 0 ++ number version) ++ rest
 
--- They begin with the six words of a call by this xid, and these bytes are behind them.
+-- They begin with the six words of a call by this xid, and these bytes are after them.
 pub record BeginsWithWords (xid : ℕ) (rest bytes : List ℕ) : Type 0 where
   pub head : CallHead
   pub head_fits : IsHead head
@@ -94,12 +96,14 @@ pub record BeginsOverLong (bytes : List ℕ) : Type 0 where
   pub whole : bytes ≡ (number flavor ++ number len) ++ rest
 
 -- a call's words, and a credential that is over-long
+-- CRED-1
 pub record HasLongCredential (xid : ℕ) (bytes : List ℕ) : Type 0 where
   pub rest : List ℕ
   pub words : BeginsWithWords xid rest bytes
   pub credential : BeginsOverLong rest
 
 -- a call's words, a credential of any flavor, and a verifier that is over-long
+-- VERF-1
 pub record HasLongVerifier (xid : ℕ) (bytes : List ℕ) : Type 0 where
   pub flavor : ℕ
   pub body : List ℕ
@@ -118,6 +122,7 @@ pub record HasAuths (xid flavor : ℕ) (body bytes : List ℕ) : Type 0 where
   pub words : BeginsWithWords xid (auth flavor body ++ (auth verifier_flavor verifier_body ++ rest)) bytes
 
 -- these, where the flavor is neither AUTH_NONE nor AUTH_SYS
+-- CRED-3
 pub record HasOtherFlavor (xid : ℕ) (bytes : List ℕ) : Type 0 where
   pub flavor : ℕ
   pub body : List ℕ
@@ -125,6 +130,7 @@ pub record HasOtherFlavor (xid : ℕ) (bytes : List ℕ) : Type 0 where
   pub other : 1 < flavor
 
 -- these, where the flavor is AUTH_SYS, and the body begins with no fields of AUTH_SYS
+-- CRED-4
 pub record HasUnreadableBody (xid : ℕ) (bytes : List ℕ) : Type 0 where
   pub body : List ℕ
   pub auths : HasAuths xid 1 body bytes
@@ -146,6 +152,7 @@ AuthErrorsAreOfTheGrammar =
     (bytes : List ℕ) → AreBytes bytes → (xid : ℕ) (stat : AuthStat) → (verdict bytes ≡ verdicts.AuthError xid stat) ↔ HasBadAuth xid stat bytes
 
 -- neither a call nor one of these
+-- CALL-1 CALL-2 CRED-2 VERF-2 DATAGRAM-1
 pub record IsNoCall (bytes : List ℕ) : Type 0 where
   pub no_mismatch : (xid : ℕ) → BeginsWithOtherVersion xid bytes → ⊥
   pub no_bad_auth : (xid : ℕ) (stat : AuthStat) → HasBadAuth xid stat bytes → ⊥
@@ -168,6 +175,7 @@ IsReplyStatus GarbageArgs = ⊤
 IsReplyStatus SystemErr = ⊤
 
 -- The bytes begin with a reply that says this, with any verifier where it has one, and it ends at the place.
+-- REPLY-2
 pub record BeginsWithReply (xid : ℕ) (status : ReplyStatus) (place : ℕ) (bytes : List ℕ) : Type 0 where
   pub flavor : ℕ
   pub body : List ℕ
@@ -194,6 +202,7 @@ abbrev pub IsCaller : Credential → Type 0
 IsCaller credentials.None = ⊤
 IsCaller (credentials.Sys uid) = IsNumber uid
 
+-- CALL-4
 abbrev pub WrittenCallsAreRead : Type 0
 WrittenCallsAreRead =
     (head : CallHead) (arguments : List ℕ) → IsHead head → IsCaller head.cred

@@ -1,4 +1,4 @@
--- Where a reader of marked records stands behind the bytes that it was fed (RFC 5531 section 11).
+-- Where a reader of marked records stands after the bytes that it was fed (RFC 5531 section 11).
 use Rattle.std.specs.Prelude.{◌≡◌, ℕ, ◌+◌, ◌*◌, ◌^◌, ◌<◌, Bool, false, List, [], ◌∷◌, ◌++◌, length, fold, ⊤}
 use Rattle.rb_xdr.specs.Xdr.{AreBytes}
 use Rattle.rb_rpc.specs.Records.{Fragment, fragment_header, markings}
@@ -25,7 +25,7 @@ pub record IsInHeader (seen number : ℕ) (front : List ℕ) : Type 0 where
   pub bytes : AreBytes front
   pub number_is : number ≡ number_so_far front
 
--- a header, and the fragment's data but for so many bytes
+-- a header, and the fragment's data but for this many bytes
 pub record IsInData (left : ℕ) (last : Bool) (front : List ℕ) : Type 0 where
   pub content : List ℕ
   pub some_left : 0 < left

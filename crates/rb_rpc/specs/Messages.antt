@@ -36,6 +36,7 @@ abbrev pub max_gids : ℕ
 max_gids = 16
 
 -- stamp, machinename<255>, uid, gid, gids<16>
+-- CRED-4
 unfoldable pub body_of_sys : List ℕ → Reading SysBody
 body_of_sys = do
   stamp ← read_number

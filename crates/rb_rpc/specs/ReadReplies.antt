@@ -7,7 +7,7 @@ use Rattle.rb_rpc.specs.declared.reply.ReplyStatus.TheVariants.{Success, ProgUna
 use Rattle.rb_rpc.specs.declared.reply.ReplyStatus.{ReplyStatus}
 use Rattle.rb_rpc.specs.declared.reply.ReplyHead.{ReplyHead}
 
--- what is read: the head of a reply, and the place behind it, where its results begin
+-- what is read: the head of a reply, and the place after it, where its results begin
 abbrev pub Read : Type 0
 Read = Option (ReplyHead × ℕ)
 
@@ -34,7 +34,7 @@ by_accept_stat stat place bytes =
 unfoldable pub read_accept_stat : ℕ → List ℕ → Read
 read_accept_stat place bytes = if nat_lt (length bytes) (place + 4) then None else by_accept_stat (number_at place bytes) place bytes
 
--- the verifier stands behind three words, and accept_stat behind the verifier
+-- the verifier stands after three words, and accept_stat after the verifier
 unfoldable pub read_accepted : List ℕ → Read
 read_accepted bytes = if is_over_long 12 bytes || is_broken 12 bytes then None else read_accept_stat (auth_end 12 bytes) bytes
 
@@ -58,6 +58,7 @@ read_denied bytes =
     else None
 
 -- xid, head, and the place where the results begin, or where the head ends
+-- REPLY-2
 unfoldable pub read_reply : List ℕ → Read
 read_reply bytes =
     if nat_lt (length bytes) 12 || not (word 1 bytes == 1) then None

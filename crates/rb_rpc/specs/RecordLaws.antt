@@ -15,6 +15,7 @@ abbrev pub AreFragments : List Fragment → Type 0
 AreFragments [] = ⊤
 AreFragments (f ∷ more) = (length f.content < 2 ^ 31) × (f.last ≡ is_empty more) × AreFragments more
 
+-- RECORD-2
 abbrev pub joined_data : List Fragment → List ℕ
 joined_data fragments = flat_map (λ f. f.content) fragments
 
@@ -25,6 +26,7 @@ pub record IsMarkedAs (fragments : List Fragment) (bytes : List ℕ) : Type 0 wh
   pub spelled : bytes ≡ markings fragments
 
 -- The bytes are a marked record of the data `content`.
+-- RECORD-1
 pub record IsMarked (bytes content : List ℕ) : Type 0 where
   pub fragments : List Fragment
   pub marked : IsMarkedAs fragments bytes
@@ -76,6 +78,7 @@ abbrev pub HasNoRecord : List ℕ → Type 0
 HasNoRecord bytes = (n : ℕ) (content : List ℕ) → n ≤ length bytes → IsMarked (take n bytes) content → ⊥
 
 -- The bytes are marked records of these data, joined, and then the rest, of which no front is a marked record.
+-- RECORD-3
 pub record Records (bytes : List ℕ) (contents : List (List ℕ)) (rest : List ℕ) : Type 0 where
   pub texts : List (List ℕ)
   pub are_marked : AreMarked texts contents
@@ -103,6 +106,7 @@ pub record IsReplyFragment (f : Fragment) : Type 0 where
   pub not_empty : 0 < length f.content
   pub at_most : length f.content ≤ fragment_size
 
+-- FRAGMENT-1
 pub record AreReplyFragments (fragments : List Fragment) (reply bytes : List ℕ) : Type 0 where
   pub sizes : All IsReplyFragment fragments
   pub is_marked : IsMarkedAs fragments bytes

@@ -12,6 +12,7 @@ pub record Fragment : Type 0 where
   pub content : List ℕ
 
 -- the highest bit is 1 in the last fragment, the low 31 bits are the length of the data
+-- FRAGMENT-1
 unfoldable pub fragment_header : ℕ → Bool → List ℕ
 fragment_header len last = number (if last then 2 ^ 31 + len else len)
 
@@ -35,7 +36,7 @@ fragment_end bytes = 4 + number_at 0 bytes % 2 ^ 31
 abbrev pub is_cut : List ℕ → Bool
 is_cut bytes = nat_lt (length bytes) (fragment_end bytes)
 
--- of at most so many fragments
+-- of at most this many fragments
 abbrev pub record_of : ℕ → List ℕ → Option ℕ
 record_of zero bytes = None
 record_of (suc k) bytes =
@@ -44,10 +45,12 @@ record_of (suc k) bytes =
     else option_map (λ n. fragment_end bytes + n) (record_of k (drop (fragment_end bytes) bytes))
 
 -- The least n such that the first n bytes are a marked record, if any.
+-- RECORD-1
 unfoldable pub first_record : List ℕ → Option ℕ
 first_record bytes = record_of (length bytes) bytes
 
 -- the data of the first record, where that is one fragment and whole
+-- RECORD-5
 abbrev pub one_fragment : List ℕ → Option (List ℕ)
 one_fragment bytes =
     if is_cut bytes then None
@@ -61,10 +64,12 @@ data_in (suc k) bytes =
     else slice_range bytes 4 (fragment_end bytes) ++ data_in k (drop (fragment_end bytes) bytes)
 
 -- The data of the marked record that the bytes begin with, as far as the bytes go.
+-- RECORD-2
 unfoldable pub data_of : List ℕ → List ℕ
 data_of bytes = data_in (length bytes) bytes
 
 -- The bytes begin with a record of this data that is one fragment.
+-- RECORD-5
 pub record BeginsWithRecord (content bytes : List ℕ) : Type 0 where
   pub ends : first_record bytes ≡ Some (4 + length content)
   pub content_is : data_of (take (4 + length content) bytes) ≡ content
@@ -85,5 +90,6 @@ cut_up (suc k) reply =
 unfoldable pub reply_fragments : List ℕ → List Fragment
 reply_fragments reply = cut_up (length reply) reply
 
+-- FRAGMENT-1 FRAGMENT-2
 unfoldable pub marked_reply : List ℕ → List ℕ
 marked_reply reply = markings (reply_fragments reply)

@@ -26,6 +26,7 @@ reply_with verifier xid (RpcMismatch low high) = rejected_reply xid 0 ++ number 
 reply_with verifier xid (AuthError stat) = rejected_reply xid 1 ++ number (auth_stat_number stat)
 
 -- the daemon's verifier is AUTH_NONE, empty
+-- REPLY-1
 unfoldable pub reply_head : ℕ → ReplyStatus → List ℕ
 reply_head xid status = reply_with auth_none xid status
 

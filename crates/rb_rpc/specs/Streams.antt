@@ -10,6 +10,7 @@ use Rattle.rb_rpc.specs.declared.marks.Marks.{Marks}
 use Rattle.rb_rpc.specs.Marks.{StandsForFed}
 
 -- how many bytes of the fragment's data are still to come; none before its header ends
+-- RECORD-4
 abbrev pub data_left : Place → ℕ
 data_left (Header seen number) = 0
 data_left (Data left last) = left
@@ -35,6 +36,7 @@ more_data bytes true read = record { contents = read.contents ++ (read.unfinishe
 more_data bytes false read = record { contents = read.contents; unfinished = read.unfinished ++ bytes }
 
 -- The reader was fed these bytes since it was new, and this is the data of their marked records and of the rest.
+-- RECORD-3
 pub record StandsForStream (marks : Marks) (bytes : List ℕ) (read : RecordData) : Type 0 where
   pub rest : List ℕ
   pub records : Records bytes read.contents rest
@@ -52,7 +54,7 @@ RecordEnds marks run ended =
 abbrev pub ArePart : Marks → Part → List ℕ → Type 0
 ArePart marks part run = (fed : List ℕ) → StandsForFed marks fed → data_of (fed ++ run) ≡ data_of fed ++ data_among part run
 
--- Behind them the reader stands for them too, or is at the start of the next record.
+-- After them the reader stands for them too, or is at the start of the next record.
 abbrev pub StandsForMore : Marks → List ℕ → Bool → Marks → Type 0
 StandsForMore marks run ended behind = (fed : List ℕ) → StandsForFed marks fed → StandsForFed behind (if ended then [] else fed ++ run)
 
@@ -64,11 +66,11 @@ StreamGoesOn marks part run ended behind =
 
 -- ---- one step
 
--- behind a header or some of a fragment's data, before so many more bytes of it; and whether the record ended
+-- after a header or some of a fragment's data, before this many more bytes of it; and whether the record ended
 unfoldable pub behind : ℕ → Bool → Place × Bool
 behind left last = if left == 0 then (Header 0 0, last) else (Data left last, false)
 
--- behind one more byte of a header
+-- after one more byte of a header
 unfoldable pub behind_header : ℕ → ℕ → ℕ → Place × Bool
 behind_header seen number byte =
     if nat_lt seen 3 then (Header (seen + 1) (number * 256 % 2 ^ 32 + byte), false)

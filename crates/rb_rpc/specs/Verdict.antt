@@ -21,10 +21,12 @@ unfoldable pub auth_end : ℕ → List ℕ → ℕ
 auth_end place bytes = body_at place + body_length place bytes + residue (body_length place bytes)
 
 -- the length word is there and over 400
+-- CRED-1
 unfoldable pub is_over_long : ℕ → List ℕ → Bool
 is_over_long place bytes = not (nat_lt (length bytes) (body_at place)) && nat_lt max_auth_body (body_length place bytes)
 
 -- cut short, or a residual byte is not zero
+-- CRED-2 VERF-2
 unfoldable pub is_broken : ℕ → List ℕ → Bool
 is_broken place bytes =
     nat_lt (length bytes) (auth_end place bytes)
@@ -32,14 +34,14 @@ is_broken place bytes =
 
 -- ---- places and fields of a call
 
--- the credential stands behind six words: xid, mtype, rpcvers, prog, vers, proc
+-- the credential stands after six words: xid, mtype, rpcvers, prog, vers, proc
 abbrev pub credential_at : ℕ
 credential_at = 24
 
 unfoldable pub credential_end : List ℕ → ℕ
 credential_end bytes = auth_end credential_at bytes
 
--- the verifier stands behind the credential, and the arguments behind the verifier
+-- the verifier stands after the credential, and the arguments after the verifier
 unfoldable pub verifier_end : List ℕ → ℕ
 verifier_end bytes = auth_end (credential_end bytes) bytes
 
@@ -68,6 +70,7 @@ head_of bytes = record {
 }
 
 -- The first line that holds decides.
+-- CALL-1 RPCVERS-1 CALL-2 VERF-1 CRED-3 CALL-3 FEED-1
 unfoldable pub verdict : List ℕ → Verdict
 verdict bytes =
     if nat_lt (length bytes) 12 || not (word 1 bytes == 0) then NoCall
@@ -81,7 +84,7 @@ verdict bytes =
     else if credential_flavor bytes == 1 && not (is_some (sys_uid bytes)) then AuthError (word 0 bytes) stats.BadCredential
     else Call (head_of bytes) (verifier_end bytes)
 
--- The head of a call ends within so many bytes.
+-- The head of a call ends within this many bytes.
 abbrev pub EndsWithin : Verdict → ℕ → Type 0
 EndsWithin (Call head place) len = place ≤ len
 EndsWithin NoCall len = ⊤

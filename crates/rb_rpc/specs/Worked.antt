@@ -28,7 +28,7 @@ answer xid stat = words (xid ∷ 1 ∷ 0 ∷ 0 ∷ 0 ∷ stat ∷ [])
 
 -- ---- verdicts
 
--- NULL of version 2, by AUTH_NONE and by AUTH_SYS with uid 500; bytes behind it count for nothing
+-- NULL of version 2, by AUTH_NONE and by AUTH_SYS with uid 500; bytes after it count for nothing
 abbrev pub NullCall : Type 0
 NullCall = verdict (with_none 1 2 0) ≡ verdicts.Call (head 1 100000 2 0 credentials.None) 40
 
@@ -144,7 +144,7 @@ ReadsVerifier = read_reply (words (3 ∷ 1 ∷ 0 ∷ 9 ∷ 1 ∷ 0xff000000 ∷ 
 
 -- ---- records
 
--- each byte in a fragment of its own, and an empty fragment behind it
+-- each byte in a fragment of its own, and an empty fragment after it
 abbrev pub in_single_bytes : List ℕ → List ℕ
 in_single_bytes [] = []
 in_single_bytes (b ∷ more) = words (1 ∷ []) ++ (b ∷ []) ++ words (0 ∷ []) ++ in_single_bytes more
@@ -178,7 +178,7 @@ MarkedReply = marked_reply (answer 1 0) ≡ words (0x80000018 ∷ []) ++ answer 
 abbrev pub MarkedInNine : Type 0
 MarkedInNine = map (λ f. length f.content) (reply_fragments (replicate 9048 1)) ≡ replicate 8 1024 ++ 856 ∷ []
 
--- one fragment of a call and 100,000 bytes behind it, and one byte more
+-- one fragment of a call and 100,000 bytes after it, and one byte more
 abbrev pub long_record : List ℕ
 long_record = words (0x800186c8 ∷ []) ++ with_none 1 2 0 ++ replicate 100000 255
 

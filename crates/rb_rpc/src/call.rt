@@ -68,7 +68,7 @@ pub enum Verdict {
     Call(CallHead, usize),
 }
 
-/// Where the credential begins, behind six words.
+/// Where the credential begins, after six words.
 const CREDENTIAL: usize = 24;
 
 /// The message type of a call (RFC 5531 section 9).

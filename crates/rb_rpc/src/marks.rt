@@ -18,9 +18,9 @@ pub enum Part {
 /// Where the next byte stands.
 #[derive(Clone, Copy, PartialEq, Eq, Debug)]
 enum Place {
-    /// Behind so many bytes of a header, which spell this number as far as they go.
+    /// After this many bytes of a header, which spell this number as far as they go.
     Header { seen: u8, number: u32 },
-    /// Before so many more bytes of a fragment's data; it is the last of its record, or not.
+    /// Before this many more bytes of a fragment's data; it is the last of its record, or not.
     Data { left: u32, last: bool },
 }
 
@@ -57,7 +57,7 @@ fn layout(Marks { place }: &Marks) {
     }
 }
 
-/// Before so many more bytes of a fragment, and whether the record ended.
+/// Before this many more bytes of a fragment, and whether the record ended.
 #[tactic(auto, unfolding(crate::specs::Streams::behind))]
 fn behind(left: u32, last: bool) -> (Place, bool)
     ensures { result ≡ behind left last }
@@ -69,7 +69,7 @@ fn behind(left: u32, last: bool) -> (Place, bool)
     }
 }
 
-/// Behind one more byte of a header.
+/// After one more byte of a header.
 #[tactic(auto, unfolding(crate::specs::Streams::behind_header))]
 fn behind_header(seen: u8, number: u32, byte: u8) -> (Place, bool)
     ensures { result ≡ behind_header seen number byte }

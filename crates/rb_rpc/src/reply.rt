@@ -48,7 +48,7 @@ pub struct ReplyHead {
 #[error("no reply can be read")]
 pub struct BadReply;
 
-/// Where the verifier of an accepted reply begins, behind three words.
+/// Where the verifier of an accepted reply begins, after three words.
 const VERIFIER: usize = 12;
 
 /// How many bytes an accepted reply has up to its accept_stat, where its verifier is the null one.
@@ -188,7 +188,7 @@ fn read_accept_stat(bytes: &[u8], place: usize) -> Result<(ReplyHead, usize), Ba
     Ok((ReplyHead { xid, status }, place + 4))
 }
 
-/// An accepted reply, whose verifier stands behind three words, and accept_stat behind the verifier.
+/// An accepted reply, whose verifier stands after three words, and accept_stat after the verifier.
 #[tactic(auto, unfolding(crate::specs::ReadReplies::read_accepted))]
 fn read_accepted(bytes: &[u8]) -> Result<(ReplyHead, usize), BadReply>
     requires { 12 ≤ length bytes.now }

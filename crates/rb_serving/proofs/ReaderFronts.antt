@@ -27,7 +27,7 @@ pub number_of_front : (p n : ℕ) (xs : List ℕ) → p + 4 ≤ n → number_at 
 unfolding number_at
 number_of_front p n xs le = ap (λ (ys : List ℕ). from_be_bytes w32 ys) (part_of_front p 4 n xs le)
 
--- a front is shorter than so many bytes where they all are
+-- a front is shorter than this many bytes where they all are
 pub short_front : (k n : ℕ) (xs : List ℕ) → k ≤ n → ltb (length (take n xs)) k ≡ ltb (length xs) k
 short_front k n xs le =
     elim (cases_lt (length xs) n) [
@@ -37,7 +37,7 @@ short_front k n xs le =
 
 -- ---- readers
 
--- A front of so many bytes decides what is read, and a value ends in it.
+-- A front of this many bytes decides what is read, and a value ends in it.
 pub record LooksAt {A : Type 0} (most : ℕ) (reads : Reader A) : Type 0 where
   pub decided : (n : ℕ) (bytes : List ℕ) → most ≤ n → reads (take n bytes) ≡ reads bytes
   pub ends : (bytes : List ℕ) (x : A) (used : ℕ) → reads bytes ≡ Ok (x, used) → used ≤ most

@@ -18,7 +18,7 @@ use Rattle.rb_model.specs.Costs.{Sizes, change_cost, walked, sizes_for, asks_for
 abbrev pub row_count_of : Books → ℕ
 row_count_of books = length (slots_of books.registry)
 
--- what the costs of serving a message depend on, with so many connections; `old` and `new` are the books before and
+-- what the costs of serving a message depend on, with this many connections; `old` and `new` are the books before and
 -- after it
 abbrev pub sizes_over : ℕ → Books → Books → Sizes
 sizes_over connections old new = record {
@@ -44,7 +44,7 @@ PaysToServe context message old new args out before now =
 
 -- ---- lists
 
--- a list is to be given
+-- a list must be given
 abbrev pub is_listed : Served → Bool
 is_listed (Answered given) = false
 is_listed (Listed xid listing) = true

@@ -48,5 +48,6 @@ pub record SaysTheRecord (content : List ℕ) : Type 0 where
   pub answered : (context : Context) (ledger : Ledger)
       → outcome context (message_of content) (kept_of content) ledger ≡ outcome context (message_of content) (arguments_of content) ledger
 
+-- ARGS-5
 abbrev pub KeptSaysTheRecord : Type 0
 KeptSaysTheRecord = (content : List ℕ) → SaysTheRecord content

@@ -21,8 +21,8 @@ use Rattle.rb_model.specs.declared.message.Message.{Message}
 use Rattle.rb_model.specs.declared.message.Message.TheVariants as says
 use Rattle.rb_model.specs.declared.served.Served.{Served}
 use Rattle.rb_model.specs.declared.served.Served.TheVariants.{Answered, Listed}
-use Rattle.rb_model.specs.declared.served.Outcome.{Outcome as Written}
-use Rattle.rb_model.specs.declared.served.Outcome.TheVariants as outcomes
+use Rattle.rb_model.specs.declared.served.Response.{Response as Written}
+use Rattle.rb_model.specs.declared.served.Response.TheVariants as outcomes
 use Rattle.rb_model.specs.Served.{outcome_with, IsWritten, kind_in, served_in}
 use Rattle.rb_serving.specs.Messages.{null_message}
 

@@ -44,7 +44,7 @@ impl Called<'_> {
         matches!(self.procedure, Procedure::Void(VoidProcedure::Null))
     }
 
-    /// What the call says; `arguments` are the bytes behind its head.
+    /// What the call says; `arguments` are the bytes after its head.
     pub fn message<'a>(&self, arguments: &'a [u8]) -> Message<'a>
         ensures message { result
             ≡ asked_of self.now.head.now (arguments_in self.now.procedure arguments.now) }
@@ -87,7 +87,7 @@ pub fn procedure_of(verdict: &Verdict) -> Result<Called<'_>, Message<'static>>
     }
 }
 
-/// The bytes behind the head of a call; `verdict` is that on `bytes`, and where it is not `Call` there are none.
+/// The bytes after the head of a call; `verdict` is that on `bytes`, and where it is not `Call` there are none.
 #[tactic(auto, unfolding(rb_feed::specs::Feeds::arguments_of))]
 pub fn arguments_behind(verdict: Verdict, bytes: &[u8]) -> &[u8]
     requires verdict { verdict ≡ verdict_of bytes.now }

@@ -11,7 +11,7 @@ ghost use Rattle.rb_forward.specs.Forwards.{longest_results};
 ghost use Rattle.rb_forward.specs.Outcomes.{PassesWithin};
 ghost use Rattle.rb_proto.specs.Forwarding.{forwarded_bytes};
 ghost use Rattle.rb_model.specs.declared.served.Served.TheVariants.{Answered};
-ghost use Rattle.rb_model.specs.declared.served.Outcome.TheVariants.{Reply};
+ghost use Rattle.rb_model.specs.declared.served.Response.TheVariants.{Reply};
 ghost use Rattle.rb_model.specs.Calls.{reply_in, success, longest_reply};
 ghost use Rattle.rb_model.specs.Ending.{outcome_of_failure, outcome_at_end};
 ghost use Rattle.rb_model.specs.Grammar.{HasArgsIn};
@@ -21,8 +21,8 @@ ghost use Rattle.rb_serving.specs.Costs.{PaysForResults, PaysToServe, ListsAnswe
 ghost use Rattle.rb_model.specs.Costs.{put_end_cost};
 
 use crate::lengths::longest_for;
-use rb_forward::{Ended, Forward, Outcome as End};
-use rb_model::{Message, Outcome, Served};
+use rb_forward::{Ended, Forward, ForwardEnd as End};
+use rb_model::{Message, Response, Served};
 use rb_proto::{
     Answer, Books, Context, Listing, Results, answer, put_forwarded, put_results, refusal,
 };
@@ -135,20 +135,20 @@ fn put_answer(
                 return Served::Listed(xid, listing);
             }
             put_reply_with(results, &caller, xid, books, out, meter);
-            Served::Answered(Outcome::Reply)
+            Served::Answered(Response::Reply)
         }
         Answer::Refused(status) => {
             let status = *status;
             put_head(out, ReplyHead { xid, status }, meter);
-            Served::Answered(Outcome::Reply)
+            Served::Answered(Response::Reply)
         }
-        Answer::Forwarded => Served::Answered(Outcome::Forwarded),
-        Answer::Silent => Served::Answered(Outcome::Silent),
+        Answer::Forwarded => Served::Answered(Response::Forwarded),
+        Answer::Silent => Served::Answered(Response::Silent),
     }
 }
 
 /// Serves a message, and writes its reply into an empty buffer, unless it is a list that is streamed; `arguments` are
-/// the bytes behind its head.
+/// the bytes after its head.
 #[tactic(auto, unfolding(rb_model::specs::Calls::outcome, rb_model::specs::Calls::longest_reply))]
 pub fn serve(
     books: &mut Books,
@@ -172,16 +172,16 @@ pub fn serve(
         books.old books.new arguments.now out.new meter.old meter.new }
 {
     match message {
-        Message::NoCall => Served::Answered(Outcome::NoCall),
+        Message::NoCall => Served::Answered(Response::NoCall),
         Message::Refused(head) => {
             put_head(out, *head, meter);
-            Served::Answered(Outcome::Reply)
+            Served::Answered(Response::Reply)
         }
         Message::Garbage(head) => {
             let (xid, status) = (head.xid, ReplyStatus::GarbageArgs);
             books.note_call(head);
             put_head(out, ReplyHead { xid, status }, meter);
-            Served::Answered(Outcome::Reply)
+            Served::Answered(Response::Reply)
         }
         Message::Asked(call) => {
             let xid = call.head.xid;
@@ -208,7 +208,7 @@ pub fn serve_null(books: &mut Books, head: &CallHead, out: &mut Kept, meter: &mu
 {
     books.note_call(head);
     put_success(head.xid, out, meter);
-    Served::Answered(Outcome::Reply)
+    Served::Answered(Response::Reply)
 }
 
 /// Writes the results that a target gave into an empty buffer, or SYSTEM_ERR where the reply would be too long for its
@@ -231,7 +231,7 @@ fn put_passed(forward: &Forward, results: &[u8], out: &mut Kept, meter: &mut Met
 
 /// Writes the reply to the caller of a forwarded call that failed into an empty buffer; nothing where it gets none.
 #[tactic(auto, unfolding(rb_model::specs::Calls::longest_reply))]
-fn put_failed(forward: &Forward, status: ReplyStatus, out: &mut Kept, meter: &mut Meter) -> Outcome
+fn put_failed(forward: &Forward, status: ReplyStatus, out: &mut Kept, meter: &mut Meter) -> Response
     requires out { IsEmptyReply meter.old.tie out.old }
     ensures told { outcome_in result out.new ≡ outcome_of_failure forward.now status }
     ensures held { out.new.bytes ≡ reply_in (outcome_in result out.new) }
@@ -243,15 +243,15 @@ fn put_failed(forward: &Forward, status: ReplyStatus, out: &mut Kept, meter: &mu
     match refusal(forward.kind, status) {
         Answer::Refused(status) => {
             put_head(out, ReplyHead { xid, status }, meter);
-            Outcome::Reply
+            Response::Reply
         }
-        Answer::Results(_) | Answer::Forwarded | Answer::Silent => Outcome::Silent,
+        Answer::Results(_) | Answer::Forwarded | Answer::Silent => Response::Silent,
     }
 }
 
 /// Writes the reply to the caller of a forwarded call that ended into an empty buffer; nothing where it gets none.
 /// `message` is the datagram that ended it.
-pub fn put_end(ended: &Ended, message: &[u8], out: &mut Kept, meter: &mut Meter) -> Outcome
+pub fn put_end(ended: &Ended, message: &[u8], out: &mut Kept, meter: &mut Meter) -> Response
     requires within { PassesWithin ended.now.outcome (length message.now) }
     requires out { IsEmptyReply meter.old.tie out.old }
     ensures told { outcome_in result out.new ≡ outcome_at_end message.now ended.now }
@@ -264,10 +264,10 @@ pub fn put_end(ended: &Ended, message: &[u8], out: &mut Kept, meter: &mut Meter)
     match ended.outcome {
         End::Passed(place) => {
             put_passed(forward, &message[place..], out, meter);
-            Outcome::Reply
+            Response::Reply
         }
         End::Refused(status) => put_failed(forward, status, out, meter),
         End::Failed => put_failed(forward, ReplyStatus::SystemErr, out, meter),
-        End::Dropped => Outcome::Silent,
+        End::Dropped => Response::Silent,
     }
 }

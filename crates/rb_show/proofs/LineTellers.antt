@@ -71,7 +71,7 @@ front_bytes bytes are = data_bytes _ (take longest_record bytes) (AreBytes-take 
 module _ (IsLine : List ℕ → Type 0) where
   -- ---- tellers
 
-  -- such lines, and then a value that is so with bytes behind it, or a stop
+  -- such lines, and then a value that is so with bytes after it, or a stop
   abbrev Good : {A : Type 0} → (A → Type 0) → Told A → Type 0
   Good Is (Done lines x left) = AllByRecursion IsLine lines × Is x × AreBytes left
   Good Is (Stop lines fault) = AllByRecursion IsLine lines

@@ -31,7 +31,7 @@ owner_found (row ∷ rows) prog found e =
       | inr other ↦ rw other (owner_found rows prog found (e ∙ rw other refl))
     ]
 
--- a text is among those behind their borrows
+-- a text is among those after their borrows
 pub any_at : (text : List ℕ) (texts : List (Bor (List ℕ))) → list_any (λ (one : Bor (List ℕ)). bytes_eq one.now text) texts ≡ list_any (λ (one : List ℕ). bytes_eq one text) (borrowed_texts texts)
 any_at text [] = refl
 any_at text (one ∷ texts) = ap (λ (rest : Bool). bytes_eq one.now text || rest) (any_at text texts)

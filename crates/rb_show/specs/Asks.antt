@@ -27,6 +27,7 @@ abbrev pub of_portmapper : ℕ → Procedure → ℕ × ℕ × ℕ
 of_portmapper vers procedure = (100000, vers, unwrap_or (number_of vers procedure) 0)
 
 -- program, version and procedure
+-- QUESTION-1
 abbrev pub procedure_of : Question → ℕ × ℕ × ℕ
 procedure_of Rows = of_portmapper 3 (Void voids.Dump)
 procedure_of Short = of_portmapper 3 (Void voids.Dump)
@@ -61,9 +62,11 @@ abbrev pub mapping_of : ℕ → ℕ → ℕ → Mapping
 mapping_of prot prog vers = record { prog = prog; vers = vers; prot = prot; port = 0 }
 
 -- procedure 0 of a program's version, with arguments of no bytes
+-- QUESTION-2
 abbrev pub callit_arguments : ℕ → ℕ → List ℕ
 callit_arguments prog vers = (number prog ++ number vers) ++ (number 0 ++ number 0)
 
+-- QUESTION-3
 abbrev pub arguments_of : Question → List ℕ
 arguments_of Rows = []
 arguments_of Short = []

@@ -87,7 +87,7 @@ pub record StandsForItself (c : ℕ) : Type 0 where
 abbrev pub is_escape : ℕ → Bool
 is_escape b = b == 34 || b == 92 || b == 47 || b == 98 || b == 102 || b == 110 || b == 114 || b == 116
 
--- a character that stands for itself, one of these behind a backslash, or `\u` and four hexadecimal digits
+-- a character that stands for itself, one of these after a backslash, or `\u` and four hexadecimal digits
 pub data IsCharacter : List ℕ → Type 0 where
   Itself : (c : ℕ) → StandsForItself c → IsCharacter (encode_utf8 c)
   Escaped : (b : ℕ) → is_escape b ≡ true → IsCharacter (92 ∷ b ∷ [])
@@ -138,6 +138,7 @@ mutual
     Member : {name colon value : List ℕ} → IsString name → IsMark 58 colon → IsValue value → IsMember (name ++ (colon ++ value))
 
 -- a text is one value, with any white space around it
+-- JSON-3
 pub record IsText (bytes : List ℕ) : Type 0 where
   pub before : List ℕ
   pub value : List ℕ

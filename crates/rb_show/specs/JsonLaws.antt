@@ -26,12 +26,13 @@ pub record IsUnescaped (n : ℕ) (bytes : List ℕ) : Type 0 where
   pub no_quote : n ≡ 34 → ⊥
   pub no_backslash : n ≡ 92 → ⊥
 
--- a quotation mark or a backslash, behind a backslash
+-- a quotation mark or a backslash, after a backslash
 pub record IsBehindBackslash (n : ℕ) (bytes : List ℕ) : Type 0 where
   pub is : bytes ≡ 92 ∷ n ∷ []
   pub which : (n ≡ 34) ⊎ (n ≡ 92)
 
 -- one of these spells the character of this number
+-- JSON-1
 abbrev pub SpellsCharacter : ℕ → List ℕ → Type 0
 SpellsCharacter n bytes = IsUnescaped n bytes ⊎ (IsBehindBackslash n bytes ⊎ IsCode n bytes)
 

@@ -22,7 +22,8 @@ abbrev pub name_text : Option (List ℕ) → List ℕ
 name_text (Some name) = shown_text name
 name_text None = codes "-"
 
--- what stands behind the columns of a line that speaks of a program
+-- what stands after the columns of a line that speaks of a program
+-- SHOW-8
 abbrev pub line_end : Form → ℕ → List ℕ
 line_end Plain prog = codes "\n"
 line_end Json prog = codes "\n"
@@ -45,6 +46,7 @@ mapping_line form m = if is_json form then mapping_object m else mapping_columns
 abbrev pub row_columns : Form → Rpcb → List ℕ
 row_columns form r = decimal r.prog ++ (codes " " ++ (decimal r.vers ++ (codes " " ++ (shown_text r.netid ++ (codes " " ++ (shown_text r.addr ++ (codes " " ++ (shown_text r.owner ++ line_end form r.prog))))))))
 
+-- JSON-2
 abbrev pub row_line : Form → Rpcb → List ℕ
 row_line form r = if is_json form then row_object r else row_columns form r
 

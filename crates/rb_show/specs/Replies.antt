@@ -48,11 +48,12 @@ WritesSummary form stands_for items result contents writer writer' =
     WritesOnly (tell_items_summary form stands_for items) result contents writer writer'
 
 -- the items of a list, summed up once all of them were read
+-- SUMMARY-1
 unfoldable pub tell_summary : {A : Type 0} → Form → Reader A → (A → Rpcb) → Teller Shown
 tell_summary form reads stands_for =
     take_items reads greatest_list [] >>= λ items. tell_items_summary form stands_for items >>= λ _. give (shown.Rows (length items))
 
--- the same behind its heading
+-- the same after its heading
 unfoldable pub tell_columns : Form → Teller Shown
 tell_columns form = tell (heading form ∷ []) >>= λ _. tell_list read_mapping (mapping_line form)
 
@@ -64,6 +65,7 @@ unfoldable pub tell_port : Teller Shown
 tell_port = take_one read_number >>= λ port. give (shown.Port port)
 
 -- The address that a text is. An empty text says that there is none.
+-- SHOW-7
 abbrev pub address_in : List ℕ → Option (Option Uaddr)
 address_in [] = Some None
 address_in (b ∷ text) = option_map (λ address. Some address) (parse (b ∷ text))
@@ -117,13 +119,16 @@ is_success statuses.SystemErr = false
 is_success (statuses.RpcMismatch low high) = false
 is_success (statuses.AuthError stat) = false
 
+-- SHOW-2
 abbrev pub by_status : Form → Question → ReplyHead → Teller Shown
 by_status form question head = if is_success head.status then tell_results form question else stop (Refused head)
 
 -- a reply by another xid answers another call
+-- SHOW-1
 unfoldable pub by_head : Form → Question → ℕ → ReplyHead → Teller Shown
 by_head form question xid head = if head.xid == xid then by_status form question head else stop Unreadable
 
+-- SHOW-3
 unfoldable pub tell_reply : Ask → Form → ℕ → Teller Shown
 tell_reply ask form xid = take_head >>= by_head form ask.question xid
 
@@ -132,6 +137,7 @@ abbrev pub tell_bytes : Ask → Form → ℕ → List ℕ → Told Shown
 tell_bytes ask form xid bytes = tell_reply ask form xid (end_of (of_stream bytes)) (data_of (front_of bytes))
 
 -- what the datagram tells that is a reply to a question
+-- DATA-6
 abbrev pub tell_datagram : Ask → Form → ℕ → List ℕ → Told Shown
 tell_datagram ask form xid bytes = tell_reply ask form xid (end_of (of_datagram bytes)) (front_of bytes)
 

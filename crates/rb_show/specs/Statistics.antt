@@ -15,7 +15,7 @@ IsInt z = FitsSigned w32 z
 
 -- ---- rpcb_stat up to its lists: info[13], setinfo, unsetinfo
 
--- so many ints in a row (RFC 4506 section 4.12)
+-- this many ints in a row (RFC 4506 section 4.12)
 abbrev pub AreInts : ℕ → List ℤ → Type 0
 AreInts k ns = (length ns ≡ k) × AllByRecursion IsInt ns
 
@@ -29,7 +29,7 @@ read_ints (suc k) = do
   more ← read_ints k
   give (n ∷ more)
 
--- so many and one more
+-- this many and one more
 abbrev pub ints_form : ℕ → Form
 ints_form zero = Number
 ints_form (suc k) = Then Number (ints_form k)
@@ -74,6 +74,7 @@ max_addr = max_number + max_number + max_number + max_number + max_opaque 32
 abbrev pub addr_form : Form
 addr_form = Then Number (Then Number (Then Number (Then Number (Content 32))))
 
+-- SHOW-5
 unfoldable pub read_addr : Reader AddrStat
 read_addr = do
   prog ← read_number

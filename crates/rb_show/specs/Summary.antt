@@ -31,7 +31,7 @@ shown_rows rows = map shown_row rows
 abbrev pub as_shown : Rpcb → ShownRow
 as_shown r = record { prog = r.prog; vers = r.vers; netid = shown_text r.netid; owner = shown_text r.owner }
 
--- the texts behind their borrows
+-- the texts after their borrows
 abbrev pub borrowed_texts : List (Bor (List ℕ)) → List (List ℕ)
 borrowed_texts texts = map (λ text. text.now) texts
 
@@ -41,6 +41,7 @@ abbrev pub add_program : List ℕ → ShownRow → List ℕ
 add_program seen row = if list_any (λ prog. prog == row.prog) seen then seen else seen ++ row.prog ∷ []
 
 -- the programs, each once, in the order in which they appear
+-- SUMMARY-1
 abbrev pub programs_of : List ShownRow → List ℕ
 programs_of rows = fold add_program [] rows
 
@@ -52,6 +53,7 @@ abbrev pub AddsVersion : ℕ → ShownRow → List ℕ → List ℕ → Type 0
 AddsVersion prog row old new = new ≡ add_version prog old row
 
 -- the versions of a program, each once, the one that appears last first
+-- SUMMARY-2
 abbrev pub versions_of : List ShownRow → ℕ → List ℕ
 versions_of rows prog = fold (add_version prog) [] rows
 
@@ -63,6 +65,7 @@ abbrev pub AddsNetid : ℕ → ShownRow → List (Bor (List ℕ)) → List (Bor 
 AddsNetid prog row old new = borrowed_texts new ≡ add_netid prog (borrowed_texts old) row
 
 -- and its netids, in the same way
+-- SUMMARY-2
 abbrev pub netids_of : List ShownRow → ℕ → List (List ℕ)
 netids_of rows prog = fold (add_netid prog) [] rows
 
@@ -71,6 +74,7 @@ owner_in (Some row) = row.owner
 owner_in None = []
 
 -- the owner of its first row
+-- SUMMARY-3
 abbrev pub owner_of : List ShownRow → ℕ → List ℕ
 owner_of rows prog = owner_in (find (λ row. row.prog == prog) rows)
 
@@ -99,7 +103,8 @@ abbrev pub summary_line : Form → List ShownRow → ℕ → List ℕ
 summary_line form rows prog = at_right 10 (decimal prog) ++ (codes "  " ++ (versions_text rows prog ++ (netids_text rows prog
     ++ (codes " " ++ (at_left 11 (service_text form prog) ++ (codes " " ++ (owner_of rows prog ++ codes "\n")))))))
 
--- a line for each program, behind the heading
+-- a line for each program, after the heading
+-- SUMMARY-1
 abbrev pub summary_text : Form → List ShownRow → List ℕ
 summary_text form rows = summary_heading ++ flat_map (summary_line form rows) (programs_of rows)
 

@@ -8,10 +8,12 @@ use Rattle.rb_address.specs.Netids.{netid_text, netid_of, transport_of_protocol}
 -- ---- texts of a reply
 
 -- a byte that is no printable ASCII character is shown as `?`
+-- SHOW-9
 abbrev pub shown_byte : ℕ → ℕ
 shown_byte b = if nat_le 33 b && nat_le b 126 then b else 63
 
 -- an empty text is shown as `-`
+-- SHOW-9
 abbrev pub shown_text : List ℕ → List ℕ
 shown_text [] = codes "-"
 shown_text (b ∷ text) = map shown_byte (b ∷ text)

@@ -25,7 +25,7 @@ accepted xid stat = words (xid ∷ 1 ∷ 0 ∷ 0 ∷ 0 ∷ stat ∷ [])
 abbrev pub CallOfTheTable : Type 0
 CallOfTheTable = marked_call (of_nobody Pmap) 1 ≡ words (0x80000028 ∷ 1 ∷ 0 ∷ 2 ∷ 100000 ∷ 2 ∷ 4 ∷ 0 ∷ 0 ∷ 0 ∷ 0 ∷ [])
 
--- one row, of which each text is shown, and a byte behind the results that is left
+-- one row, of which each text is shown, and a byte after the results that is left
 abbrev pub one_row : List ℕ
 one_row = words (1 ∷ 7 ∷ 3 ∷ []) ++ opaque (codes "udp") ++ opaque [] ++ opaque (codes "a b") ++ words (0 ∷ []) ++ 9 ∷ []
 
@@ -55,7 +55,7 @@ CutListTellsItsRows =
 
 -- ---- as objects
 
--- a row with a quotation mark and the byte 200 in its owner, and a list that breaks off behind it
+-- a row with a quotation mark and the byte 200 in its owner, and a list that breaks off after it
 abbrev pub quoted_row : List ℕ
 quoted_row = words (1 ∷ 7 ∷ 3 ∷ []) ++ opaque (codes "udp") ++ opaque [] ++ opaque (97 ∷ 34 ∷ 200 ∷ [])
 

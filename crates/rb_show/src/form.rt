@@ -41,7 +41,7 @@ pub(crate) fn program_name(
     }
 }
 
-/// What stands behind the columns of a line that speaks of a program.
+/// What stands after the columns of a line that speaks of a program.
 pub(crate) fn line_end(alloc: Global, form: Form<'_>, prog: u32) -> Result<String, AllocError>
     ensures { IfOk result (λ end. string_bytes end ≡ line_end form.entry prog) }
 {

@@ -23,9 +23,9 @@ use std::io::Write;
 /// What was shown.
 #[derive(Clone, Copy, Debug, PartialEq, Eq)]
 pub enum Shown {
-    /// A list of so many rows or entries, at most 4,096.
+    /// A list, and the number of its rows or entries, at most 4,096.
     Rows(u32),
-    /// So many items of statistics, beside the numbers of each version.
+    /// The number of items of statistics, beside the numbers of each version.
     Statistics(u64),
     /// The port of GETPORT, of which nothing is printed.
     Port(u32),
@@ -327,11 +327,11 @@ fn show_record<B: ByteSource, W: Write>(
 /// Reads the marked reply to the call with this xid, and writes what it tells in this form, a line for each row as it
 /// comes.
 ///
-/// Of the record as much is read as the results need, and no byte behind them.
+/// Of the record as much is read as the results need, and no byte after them.
 ///
 /// - `Unreadable` where the data is no reply to this call, whatever may follow it.
 /// - `CutOff` where the source or its record ends before the results do.
-/// - `TooLong` where the results go on behind the first 16,777,216 bytes, of which the record is longer.
+/// - `TooLong` where the results go on after the first 16,777,216 bytes, of which the record is longer.
 /// - `Refused` where the reply is another than SUCCESS.
 /// - `TooMany` at the 4,097th row of a list.
 /// - `Read` where the source fails, which `HeldBytes` never does.

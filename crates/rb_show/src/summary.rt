@@ -209,7 +209,7 @@ fn summary_line(
     format!(in alloc; "{prog:>10}  {versions}{netids} {service} {owner}\n")
 }
 
-/// A line for each program, behind the heading.
+/// A line for each program, after the heading.
 fn summary_text(alloc: Global, form: Form<'_>, rows: &[Row]) -> Result<String, AllocError>
     ensures { IfOk result
         (λ text. string_bytes text ≡ summary_text form.entry (shown_rows rows.now)) }

@@ -41,7 +41,7 @@ pub(crate) fn prot_text(alloc: Global, prot: u32) -> Result<String, AllocError>
     }
 }
 
-/// A text with spaces behind it, up to this width.
+/// A text with spaces after it, up to this width.
 pub(crate) fn at_left(alloc: Global, text: &str, width: usize) -> Result<String, AllocError>
     ensures { IfOk result (λ padded. string_bytes padded ≡ at_left width text.now) }
 {

@@ -11,6 +11,7 @@ family_at key = if key == 1025 then Inet6 else Inet
 
 -- below 1024 the place of a connection, below 2048 a socket for forwarded calls, below 4096 one where datagrams come in,
 -- and from there on a listener
+-- TOKEN-1
 abbrev pub shown_by : ℕ → Shown
 shown_by key =
     if nat_lt key 1024 then Connection key
@@ -18,6 +19,7 @@ shown_by key =
     else (if nat_lt key 4096 then Calls (key - 2048) else Listener (key - 4096)))
 
 -- There are fewer places of connections than 1024, and fewer sockets for datagrams than 2048.
+-- TOKEN-1
 abbrev pub MayBeShown : Shown → Type 0
 MayBeShown (Connection place) = place < 1024
 MayBeShown (Forwards family) = Unit {0}

@@ -4,6 +4,7 @@ use Rattle.std.specs.Net.Text.{socket_text}
 use Rattle.rb_sockets.specs.declared.faults.Step.{Step}
 use Rattle.rb_sockets.specs.declared.faults.Step.TheVariants.{BindTcp, BindUdp, BindLocal, Prepare, Wait, Accept, Clock}
 
+-- FAULT-3
 abbrev pub step_text : Step → List ℕ
 step_text (BindTcp address) = codes "bind TCP " ++ socket_text address
 step_text (BindUdp address) = codes "bind UDP " ++ socket_text address

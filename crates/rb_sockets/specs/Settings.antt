@@ -18,5 +18,6 @@ announced_by s = record {
   inet6 = announced_inet6 s.announce.inet6 s.bind s.loopback6;
 }
 
+-- ANNOUNCE-2
 abbrev pub listener_of : Settings → Listener
 listener_of s = record { announced = announced_by s; port = s.port; local = path_of s.local; terms = s.terms }

@@ -108,7 +108,7 @@ impl Sockets {
         })
     }
 
-    /// So many descriptors of the process are not for connections: the system gives the least number that is free, so
+    /// The number of descriptors of the process that are not for connections: the system gives the least free number, so
     /// when the last of these sockets got its own, all below that were taken.
     pub fn count_descriptors(&self) -> u64 {
         let mut last = self.forwards.inet.socket.as_raw_fd();
@@ -172,22 +172,22 @@ impl Sockets {
     }
 
     /// Notes what an event with this token shows, where that is a socket of these.
-    pub fn show(&mut self, token: Token) {
+    pub fn note_ready(&mut self, token: Token) {
         match Sockets::shown_by(token) {
             Shown::Connection(_) => {}
             Shown::Forwards(family) => {
                 if let Some(forwards) = self.forwards.of_mut(family) {
-                    forwards.show();
+                    forwards.note_ready();
                 }
             }
             Shown::Calls(i) => {
                 if let Some(calls) = self.calls.all.get_mut(i) {
-                    calls.show();
+                    calls.note_ready();
                 }
             }
             Shown::Listener(i) => {
                 if let Some(listener) = self.listeners.get_mut(i) {
-                    listener.show();
+                    listener.note_ready();
                 }
             }
         }
@@ -331,7 +331,7 @@ fn bind_local<R: Files + Net>(
     }
 }
 
-/// Puts a socket behind the others.
+/// Puts a socket after the others.
 fn put<S: Drop>(all: &mut Vec<Watched<S>>, socket: S) -> Result<(), BindFault> {
     match all.push(Watched::new(socket)) {
         Ok(()) => Ok(()),

@@ -22,11 +22,11 @@ impl<S> Watched<S> {
     }
 
     /// An event showed it.
-    pub fn show(&mut self) {
+    pub fn note_ready(&mut self) {
         self.is_shown = true;
     }
 
-    /// Whether it is to be served in this turn.
+    /// Whether it must be served in this turn.
     pub fn is_ready(&self) -> bool {
         self.is_shown || self.again != Again::AtEvent
     }
@@ -49,7 +49,7 @@ impl<S> Watched<S> {
         self.again == Again::AtOnce
     }
 
-    /// Whether it is to be served after a wait though no event shows it.
+    /// Whether it must be served after a wait though no event shows it.
     pub fn is_tried_again(&self) -> bool {
         self.again == Again::AfterWait
     }

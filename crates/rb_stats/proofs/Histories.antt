@@ -19,7 +19,7 @@ use Rattle.rb_stats.proofs.Items.{number_of-push}
 
 -- ---- the numbers of the procedures
 
--- so many numbers from one on
+-- this many numbers from one on
 abbrev numbers_from : ℕ → ℕ → List ℕ
 numbers_from first zero = []
 numbers_from first (suc more) = first ∷ numbers_from (first + 1) more

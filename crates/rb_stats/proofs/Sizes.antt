@@ -59,7 +59,7 @@ abbrev pub fits_in : Info → Key → Bool
 fits_in Addr key = is_none key.proc
 fits_in Rmt key = is_some key.proc
 
--- each has at most so many bytes, TRUE before it included
+-- each has at most this many bytes, TRUE before it included
 abbrev pub most_size : Info → ℕ
 most_size Addr = 32
 most_size Rmt = 40

@@ -23,10 +23,12 @@ pub data Note : Type 0 where
 -- ---- numbers
 
 -- the greatest number of type int
+-- STAT-2
 abbrev pub greatest_int : ℕ
 greatest_int = 2 ^ 31 - 1
 
 -- how many pass the test, as far as an int goes
+-- STAT-2
 unfoldable pub number_of : {A : Type 0} → (A → Bool) → List A → ℕ
 number_of test xs = min (count_by test xs) greatest_int
 
@@ -36,6 +38,7 @@ is_version Three Three = true
 is_version Four Four = true
 is_version _ _ = false
 
+-- STAT-1
 abbrev pub is_call : Version → ℕ → Note → Bool
 is_call version proc (Called v p) = is_version v version && p == proc
 is_call version proc _ = false
@@ -58,6 +61,7 @@ is_proc None None = true
 is_proc (Some a) (Some b) = a == b
 is_proc _ _ = false
 
+-- STAT-4
 unfoldable pub is_key : Key → Key → Bool
 is_key a b = is_version a.version b.version && is_target a.target b.target && is_proc a.proc b.proc
 
@@ -91,9 +95,11 @@ distinct_keys [] = []
 distinct_keys (key ∷ keys) = key ∷ filter (λ other. not (is_key key other)) (distinct_keys keys)
 
 -- a list has the first 32 keys
+-- STAT-3
 abbrev pub greatest_list : ℕ
 greatest_list = 32
 
+-- STAT-3
 unfoldable pub keys_of : List Count → List Key
 keys_of counts = take greatest_list (distinct_keys (map (λ (count : Count). count.key) counts))
 
@@ -102,6 +108,7 @@ abbrev pub one_more : ℕ → ℕ
 one_more n = min (n + 1) greatest_int
 
 -- a key with its numbers: how often it passed, failed, and came by INDIRECT
+-- STAT-5
 abbrev pub item_of : List Count → Key → Item
 item_of counts key = record {
   key = key;
@@ -126,6 +133,7 @@ pub record Stat : Type 0 where
 abbrev pub procedures : List ℕ
 procedures = 0 ∷ 1 ∷ 2 ∷ 3 ∷ 4 ∷ 5 ∷ 6 ∷ 7 ∷ 8 ∷ 9 ∷ 10 ∷ 11 ∷ 12 ∷ []
 
+-- STAT-1
 unfoldable pub stat : Version → List Note → Stat
 stat version notes = record {
   info = map (λ proc. number_of (is_call version proc) notes) procedures;
@@ -159,5 +167,6 @@ unfoldable pub stat_spelling : Stat → List ℕ
 stat_spelling s = words s.info ++ (number s.setinfo ++ (number s.unsetinfo ++ (linked_list item_spelling s.addrinfo ++ linked_list item_spelling s.rmtinfo)))
 
 -- rpcb_stat_byvers: versions 2, 3 and 4
+-- STAT-6
 unfoldable pub statistics : List Note → List ℕ
 statistics notes = stat_spelling (stat Two notes) ++ (stat_spelling (stat Three notes) ++ stat_spelling (stat Four notes))

@@ -18,6 +18,7 @@ pub record SameFrame (old new : Stats) : Type 0 where
   pub tie : new.tie ≡ old.tie
 
 -- Statistics that keep this stand for these calls.
+-- STAT-7
 pub record StandsForHistory (kept : Stats) (notes : List Note) : Type 0 where
   pub two : kept.two ≡ stat Two notes
   pub three : kept.three ≡ stat Three notes
@@ -28,6 +29,7 @@ abbrev pub stat_len : Stat → ℕ
 stat_len s = length s.addrinfo + length s.rmtinfo
 
 -- the number of all keys
+-- HELD-2
 abbrev pub key_count : Stats → ℕ
 key_count kept = stat_len kept.two + stat_len kept.three + stat_len kept.four
 

@@ -72,7 +72,7 @@ after_count count item = if is_item count.key item then item_after count.passed 
 abbrev pub HasCounted : Count → Pool Item → Pool Item → Type 0
 HasCounted count old new = values_of new.entries ≡ map (after_count count) (values_of old.entries)
 
--- or in a new item behind the others
+-- or in a new item after the others
 abbrev pub HasAdded : Count → Pool Item → Pool Item → Type 0
 HasAdded count old new =
     values_of new.entries ≡ values_of old.entries ++ item_after count.passed count.indirect (new_item count.key) ∷ []

@@ -26,7 +26,7 @@ CallsAreCounted =
     calls : List Note
     calls = Called Two 1 ∷ WasSet Two ∷ Called Two 3 ∷ LookedUp Two (target 200001 Tcp) true ∷ Called Two 1 ∷ Called Two 3 ∷ Called Four 12 ∷ []
 
--- so many look-ups that find nothing, of programs from this one
+-- this many look-ups that find nothing, of programs from this one
 abbrev pub lookups : ℕ → ℕ → List Note
 lookups zero prog = []
 lookups (suc k) prog = LookedUp Two (target prog Tcp) false ∷ lookups k (prog + 1)

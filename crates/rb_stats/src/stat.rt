@@ -15,7 +15,7 @@ use crate::key::{Info, Version};
 use arrayvec::ArrayVec;
 use rb_xdr::{Kept, Meter, Pool, Xdr};
 
-/// A list has the items of so many keys; further keys have none.
+/// The number of keys whose items a list has; further keys have none.
 pub(crate) const GREATEST_LIST: usize = 32;
 
 /// The items of a version.
@@ -94,7 +94,7 @@ fn list_size(items: &[Item]) -> usize
     size
 }
 
-/// Writes a list, each item behind TRUE, and FALSE at its end.
+/// Writes a list, each item after TRUE, and FALSE at its end.
 #[tactic(auto, unfolding(rb_xdr::specs::Xdr::linked_list))]
 pub(crate) fn write_list(items: &[Item], out: &mut Kept, meter: &mut Meter)
     requires tie { meter.old.tie ≡ out.old.tie }

@@ -174,7 +174,7 @@ impl Stats {
         self.items.count(key, passed, indirect, meter);
     }
 
-    /// Puts the statistics of versions 2, 3 and 4 behind what the buffer has (RFC 1833 section
+    /// Puts the statistics of versions 2, 3 and 4 after what the buffer has (RFC 1833 section
     /// 2.2.2, RPCBPROC_GETSTAT).
     ///
     /// `Full`, with the buffer as it was, where it would then have more than `limit` bytes. It costs at most 6 steps

@@ -66,7 +66,7 @@ fn count_at(
     item.count(passed, indirect);
 }
 
-/// Adds the first item of a key behind the others, with one count.
+/// Adds the first item of a key after the others, with one count.
 fn add_item(items: &mut Pool<Item>, key: Key, passed: bool, indirect: bool, meter: &mut Meter)
     requires tie { meter.old.tie ≡ items.old.tie }
     requires table { IsTable items.old }

@@ -12,6 +12,7 @@ use Rattle.rb_uaddr.specs.Uaddr.{IsBytes, IsUaddr, any_host, any_host6, dot, ipv
 
 -- `h1.h2.h3.h4.p1.p2`: six numbers from 0 to 255 in decimal without leading zeros, with a dot between each two.
 -- The first four are the host, and the port is 256·p1 + p2.
+-- UADDR-1
 pub record SpellsV4 (host : List ℕ) (port : ℕ) (text : List ℕ) : Type 0 where
   pub p1 : ℕ
   pub p2 : ℕ
@@ -60,6 +61,7 @@ SpellsHost host text = SpellsInFull host text ⊎ SpellsShortened host text
 
 -- `x1:x2:x3:x4:x5:x6:x7:x8.p1.p2` or the same with `::`: the host's text, and two numbers from 0 to 255 in decimal without leading zeros,
 -- with a dot before each. The port is 256·p1 + p2.
+-- UADDR-2
 pub record SpellsV6 (host : List ℕ) (port : ℕ) (text : List ℕ) : Type 0 where
   pub host_text : List ℕ
   pub p1 : ℕ
@@ -79,7 +81,7 @@ pub record PrintsGroup (n : ℕ) (text : List ℕ) : Type 0 where
   pub no_leading_zero : slice_index text 0 ≡ 48 → length text ≡ 1
   pub lower_case : All (λ b. ¬ (IsInRange 65 90 b)) text
 
--- so many zero groups stand there
+-- this many zero groups stand there
 pub record IsZeroRun (groups : List ℕ) (start len : ℕ) : Type 0 where
   pub within : start + len ≤ length groups
   pub zeros : take len (drop start groups) ≡ replicate len 0
@@ -106,6 +108,7 @@ pub record PrintsInFull (groups text : List ℕ) : Type 0 where
   pub no_run : (start : ℕ) → ¬ (IsZeroRun groups start 2)
   pub text_is : text ≡ printed_groups groups
 
+-- UADDR-3
 abbrev pub PrintsHost : List ℕ → List ℕ → Type 0
 PrintsHost host text = PrintsShortened (segments_of host) text ⊎ PrintsInFull (segments_of host) text
 
@@ -165,6 +168,7 @@ pub record IsTransportV6 (host : List ℕ) (port : ℕ) (form : List ℕ) : Type
   pub port_is : port ≡ 256 * p1 + p2
   pub form_is : form ≡ 10 ∷ 0 ∷ p1 ∷ p2 ∷ flow ++ host ++ scope
 
+-- TADDR-1
 abbrev pub IsTransportOf : Uaddr → List ℕ → Type 0
 IsTransportOf (V4 host port) form = IsTransportV4 host port form
 IsTransportOf (V6 host port) form = IsTransportV6 host port form
@@ -181,6 +185,7 @@ abbrev pub TransportIsAddress : Type 0
 TransportIsAddress = (form : List ℕ) (u : Uaddr) → All (λ b. b < 256) form → from_transport form ≡ Some u → IsUaddr u
 
 -- The host of its family stands in for 0.0.0.0 and for ::, and for no other host; the port stays.
+-- MERGE-1
 pub record MergesAnyHost : Type 0 where
   pub replaced : (hosts : Hosts) (port : ℕ) → merged_address hosts (V4 any_host port) ≡ V4 hosts.inet port
   pub kept : (hosts : Hosts) (own : List ℕ) (port : ℕ) → own ≢ any_host → merged_address hosts (V4 own port) ≡ V4 own port
@@ -189,6 +194,7 @@ pub record MergesAnyHost : Type 0 where
 
 -- ---- the address of a local socket
 
+-- UADDR-5
 pub record IsLocalText (text : List ℕ) : Type 0 where
   pub some : 0 < length text
   pub few : length text ≤ 128

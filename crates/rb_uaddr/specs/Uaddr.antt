@@ -11,7 +11,7 @@ use Rattle.rb_uaddr.specs.declared.address.Uaddr.{Uaddr}
 use Rattle.rb_uaddr.specs.declared.address.Uaddr.TheVariants.{V4, V6}
 use Rattle.rb_uaddr.specs.declared.address.Hosts.{Hosts}
 
--- so many bytes
+-- this many bytes
 pub record IsBytes (n : ℕ) (bytes : List ℕ) : Type 0 where
   pub count : length bytes ≡ n
   pub small : All (λ b. b < 256) bytes
@@ -46,6 +46,7 @@ unfoldable pub ipv6_host_text : List ℕ → List ℕ
 ipv6_host_text host = hex_groups_text (segments_of host)
 
 -- `h1.h2.h3.h4.p1.p2` and `x1:x2:x3:x4:x5:x6:x7:x8.p1.p2`: the host, and the bytes of the port in decimal
+-- UADDR-1 UADDR-3
 unfoldable pub text_of : Uaddr → List ℕ
 text_of (V4 host port) = join_with_byte dot (map decimal (host ++ port_bytes port))
 text_of (V6 host port) = join_with_byte dot (ipv6_host_text host ∷ map decimal (port_bytes port))
@@ -88,17 +89,21 @@ ipv6_of_parts _ = None
 unfoldable pub parts_of : List ℕ → List (List ℕ)
 parts_of text = slice_split (λ b. b == dot) text
 
+-- UADDR-4
 unfoldable pub parse_ipv4 : List ℕ → Option Uaddr
 parse_ipv4 text = ipv4_of_parts (parts_of text)
 
+-- UADDR-4
 unfoldable pub parse_ipv6 : List ℕ → Option Uaddr
 parse_ipv6 text = ipv6_of_parts (parts_of text)
 
 -- the address that has this text: an IPv4 address has six parts, and an IPv6 address three
+-- UADDR-1 UADDR-2
 unfoldable pub parse : List ℕ → Option Uaddr
 parse text = option_or (parse_ipv4 text) (parse_ipv6 text)
 
 -- 1 to 128 bytes, none of them zero: what the address of a local socket may be
+-- UADDR-5
 unfoldable pub is_local_text : List ℕ → Bool
 is_local_text text = nat_lt 0 (length text) && nat_le (length text) 128 && not (list_any (λ b. b == 0) text)
 
@@ -113,18 +118,20 @@ unfoldable pub merged_host6 : List ℕ → List ℕ → List ℕ
 merged_host6 host own = if bytes_eq own any_host6 then host else own
 
 -- 0.0.0.0 and :: are replaced, and nothing else
+-- MERGE-1
 unfoldable pub merged_address : Hosts → Uaddr → Uaddr
 merged_address hosts (V4 own port) = V4 (merged_host hosts.inet own) port
 merged_address hosts (V6 own port) = V6 (merged_host6 hosts.inet6 own) port
 
 -- ---- the transport form, which RFC 1833 section 2.1 leaves open
 
--- The family, 2 for IPv4 and 10 for IPv6, a zero, the port and the host, and zeros: eight behind an IPv4 host, four on each side of an IPv6 host.
+-- The family, 2 for IPv4 and 10 for IPv6, a zero, the port and the host, and zeros: eight after an IPv4 host, four on each side of an IPv6 host.
+-- TADDR-1
 unfoldable pub transport_of : Uaddr → List ℕ
 transport_of (V4 host port) = 2 ∷ 0 ∷ port_bytes port ++ host ++ replicate 8 0
 transport_of (V6 host port) = 10 ∷ 0 ∷ port_bytes port ++ replicate 4 0 ++ host ++ replicate 4 0
 
--- so many bytes, that begin with the family and a zero
+-- this many bytes, that begin with the family and a zero
 abbrev pub is_form : ℕ → ℕ → List ℕ → Bool
 is_form family n form = length form == n && bytes_eq (take 2 form) (family ∷ 0 ∷ [])
 
@@ -132,6 +139,7 @@ abbrev pub form_port : List ℕ → ℕ
 form_port form = 256 * slice_index form 2 + slice_index form 3
 
 -- The length and the first two bytes decide; where zeros are written nothing is looked at.
+-- TADDR-1
 unfoldable pub from_transport : List ℕ → Option Uaddr
 from_transport form =
     if is_form 2 16 form then Some (V4 (slice_range form 4 8) (form_port form))
@@ -170,7 +178,7 @@ pub record IsCutAtDot (front rest text : List ℕ) : Type 0 where
 abbrev pub BeginsWithNone : List ℕ → Type 0
 BeginsWithNone text = (n : ℕ) (rest : List ℕ) → ¬ (BeginsWith n rest text)
 
--- the first dot behind the first byte stands there
+-- the first dot after the first byte stands there
 pub record IsFirstDot (text : List ℕ) (end : ℕ) : Type 0 where
   pub behind : 0 < end
   pub within : end < length text

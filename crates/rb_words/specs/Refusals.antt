@@ -10,8 +10,8 @@ use Rattle.rb_words.specs.declared.shape.Shape.{Shape}
 use Rattle.rb_words.specs.declared.refusal.Refusal.{Refusal}
 use Rattle.rb_words.specs.declared.refusal.Spot.{Spot}
 use Rattle.rb_words.specs.declared.refusal.Spot.TheVariants as spots
-use Rattle.rb_words.specs.declared.refusal.Wanted.{Wanted}
-use Rattle.rb_words.specs.declared.refusal.Wanted.TheVariants as wants
+use Rattle.rb_words.specs.declared.refusal.Expected.{Expected}
+use Rattle.rb_words.specs.declared.refusal.Expected.TheVariants as wants
 
 abbrev pub flag_text : Flag → List ℕ
 flag_text flags.Table = codes "-p"
@@ -46,7 +46,7 @@ spot_text shape (spots.Layout layout) = layout_text layout
 spot_text shape (spots.Word i) = text_or_none (slice_get shape.words.now i)
 spot_text shape spots.End = []
 
-abbrev pub wanted_text : Wanted → List ℕ
+abbrev pub wanted_text : Expected → List ℕ
 wanted_text wants.OneFlag = codes "one flag at most is wanted"
 wanted_text wants.Port = codes "a number from 1 to 65535 is wanted"
 wanted_text wants.Uid = codes "a number from 0 to 4294967295 is wanted"
@@ -79,5 +79,6 @@ Prints contents writer writer' text result = OnOk result (Appends (contents writ
 abbrev pub named_line : Shape → Refusal → List ℕ
 named_line shape refusal = codes "rpcinfo: " ++ (word_part shape refusal.at ++ (wanted_text refusal.wanted ++ codes "\n"))
 
+-- WORDS-9
 abbrev pub refusal_lines : Shape → Refusal → List ℕ
 refusal_lines shape refusal = codes "rpcinfo: the words can't be read; see --help\n" ++ named_line shape refusal

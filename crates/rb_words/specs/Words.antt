@@ -7,8 +7,8 @@ use Rattle.rb_words.specs.declared.shape.Flag.{Flag}
 use Rattle.rb_words.specs.declared.refusal.Refusal.{Refusal}
 use Rattle.rb_words.specs.declared.refusal.Spot.{Spot}
 use Rattle.rb_words.specs.declared.refusal.Spot.TheVariants as spots
-use Rattle.rb_words.specs.declared.refusal.Wanted.{Wanted}
-use Rattle.rb_words.specs.declared.refusal.Wanted.TheVariants as wants
+use Rattle.rb_words.specs.declared.refusal.Expected.{Expected}
+use Rattle.rb_words.specs.declared.refusal.Expected.TheVariants as wants
 use Rattle.rb_words.specs.declared.plan.Layout.{Layout}
 use Rattle.rb_words.specs.declared.plan.Layout.TheVariants as layouts
 use Rattle.rb_words.specs.declared.plan.Listing.{Listing}
@@ -35,7 +35,7 @@ use Rattle.rb_names.specs.Numbers.{number_in}
 
 -- ---- refusals
 
-abbrev pub refusal_at : {A : Type 0} → Spot → Wanted → Result A Refusal
+abbrev pub refusal_at : {A : Type 0} → Spot → Expected → Result A Refusal
 refusal_at at wanted = Err (record { at = at; wanted = wanted })
 
 -- one after the other, up to the first that is refused
@@ -45,33 +45,37 @@ abbrev pub ◌>>=◌ : {A B : Type 0} → Result A Refusal → (A → Result B R
 (Err refusal) >>= f = Err refusal
 
 -- at most one flag
+-- WORDS-5
 abbrev pub flag_of : List Flag → Result (Option Flag) Refusal
 flag_of [] = Ok None
 flag_of (flag ∷ []) = Ok (Some flag)
 flag_of (flag ∷ second ∷ flags) = refusal_at (spots.Flag second) wants.OneFlag
 
-abbrev pub or_refusal : {A : Type 0} → Spot → Wanted → Option A → Result A Refusal
+abbrev pub or_refusal : {A : Type 0} → Spot → Expected → Option A → Result A Refusal
 or_refusal at wanted (Some x) = Ok x
 or_refusal at wanted None = refusal_at at wanted
 
-abbrev pub some_or_refusal : {A : Type 0} → Spot → Wanted → Option A → Result (Option A) Refusal
+abbrev pub some_or_refusal : {A : Type 0} → Spot → Expected → Option A → Result (Option A) Refusal
 some_or_refusal at wanted (Some x) = Ok (Some x)
 some_or_refusal at wanted None = refusal_at at wanted
 
 -- the number that an option has
-abbrev pub option_number : Option (Bor (List ℕ)) → Spot → Wanted → ℕ → ℕ → Result (Option ℕ) Refusal
+-- WORDS-4
+abbrev pub option_number : Option (Bor (List ℕ)) → Spot → Expected → ℕ → ℕ → Result (Option ℕ) Refusal
 option_number None at wanted least most = Ok None
 option_number (Some text) at wanted least most = some_or_refusal at wanted (number_in least most text.now)
 
-abbrev pub word_number : ℕ → Wanted → Option (Bor (List ℕ)) → Result ℕ Refusal
+abbrev pub word_number : ℕ → Expected → Option (Bor (List ℕ)) → Result ℕ Refusal
 word_number i wanted None = refusal_at spots.End wanted
 word_number i wanted (Some text) = or_refusal (spots.Word i) wanted (number_in 0 4294967295 text.now)
 
 -- the number that a word is
-abbrev pub number_at : List (Bor (List ℕ)) → ℕ → Wanted → Result ℕ Refusal
+-- WORDS-4
+abbrev pub number_at : List (Bor (List ℕ)) → ℕ → Expected → Result ℕ Refusal
 number_at words i wanted = word_number i wanted (slice_get words i)
 
 -- the program of this number, or of this name
+-- WORDS-2
 abbrev pub program_of : List Service → List ℕ → Option ℕ
 program_of services text = option_or (number_in 0 4294967295 text) (number_of services text)
 
@@ -166,6 +170,7 @@ option_netid None = Ok None
 option_netid (Some text) = some_or_refusal spots.Netid wants.Netid (netid_named text.now)
 
 -- the universal address of `-a` (RFC 5665 section 5.2.3)
+-- WORDS-10
 abbrev pub option_address : Option (Bor (List ℕ)) → Result (Option Uaddr) Refusal
 option_address None = Ok None
 option_address (Some text) = some_or_refusal spots.Address wants.Address (parse text.now)
@@ -206,6 +211,7 @@ delete_plan shape = do
 abbrev pub broadcast_plan : Shape → Result Plan Refusal
 broadcast_plan shape = program_and_version shape >>= λ program. Ok (Broadcast program.0 program.1)
 
+-- WORDS-6 WORDS-7
 abbrev pub plan_of : Option Flag → Shape → Result Plan Refusal
 plan_of None shape = without_flag shape
 plan_of (Some flags.Table) shape = show_plan listings.Table shape.words.now
@@ -234,7 +240,7 @@ may_have_netid None = true
 may_have_netid (Some flags.Delete) = true
 may_have_netid _ = false
 
-abbrev pub only_where : Bool → Bool → Spot → Wanted → Result (Unit {0}) Refusal
+abbrev pub only_where : Bool → Bool → Spot → Expected → Result (Unit {0}) Refusal
 only_where given has at wanted = if given && not has then refusal_at at wanted else Ok tt
 
 abbrev pub has_address : Option Flag → Bool → Bool
@@ -242,6 +248,7 @@ has_address None netid = netid
 has_address (Some flag) netid = false
 
 -- each option that is given is one that the flag has
+-- WORDS-1
 abbrev pub check_options : Option Flag → Shape → Result (Unit {0}) Refusal
 check_options flag shape = do
   _ ← only_where (is_some shape.target) (is_ping flag) spots.Target wants.Ping
@@ -258,7 +265,7 @@ is_here _ = false
 -- ---- layouts
 
 -- what is wanted where a layout stands in a form that has it not
-abbrev pub wanted_with : Layout → Wanted
+abbrev pub wanted_with : Layout → Expected
 wanted_with layouts.Names = wants.List
 wanted_with layouts.Json = wants.Objects
 
@@ -277,6 +284,7 @@ has_layout (Delete netid prog vers) layout = false
 has_layout (Broadcast prog vers) layout = false
 
 -- at most one layout, and one that the plan has
+-- WORDS-3
 abbrev pub layout_of : List Layout → Plan → Result (Option Layout) Refusal
 layout_of [] plan = Ok None
 layout_of (layout ∷ []) plan = if has_layout plan layout then Ok (Some layout) else refusal_at (spots.Layout layout) (wanted_with layout)
@@ -285,6 +293,7 @@ layout_of (layout ∷ second ∷ layouts) plan = refusal_at (spots.Layout second
 -- ---- all of it
 
 -- the portmapper's port where none is given is 111
+-- WORDS-4 WORDS-8 WORDS-9
 abbrev pub request_of : Shape → Result Request Refusal
 request_of shape = do
   flag ← flag_of shape.flags.now

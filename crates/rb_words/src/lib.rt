@@ -8,5 +8,5 @@ mod shape;
 
 pub use plan::{Layout, Listing, Plan, Request, Source, Way};
 pub use read::read_words;
-pub use refusal::{Refusal, Spot, Wanted, write_refusal};
+pub use refusal::{Expected, Refusal, Spot, write_refusal};
 pub use shape::{Flag, Shape};

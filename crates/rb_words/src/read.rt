@@ -3,7 +3,7 @@ ghost use Rattle.std.specs.Prelude.{◌≡◌, ◌<◌};
 ghost use Rattle.rb_words.specs.Words.{flag_of, option_number, number_at, program_of, program_at, ends_at, source_of, source_at, host_at, show_plan, entries_plan, ping_plan, ping_plan_at_host, program_and_version, option_netid, option_address, by_netid, by_transport, without_flag, delete_plan, plan_of, is_ping, is_broadcast, broadcast_plan, may_have_netid, is_here, wanted_with, has_layout, layout_of, only_where, check_options, request_of};
 
 use crate::plan::{Layout, Listing, Plan, Request, Source, Way};
-use crate::refusal::{Refusal, Spot, Wanted};
+use crate::refusal::{Expected, Refusal, Spot};
 use crate::shape::{Flag, Shape};
 use rb_address::{Netid, Transport};
 use rb_names::{Service, number_in, number_of};
@@ -12,7 +12,7 @@ use rb_uaddr::Uaddr;
 /// The portmapper's port.
 const PORT: u16 = 111;
 
-fn refusal_at<T>(at: Spot, wanted: Wanted) -> Result<T, Refusal>
+fn refusal_at<T>(at: Spot, wanted: Expected) -> Result<T, Refusal>
     ensures { result ≡ Err (record { at = at; wanted = wanted }) }
 {
     Err(Refusal { at, wanted })
@@ -25,7 +25,7 @@ fn flag_of(flags: &[Flag]) -> Result<Option<Flag>, Refusal>
     match flags {
         [] => Ok(None),
         [flag] => Ok(Some(*flag)),
-        [_, second, ..] => refusal_at(Spot::Flag(*second), Wanted::OneFlag),
+        [_, second, ..] => refusal_at(Spot::Flag(*second), Expected::OneFlag),
     }
 }
 
@@ -33,7 +33,7 @@ fn flag_of(flags: &[Flag]) -> Result<Option<Flag>, Refusal>
 fn option_number(
     text: Option<&str>,
     at: Spot,
-    wanted: Wanted,
+    wanted: Expected,
     least: u32,
     most: u32,
 ) -> Result<Option<u32>, Refusal>
@@ -49,7 +49,7 @@ fn option_number(
 }
 
 /// The number that a word is.
-fn number_at(words: &[&str], i: usize, wanted: Wanted) -> Result<u32, Refusal>
+fn number_at(words: &[&str], i: usize, wanted: Expected) -> Result<u32, Refusal>
     ensures { result ≡ number_at words.now i wanted }
 {
     match words.get(i) {
@@ -76,10 +76,10 @@ fn program_at(shape: &Shape<'_, '_, '_>, i: usize) -> Result<u32, Refusal>
     ensures { result ≡ program_at shape.now i }
 {
     match shape.words.get(i) {
-        None => refusal_at(Spot::End, Wanted::Program),
+        None => refusal_at(Spot::End, Expected::Program),
         Some(text) => match program_of(shape.services, text) {
             Some(n) => Ok(n),
-            None => refusal_at(Spot::Word(i), Wanted::Program),
+            None => refusal_at(Spot::Word(i), Expected::Program),
         },
     }
 }
@@ -90,7 +90,7 @@ fn ends_at(words: &[&str], i: usize) -> Result<(), Refusal>
 {
     match words.get(i) {
         None => Ok(()),
-        Some(_) => refusal_at(Spot::Word(i), Wanted::NoWord),
+        Some(_) => refusal_at(Spot::Word(i), Expected::NoWord),
     }
 }
 
@@ -110,7 +110,7 @@ fn source_at(words: &[&str]) -> Result<Source, Refusal>
     ensures { result ≡ source_at words.now }
 {
     match words.get(0) {
-        None => refusal_at(Spot::End, Wanted::Host),
+        None => refusal_at(Spot::End, Expected::Host),
         Some(text) => Ok(source_of(text)),
     }
 }
@@ -121,7 +121,7 @@ fn host_at(words: &[&str]) -> Result<(), Refusal>
 {
     match source_at(words)? {
         Source::Named => Ok(()),
-        Source::Here | Source::Input => refusal_at(Spot::Word(0), Wanted::Host),
+        Source::Here | Source::Input => refusal_at(Spot::Word(0), Expected::Host),
     }
 }
 
@@ -142,7 +142,7 @@ fn entries_plan(shape: &Shape<'_, '_, '_>) -> Result<Plan, Refusal>
 {
     let source = source_at(shape.words)?;
     let prog = program_at(shape, 1)?;
-    let vers = number_at(shape.words, 2, Wanted::Version)?;
+    let vers = number_at(shape.words, 2, Expected::Version)?;
     ends_at(shape.words, 3)?;
     Ok(Plan::Entries(source, prog, vers))
 }
@@ -156,7 +156,7 @@ fn ping_plan(way: Way, shape: &Shape<'_, '_, '_>, i: usize) -> Result<Plan, Refu
     if shape.words.get(i + 1).is_none() {
         return Ok(Plan::Ping(way, prog, None));
     }
-    let vers = number_at(shape.words, i + 1, Wanted::Version)?;
+    let vers = number_at(shape.words, i + 1, Expected::Version)?;
     ends_at(shape.words, i + 2)?;
     Ok(Plan::Ping(way, prog, Some(vers)))
 }
@@ -174,7 +174,7 @@ fn program_and_version(shape: &Shape<'_, '_, '_>) -> Result<(u32, u32), Refusal>
     ensures { result ≡ program_and_version shape.now }
 {
     let prog = program_at(shape, 0)?;
-    let vers = number_at(shape.words, 1, Wanted::Version)?;
+    let vers = number_at(shape.words, 1, Expected::Version)?;
     ends_at(shape.words, 2)?;
     Ok((prog, vers))
 }
@@ -187,7 +187,7 @@ fn option_netid(text: Option<&str>) -> Result<Option<Netid>, Refusal>
         None => Ok(None),
         Some(text) => match Netid::named(text.as_bytes()) {
             Some(netid) => Ok(Some(netid)),
-            None => refusal_at(Spot::Netid, Wanted::Netid),
+            None => refusal_at(Spot::Netid, Expected::Netid),
         },
     }
 }
@@ -200,16 +200,16 @@ fn option_address(text: Option<&str>) -> Result<Option<Uaddr>, Refusal>
         None => Ok(None),
         Some(text) => match Uaddr::parse(text.as_bytes()) {
             Ok(address) => Ok(Some(address)),
-            Err(_) => refusal_at(Spot::Address, Wanted::Address),
+            Err(_) => refusal_at(Spot::Address, Expected::Address),
         },
     }
 }
 
 /// The number of a port, where it is given.
 fn option_port(text: Option<&str>, at: Spot) -> Result<Option<u16>, Refusal>
-    ensures { result ≡ option_number text.entry at Wanted.Port 1 65535 }
+    ensures { result ≡ option_number text.entry at Expected.Port 1 65535 }
 {
-    match option_number(text, at, Wanted::Port, 1, 65535)? {
+    match option_number(text, at, Expected::Port, 1, 65535)? {
         None => Ok(None),
         Some(port) => Ok(Some(port as u16)),
     }
@@ -231,7 +231,7 @@ fn without_flag(shape: &Shape<'_, '_, '_>) -> Result<Plan, Refusal>
 {
     match option_netid(shape.netid)? {
         None => show_plan(Listing::Rows, shape.words),
-        Some(Netid::Local) => refusal_at(Spot::Netid, Wanted::Socket),
+        Some(Netid::Local) => refusal_at(Spot::Netid, Expected::Socket),
         Some(netid) => by_netid(netid, shape),
     }
 }
@@ -298,7 +298,7 @@ fn may_have_netid(flag: Option<Flag>) -> bool
 }
 
 /// An option that is given is one that the form has.
-fn only_where(given: bool, has: bool, at: Spot, wanted: Wanted) -> Result<(), Refusal>
+fn only_where(given: bool, has: bool, at: Spot, wanted: Expected) -> Result<(), Refusal>
     ensures { result ≡ only_where given has at wanted }
 {
     if given && !has {
@@ -316,26 +316,26 @@ fn check_options(flag: Option<Flag>, shape: &Shape<'_, '_, '_>) -> Result<(), Re
         shape.target.is_some(),
         is_ping(flag),
         Spot::Target,
-        Wanted::Ping,
+        Expected::Ping,
     )?;
     only_where(
         netid,
         may_have_netid(flag),
         Spot::Netid,
-        Wanted::NoFlagOrDelete,
+        Expected::NoFlagOrDelete,
     )?;
     only_where(
         shape.broadcast.is_some(),
         is_broadcast(flag),
         Spot::Broadcast,
-        Wanted::BroadcastAlone,
+        Expected::BroadcastAlone,
     )?;
     let address = netid && flag.is_none();
     only_where(
         shape.address.is_some(),
         address,
         Spot::Address,
-        Wanted::NetidAlone,
+        Expected::NetidAlone,
     )
 }
 
@@ -351,12 +351,12 @@ fn is_here(plan: Plan) -> bool
 }
 
 /// What is wanted where a layout stands in a form that has it not.
-fn wanted_with(layout: Layout) -> Wanted
+fn wanted_with(layout: Layout) -> Expected
     ensures { result ≡ wanted_with layout }
 {
     match layout {
-        Layout::Names => Wanted::List,
-        Layout::Json => Wanted::Objects,
+        Layout::Names => Expected::List,
+        Layout::Json => Expected::Objects,
     }
 }
 
@@ -392,7 +392,7 @@ fn layout_of(layouts: &[Layout], plan: Plan) -> Result<Option<Layout>, Refusal>
                 refusal_at(Spot::Layout(layout), wanted_with(layout))
             }
         }
-        [_, second, ..] => refusal_at(Spot::Layout(*second), Wanted::OneLayout),
+        [_, second, ..] => refusal_at(Spot::Layout(*second), Expected::OneLayout),
     }
 }
 
@@ -406,13 +406,13 @@ pub fn read_words(shape: &Shape<'_, '_, '_>) -> Result<Request, Refusal>
     let flag = flag_of(shape.flags)?;
     check_options(flag, shape)?;
     let port = option_port(shape.port, Spot::Port)?.unwrap_or(PORT);
-    let uid = option_number(shape.uid, Spot::Uid, Wanted::Uid, 0, u32::MAX)?;
+    let uid = option_number(shape.uid, Spot::Uid, Expected::Uid, 0, u32::MAX)?;
     let plan = plan_of(flag, shape)?;
     only_where(
         shape.local.is_some(),
         is_here(plan),
         Spot::Local,
-        Wanted::NoHost,
+        Expected::NoHost,
     )?;
     let layout = layout_of(shape.layouts, plan)?;
     Ok(Request {

@@ -10,7 +10,7 @@ use std::io::Write;
 /// A place of a command line at which something can't be read.
 #[derive(Clone, Copy, Debug, PartialEq, Eq)]
 pub enum Spot {
-    /// A flag behind another one.
+    /// A flag after another one.
     Flag(Flag),
     /// The value of `--port`.
     Port,
@@ -36,7 +36,7 @@ pub enum Spot {
 
 /// What is wanted in place of what can't be read.
 #[derive(Clone, Copy, Debug, PartialEq, Eq)]
-pub enum Wanted {
+pub enum Expected {
     /// One flag at most.
     OneFlag,
     /// A number from 1 to 65535.
@@ -83,7 +83,7 @@ pub struct Refusal {
     /// The place of what can't be read.
     pub at: Spot,
     /// What is wanted there.
-    pub wanted: Wanted,
+    pub wanted: Expected,
 }
 
 /// A flag as it is written.
@@ -133,29 +133,29 @@ fn spot_text<'a>(shape: &Shape<'_, 'a, '_>, at: Spot) -> &'a str
 }
 
 /// What is wanted, in words.
-fn wanted_text(wanted: Wanted) -> &'static str
+fn wanted_text(wanted: Expected) -> &'static str
     ensures { result.now ≡ wanted_text wanted }
 {
     match wanted {
-        Wanted::OneFlag => "one flag at most is wanted",
-        Wanted::Port => "a number from 1 to 65535 is wanted",
-        Wanted::Uid => "a number from 0 to 4294967295 is wanted",
-        Wanted::Netid => "tcp, udp, tcp6, udp6 or local is wanted",
-        Wanted::Socket => "tcp, udp, tcp6 or udp6 is wanted",
-        Wanted::Address => "a universal address is wanted, as 192.0.2.1.0.111",
-        Wanted::Host => "HOST is wanted, a name or an address",
-        Wanted::Program => "PROGRAM is wanted, a number from 0 to 4294967295 or a name",
-        Wanted::Version => "VERSION is wanted, a number from 0 to 4294967295",
-        Wanted::NoWord => "no further word is wanted",
-        Wanted::Ping => "-n goes with -t and -u alone",
-        Wanted::NoFlagOrDelete => "-T goes with -d, or with no flag",
-        Wanted::NetidAlone => "-a goes with -T, and with no flag",
-        Wanted::NoHost => "--local goes with no HOST",
-        Wanted::Broadcast => "an IPv4 address is wanted, as 192.0.2.255",
-        Wanted::BroadcastAlone => "--broadcast goes with -b alone",
-        Wanted::OneLayout => "one of --names and --json at most is wanted",
-        Wanted::List => "--names goes with -p, -s, -l, or with no flag and no -T",
-        Wanted::Objects => "--json goes with -p, -l, -m, or with no flag and no -T",
+        Expected::OneFlag => "one flag at most is wanted",
+        Expected::Port => "a number from 1 to 65535 is wanted",
+        Expected::Uid => "a number from 0 to 4294967295 is wanted",
+        Expected::Netid => "tcp, udp, tcp6, udp6 or local is wanted",
+        Expected::Socket => "tcp, udp, tcp6 or udp6 is wanted",
+        Expected::Address => "a universal address is wanted, as 192.0.2.1.0.111",
+        Expected::Host => "HOST is wanted, a name or an address",
+        Expected::Program => "PROGRAM is wanted, a number from 0 to 4294967295 or a name",
+        Expected::Version => "VERSION is wanted, a number from 0 to 4294967295",
+        Expected::NoWord => "no further word is wanted",
+        Expected::Ping => "-n goes with -t and -u alone",
+        Expected::NoFlagOrDelete => "-T goes with -d, or with no flag",
+        Expected::NetidAlone => "-a goes with -T, and with no flag",
+        Expected::NoHost => "--local goes with no HOST",
+        Expected::Broadcast => "an IPv4 address is wanted, as 192.0.2.255",
+        Expected::BroadcastAlone => "--broadcast goes with -b alone",
+        Expected::OneLayout => "one of --names and --json at most is wanted",
+        Expected::List => "--names goes with -p, -s, -l, or with no flag and no -T",
+        Expected::Objects => "--json goes with -p, -l, -m, or with no flag and no -T",
     }
 }
 

@@ -52,7 +52,7 @@ rising_least low (e ∷ rest) (suc i) d rising within =
     let here : low ≤ e.0 = rising.0 in
     omega arith
 
--- a number that is looked at and too great stands behind the place
+-- a number that is looked at and too great stands after the place
 pub count_high : (number : ℕ) (es : List (ℕ × ℕ)) (i : ℕ) (d : ℕ × ℕ) → i < length es → number < (get_or es i d).0 → count_upto number es ≤ i
 count_high number [] i d within above = absurd (omega arith)
 count_high number (e ∷ rest) zero d within above = let above' : number < e.0 = above in grind (arith, nat_tests)

@@ -15,7 +15,7 @@ module _ {T : Type 0} (p : T → Bool) where
         let found : first_of all ≡ Some (key, value) = sym same ∙ here in
         rw found refl
 
-    -- or the search goes on behind it
+    -- or the search goes on after it
     pub found_behind : p value ≡ false → first_of tail ≡ first_of all
     found_behind fails =
         let here : first_of rest ≡ first_of tail = rw (is, fails) refl in

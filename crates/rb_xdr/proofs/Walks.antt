@@ -89,7 +89,7 @@ module _ {T : Type 0} where
             count = rw (other, f, s.count) refl;
           }
 
-  -- where a key comes next, it has an entry, and the walk goes on behind it
+  -- where a key comes next, it has an entry, and the walk goes on after it
   pub step : (entries : List (ℕ × T)) (place : Option ℕ) (key : ℕ) → HasDistinctKeys entries → first_key (to_come entries place) ≡ Some key → Steps entries place key
   step entries None key d h = step_first entries key h
   step entries (Some a) key d h = step_behind entries a key d h
@@ -125,7 +125,7 @@ module _ {T : Type 0} where
       let clash : Some s.value ≡ None = sym s.found ∙ missing in
       cc
 
-  -- behind a key that is not there comes nothing
+  -- after a key that is not there comes nothing
   pub nothing_behind : (entries : List (ℕ × T)) (key : ℕ) → (IsSome (value_at entries key) → ⊥) → behind entries key ≡ []
   nothing_behind [] key h = refl
   nothing_behind (e ∷ rest) key h = by_cases (eqb e.0 key) refl (nothing_behind rest key)

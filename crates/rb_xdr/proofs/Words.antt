@@ -41,7 +41,7 @@ pub number_at-drop : (n place : ℕ) (bytes : List ℕ) → number_at place (dro
 unfolding number_at
 number_at-drop n place bytes = ap (λ (xs : List ℕ). from_be_bytes w32 (take 4 xs)) (drop-drop place n bytes)
 
--- behind other bytes
+-- after other bytes
 pub number_at-append : (front rest : List ℕ) (n place : ℕ) → length front ≡ n → number_at (n + place) (front ++ rest) ≡ number_at place rest
 number_at-append front rest n place len = sym (number_at-drop n place (front ++ rest)) ∙ ap (λ (xs : List ℕ). number_at place xs) (drop_at front rest n len)
 

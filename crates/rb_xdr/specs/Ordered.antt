@@ -23,6 +23,7 @@ count_upto number [] = 0
 count_upto number (e ∷ rest) = if nat_le e.0 number then count_upto number rest + 1 else 0
 
 -- the last of them that is at most that number, with its key
+-- SEARCH-1
 abbrev pub last_upto : ℕ → List (ℕ × ℕ) → Option (ℕ × ℕ)
 last_upto number [] = None
 last_upto number (e ∷ rest) = if nat_le e.0 number then Some (unwrap_or (last_upto number rest) e) else None
@@ -39,11 +40,12 @@ with_more table number key = record table { entries = with_number table.entries 
 
 -- ---- costs
 
--- how often a number can be halved, rounded up, until it is 1, and once more: the looks of a search among so many
+-- how often a number can be halved, rounded up, until it is 1, and once more: the looks of a search among this many
 abbrev pub halvings : ℕ → ℕ → ℕ
 halvings zero count = 0
 halvings (suc most) count = if nat_le count 1 then count else halvings most (count - count / 2) + 1
 
+-- SEARCH-1
 unfoldable pub looks : ℕ → ℕ
 looks count = halvings count count
 
@@ -52,6 +54,7 @@ abbrev pub LooksAreFew : Type 0
 LooksAreFew = (count power : ℕ) → count ≤ 2 ^ power → looks count ≤ power + 1
 
 -- how many move where a number is put in its place or taken from it, and 1 for itself
+-- SEARCH-1
 abbrev pub moves : ℕ → List (ℕ × ℕ) → ℕ
 moves number entries = length entries - count_upto number entries + 1
 

@@ -3,7 +3,7 @@ use Rattle.std.specs.Borrow.{Bor}
 use Rattle.std.specs.Prelude.{◌≡◌, ℕ, ◌+◌, ◌==◌, if◌then◌else◌, List, [], ◌∷◌, Option, Some, None, option_map}
 
 module _ {T : Type 0} where
-  -- the entries behind that of a key
+  -- the entries after that of a key
   abbrev pub behind : List (ℕ × T) → ℕ → List (ℕ × T)
   behind [] key = []
   behind (e ∷ rest) key = if e.0 == key then rest else behind rest key
@@ -13,7 +13,7 @@ module _ {T : Type 0} where
   count_to [] key = None
   count_to (e ∷ rest) key = if e.0 == key then Some 1 else option_map (λ n. n + 1) (count_to rest key)
 
-  -- A place is before all entries, or behind that of a key. The entries behind it:
+  -- A place is before all entries, or after that of a key. The entries after it:
   abbrev pub to_come : List (ℕ × T) → Option ℕ → List (ℕ × T)
   to_come entries None = entries
   to_come entries (Some key) = behind entries key
@@ -23,12 +23,12 @@ module _ {T : Type 0} where
   count_passed entries None = Some 0
   count_passed entries (Some key) = count_to entries key
 
--- the entry behind a place is this one, or there is none
+-- the entry after a place is this one, or there is none
 abbrev pub IsNextEntry : {T : Type 0} → List (ℕ × T) → Option ℕ → Option (ℕ × Bor T) → Type 0
 IsNextEntry entries place None = to_come entries place ≡ []
 IsNextEntry entries place (Some next) = to_come entries place ≡ (next.0, next.1.now) ∷ to_come entries (Some next.0)
 
--- what a look behind a place costs: 1 step, and 1 more where an entry is found
+-- what a look after a place costs: 1 step, and 1 more where an entry is found
 abbrev pub look_cost : {A : Type 0} → Option A → ℕ
 look_cost None = 1
 look_cost (Some _) = 2

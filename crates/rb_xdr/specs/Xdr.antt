@@ -67,7 +67,7 @@ Reading A = Result (A × ℕ) XdrFault
 abbrev pub Reader : Type 0 → Type 0
 Reader A = List ℕ → Reading A
 
--- what is read from behind so many bytes
+-- what is read after a number of bytes
 abbrev pub behind : {A : Type 0} → ℕ → Reading A → Reading A
 behind used (Ok x) = Ok (x.0, used + x.1)
 behind used (Err fault) = Err fault
@@ -91,6 +91,7 @@ refuse fault = λ bytes. Err fault
 unfoldable pub read_number : Reader ℕ
 read_number bytes = if nat_lt (length bytes) 4 then Err Short else Ok (number_at 0 bytes, 4)
 
+-- XDR-2
 unfoldable pub read_bool : Reader Bool
 read_bool = do
   n ← read_number
@@ -103,13 +104,14 @@ read_content count bytes =
     else if are_zero (slice_range bytes count (count + residue count)) then Ok (take count bytes, count + residue count)
     else Err BadPadding
 
--- opaque data or a string of at most so many bytes
+-- opaque data or a string of at most this many bytes
+-- XDR-1 XDR-3
 unfoldable pub read_opaque : ℕ → Reader (List ℕ)
 read_opaque limit = do
   count ← read_number
   if nat_lt limit count then refuse TooLong else read_content count
 
--- so many numbers
+-- this many numbers
 abbrev pub read_numbers : ℕ → Reader (List ℕ)
 read_numbers zero = give []
 read_numbers (suc k) = do
@@ -117,7 +119,7 @@ read_numbers (suc k) = do
   more ← read_numbers k
   give (n ∷ more)
 
--- a variable-length array of at most so many numbers (section 4.13)
+-- a variable-length array of at most this many numbers (section 4.13)
 unfoldable pub read_array : ℕ → Reader (List ℕ)
 read_array limit = do
   count ← read_number
@@ -135,7 +137,7 @@ abbrev pub AreNumbers : List ℕ → Type 0
 AreNumbers [] = ⊤
 AreNumbers (n ∷ more) = IsNumber n × AreNumbers more
 
--- content of at most so many bytes, whose number fits the count
+-- content of at most this many bytes, whose number fits the count
 abbrev pub IsContent : ℕ → List ℕ → Type 0
 IsContent limit content = (length content ≤ limit) × (length content < 2 ^ 32) × AreBytes content
 

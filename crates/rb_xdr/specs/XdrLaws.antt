@@ -8,7 +8,7 @@ use Rattle.rb_xdr.specs.XdrTypes.{signed, read_signed}
 abbrev pub Spells : {A : Type 0} → (A → Type 0) → (A → List ℕ) → A → List ℕ → Type 0
 Spells is_value spelling x text = is_value x × (text ≡ spelling x)
 
--- the bytes begin with a spelling of the value, of so many bytes
+-- the bytes begin with a spelling of the value, of this many bytes
 abbrev pub BeginsWith : {A : Type 0} → (A → Type 0) → (A → List ℕ) → List ℕ → A × ℕ → Type 0
 BeginsWith is_value spelling bytes read = (read.1 ≤ length bytes) × Spells is_value spelling read.0 (take read.1 bytes)
 

@@ -38,7 +38,7 @@ impl Model for Kept {
     ghost invariant = { λ k. IsKept k.memory.items (vec_capacity k.memory) k.len };
 }
 
-/// So many zeros, in memory for just these.
+/// A number of zeros, in memory for just these.
 fn zeros(alloc: Global, len: usize) -> Result<Vec<u8>, NoMemory>
     ensures len { IfOk result (λ memory. vec_len memory ≡ len) }
     ensures capacity { IfOk result (λ memory. vec_capacity memory ≡ len) }

@@ -25,7 +25,7 @@ pub fn residue(count: usize) -> usize
     (4 - count % 4) % 4
 }
 
-/// Writes the residual bytes behind so much content: each number of them by itself, as a copy of a length that is known.
+/// Writes the residual bytes after so much content: each number of them by itself, as a copy of a length that is known.
 /// Their steps are for the caller to pay.
 #[tactic(auto, using(crate::proofs::XdrSets::lengths))]
 fn append_residue(count: usize, out: &mut Kept)
@@ -64,7 +64,7 @@ fn take_content(bytes: &[u8], count: usize) -> Result<(&[u8], usize), XdrFault>
     Ok((&bytes[..count], padded))
 }
 
-// Opaque data of at most so many bytes.
+// Opaque data of at most this many bytes.
 #[tactic(auto, unfolding(crate::specs::Xdr::read_opaque))]
 fn lend_opaque(bytes: &[u8], limit: usize) -> Result<(&[u8], usize), XdrFault>
     ensures { reading_of result ≡ read_opaque limit bytes.now }

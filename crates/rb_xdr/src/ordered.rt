@@ -37,7 +37,7 @@ impl Model for Ordered {
     ghost invariant = { λ o. IsRising o.entries.items };
 }
 
-/// No numbers, in memory for just so many, of which each place was written.
+/// No numbers, in memory for just this many, of which each place was written.
 fn written(alloc: Global, cap: usize) -> Result<Vec<(u128, usize)>, NoMemory>
     ensures empty { IfOk result (λ entries. entries.items ≡ []) }
     ensures capacity { IfOk result (λ entries. vec_capacity entries ≡ cap) }

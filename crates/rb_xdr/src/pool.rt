@@ -237,7 +237,7 @@ impl<T> Pool<T> {
         next
     }
 
-    // The same for a place before all of them or behind one that is there: what a walk from entry to
+    // The same for a place before all of them or after one that is there: what a walk from entry to
     // entry knows without a look.
     fn entry_behind(&self, place: Option<usize>) -> Option<(usize, &T)>
         requires { IfSome place (λ key. IsSome (value_at self.now.entries key)) }

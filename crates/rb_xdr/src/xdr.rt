@@ -60,7 +60,7 @@ pub trait Xdr: Drop {
         ensures exact { result ≡ reads bytes.now }
         ensures within { IfOk result (λ read. read.1 ≤ length bytes.now) };
 
-    /// Reads a value from the front of the bytes, and says how many of them spell it. Bytes behind
+    /// Reads a value from the front of the bytes, and says how many of them spell it. Bytes after
     /// them count for nothing.
     ///
     /// It fails exactly where no front of the bytes is a spelling, with the first fault of the form.

@@ -16,6 +16,7 @@ use Rattle.rb_sockets.specs.declared.faults.DaemonFault.TheVariants.{Memory, Lim
 use Rattle.rpcbind.specs.declared.telling.StepFront.{StepFront}
 
 -- what stands before the system's word for a step that failed: of the local socket its path
+-- FAULT-3
 abbrev pub step_front : Step → Option LocalSocket → List ℕ
 step_front BindLocal (Some local) = codes "rpcbind: bind " ++ local.path.now ++ codes ": "
 step_front step local = codes "rpcbind: " ++ step_text step ++ codes ": "
@@ -33,6 +34,7 @@ HasWritten {E} contents old text = (front : E) × Appends (contents old) (conten
 -- If all was written: the lines of the fault, and nothing else. Of a socket its line is the last, and the step that failed
 -- was written at some time, with the address or path. The system's word for the error stands between: nothing is known of
 -- it, so nothing ties the two.
+-- FAULT-3
 abbrev pub TellsFault : {E : Type 0} → Settings → (E → Option (List ℕ)) → E → E → Ending → DaemonFault → Type 0
 TellsFault s contents old new ending (Memory error) = Says contents old new ending (fault_line NoMemory)
 TellsFault s contents old new ending OfLimits = Says contents old new ending (fault_lines s.limits (listener_of s) BadLimits)

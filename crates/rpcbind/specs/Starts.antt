@@ -25,6 +25,7 @@ local_line None = []
 local_line (Some local) = codes "rpcbind: listening on " ++ local.path.now ++ codes "\n"
 
 -- the lines of the hosts, in their order, of ::1 and of the local socket
+-- START-1
 abbrev pub start_text : Settings → List ℕ
 start_text s =
     flat_map (host_line s.port) s.bind
@@ -34,10 +35,12 @@ start_text s =
 -- ---- before it, on standard error
 
 -- if clients over UDP will be told a host of which they can make nothing
+-- START-1
 abbrev pub unannounced_line : Host → List ℕ
 unannounced_line host = codes "rpcbind: no --announce: clients over UDP will be told " ++ bare_host_text host
 
 -- if the limit of open files leaves fewer places than are asked for
+-- START-2
 abbrev pub shortage_line : Shortage → List ℕ
 shortage_line short =
     codes "rpcbind: the limit of open files is " ++ decimal short.limit ++ codes ", --conns " ++ decimal short.asked

@@ -54,8 +54,8 @@ fn check(rt: &HostRuntime, beginning: &Beginning) -> u8
     .status
 }
 
-/// What the words of the command line ask for. Where nothing is to be run, the exit status.
-fn asked<'a>(rt: &HostRuntime, words: &'a [String]) -> Result<Words<'a>, u8>
+/// What the words of the command line ask for. Where nothing needs to be run, the exit status.
+fn read_command<'a>(rt: &HostRuntime, words: &'a [String]) -> Result<Words<'a>, u8>
     ensures { IfErr result (λ status. status ≤ 2) }
 {
     read_words(rt.alloc(), words, &mut io::writer(rt), &mut rt.stderr())
@@ -66,7 +66,7 @@ fn main(rt: HostRuntime) -> ExitCode {
         Ok(words) => words,
         Err(status) => return ExitCode::from(status),
     };
-    let status = match asked(&rt, &words) {
+    let status = match read_command(&rt, &words) {
         Ok(Words::Serve(serve)) => run_service(&rt, &serve, &mut rt.stderr()),
         Ok(Words::Replay(beginning)) => replay(&rt, &beginning),
         Ok(Words::Check(beginning)) => check(&rt, &beginning),

@@ -45,7 +45,7 @@ const MOST_QUESTIONS: u32 = 1024;
 
 const SECOND_XID: u32 = 2;
 
-/// Nothing is to be noticed.
+/// Nothing needs to be noticed.
 pub fn silently(answer: Result<Shown, Fault>) -> Answered
     ensures answer { result.0 ≡ answer }
     ensures silent { result.1 ≡ no_notices }

@@ -10,7 +10,7 @@ use std::net::{IpAddr, Ipv4Addr, Net, SocketAddr, UdpSocket};
 use std::rt::{Clock, Files};
 use std::time::{Duration, Instant};
 
-/// At most so many datagrams are looked at.
+/// The most datagrams that are looked at.
 const MOST_DATAGRAMS: u32 = 4096;
 
 /// A socket from which the call went to the hosts of these networks; `None` where it went to none.

@@ -7,7 +7,9 @@ use crate::asking::{Answered, ask_here, ask_named, ping, silently};
 use crate::broadcast::broadcast;
 use crate::command_line::{matches_of, programs_path, read_matches, show};
 use crate::programs::services_at;
-use rb_plans::{Ending, Fault, Invocation, ask_input, conclude, explain, flushed, plan_question};
+use rb_plans::{
+    Ending, Fault, Invocation, ask_input, conclude, explain, flush_answer, plan_question,
+};
 use rb_words::{Plan, Source};
 use std::alloc::Global;
 use std::convert::AsStr;
@@ -68,7 +70,7 @@ fn run_words<N: Net + Clock + Files, I: Read, O: Write, E: Write>(
     ensures quiet { result.1.status ≡ 0 → IsNothing result.0.1 → faults.new ≡ faults.old }
 {
     let (answer, notices) = carry_out(alloc, net, words, input, output);
-    let answer = flushed(answer, output);
+    let answer = flush_answer(answer, output);
     ((answer, notices), conclude(answer, notices, faults))
 }
 

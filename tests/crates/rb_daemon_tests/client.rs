@@ -95,7 +95,7 @@ impl Client {
         }
     }
 
-    /// Takes turns until so many bytes came, or the daemon closed the connection, and says how many turns.
+    /// Takes turns until this many bytes came, or the daemon closed the connection, and says how many turns.
     pub(crate) fn receive(&mut self, host: &mut Host<'_>, want: usize) -> u32 {
         for turns in 1..=TURNS {
             host.turn();
@@ -107,7 +107,7 @@ impl Client {
         TURNS
     }
 
-    /// Takes turns until so many bytes came, or the daemon closed the connection, and says how many came. It keeps none
+    /// Takes turns until this many bytes came, or the daemon closed the connection, and says how many came. It keeps none
     /// of them.
     pub(crate) fn read_through(&mut self, host: &mut Host<'_>, want: usize) -> usize {
         let mut count = 0usize;
@@ -265,7 +265,7 @@ impl Caller {
         self.socket.send_to(bytes, self.from).is_ok()
     }
 
-    /// The first four bytes of the last datagram, of so many in all.
+    /// The first four bytes of the last datagram, of this many in all.
     pub(crate) fn first_word_of(&self, len: usize) -> Option<u32> {
         let [a, b, c, d, ..] = self.got;
         if self.len == len {

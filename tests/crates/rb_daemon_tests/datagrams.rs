@@ -98,7 +98,7 @@ fn many_datagrams_to_the_second_address(rt: HostRuntime) -> Result<(), Fail> {
     Ok(())
 }
 
-/// The longest datagram of IPv4: bytes behind the arguments are ignored.
+/// The longest datagram of IPv4: bytes after the arguments are ignored.
 const LONGEST: usize = 65_507;
 
 fn answers_the_longest(rt: &HostRuntime, host: &mut Host<'_>) -> Option<bool> {

@@ -11,10 +11,10 @@ use std::io::Write;
 use std::net::SocketAddr;
 use std::test::Fail;
 
-/// For so many milliseconds after its last progress a connection is active.
+/// The milliseconds after its last progress for which a connection is active.
 const ACTIVE: u64 = 1_000;
 
-/// Bytes that are owed may wait so many milliseconds.
+/// The milliseconds that bytes that are owed may wait.
 const OWED: u64 = 30_000;
 
 /// A connection that was opened and served in turns of its own.
@@ -25,7 +25,7 @@ fn connects(rt: &HostRuntime, host: &mut Host<'_>) -> Option<Client> {
     Some(client)
 }
 
-/// A NULL call is answered, behind what was before.
+/// A NULL call is answered, after what was before.
 fn calls(rt: &HostRuntime, host: &mut Host<'_>, client: &mut Client) -> Option<bool> {
     let before = client.got().len();
     let is_sent = client.send(&null_record(rt.alloc(), 1).ok()?);

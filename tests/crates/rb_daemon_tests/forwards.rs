@@ -10,7 +10,7 @@ use std::test::Fail;
 /// Where the target of forwarded calls listens: 20,119 is 78 times 256, and 151.
 const TARGET: u16 = 20_119;
 
-/// The words of the address 127.0.0.1.78.151 as a string, and of no results behind it. It is told with the host that
+/// The words of the address 127.0.0.1.78.151 as a string, and of no results after it. It is told with the host that
 /// was asked.
 const AT_TARGET: [u32; 6] = [16, 0x3132_372e, 0x302e_302e, 0x312e_3738, 0x2e31_3531, 0];
 
@@ -122,9 +122,9 @@ pub(crate) const TWO_CALLS: [u32; 26] = [
     0,
 ];
 
-/// So does an INDIRECT over TCP, whose connection waits meanwhile, and goes on with the call that came behind it. A
-/// client that ends what it sends behind them gets the same, and is closed behind it.
-/// What comes is the answer of the target in a record of 48 bytes, and behind it the NULL reply.
+/// So does an INDIRECT over TCP, whose connection waits meanwhile, and goes on with the call that came after it. A
+/// client that ends what it sends after them gets the same, and is closed after it.
+/// What comes is the answer of the target in a record of 48 bytes, and after it the NULL reply.
 fn forwards_over_tcp(rt: &HostRuntime, host: &mut Host<'_>, ends: bool) -> Option<bool> {
     let mut words = Vec::new(rt.alloc());
     words.push(0x8000_0030).ok()?;
@@ -159,7 +159,7 @@ fn client_ends_behind_indirect(rt: HostRuntime) -> Result<(), Fail> {
     Ok(())
 }
 
-/// For so many milliseconds a forwarded call waits for its target.
+/// For this many milliseconds a forwarded call waits for its target.
 const FORWARDED: u64 = 5_000;
 
 /// Three INDIRECTs wait for a target that does not answer: of a datagram to the second address, and of two connections. The
@@ -193,7 +193,7 @@ fn ends_all(
     Some(is_set && are_sent && do_wait && are_told && caller.came_from(asked) && host.is_well())
 }
 
-/// Each gets SYSTEM_ERR, and the connection whose client has ended what it sends is closed behind it.
+/// Each gets SYSTEM_ERR, and the connection whose client has ended what it sends is closed after it.
 fn are_told_failures(
     rt: &HostRuntime,
     host: &mut Host<'_>,
@@ -225,7 +225,7 @@ const GREATEST: u32 = 8_800;
 
 const GREATEST_WORDS: u32 = GREATEST / 4;
 
-/// These words, and behind them the greatest opaque data, of zeros.
+/// These words, and after them the greatest opaque data, of zeros.
 fn with_greatest(rt: &HostRuntime, words: &[u32]) -> Option<Vec<u8>> {
     let mut all = Vec::new(rt.alloc());
     all.extend_from_slice(words).ok()?;

@@ -28,7 +28,7 @@ pub(crate) fn dumps(alloc: Global, count: u32) -> Option<Vec<u8>> {
     bytes_of(alloc, &words).ok()
 }
 
-/// A close in the middle of a record. `pauses` is whether turns pass before that is sent and behind the close.
+/// A close in the middle of a record. `pauses` is whether turns pass before that is sent and after the close.
 fn leaves_in_a_record(rt: &HostRuntime, host: &mut Host<'_>, pauses: bool) -> Option<bool> {
     let call = null_record(rt.alloc(), 2).ok()?;
     let (half, _) = call.split_at_checked(20)?;

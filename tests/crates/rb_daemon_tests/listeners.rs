@@ -98,7 +98,7 @@ fn listeners_share_the_places(rt: HostRuntime) -> Result<(), Fail> {
     Ok(())
 }
 
-/// So many clients in a queue are more than a turn accepts.
+/// This many clients in a queue are more than a turn accepts.
 const QUEUE: usize = 100;
 
 /// Clients whose calls came before the daemon has accepted one of them.

@@ -7,7 +7,7 @@ use crate::records::answers_a_call;
 use crate::turns::{Host, PORT, Stopped};
 use std::test::Fail;
 
-/// So many programs are set, from 300000 on: version 1 on TCP at port 2049.
+/// This many programs are set, from 300000 on: version 1 on TCP at port 2049.
 pub(crate) fn sets_rows(rt: &HostRuntime, host: &mut Host<'_>, count: u32) -> Option<bool> {
     let mut caller = Caller::new(rt, 0)?;
     for i in 0..count {
@@ -20,7 +20,7 @@ pub(crate) fn sets_rows(rt: &HostRuntime, host: &mut Host<'_>, count: u32) -> Op
     Some(true)
 }
 
-/// A DUMP, and a NULL call behind it.
+/// A DUMP, and a NULL call after it.
 const LIST_AND_NULL: [u32; 22] = [
     MARK_40, 1, 0, 2, 100_000, 2, 4, 0, 0, 0, 0, MARK_40, 2, 0, 2, 100_000, 2, 0, 0, 0, 0, 0,
 ];
@@ -29,7 +29,7 @@ const LIST_AND_NULL: [u32; 22] = [
 const LIST_BEGINS: [u32; 12] = [1024, 1, 1, 0, 0, 0, 0, 1, 100_000, 4, 6, PORT as u32];
 
 /// With the daemon's own six there are 101 rows. The list is 24 bytes of head, 20 of each row and 4 of its end:
-/// 2,048, in two fragments of the greatest length. The call behind it is answered too.
+/// 2,048, in two fragments of the greatest length. The call after it is answered too.
 fn gives_full_fragments(rt: &HostRuntime, host: &mut Host<'_>) -> Option<bool> {
     let are_set = sets_rows(rt, host, 95)?;
     let calls = bytes_of(rt.alloc(), &LIST_AND_NULL).ok()?;
@@ -51,7 +51,7 @@ fn list_of_full_fragments(rt: HostRuntime) -> Result<(), Fail> {
     Ok(())
 }
 
-/// A turn writes at most so many bytes to one connection: enough, 65,536, and what the last write is more.
+/// A turn writes at most this many bytes to one connection: enough, 65,536, and what the last write is more.
 const MOST_OF_A_TURN: usize = 65_536 + 65_792;
 
 /// All 300 rows are there, so a list has more than 10,000 bytes, and a client asks for 400. It is left when it has

@@ -79,7 +79,7 @@ fn interrupted_wait_is_slept(rt: HostRuntime) -> Result<(), Fail> {
     Ok(())
 }
 
-/// What comes next is due in so many milliseconds, which is sooner than the end of a wait.
+/// What comes next is due in this many milliseconds, which is sooner than the end of a wait.
 pub(crate) const SOON: u64 = 5;
 
 /// How long a turn waits in which nothing is shown, in milliseconds, after one that showed its moment.
@@ -90,7 +90,7 @@ pub(crate) fn wait_of_a_turn(host: &mut Host<'_>, clock: &Stopped) -> u64 {
     clock.slept().saturating_sub(before)
 }
 
-/// An idle connection is closed after so many milliseconds.
+/// An idle connection is closed after this many milliseconds.
 const IDLE: u64 = 300_000;
 
 fn waits_for_a_deadline(rt: &HostRuntime, host: &mut Host<'_>, clock: &Stopped) -> Option<u64> {
@@ -116,7 +116,7 @@ fn turn_waits_until_a_deadline(rt: HostRuntime) -> Result<(), Fail> {
 /// More refused calls than the log has lines in a second, which is 20.
 const REFUSED: u32 = 25;
 
-/// What the log tells of those that were left out, behind their second.
+/// What the log tells of those that were left out, after their second.
 const LEFT_OUT: &[u8] = b"rpcbind: 5 more refused calls\n";
 
 /// How long a turn waits for that line, and whether it comes.

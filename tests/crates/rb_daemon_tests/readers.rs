@@ -10,7 +10,7 @@ use std::test::Fail;
 /// More readers than a turn serves last, which is 8 of them.
 const READERS: usize = 12;
 
-/// So many lists for each are more than a few turns give.
+/// This many lists for each are more than a few turns give.
 const LISTS: u32 = 24;
 
 /// Where 8 of 12 are served in a turn, none is passed over in two turns in a row.
@@ -52,7 +52,7 @@ impl Reader {
     }
 }
 
-/// Takes turns, behind each of which all readers read, until they have all that they called for.
+/// Takes turns, after each of which all readers read, until they have all that they called for.
 fn serves_each(rt: &HostRuntime, host: &mut Host<'_>) -> Option<bool> {
     let are_set = sets_rows(rt, host, ROWS)?;
     let lists = dumps(rt.alloc(), LISTS)?;
@@ -90,10 +90,10 @@ fn no_reader_starves(rt: HostRuntime) -> Result<(), Fail> {
 /// The rows with those of all listeners are as many as there may be.
 const OTHER_ROWS: u32 = 288;
 
-/// Bytes that are owed may wait so many milliseconds.
+/// The milliseconds that bytes that are owed may wait.
 const OWED: u64 = 30_000;
 
-/// So many lists are more than the socket and the daemon take a few times.
+/// This many lists are more than the socket and the daemon take a few times.
 const CALLS: u32 = 150;
 
 /// Sets the rows, of which the log tells no more afterwards.

@@ -86,7 +86,7 @@ fn record_that_is_no_call(rt: HostRuntime) -> Result<(), Fail> {
     Ok(())
 }
 
-/// A call, and behind it in the same piece a record that is no call: the reply comes before the connection is closed.
+/// A call, and after it in the same piece a record that is no call: the reply comes before the connection is closed.
 fn answers_before_the_end(rt: &HostRuntime, host: &mut Host<'_>) -> Option<bool> {
     let mut records = null_record(rt.alloc(), 10).ok()?;
     records.extend_from_slice(&[0x80, 0, 0, 1, 0]).ok()?;

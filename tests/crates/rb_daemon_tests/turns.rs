@@ -108,7 +108,7 @@ fn all_of(hosts: &[Address]) -> Few<Address> {
     few
 }
 
-/// A daemon that believes what callers claim, with room for so many connections.
+/// A daemon that believes what callers claim, with room for this many connections.
 pub(crate) fn plain(hosts: &[Address], conns: usize) -> Settings<'static> {
     Settings {
         bind: all_of(hosts),
@@ -148,7 +148,7 @@ pub(crate) fn everywhere(hosts: &[Address], conns: usize) -> Settings<'static> {
 }
 
 impl<'a> Host<'a> {
-    /// A daemon with room for so many connections.
+    /// A daemon with room for this many connections.
     pub(crate) fn new(clock: &'a Stopped, conns: usize) -> Option<Host<'a>> {
         Host::with(clock, &plain(&HERE, conns)).ok()
     }

@@ -35,7 +35,7 @@ fn printed(alloc: Global, mut lines: &[u8]) -> Result<Vec<u8>, AllocError> {
     Ok(printed)
 }
 
-/// The lines, and behind each of them this one.
+/// The lines, and after each of them this one.
 fn behind_each(alloc: Global, lines: &[u8], line: &[u8]) -> Result<Vec<u8>, AllocError> {
     let mut all = Vec::new(alloc);
     for byte in lines {
@@ -47,7 +47,7 @@ fn behind_each(alloc: Global, lines: &[u8], line: &[u8]) -> Result<Vec<u8>, Allo
     Ok(all)
 }
 
-/// The events print these lines, and print them too with an empty datagram at moment 0 behind each.
+/// The events print these lines, and print them too with an empty datagram at moment 0 after each.
 fn stay(alloc: Global, events: &[u8], wanted: &[u8]) -> Result<bool, AllocError> {
     let as_they_are = printed(alloc, events)?;
     let with_others = printed(alloc, &behind_each(alloc, events, EMPTY)?)?;

@@ -27,7 +27,7 @@ pub(crate) fn listener() -> Listener {
     }
 }
 
-/// Room for four connections and four forwarded calls, and for so many rows.
+/// Room for four connections and four forwarded calls, and for this many rows.
 pub(crate) fn limits_of(rows: usize) -> Limits {
     Limits {
         conns: 4,

@@ -12,11 +12,11 @@ const HUGE: [u32; 11] = [0x7fffffff, 1, 0, 2, 100_000, 2, 0, 0, 0, 0, 0];
 /// bytes of them.
 const HELD_AT_MOST: u64 = 270 + 128 + 8816;
 
-/// The piece is taken so many times, each time whole, and no more than so many bytes are ever held.
+/// The piece is taken this many times, each time whole, and no more than this many bytes are ever held.
 fn is_taken(core: &mut Metered, piece: &[u8], times: u32, most: u64) -> Result<bool, CoreFault> {
     for _i in 0..times {
-        let (Taken { count, closed }, _) = core.bytes(0, 1, piece)?;
-        if count != piece.len() || closed || core.held() > most {
+        let (Taken { count, lost }, _) = core.bytes(0, 1, piece)?;
+        if count != piece.len() || lost || core.held() > most {
             return Ok(false);
         }
     }
@@ -26,7 +26,7 @@ fn is_taken(core: &mut Metered, piece: &[u8], times: u32, most: u64) -> Result<b
 /// A record that began at moment 0 is given up 30,000 ms later.
 fn is_given_up(rt: &impl Abort, core: &mut Metered) {
     assert_eq!(rt; core.expire(29_999), Expired::Nothing);
-    assert_eq!(rt; core.expire(30_000), Expired::ConnectionClosed(1));
+    assert_eq!(rt; core.expire(30_000), Expired::ConnectionLost(1));
 }
 
 /// Nothing is held but the six own rows and the connection.

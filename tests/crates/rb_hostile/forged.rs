@@ -2,7 +2,7 @@
 
 use crate::cores::{bytes_of, core_of, loopback, set_call};
 use rb_address::{Host, Peer};
-use rb_core::{FwdId, Metered, Outcome, Told};
+use rb_core::{FwdId, Metered, Response, Told};
 use std::process::Abort;
 use std::test::Fail;
 
@@ -74,10 +74,10 @@ fn other_ports_are_ignored(core: &mut Metered) -> bool {
 
 /// A call is forwarded, and waits to be sent.
 fn forwards(rt: &impl Abort, core: &mut Metered, set: &[u8], indirect: &[u8]) {
-    assert_eq!(rt; core.datagram(0, loopback(), set), Outcome::Reply);
+    assert_eq!(rt; core.datagram(0, loopback(), set), Response::Reply);
     assert_eq!(rt;
         core.datagram(1000, loopback(), indirect),
-        Outcome::Forwarded
+        Response::Forwarded
     );
 }
 

@@ -47,7 +47,7 @@ fn are_all(outputs: &[Output]) -> bool {
         && matches!(rest, Output::Pending(rest) if rest.is_empty())
 }
 
-/// Runs the events, and behind want of memory those that are left.
+/// Runs the events, and after want of memory those that are left.
 fn run_on(alloc: Global, core: &mut Metered, events: &[Event]) -> Result<Vec<Output>, NoMemory> {
     let mut outputs = Vec::new(alloc);
     if replay(alloc, core, events, &mut outputs).is_err() {

@@ -17,7 +17,7 @@ const ASK: Ask = Ask {
 /// The header of the reply's one fragment, and its head: 28 bytes.
 const HEAD: [u32; 7] = [0x80000094, 1, 1, 0, 0, 0, 0];
 
-/// Version and protocol of each own row. A row has 20 bytes, and 4 behind the last end the list.
+/// Version and protocol of each own row. A row has 20 bytes, and 4 after the last end the list.
 const ROWS: [(u32, u32); 6] = [(4, 6), (3, 6), (2, 6), (4, 17), (3, 17), (2, 17)];
 
 /// What is shown of it: seven lines, of 30 bytes each.
@@ -42,7 +42,7 @@ fn reply(alloc: Global) -> Result<Vec<u8>, AllocError> {
     Ok(bytes)
 }
 
-/// What is shown where so many bytes come: no line before the head is whole, then the heading, and a line for each whole row.
+/// What is shown where this many bytes come: no line before the head is whole, then the heading, and a line for each whole row.
 fn shown_of(len: usize) -> &'static [u8] {
     let lines = if len < 28 { 0 } else { 1 + (len - 28) / 20 };
     TABLE.get(..lines.saturating_mul(30)).unwrap_or(TABLE)
@@ -70,7 +70,7 @@ fn replies_in_prefixes(rt: HostRuntime) -> Result<(), Fail> {
     Ok(())
 }
 
-/// Gives a byte at a time, and fails at the read after so many.
+/// Gives a byte at a time, and fails at the read after this many.
 #[derive(Drop)]
 struct Failing<'a> {
     bytes: &'a [u8],
@@ -118,7 +118,7 @@ fn reply_without_end(rt: HostRuntime) -> Result<(), Fail> {
     Ok(())
 }
 
-/// Takes all, and fails at the write after so many.
+/// Takes all, and fails at the write after this many.
 #[derive(Drop)]
 struct Closing {
     written: Vec<u8>,

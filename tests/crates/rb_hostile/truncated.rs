@@ -2,7 +2,7 @@
 //! call, one that ends within its arguments is GARBAGE_ARGS.
 
 use crate::cores::{bytes_of, core_of, loopback};
-use rb_core::{CoreFault, Metered, Outcome};
+use rb_core::{CoreFault, Metered, Response};
 use std::alloc::{AllocError, Global};
 use std::test::Fail;
 
@@ -90,20 +90,20 @@ fn header_of(data: &[u8]) -> [u8; 4] {
 fn datagram_is_told(core: &mut Metered, data: &[u8], reply: &[u8]) -> bool {
     let outcome = core.datagram(0, loopback(), data);
     if reply.is_empty() {
-        outcome == Outcome::NoCall
+        outcome == Response::NoCall
     } else {
-        outcome == Outcome::Reply && core.udp_reply() == reply
+        outcome == Response::Reply && core.udp_reply() == reply
     }
 }
 
 /// The record closes its connection.
 fn record_closes(core: &mut Metered, id: u64, data: &[u8]) -> Result<bool, CoreFault> {
     let (header, _) = core.bytes(0, id, &header_of(data))?;
-    if header.closed {
+    if header.lost {
         return Ok(true);
     }
     let (record, _) = core.bytes(0, id, data)?;
-    Ok(record.closed)
+    Ok(record.lost)
 }
 
 /// The record gets this one for its reply, or closes its connection where that is empty.
@@ -222,7 +222,7 @@ fn truncated_calls_of_others(rt: HostRuntime) -> Result<(), Fail> {
     Ok(())
 }
 
-/// A NULL call whose credential says that it has so many bytes of body, with 400 of them and the verifier.
+/// A NULL call whose credential says that it has this many bytes of body, with 400 of them and the verifier.
 fn call_of_credential(alloc: Global, len: u32) -> Result<Vec<u8>, AllocError> {
     let mut call = bytes_of(alloc, &[9, 0, 2, 100_000, 2, 0, 0, len])?;
     call.extend_from_slice(&[7; 400])?;
@@ -242,7 +242,7 @@ fn truncated_calls_of_long_credentials(rt: HostRuntime) -> Result<(), Fail> {
     Ok(())
 }
 
-/// A CALLIT whose arguments say that they have so many bytes, with 8,801 of them and three zeros.
+/// A CALLIT whose arguments say that they have this many bytes, with 8,801 of them and three zeros.
 fn callit_of(alloc: Global, len: u32) -> Result<Vec<u8>, AllocError> {
     let mut call = call_of(alloc, &head_by_nobody(2, 5), &[200_001, 1, 0, len])?;
     call.extend_from_slice(&[7; 8801])?;

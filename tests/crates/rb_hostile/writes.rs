@@ -13,7 +13,7 @@ use std::test::Fail;
 enum Way {
     /// As many bytes at a time as the script says, and then all that are pending.
     AsItIs,
-    /// The same, and behind each event no byte on each connection.
+    /// The same, and after each event no byte on each connection.
     WithEmptyWrites,
     /// Each of those bytes by itself.
     InSingleBytes,
@@ -25,8 +25,8 @@ const CONNECTIONS: [u64; 2] = [1, 2];
 /// More than the fragments of a script's replies.
 const FRAGMENTS: u32 = 20;
 
-/// Gives so many bytes at once, of what is pending on the connection, and joins them to those before.
-fn give_at_once(
+/// Gives this many bytes at once, of what is pending on the connection, and joins them to those before.
+fn write_at_once(
     core: &mut Metered,
     id: u64,
     count: usize,
@@ -44,7 +44,7 @@ fn give_at_once(
     Ok(())
 }
 
-/// Gives so many bytes, at once or one by one.
+/// Gives this many bytes, at once or one by one.
 fn give(
     core: &mut Metered,
     id: u64,
@@ -53,10 +53,10 @@ fn give(
     joined: &mut Vec<u8>,
 ) -> Result<(), AllocError> {
     if way != Way::InSingleBytes {
-        return give_at_once(core, id, count, joined);
+        return write_at_once(core, id, count, joined);
     }
     for _i in 0..count {
-        give_at_once(core, id, 1, joined)?;
+        write_at_once(core, id, 1, joined)?;
     }
     Ok(())
 }
@@ -84,8 +84,8 @@ fn happen(
         replay(alloc, core, event, &mut Vec::new(alloc))?;
     }
     if way == Way::WithEmptyWrites {
-        give_at_once(core, 1, 0, joined)?;
-        give_at_once(core, 2, 0, joined)?;
+        write_at_once(core, 1, 0, joined)?;
+        write_at_once(core, 2, 0, joined)?;
     }
     Ok(())
 }
@@ -118,7 +118,7 @@ fn null_record(xid: u32) -> [u32; 11] {
     [0x80000028, xid, 0, 2, 100_000, 2, 0, 0, 0, 0, 0]
 }
 
-/// Behind an opening, the bytes of the first connection.
+/// After an opening, the bytes of the first connection.
 fn arrival(alloc: Global, bytes: Vec<u8>) -> Result<Vec<Event>, AllocError> {
     let mut events = Vec::new(alloc);
     events.push(Event::Open(0, loopback()))?;
@@ -126,7 +126,7 @@ fn arrival(alloc: Global, bytes: Vec<u8>) -> Result<Vec<Event>, AllocError> {
     Ok(events)
 }
 
-/// Each byte of the call in a fragment of its own, an empty fragment behind each, and an empty last one.
+/// Each byte of the call in a fragment of its own, an empty fragment after each, and an empty last one.
 #[test]
 fn writes_in_three_ways_of_fragments(rt: HostRuntime) -> Result<(), Fail> {
     let alloc = rt.alloc();
@@ -174,7 +174,7 @@ fn push_call(events: &mut Vec<Event>, alloc: Global, call: &[u32]) -> Result<(),
     Ok(())
 }
 
-/// Connection 1 asks for a list, and behind the UNSET of a row connection 2. The SET of another closes the first.
+/// Connection 1 asks for a list, and after the UNSET of a row connection 2. The SET of another closes the first.
 fn evicting(alloc: Global) -> Result<Vec<Event>, AllocError> {
     let mut events = Vec::new(alloc);
     push_call(&mut events, alloc, &set_call(1, 200_001, 6))?;
@@ -190,7 +190,7 @@ fn evicting(alloc: Global) -> Result<Vec<Event>, AllocError> {
     Ok(events)
 }
 
-/// The list of connection 2: the own rows, and the row that is removed behind its call.
+/// The list of connection 2: the own rows, and the row that is removed after its call.
 const KEPT_LIST: [u32; 43] = [
     0x800000a8, 5, 1, 0, 0, 0, 0, 1, 100_000, 4, 6, 111, 1, 100_000, 3, 6, 111, 1, 100_000, 2, 6,
     111, 1, 100_000, 4, 17, 111, 1, 100_000, 3, 17, 111, 1, 100_000, 2, 17, 111, 1, 200_002, 1, 6,
@@ -207,7 +207,7 @@ fn writes_in_three_ways_of_a_kept_list(rt: HostRuntime) -> Result<(), Fail> {
 /// How many rows are set for the long list: programs from 200001 on.
 const ROWS: u32 = 167;
 
-/// So many SETs by uid 0, and a DUMP of version 3 on connection 1.
+/// This many SETs by uid 0, and a DUMP of version 3 on connection 1.
 fn long_dump(alloc: Global) -> Result<Vec<Event>, AllocError> {
     let mut events = Vec::new(alloc);
     for prog in 200_001..200_001 + ROWS {

@@ -34,7 +34,7 @@ fn names_of(rt: &HostRuntime) -> Option<Vec<Service>> {
     read_services(rt.alloc(), b"portmapper 100000\n").ok()
 }
 
-/// Whether a question over TCP is answered so: with so many rows, which are shown as this text.
+/// Whether a question over TCP is answered so: with this many rows, which are shown as this text.
 fn shows(
     rt: &HostRuntime,
     at: SocketAddr,

@@ -1,6 +1,6 @@
 use rb_address::{Netid, Transport};
 use rb_names::{name_of, number_of, read_services};
-use rb_words::{Flag, Plan, Refusal, Shape, Spot, Wanted, Way, read_words, write_refusal};
+use rb_words::{Expected, Flag, Plan, Refusal, Shape, Spot, Way, read_words, write_refusal};
 use std::test::Fail;
 
 /// `--uid 7 -u HOST 100000` is read with each of its parts.
@@ -48,7 +48,7 @@ fn refusal_is_written(rt: HostRuntime) -> Result<(), Fail> {
     };
     let refusal = Refusal {
         at: Spot::Port,
-        wanted: Wanted::Port,
+        wanted: Expected::Port,
     };
     assert!(rt; read_words(&shape) == Err(refusal));
     let mut said = Vec::new(rt.alloc());

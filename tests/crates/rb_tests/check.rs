@@ -6,7 +6,7 @@ use rb_uaddr::AddressText;
 use std::net::{TcpListener, UdpSocket};
 use std::test::Fail;
 
-/// Where somebody listens and says nothing. Nobody is at the port behind it.
+/// Where somebody listens and says nothing. Nobody is at the port after it.
 const SILENT: &str = "127.0.0.1:20151";
 
 fn row(netid: Netid, addr: AddressText) -> Row {

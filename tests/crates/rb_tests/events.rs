@@ -2,7 +2,7 @@ use crate::address::claims;
 use crate::proto::listener;
 use rb_address::Who;
 use rb_core::{
-    CoreFault, Exchanged, Expired, Limits, Metered, NoMemory, Outcome, Standing, Taken, Told,
+    CoreFault, Exchanged, Expired, Limits, Metered, NoMemory, Response, Standing, Taken, Told,
 };
 use rb_replay::{Event, Output, replay};
 use std::alloc::{AllocError, Global};
@@ -28,7 +28,7 @@ const NULL_REPLY: &[u8] = b"\0\0\0\x01\0\0\0\x01\0\0\0\0\0\0\0\0\0\0\0\0\0\0\0\0
 // A whole record with that call.
 const NULL_RECORD: [u32; 11] = [0x8000_0028, 1, 0, 2, 100_000, 2, 0, 0, 0, 0, 0];
 
-// The first bytes of a record with that call and 100,000 bytes behind it.
+// The first bytes of a record with that call and 100,000 bytes after it.
 const OVERLONG: [u32; 11] = [0x8001_86c8, 1, 0, 2, 100_000, 2, 0, 0, 0, 0, 0];
 
 fn new_core(alloc: Global) -> Result<Metered, CoreFault> {
@@ -53,7 +53,7 @@ fn outputs(alloc: Global, core: &mut Metered, events: &[Event]) -> Result<Vec<Ou
 // The call is answered, and the 24 bytes of its reply are held.
 fn null_is_answered(rt: &impl Abort, core: &mut Metered, call: &[u8]) {
     assert_eq!(rt; core.held(), 270);
-    assert_eq!(rt; core.datagram(0, loopback(), call), Outcome::Reply);
+    assert_eq!(rt; core.datagram(0, loopback(), call), Response::Reply);
     assert_eq!(rt; core.udp_reply(), NULL_REPLY);
     assert_eq!(rt; core.held(), 294);
     assert!(rt; core.held() <= core.bytes_bound());
@@ -109,7 +109,7 @@ fn one_connection(alloc: Global) -> Result<Vec<Event>, AllocError> {
     Ok(events)
 }
 
-/// The reply to that call, marked, behind its first 3 bytes.
+/// The reply to that call, marked, after its first 3 bytes.
 const REST: [u8; 25] = [
     24, 0, 0, 0, 1, 0, 0, 0, 1, 0, 0, 0, 0, 0, 0, 0, 0, 0, 0, 0, 0, 0, 0, 0, 0,
 ];
@@ -199,7 +199,7 @@ fn record_begins(rt: &impl Abort, alloc: Global, core: &mut Metered) -> Result<(
     Ok(())
 }
 
-// The 100,000 bytes behind them.
+// The 100,000 bytes after them.
 fn record_ends(rt: &impl Abort, alloc: Global, core: &mut Metered) -> Result<(), Fail> {
     let next = arrival(alloc, &[0xff; 1000])?;
     assert!(rt; stays_small(alloc, core, &next)?);
@@ -224,7 +224,7 @@ const NULL_MARKED: [u8; 28] = [
     0x80, 0, 0, 24, 0, 0, 0, 1, 0, 0, 0, 1, 0, 0, 0, 0, 0, 0, 0, 0, 0, 0, 0, 0, 0, 0, 0, 0,
 ];
 
-// The whole record is taken, so many bytes of its reply are given at once, and the connection stands so then.
+// The whole record is taken, this many bytes of its reply are given at once, and the connection stands so then.
 fn gives_at_once(
     core: &mut Metered,
     record: &[u8],
@@ -234,7 +234,7 @@ fn gives_at_once(
 ) -> bool {
     let taken = Taken {
         count: 44,
-        closed: false,
+        lost: false,
     };
     let exchanged = Exchanged {
         taken,
@@ -272,8 +272,8 @@ fn replies_are_given_at_once(rt: HostRuntime) -> Result<(), Fail> {
 // Each byte of the record is taken by itself, in at most 328 steps.
 fn bytes_are_cheap(core: &mut Metered, front: &[u8]) -> Result<bool, CoreFault> {
     for byte in front {
-        let (Taken { count, closed }, _) = core.bytes(0, 1, &[*byte])?;
-        if count != 1 || closed || core.steps() > 328 {
+        let (Taken { count, lost }, _) = core.bytes(0, 1, &[*byte])?;
+        if count != 1 || lost || core.steps() > 328 {
             return Ok(false);
         }
     }
@@ -332,7 +332,7 @@ fn bytes_leave(
         && core.next_deadline() == deadline
 }
 
-// The same where so many bytes were given.
+// The same where this many bytes were given.
 fn giving_leaves(
     core: &mut Metered,
     now: u64,
@@ -395,14 +395,14 @@ fn waits_for_target(core: &mut Metered, now: u64, record: &[u8], standing: Stand
     bytes_leave(core, now, record, standing, Some(5_010))
 }
 
-/// A call that is forwarded is told behind its bytes, and not again; at its deadline the connection goes on.
+/// A call that is forwarded is told after its bytes, and not again; at its deadline the connection goes on.
 #[test]
 fn forwarded_calls_are_told_once(rt: HostRuntime) -> Result<(), Fail> {
     let set = words(rt.alloc(), &SET)?;
     let record = words(rt.alloc(), &INDIRECT_RECORD)?;
     let mut core = new_core(rt.alloc())?;
     connection_opens(&rt, rt.alloc(), &mut core)?;
-    assert_eq!(rt; core.datagram(0, loopback(), &set), Outcome::Reply);
+    assert_eq!(rt; core.datagram(0, loopback(), &set), Response::Reply);
     assert!(rt; waits_for_target(&mut core, 10, &record, Standing::Sends));
     assert!(rt; core.unsent().is_some());
     assert!(rt; waits_for_target(&mut core, 20, &record, Standing::Awaiting));

@@ -1,6 +1,6 @@
 //! Rows that are kept: written, read and set again.
 use crate::proto::listener;
-use rb_core::{Limits, Metered, Outcome};
+use rb_core::{Limits, Metered, Response};
 use rb_keep::{KeepFault, read_rows, set_call, this_machine, write_rows};
 use std::test::Fail;
 
@@ -30,7 +30,7 @@ fn kept_rows_are_set_again(rt: HostRuntime) -> Result<(), Fail> {
     for row in &rows {
         let call = set_call(row);
         let told = core.datagram(8, this_machine(), call.as_slice());
-        assert_eq!(rt; told, Outcome::Reply);
+        assert_eq!(rt; told, Response::Reply);
     }
     assert_eq!(rt; core.changes(), 2);
     let mut written = Vec::new(alloc);

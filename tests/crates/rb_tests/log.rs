@@ -132,7 +132,7 @@ fn longest_line_has_room(rt: HostRuntime) -> Result<(), Fail> {
     Ok(())
 }
 
-// How many of so many lines that are asked for at a moment the log gets.
+// How many of this many lines that are asked for at a moment the log gets.
 fn count_at(rate: &mut LogRate, now: u64, lines: u32) -> u32 {
     let mut count = 0;
     for _ in 0..lines {

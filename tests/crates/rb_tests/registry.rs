@@ -65,7 +65,7 @@ fn two_are_set(rt: &impl Abort, registry: &mut Registry, meter: &mut Meter) {
     assert_eq!(rt; registry.stamp(), 2);
 }
 
-// They are found, behind the own rows.
+// They are found, after the own rows.
 fn two_are_found(rt: &impl Abort, registry: &Registry, meter: &mut Meter) -> Result<(), Fail> {
     let newest = registry
         .find(200_001, 9, Netid::Tcp, meter)

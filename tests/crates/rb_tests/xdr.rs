@@ -80,7 +80,7 @@ fn refused_memory_is_an_error(rt: HostRuntime) -> Result<(), Fail> {
     Ok(())
 }
 
-// Spells a value in exactly as much room as it needs, and reads it again with more bytes behind it.
+// Spells a value in exactly as much room as it needs, and reads it again with more bytes after it.
 fn goes_both_ways<T: Xdr + PartialEq>(
     rt: &HostRuntime,
     value: &T,

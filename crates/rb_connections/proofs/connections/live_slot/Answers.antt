@@ -1,7 +1,7 @@
 use Rattle.std.proofs.Common.{rules, [], refl, sym, ap, arith}
 use Rattle.rb_xdr.specs.Meter.{Meter}
 use Rattle.rb_xdr.proofs.PoolLemmas.{All-value_at}
-use Rattle.rb_connections.specs.declared.slot.Wanted.TheVariants as wanted
+use Rattle.rb_connections.specs.declared.slot.Sought.TheVariants as wanted
 use Rattle.rb_connections.specs.Slots.{HasBuffers}
 use Rattle.rb_connections.proofs.LiveSlots.{key_is, is_live, charge_among}
 use Rattle.rb_connections.proofs.Slots.{slot_is_there}

@@ -1,4 +1,4 @@
--- The field is the one behind those that were passed.
+-- The field is the one after those that were passed.
 use Rattle.std.proofs.Common.{◌≡◌}
 use Rattle.std.specs.Prelude.{slice_get}
 use Rattle.rb_evidence.specs.Table.{fields_of}

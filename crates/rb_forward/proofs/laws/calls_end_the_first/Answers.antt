@@ -1,5 +1,5 @@
 use Rattle.std.proofs.Common.{◌≤◌, refl}
-use Rattle.rb_forward.specs.declared.types.Outcome.TheVariants.{Failed, Dropped}
+use Rattle.rb_forward.specs.declared.types.ForwardEnd.TheVariants.{Failed, Dropped}
 use Rattle.rb_forward.specs.Forwards.{Entry, reply, due, drop_caller, counts_for, is_due, is_of_connection, outcome_of}
 use Rattle.rb_forward.specs.Ends.{IsReplyTo, IsOf}
 use Rattle.rb_forward.proofs.Ends.{ends_first, reply_means, reply_tested, due_means, due_tested, of_means, of_tested}

@@ -8,11 +8,11 @@ use Rattle.rb_model.specs.Step.Output.{Silent, Replied}
 use Rattle.rb_model.specs.Calls.{message_of}
 use Rattle.rb_model.specs.Costs.{sizes_for, datagram_cost}
 use Rattle.rb_laws.proofs.EntriesKept.{step-follows}
-use Rattle.rb_model.specs.declared.served.Outcome.{Outcome as Written}
-use Rattle.rb_model.specs.declared.served.Outcome.TheVariants as outcomes
+use Rattle.rb_model.specs.declared.served.Response.{Response as Written}
+use Rattle.rb_model.specs.declared.served.Response.TheVariants as outcomes
 use Rattle.rb_model.specs.Served.{outcome_with}
 use Rattle.rb_core.specs.CallCosts.{may_register_in, sizes_of}
-use Rattle.rb_core.specs.StandsFor.{Held, StandsFor}
+use Rattle.rb_core.specs.StandsFor.{CoreView, StandsFor}
 use Rattle.rb_core.proofs.Outputs.{datagram_shown, shown_of}
 use Rattle.rb_core.proofs.Begun.{stands_begun}
 use Rattle.rb_replay.proofs.RunSteps.{one_then_other}
@@ -20,7 +20,7 @@ use Rattle.rb_replay.proofs.Prices.{datagram_paid, sizes_held}
 use Rattle.rb_replay.proofs.events.datagram.Goals as goal
 
 -- whether the caller may register is known by the state
-registers_alike : (held : Held) (s : State) → StandsFor held s → (who : Who) → may_register_in held who ≡ may_register s.setting.listener.announced who
+registers_alike : (held : CoreView) (s : State) → StandsFor held s → (who : Who) → may_register_in held who ≡ may_register s.setting.listener.announced who
 registers_alike held s h who = ap (λ (x : Setting). may_register x.listener.announced who) h.setting
 
 is_silent : (given : Written) (reply : List ℕ) → (given ≡ outcomes.NoCall) ⊎ (given ≡ outcomes.Silent) → Silent ≡ shown_of (outcome_with given reply)

@@ -22,9 +22,9 @@ returns-in-Nothing-clause-ok c = record {
   cost = λ s h. ended_paid _ _ (sizes_stay c.args.core.now.core s h) _ _ _ _ (omega arith) c.in-Nothing.ensures.cost;
 }
 
-pub returns-in-ConnectionClosed-clause-ok : goal.returns-in-ConnectionClosed-clause-ok
+pub returns-in-ConnectionLost-clause-ok : goal.returns-in-ConnectionLost-clause-ok
 unfolding step
-returns-in-ConnectionClosed-clause-ok c = record {
-  step = λ s h. closed_shown (λ t. expire t c.args.now) c.args.core.now.core c.expire.new.self.core c.in-ConnectionClosed.id c.in-ConnectionClosed.ensures.acts s h;
-  cost = λ s h. ended_paid _ _ (sizes_stay c.args.core.now.core s h) _ _ _ _ (omega arith) c.in-ConnectionClosed.ensures.cost;
+returns-in-ConnectionLost-clause-ok c = record {
+  step = λ s h. closed_shown (λ t. expire t c.args.now) c.args.core.now.core c.expire.new.self.core c.in-ConnectionLost.id c.in-ConnectionLost.ensures.acts s h;
+  cost = λ s h. ended_paid _ _ (sizes_stay c.args.core.now.core s h) _ _ _ _ (omega arith) c.in-ConnectionLost.ensures.cost;
 }

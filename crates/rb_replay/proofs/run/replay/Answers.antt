@@ -7,7 +7,7 @@ use Rattle.rb_model.specs.State.{State, are_good}
 use Rattle.rb_model.specs.Step.{run, IsReached}
 use Rattle.rb_model.specs.WholeRuns.{whole_bound}
 use Rattle.rb_replay.specs.Runs.{answered_events, Happened, buffer_bytes}
-use Rattle.rb_core.specs.StandsFor.{Held, StandsFor}
+use Rattle.rb_core.specs.StandsFor.{CoreView, StandsFor}
 use Rattle.rb_replay.proofs.Runs.{one_more, pays_more, pays_within, answered_are}
 use Rattle.rb_replay.proofs.StepBounds.{paid_within, held_within_after}
 use Rattle.rb_replay.proofs.WholeRuns.{paid_within_whole}
@@ -35,7 +35,7 @@ pub returns-clause-bound : goal.returns-clause-bound
 returns-clause-bound c s h reached good = paid_within s (events_of c.args.events.now) _ _ reached good (pays_within s (events_of c.args.events.now) c.loop-event.event-index _ _ (c.loop-event.invariant.cost s h))
 
 -- the bound of the events whose outputs were appended
-whole_of : (core : Held) (s : State) (events : List OwnedEvent) (i : ℕ) → i ≤ length events → (before now : List OwnedOutput) (new : Held) (a b : Meter)
+whole_of : (core : CoreView) (s : State) (events : List OwnedEvent) (i : ℕ) → i ≤ length events → (before now : List OwnedOutput) (new : CoreView) (a b : Meter)
     → StandsFor core s → IsReached s → are_good s.setting.limits s.setting.listener ≡ true
     → Happened s (take i (events_of events)) (outputs_of before) (outputs_of now) new → PaysAtMost a b (run_cost s (take i (events_of events)))
     → PaysAtMost a b (whole_bound s.setting.limits (buffer_bytes core) (answered_events events before now) (run s (answered_events events before now)))

@@ -1,4 +1,4 @@
--- The bytes so far are escaped, behind the first quotation mark.
+-- The bytes so far are escaped, after the first quotation mark.
 use Rattle.std.proofs.Common.{◌≡◌, ◌++◌, codes, take}
 use Rattle.std.specs.List.{flat_map}
 use Rattle.std.specs.String.{string_bytes}

@@ -9,7 +9,7 @@ use Rattle.rb_show.specs.Statistics.{IsInt, read_ints}
 use Rattle.rb_show.proofs.StatReadings.{after, after_none, after_one, after_all, after_fault}
 use Rattle.rb_show.proofs.stat.read_info.Goals as goal
 
--- all that is behind so many bytes
+-- all that is after this many bytes
 all_behind : (bytes : List ℕ) (used : ℕ) → take (length bytes - used) (drop used bytes) ≡ drop used bytes
 all_behind bytes used = take_all (length bytes - used) (drop used bytes) (omega (arith, length-drop used bytes))
 

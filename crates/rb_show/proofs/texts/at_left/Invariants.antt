@@ -1,4 +1,4 @@
--- So many spaces stand behind the text.
+-- This many spaces stand after the text.
 use Rattle.std.proofs.Common.{◌≡◌, ◌++◌, replicate}
 use Rattle.std.specs.String.{string_bytes}
 use Rattle.rb_show.proofs.texts.at_left.Given as goal

@@ -23,22 +23,22 @@ pub returns-in-Answered-Reply-clause-stands : goal.returns-in-Answered-Reply-cla
 unfolding settle
 returns-in-Answered-Reply-clause-stands c = λ x h.
     rw (c.in-Answered-Reply.is, rw c.in-Answered-Reply.is at c.in-Answered-Reply.field-0-is)
-    (slot_begins _ _ _ c.show.new.self c.show.ensures.shows c.args.clock x c.args.draft.now.bytes None h.number h.who refl c.requires.buffers.window_cap
+    (slot_begins _ _ _ c.frame.new.self c.frame.ensures.shows c.args.clock x c.args.draft.now.bytes None h.number h.who refl c.requires.buffers.window_cap
     (ap (λ (k : Kept). k.bytes) c.swap.ensures.x_after) refl)
 
 pub returns-in-Answered-Reply-clause-lists : goal.returns-in-Answered-Reply-clause-lists
-returns-in-Answered-Reply-clause-lists c = slot_lists_on _ _ _ c.show.new.self c.show.ensures.shows
+returns-in-Answered-Reply-clause-lists c = slot_lists_on _ _ _ c.frame.new.self c.frame.ensures.shows
 
-pub show-requires-in-Listed-clause-some : goal.show-requires-in-Listed-clause-some
-show-requires-in-Listed-clause-some c =
+pub frame-requires-in-Listed-clause-some : goal.frame-requires-in-Listed-clause-some
+frame-requires-in-Listed-clause-some c =
     fresh_is_some c.args.registry.now c.in-Listed.xid c.in-Listed.listing c.new-list.result c.new-list.ensures.rest
 
 pub returns-in-Listed-clause-stands : goal.returns-in-Listed-clause-stands
 unfolding settle
 returns-in-Listed-clause-stands c = λ x h.
     rw c.in-Listed.is
-    (slot_begins _ _ _ c.show-in-Listed.new.self c.show-in-Listed.ensures.shows c.args.clock x _ _ h.number h.who refl c.requires.buffers.window_cap
+    (slot_begins _ _ _ c.frame-in-Listed.new.self c.frame-in-Listed.ensures.shows c.args.clock x _ _ h.number h.who refl c.requires.buffers.window_cap
     c.new-list.ensures.rest (ap (λ (n : ℕ). Some n) c.new-list.ensures.stamp))
 
 pub returns-in-Listed-clause-lists : goal.returns-in-Listed-clause-lists
-returns-in-Listed-clause-lists c = slot_lists_on _ _ _ c.show-in-Listed.new.self c.show-in-Listed.ensures.shows
+returns-in-Listed-clause-lists c = slot_lists_on _ _ _ c.frame-in-Listed.new.self c.frame-in-Listed.ensures.shows

@@ -12,11 +12,11 @@ use Rattle.rb_model.specs.Calls.{Outcome, message_with, message_of, reply_in}
 use Rattle.rb_model.specs.Served.{outcome_with, IsWritten}
 use Rattle.rb_connections.specs.StandsFor.{Table}
 use Rattle.rb_model.specs.declared.served.Served.TheVariants.{Answered}
-use Rattle.rb_model.specs.declared.served.Outcome.{Outcome as Written}
-use Rattle.rb_model.specs.declared.served.Outcome.TheVariants as outcomes
+use Rattle.rb_model.specs.declared.served.Response.{Response as Written}
+use Rattle.rb_model.specs.declared.served.Response.TheVariants as outcomes
 use Rattle.rb_core.specs.Awaits.{AreAwaited}
 use Rattle.rb_core.specs.contracts.holding.Core.{the_view}
-use Rattle.rb_core.specs.StandsFor.{Held}
+use Rattle.rb_core.specs.StandsFor.{CoreView}
 use Rattle.rb_model.specs.Step.{longest_to}
 use Rattle.rb_core.specs.Core.{context_of}
 use Rattle.rb_core.specs.Eviction.{ServesInRoom}
@@ -52,7 +52,7 @@ written_is outcomes.Silent reply none = none
 pub returns-clause-acts : goal.returns-clause-acts
 returns-clause-acts c =
     let content = c.args.content.now in
-    let old : Held = record (with_steps_before (the_view c.self.inside) c.count-self-inside.result) { clock = c.max-self-inside.result } in
+    let old : CoreView = record (with_steps_before (the_view c.self.inside) c.count-self-inside.result) { clock = c.max-self-inside.result } in
     let v = c.read_call-verdict.result in
     let arguments = c.arguments_behind-arguments.result.now in
     let says = says_so v arguments content c.read_call-verdict.ensures.verdict c.arguments_behind-arguments.ensures.arguments in
@@ -78,17 +78,17 @@ returns-clause-cost c =
     let lent = c.arguments_behind-arguments in
     let served = c.serve_verdict-served in
     let content : List ℕ = c.args.content.now in
-    let old : Held = record (with_steps_before (the_view c.self.inside) c.count-self-inside.result) { clock = c.max-self-inside.result } in
+    let old : CoreView = record (with_steps_before (the_view c.self.inside) c.count-self-inside.result) { clock = c.max-self-inside.result } in
     let says = says_so v lent.result.now content c.read_call-verdict.ensures.verdict lent.ensures.arguments in
-    subst (λ (held : Held). PaysAtMost c.args.meter.now c.len.new.meter (datagram_cost (sizes_for (may_register_in held c.args.who) (message_of content) (sizes held.connections held.books served.new.books)) (length content) (length served.new.out.bytes))) c.self.view_is
+    subst (λ (held : CoreView). PaysAtMost c.args.meter.now c.len.new.meter (datagram_cost (sizes_for (may_register_in held c.args.who) (message_of content) (sizes held.connections held.books served.new.books)) (length content) (length served.new.out.bytes))) c.self.view_is
     (datagram_pays c.context-context.result _ (registers_as c.context-context.result old _ c.context-context.ensures) c.self.inside.connections c.self.inside.books served.new.books v lent.result.now content served.new.out c.args.meter.now c.clear.new.meter served.new.meter c.len.new.meter says lent.ensures.few
     c.clear.ensures.cost served.ensures.cost c.len.ensures.cost)
 
 pub returns-clause-plain : goal.returns-clause-plain
 returns-clause-plain c =
-    let old : Held = c.args.self.now in
+    let old : CoreView = c.args.self.now in
     let served = c.serve_verdict-served in
-    let limit : old.books.registry.limit ≡ old.setting.limits.rows = subst (λ (held : Held). held.books.registry.limit ≡ held.setting.limits.rows) c.self.view_is c.self.invariant.limit in
+    let limit : old.books.registry.limit ≡ old.setting.limits.rows = subst (λ (held : CoreView). held.books.registry.limit ≡ held.setting.limits.rows) c.self.view_is c.self.invariant.limit in
     plain_datagram_paid (may_register_in old c.args.who) old.connections old.books served.new.books c.args.content.now old.setting.limits.rows (length served.new.out.bytes) c.args.meter.now c.len.new.meter limit (returns-clause-cost c)
 
 pub returns-clause-bound : goal.returns-clause-bound
@@ -98,7 +98,7 @@ returns-clause-bound c =
 
 pub invariant_of-self-2 : goal.invariant_of-self-2
 invariant_of-self-2 c =
-    let old : Held = record (with_steps_before (the_view c.self.inside) c.count-self-inside.result) { clock = c.max-self-inside.result } in
+    let old : CoreView = record (with_steps_before (the_view c.self.inside) c.count-self-inside.result) { clock = c.max-self-inside.result } in
     let table = c.serve_verdict-served.new.connections in
     let books = c.serve_verdict-served.new.books in
     let awaited : AreAwaited old.books.forwards table = λ number waits. c.serve_verdict-served.ensures.open.free number (c.self.invariant.awaited number waits) in

@@ -12,7 +12,7 @@ use Rattle.rb_connections.specs.Giving.{whole_cost}
 use Rattle.rb_core.specs.contracts.holding.Core.{the_view}
 use Rattle.rb_core.specs.CallCosts.{announced_in, sizes_of}
 use Rattle.rb_core.specs.Core.{arguments_in}
-use Rattle.rb_core.specs.StandsFor.{Held, StandsFor}
+use Rattle.rb_core.specs.StandsFor.{CoreView, StandsFor}
 use Rattle.rb_core.proofs.Spending.{as_large, looked_paid, received_paid, answered_paid, plain_record_paid}
 use Rattle.rb_core.proofs.Steps.{bytes_refused, quiet_acts, quiet_gives_none, with_ended, fed_by, held_after}
 use Rattle.rb_core.proofs.AtOnce.{plainly, counted, none_refused, by_count, exchange_ended, counted_ended, whole_few}
@@ -41,9 +41,9 @@ returns-in_err-got-clause-count c =
     rw (p.1) (shows_begun _ (the_view c.self.inside) c.args.self.now c.count-self-inside.result 0 c.self.view_is (none_refused c.args.now c.args.id c.args.piece.now _ view view _ refused))
 
 -- a bound by what was held, of a core by its other name
-by_view : (view now new : Held) (id : ℕ) (piece : List ℕ) (s : State) (more : ℕ) (a b : Meter) → view ≡ now
+by_view : (view now new : CoreView) (id : ℕ) (piece : List ℕ) (s : State) (more : ℕ) (a b : Meter) → view ≡ now
     → PaysAtMost a b (bytes_cost (announced_in view) (sizes_of view new) piece (live_connection id s.connections.all) + more) → PaysAtMost a b (bytes_cost (announced_in now) (sizes_of now new) piece (live_connection id s.connections.all) + more)
-by_view view now new id piece s more a b is pays = subst (λ (held : Held). PaysAtMost a b (bytes_cost (announced_in held) (sizes_of held new) piece (live_connection id s.connections.all) + more)) is pays
+by_view view now new id piece s more a b is pays = subst (λ (held : CoreView). PaysAtMost a b (bytes_cost (announced_in held) (sizes_of held new) piece (live_connection id s.connections.all) + more)) is pays
 
 pub returns-in_err-got-clause-cost : goal.returns-in_err-got-clause-cost
 returns-in_err-got-clause-cost c =
@@ -64,7 +64,7 @@ returns-in_err-got-clause-bound c =
 -- ---- no record ended
 
 -- the buffer has the arguments where none lie in the piece
-in_buffer : (view : Held) (id : ℕ) (piece kept : List ℕ) (o : Option (Bor (List ℕ))) → o ≡ None → Shows (StandsForConnections view.books.registry) (arguments_on id view.arguments piece) view.connections (arguments_in o kept)
+in_buffer : (view : CoreView) (id : ℕ) (piece kept : List ℕ) (o : Option (Bor (List ℕ))) → o ≡ None → Shows (StandsForConnections view.books.registry) (arguments_on id view.arguments piece) view.connections (arguments_in o kept)
     → Shows (StandsForConnections view.books.registry) (arguments_on id view.arguments piece) view.connections kept
 in_buffer view id piece kept o none holds = subst (λ (x : Option (Bor (List ℕ))). Shows (StandsForConnections view.books.registry) (arguments_on id view.arguments piece) view.connections (arguments_in x kept)) none holds
 
@@ -91,7 +91,7 @@ returns-in_default-clause-count c =
 pub returns-in_default-clause-cost : goal.returns-in_default-clause-cost
 returns-in_default-clause-cost c = λ s h.
     let view = with_steps_before (the_view c.self.inside) c.count-self-inside.result in
-    let z = still_stands (the_view c.self.inside) c.count-self-inside.result s (subst (λ (held : Held). StandsFor held s) (sym c.self.view_is) h) in
+    let z = still_stands (the_view c.self.inside) c.count-self-inside.result s (subst (λ (held : CoreView). StandsFor held s) (sym c.self.view_is) h) in
     let f =
     fed_by view c.args.now c.max-clock.result c.args.id c.args.piece.now c.max-clock.ensures c.take_piece.new.connections c.in_ok-got.ensures.goes_on.stays (arguments_in c.in_ok-got.got.arguments c.take_piece.new.arguments.bytes) (c.in_ok-got.ensures.arguments.shows view.books.registry)
     c.in_ok-got.got.received (c.in_ok-got.ensures.acts view.books.registry) s z in
@@ -113,48 +113,48 @@ ended c = with_ended c.self.inside.books.registry c.args.id c.max-clock.result c
 
 pub returns-clause-acts : goal.returns-clause-acts
 returns-clause-acts c =
-    let room : List ℕ = c.answer-closed.new.room in
+    let room : List ℕ = c.answer-lost.new.room in
     let view = with_steps_before (the_view c.self.inside) c.count-self-inside.result in
     let arguments = arguments_in c.in_ok-got.got.arguments c.take_piece.new.arguments.bytes in
     let holds = c.in_ok-got.ensures.arguments.shows view.books.registry in
-    let n : ℕ = c.answer-closed.result.1 in
+    let n : ℕ = c.answer-lost.result.1 in
     acts_begun _ (the_view c.self.inside) c.args.self.now _ c.count-self-inside.result _ c.self.view_is
     (counted c.args.now c.args.id n c.args.piece.now (length room) view _ _
-    (by_count c.args.now c.args.id n c.args.piece.now room _ _ _ c.answer-closed.ensures.within
-    (exchange_ended view c.args.now c.max-clock.result c.args.id c.args.piece.now c.max-clock.ensures c.take_piece.new.connections c.in_ok-got.ensures.goes_on.stays arguments holds c.in_ok-got.got.received.count c.in-Some.ended c.answer-closed.new.self c.answer-closed.result.0 (take n room)
-    (ended c) c.answer-closed.ensures.acts))
+    (by_count c.args.now c.args.id n c.args.piece.now room _ _ _ c.answer-lost.ensures.within
+    (exchange_ended view c.args.now c.max-clock.result c.args.id c.args.piece.now c.max-clock.ensures c.take_piece.new.connections c.in_ok-got.ensures.goes_on.stays arguments holds c.in_ok-got.got.received.count c.in-Some.ended c.answer-lost.new.self c.answer-lost.result.0 (take n room)
+    (ended c) c.answer-lost.ensures.acts))
     (counted_ended view c.args.now c.max-clock.result c.args.id c.args.piece.now c.max-clock.ensures c.take_piece.new.connections c.in_ok-got.ensures.goes_on.stays arguments holds c.in_ok-got.got.received.count (length room) n c.in-Some.ended
-    (ended c) (rw c.answer-closed.auto.room c.answer-closed.ensures.count)))
+    (ended c) (rw c.answer-lost.auto.room c.answer-lost.ensures.count)))
 
 pub returns-clause-count : goal.returns-clause-count
 returns-clause-count c =
     let view = with_steps_before (the_view c.self.inside) c.count-self-inside.result in
-    shows_begun _ (the_view c.self.inside) c.args.self.now c.count-self-inside.result c.answer-closed.result.1 c.self.view_is
-    (counted_ended view c.args.now c.max-clock.result c.args.id c.args.piece.now c.max-clock.ensures c.take_piece.new.connections c.in_ok-got.ensures.goes_on.stays (arguments_in c.in_ok-got.got.arguments c.take_piece.new.arguments.bytes) (c.in_ok-got.ensures.arguments.shows view.books.registry) c.in_ok-got.got.received.count (length c.args.room.now) c.answer-closed.result.1 c.in-Some.ended
-    (ended c) c.answer-closed.ensures.count)
+    shows_begun _ (the_view c.self.inside) c.args.self.now c.count-self-inside.result c.answer-lost.result.1 c.self.view_is
+    (counted_ended view c.args.now c.max-clock.result c.args.id c.args.piece.now c.max-clock.ensures c.take_piece.new.connections c.in_ok-got.ensures.goes_on.stays (arguments_in c.in_ok-got.got.arguments c.take_piece.new.arguments.bytes) (c.in_ok-got.ensures.arguments.shows view.books.registry) c.in_ok-got.got.received.count (length c.args.room.now) c.answer-lost.result.1 c.in-Some.ended
+    (ended c) c.answer-lost.ensures.count)
 
 pub returns-clause-cost : goal.returns-clause-cost
 returns-clause-cost c = λ s h.
     let view = with_steps_before (the_view c.self.inside) c.count-self-inside.result in
-    let z = still_stands (the_view c.self.inside) c.count-self-inside.result s (subst (λ (held : Held). StandsFor held s) (sym c.self.view_is) h) in
+    let z = still_stands (the_view c.self.inside) c.count-self-inside.result s (subst (λ (held : CoreView). StandsFor held s) (sym c.self.view_is) h) in
     let arguments = arguments_in c.in_ok-got.got.arguments c.take_piece.new.arguments.bytes in
     let holds = c.in_ok-got.ensures.arguments.shows view.books.registry in
     let got = c.in_ok-got.got.received in
     let f = fed_by view c.args.now c.max-clock.result c.args.id c.args.piece.now c.max-clock.ensures c.take_piece.new.connections c.in_ok-got.ensures.goes_on.stays arguments holds got (c.in_ok-got.ensures.acts view.books.registry) s z in
     let kept = held_after view c.args.now c.max-clock.result c.args.id c.args.piece.now c.max-clock.ensures c.take_piece.new.connections c.in_ok-got.ensures.goes_on.stays arguments holds s f.connection _ z f.there refl in
-    by_view (the_view c.self.inside) c.args.self.now c.answer-closed.new.self c.args.id c.args.piece.now s (whole_cost (length c.args.room.now) c.answer-closed.result.1) c.args.meter.now c.answer-closed.new.meter c.self.view_is
+    by_view (the_view c.self.inside) c.args.self.now c.answer-lost.new.self c.args.id c.args.piece.now s (whole_cost (length c.args.room.now) c.answer-lost.result.1) c.args.meter.now c.answer-lost.new.meter c.self.view_is
     (rw f.there (
-    answered_paid (announced_in (the_view c.self.inside)) (sizes_of (the_view c.self.inside) c.answer-closed.new.self) c.args.piece.now _ _ (whole_cost (length c.args.room.now) c.answer-closed.result.1) c.answer-closed.new.meter _ (as_large (length c.take_piece.new.connections.slots) (length c.self.inside.connections.slots) c.self.inside.books c.answer-closed.new.self.books c.in_ok-got.ensures.as_many) f.connection got c.in-Some.ended _ arguments f.gives c.in-Some.is kept
-    c.in_ok-got.ensures.cost c.answer-closed.ensures.cost))
+    answered_paid (announced_in (the_view c.self.inside)) (sizes_of (the_view c.self.inside) c.answer-lost.new.self) c.args.piece.now _ _ (whole_cost (length c.args.room.now) c.answer-lost.result.1) c.answer-lost.new.meter _ (as_large (length c.take_piece.new.connections.slots) (length c.self.inside.connections.slots) c.self.inside.books c.answer-lost.new.self.books c.in_ok-got.ensures.as_many) f.connection got c.in-Some.ended _ arguments f.gives c.in-Some.is kept
+    c.in_ok-got.ensures.cost c.answer-lost.ensures.cost))
 
 pub returns-clause-plain : goal.returns-clause-plain
 returns-clause-plain c =
-    plain_record_paid c.args.self.now c.answer-closed.new.self.books c.args.id c.args.piece.now (whole_cost (length c.args.room.now) c.answer-closed.result.1) c.args.meter.now c.answer-closed.new.meter (returns-clause-cost c)
+    plain_record_paid c.args.self.now c.answer-lost.new.self.books c.args.id c.args.piece.now (whole_cost (length c.args.room.now) c.answer-lost.result.1) c.args.meter.now c.answer-lost.new.meter (returns-clause-cost c)
 
 pub returns-clause-bound : goal.returns-clause-bound
 returns-clause-bound c =
-    exchange_within c.args.self.now c.args.meter.now c.answer-closed.new.meter c.args.now c.args.id c.args.piece.now _ (length c.answer-closed.new.room) c.answer-closed.result.1 (whole_cost (length c.args.room.now) c.answer-closed.result.1) _ _
-    (returns-clause-acts c) (whole_few (length c.args.room.now) c.answer-closed.result.1) (returns-clause-cost c)
+    exchange_within c.args.self.now c.args.meter.now c.answer-lost.new.meter c.args.now c.args.id c.args.piece.now _ (length c.answer-lost.new.room) c.answer-lost.result.1 (whole_cost (length c.args.room.now) c.answer-lost.result.1) _ _
+    (returns-clause-acts c) (whole_few (length c.args.room.now) c.answer-lost.result.1) (returns-clause-cost c)
 
 pub invariant_of-self-in_default : goal.invariant_of-self-in_default
 invariant_of-self-in_default c =
@@ -170,4 +170,4 @@ pub returns-in_default-clause-stands : goal.returns-in_default-clause-stands
 returns-in_default-clause-stands c = λ s h. c.standing_behind.ensures ∙ ap (standing_behind c.in_ok-got.got.received.count) (c.in_ok-got.ensures.stands c.in_default.is _ s.connections h.connections)
 
 pub returns-clause-stands : goal.returns-clause-stands
-returns-clause-stands c = λ s h. c.standing_behind-2.ensures ∙ ap (standing_behind c.in_ok-got.got.received.count) (c.answer-closed.ensures.stands s h)
+returns-clause-stands c = λ s h. c.standing_behind-2.ensures ∙ ap (standing_behind c.in_ok-got.got.received.count) (c.answer-lost.ensures.stands s h)

@@ -1,5 +1,5 @@
 use Rattle.std.proofs.Common.{refl}
-use Rattle.rb_model.specs.declared.served.Outcome.TheVariants.{Reply, Forwarded}
+use Rattle.rb_model.specs.declared.served.Response.TheVariants.{Reply, Forwarded}
 use Rattle.rb_daemon.proofs.Reached.{bytes_are, datagram_records, datagram_served, silent_records, silent_served}
 use Rattle.rb_daemon.proofs.engine.Engine.answer.Goals as goal
 

@@ -1,13 +1,13 @@
 use Rattle.std.proofs.Common.{refl, sym, subst, ap, ◌∙◌, arith, ◌≡◌, false}
 use Rattle.rb_xdr.specs.Meter.{Meter}
-use Rattle.rb_forward.specs.declared.entries.Wanted.TheVariants as wanted
+use Rattle.rb_forward.specs.declared.entries.Sought.TheVariants as wanted
 use Rattle.rb_forward.specs.StandsFor.{StandsForForwards}
 use Rattle.rb_forward.proofs.Stands.{none_sent, one_sent, sent_stands, next_sent, is_there, first_wanted, found_first}
 use Rattle.rb_forward.specs.Table.{without_call, is_wanted_slot, is_waiting}
 use Rattle.rb_forward.proofs.TableSteps.{its_buffer, fits_in_held, table_sent}
 use Rattle.std.specs.Map.{values_of}
 use Rattle.rb_forward.specs.declared.entries.Slot.{Slot}
-use Rattle.rb_forward.specs.declared.entries.Wanted.{Wanted}
+use Rattle.rb_forward.specs.declared.entries.Sought.{Sought}
 use Rattle.rb_forward.specs.Forwards.{is_connection}
 use Rattle.rb_forward.proofs.Tables.{some_is}
 use Rattle.rb_forward.proofs.Callers.{any-changed}
@@ -53,7 +53,7 @@ returns-clause-sent c = λ f h.
 
 pub returns-clause-waiting : goal.returns-clause-waiting
 returns-clause-waiting c = λ id h.
-    let sought : Wanted = wanted.Unsent c.args.id.number in
+    let sought : Sought = wanted.Unsent c.args.id.number in
     let first = first_wanted sought c.self.inside.slots.entries c.in-Some.key c.self.invariant.distinct (sym c.in-Some.ensures.key) in
     let found = found_first sought c.self.inside.slots.entries c.in-Some.key c.in-Some-get_mut.slot.now c.self.invariant.distinct (sym c.in-Some.ensures.key) (sym c.in-Some-get_mut.ensures.value) in
     rw (c.empty.ensures.sent, first.changed (without_call c.in-Some-get_mut.slot.now))

@@ -1,7 +1,7 @@
 use Rattle.std.proofs.Common.{sym, subst, ap, ◌∙◌, ◌≡◌}
 use Rattle.rb_xdr.proofs.PoolLemmas.{All-value_at}
 use Rattle.rb_xdr.specs.Meter.{Meter}
-use Rattle.rb_forward.specs.declared.entries.Wanted.TheVariants as wanted
+use Rattle.rb_forward.specs.declared.entries.Sought.TheVariants as wanted
 use Rattle.rb_forward.specs.StandsFor.{StandsForForwards}
 use Rattle.rb_forward.specs.Table.{HasBuffer}
 use Rattle.rb_forward.proofs.Stands.{nothing_unsent, unsent_lent, is_there, lent_whole}

@@ -1,6 +1,6 @@
 use Rattle.std.proofs.Common.{Some, refl, subst}
 use Rattle.rb_connections.specs.Giving.{GoesOnBehind}
-use Rattle.rb_connections.proofs.slot.Slot.give_rest.Goals as goal
+use Rattle.rb_connections.proofs.slot.Slot.write_rest.Goals as goal
 
 pub returns-in-Some-clause-goes_on : goal.returns-in-Some-clause-goes_on
 returns-in-Some-clause-goes_on c =

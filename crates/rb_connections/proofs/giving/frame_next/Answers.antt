@@ -1,6 +1,6 @@
 use Rattle.std.proofs.Common.{arith}
 use Rattle.rb_connections.proofs.WrittenParts.{no_room}
-use Rattle.rb_connections.proofs.giving.show_next.Goals as goal
+use Rattle.rb_connections.proofs.giving.frame_next.Goals as goal
 
 pub unreachable-requires : goal.unreachable-requires
 unreachable-requires c =

@@ -1,6 +1,6 @@
 use Rattle.std.proofs.Common.{arith}
 use Rattle.rb_connections.proofs.Fragments.{written_whole}
-use Rattle.rb_connections.proofs.giving.give_whole.Goals as goal
+use Rattle.rb_connections.proofs.giving.write_whole.Goals as goal
 
 pub returns-clause-whole : goal.returns-clause-whole
 returns-clause-whole c = λ some. record {

@@ -17,21 +17,21 @@ use Rattle.rb_connections.proofs.Listings.{lists_changed}
 use Rattle.rb_connections.proofs.ByHint.{distinct_numbers}
 use Rattle.rb_connections.proofs.LiveSlots.{within_by, live_fits, live_table}
 use Rattle.rb_connections.proofs.Standing.{now_standing}
-use Rattle.rb_connections.proofs.connections.Connections.give.Goals as goal
+use Rattle.rb_connections.proofs.connections.Connections.gave.Goals as goal
 
 pub live_slot-requires-clause-numbers : goal.live_slot-requires-clause-numbers
 live_slot-requires-clause-numbers c = distinct_numbers c.self.inside.last_number (values_of c.self.inside.slots.entries) c.self.invariant.numbers
 
 pub overflow_add-self : goal.overflow_add-self
 overflow_add-self c =
-    let fits = live_fits _ _ _ _ _ c.self.invariant _ _ c.give.new.self c.in-Some.ensures.found _ c.in-Some.ensures.held _ c.charge.ensures.charge c.charge.ensures.within in
+    let fits = live_fits _ _ _ _ _ c.self.invariant _ _ c.gave.new.self c.in-Some.ensures.found _ c.in-Some.ensures.held _ c.charge.ensures.charge c.charge.ensures.within in
     omega (arith, fits)
 
 pub invariant_of-self-2 : goal.invariant_of-self-2
 invariant_of-self-2 c =
     let tie = c.in-Some.ensures.cost.tie ∙ c.requires.tie ∙ sym (ap (λ t. t.tie) c.self.view_is) in
     live_table _ _ _ _ _ c.self.invariant _ _ _ c.in-Some.ensures.found _ c.in-Some.ensures.held _ c.charge.ensures.charge c.charge.ensures.within
-    c.give.ensures.stays.number (subst (λ t. HasBuffers t c.give.new.self) tie c.give.ensures.stays.buffers)
+    c.gave.ensures.stays.number (subst (λ t. HasBuffers t c.gave.new.self) tie c.gave.ensures.stays.buffers)
 
 pub returns-in_default-clause-acts : goal.returns-in_default-clause-acts
 returns-in_default-clause-acts c =
@@ -40,23 +40,23 @@ returns-in_default-clause-acts c =
     (gone_acts registry c.args.id (give c.args.clock c.args.n) (the_view c.self.inside) c.in_default.ensures.found)
 
 pub returns-clause-stays : goal.returns-clause-stays
-returns-clause-stays c = stays_changed (the_view c.self.inside) c.args.self.now _ c.give.new.self c.self.view_is (within_by c.give.new.self _ c.charge.ensures.charge c.charge.ensures.within)
+returns-clause-stays c = stays_changed (the_view c.self.inside) c.args.self.now _ c.gave.new.self c.self.view_is (within_by c.gave.new.self _ c.charge.ensures.charge c.charge.ensures.within)
 
 pub returns-clause-acts : goal.returns-clause-acts
 returns-clause-acts c =
     let registry = c.args.registry.now in
     acts_from registry (on_live c.args.id (give c.args.clock c.args.n)) (the_view c.self.inside) c.args.self.now _ _ c.self.view_is
-    (live_acts registry c.args.id (give c.args.clock c.args.n) (the_view c.self.inside) _ c.in-Some.slot.now c.give.new.self _ c.self.invariant.distinct c.in-Some.ensures.found.key c.in-Some.ensures.found.there c.give.ensures.acts)
+    (live_acts registry c.args.id (give c.args.clock c.args.n) (the_view c.self.inside) _ c.in-Some.slot.now c.gave.new.self _ c.self.invariant.distinct c.in-Some.ensures.found.key c.in-Some.ensures.found.there c.gave.ensures.acts)
 
 pub returns-in_default-clause-free : goal.returns-in_default-clause-free
 returns-in_default-clause-free c = λ id none. subst (λ t. is_free id t ≡ false) (sym c.self.view_is) none
 
 pub returns-clause-free : goal.returns-clause-free
 returns-clause-free c = freed_from (the_view c.self.inside) c.args.self.now _ c.self.view_is
-    (none_freed (the_view c.self.inside) _ c.in-Some.slot.now c.give.new.self c.in-Some.ensures.found.there c.give.ensures.stays.number c.give.ensures.awaits)
+    (none_freed (the_view c.self.inside) _ c.in-Some.slot.now c.gave.new.self c.in-Some.ensures.found.there c.gave.ensures.stays.number c.gave.ensures.awaits)
 
-pub give-requires-clause-lists : goal.give-requires-clause-lists
-give-requires-clause-lists c =
+pub gave-requires-clause-lists : goal.gave-requires-clause-lists
+gave-requires-clause-lists c =
     let registry = c.args.registry.now in
     All-value_at (CanContinueSlot registry) c.self.inside.slots.entries _ c.in-Some.slot.now
     (subst (λ t. CanContinueAll registry t) (sym c.self.view_is) c.requires.lists) c.in-Some.ensures.found.there
@@ -64,17 +64,17 @@ give-requires-clause-lists c =
 pub returns-clause-lists : goal.returns-clause-lists
 returns-clause-lists c =
     let registry = c.args.registry.now in
-    lists_changed (the_view c.self.inside) c.args.self.now c.self.view_is registry _ c.give.new.self c.requires.lists c.give.ensures.lists
+    lists_changed (the_view c.self.inside) c.args.self.now c.self.view_is registry _ c.gave.new.self c.requires.lists c.gave.ensures.lists
 
 pub returns-clause-stands : goal.returns-clause-stands
 returns-clause-stands c =
     let tie = c.in-Some.ensures.cost.tie ∙ c.requires.tie ∙ sym (ap (λ t. t.tie) c.self.view_is) in
     let made =
     live_table _ _ _ _ _ c.self.invariant _ _ _ c.in-Some.ensures.found _ c.in-Some.ensures.held _ c.charge.ensures.charge c.charge.ensures.within
-    c.give.ensures.stays.number (subst (λ t. HasBuffers t c.give.new.self) tie c.give.ensures.stays.buffers) in
+    c.gave.ensures.stays.number (subst (λ t. HasBuffers t c.gave.new.self) tie c.gave.ensures.stays.buffers) in
     let l = found_live c.args.id _ c.self.inside.slots.entries c.in-Some.slot.now c.self.invariant.distinct c.in-Some.ensures.found.key c.in-Some.ensures.found.there in
     rw c.standing-standing.ensures
-    (now_standing c.args.id _ c.in-Some.slot.now c.give.new.self (the_view c.self.inside) c.in-Some.ensures.found.there l.0 c.give.ensures.stays.number
+    (now_standing c.args.id _ c.in-Some.slot.now c.gave.new.self (the_view c.self.inside) c.in-Some.ensures.found.there l.0 c.gave.ensures.stays.number
     (distinct_numbers _ _ made.numbers))
 
 -- ---- what it costs

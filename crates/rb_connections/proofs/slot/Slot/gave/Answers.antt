@@ -9,7 +9,7 @@ use Rattle.rb_connections.specs.StandsFor.{StandsForPhase}
 use Rattle.rb_connections.proofs.GivenCosts.{shown_few}
 use Rattle.rb_connections.proofs.OneSlot.{none_given, some_given, goes_on_giving, is_given, nothing_pending, giving_phase}
 use Rattle.rb_connections.proofs.Progress.{pending_few, stays, moves, ends, slot_lists_on}
-use Rattle.rb_connections.proofs.slot.Slot.give.Goals as goal
+use Rattle.rb_connections.proofs.slot.Slot.gave.Goals as goal
 
 least : (n : ℕ) → min n 0 ≡ 0
 least n = omega arith
@@ -47,19 +47,19 @@ pub returns-else-giving-clause-acts : goal.returns-else-giving-clause-acts
 returns-else-giving-clause-acts c =
     let registry = c.args.registry.now in
     let old = c.args.self.now in
-    let s = c.show.ensures.shows in
-    some_given registry old c.show.new.self c.args.clock c.args.n c.min-more.result c.in-Owing.giving c.in-Owing.is
+    let s = c.frame.ensures.shows in
+    some_given registry old c.frame.new.self c.args.clock c.args.n c.min-more.result c.in-Owing.giving c.in-Owing.is
     (λ o g. let count = pending_few registry c.in-Owing.giving _ _ o g in omega (arith, count)) (omega (arith, c.if-more-eq0.false))
     (ap (λ (t : Slot). t.number) s.is) (ap (λ (t : Slot). t.who) s.is) (ap (λ (t : Slot). t.since) s.is)
     (λ o g. subst (λ (t : Slot). StandsForPhase registry t.stage t.buffer t.window (phase_when_given c.min-more.result (Owing o))) (sym s.is)
-    (goes_on_giving registry s.giving old.buffer c.show.new.self.window _ o
-    (moves registry c.in-Owing.giving _ _ o g c.min-more.result c.show.new.self.window s.giving (omega arith) c.if-giving.false c.requires.buffers.window_cap s.shows)))
+    (goes_on_giving registry s.giving old.buffer c.frame.new.self.window _ o
+    (moves registry c.in-Owing.giving _ _ o g c.min-more.result c.frame.new.self.window s.giving (omega arith) c.if-giving.false c.requires.buffers.window_cap s.shows)))
 
 pub returns-else-giving-clause-lists : goal.returns-else-giving-clause-lists
-returns-else-giving-clause-lists c = slot_lists_on _ _ _ c.show.new.self c.show.ensures.shows
+returns-else-giving-clause-lists c = slot_lists_on _ _ _ c.frame.new.self c.frame.ensures.shows
 
 pub returns-else-giving-clause-cost : goal.returns-else-giving-clause-cost
 returns-else-giving-clause-cost c =
     let few = shown_few c.args.registry.now c.args.self.now c.in-Owing.giving c.in-Owing.is in
-    let paid : PaysAtMost c.args.meter.now c.show.new.meter (1 + next_cost c.args.registry.now c.in-Owing.giving.rest) = search rules in
+    let paid : PaysAtMost c.args.meter.now c.frame.new.meter (1 + next_cost c.args.registry.now c.in-Owing.giving.rest) = search rules in
     record { steps = omega (arith, paid.steps, few); rises = paid.rises; tie = paid.tie }
