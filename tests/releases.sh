@@ -167,7 +167,7 @@ run_release_in_part() {
     judge $? "a release with steps left out says so"
     printf '#!/bin/sh\necho 1000\n' > "$work/bin/id"
     try_release
-    is_refused "make peers and make units need root"
+    is_refused "make peers, make attacks and make units need root"
     judge $? "a release by a user who can't run its tests is refused at once"
     printf '#!/bin/sh\necho 0\n' > "$work/bin/id"
     try_release LEAVE_OUT=tests
