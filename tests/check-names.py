@@ -3,8 +3,10 @@
 
 In docs/RULES.md a name has to stand where its column says, once, in the crate of its table or in the one that is named
 with it. Each rule there has a tag of its own, which stands above its definitions and begins the comments of its rows, and a
-row, a test or an edit; a `-` in place of the definition, or of all of these, has a reason after it. Specs and rows have no
-other tags. The tables stand in the order of crates.txt. In the other documents a name in backquotes that looks like one of
+row, a test or an edit; a `-` in place of the definition, or of all of these, has a reason after it. A rule names a function
+and not only laws, and where it has no definition, or no row or test, the crate of each function. A crate or a file of tests
+in parentheses has the tests that stand before it, and they are no rows; no two tests, and no row and test, have one name.
+Specs and rows have no other tags. The tables stand in the order of crates.txt. In the other documents a name in backquotes that looks like one of
 this repository (it has an underscore, a `::`, a slash, a capital letter inside, or ends as a file) has to be one of it, or
 stand in tests/names-of-others. In docs/CLAIMS.md a name behind 'By CRATE:' has to stand in that crate. Code that a README
 shows of an example has to stand there. The picture of the crates has to be that of crates.txt (tests/draw-crates.py).
@@ -132,10 +134,13 @@ def tags_of_row(text):
 CRATE = {name: Crate(name) for name in CRATES}
 ROW_FILES = [*ROOT.glob("tests/rows/*.events"), *ROOT.glob("tests/rows-rpcinfo/*.args")]
 TAGS_OF_ROWS = {f.stem: tags_of_row(f.read_text()) for f in ROW_FILES}
-ROWS = {f.stem for f in ROOT.glob("tests/rows*/*.*")} | {
-    name for f in ROOT.glob("tests/*.sh") for name in re.findall(r"^(\w+)\(\) \{", f.read_text(), re.MULTILINE)} | {
-    name for f in ROOT.glob("tests/hostile/*.py") for name in re.findall(r"^def (\w+)", f.read_text(), re.MULTILINE)}
-TESTS = {n for c in CRATES for n in CRATE[c].functions}
+# Of each file of tests, scripts among them, the tests that stand there; of a script each function may be one.
+TESTS_OF = {str(f.relative_to(ROOT)): set(re.findall(pattern, f.read_text(), re.MULTILINE)) for glob, pattern in (
+    ("tests/crates/*/*.rs", r"#\[test\]\s*(?:#\[[^\n]*\]\s*)*fn (\w+)"),
+    ("tests/*.sh", r"^(\w+)\(\) \{"), ("tests/hostile/*.py", r"^def (\w+)")) for f in ROOT.glob(glob)}
+TESTS_OF |= {c: set().union(*(names for file, names in TESTS_OF.items() if file.startswith(f"tests/crates/{c}/")))
+             for c in CRATES if (ROOT / "tests" / "crates" / c).is_dir()}
+ROWS = {f.stem for f in ROOT.glob("tests/rows*/*.*")} | set().union(*TESTS_OF.values())
 ALL_FUNCTIONS = {n for c in CRATES for n in CRATE[c].functions}
 ALL_DEFINITIONS = defaultdict(set)
 for crate in CRATES:
@@ -170,7 +175,7 @@ class Rule:
     def rows(self):
         """The rows whose comments begin with the tag: those before `also`."""
         before = re.split(r"\balso\b", self.cells["row or test"])[0]
-        return {name for name in re.findall(r"`([^`]+)`", before) if name in TAGS_OF_ROWS}
+        return {found[1] for found in TICKED.finditer(before) if found[1] in TAGS_OF_ROWS and found[2] not in TESTS_OF}
 
 
 def rules_of(text):
@@ -198,7 +203,9 @@ def stands_once(column, name, file, crate):
         return len([f for f in files if f == file or not (file or "").endswith(".rt")]) == 1
     if column == "edit":
         return name in CRATE[crate].edits
-    return name in ROWS or name in TESTS or is_file(name)
+    if file in TESTS_OF:
+        return name in TESTS_OF[file] and name not in TAGS_OF_ROWS
+    return name in ROWS or name in ALL_FUNCTIONS or is_file(name)
 
 
 def check_rules(text):
@@ -224,6 +231,26 @@ def is_shown(rule):
     return bool(rule.rows()) or any(name not in TAGS_OF_ROWS for name, _, _ in rule.names("row or test"))
 
 
+def names_crates(rule):
+    """Whether a rule that lacks a definition, or a row and test, names the crate of each function."""
+    if not rule.cells["definition"].startswith("-") and not rule.cells["row or test"].startswith("-"):
+        return True
+    cell = rule.cells["function"]
+    return all(found[3] or found[1] in CRATES or cell[:found.start()].endswith("(") for found in TICKED.finditer(cell))
+
+
+def same_names():
+    """Tests and rows: (where, what is wrong there or would be, whether it holds)."""
+    places = defaultdict(list)
+    for file, names in TESTS_OF.items():
+        for name in names if file not in CRATE else ():
+            places[name].append(file)
+    for name, files in sorted(places.items()):
+        if any(file.endswith(".rs") for file in files):
+            wrong = f"test `{name}` has the name of a row, or of another test"
+            yield files[0], wrong, name not in TAGS_OF_ROWS and len(files) == 1
+
+
 def check_tags(text):
     """The tags of rules, definitions and rows: (where, what is wrong there or would be, whether it holds)."""
     rules = list(rules_of(text))
@@ -235,6 +262,8 @@ def check_tags(text):
         seen.add(rule.tag)
         cell = rule.cells["definition"]
         yield where, f"`{rule.tag}` has no definition, and no reason why", "`" in cell or re.match(r"- \(.+\)", cell)
+        yield where, f"`{rule.tag}` names laws alone as functions", not re.match(r"laws? ", rule.cells["function"])
+        yield where, f"`{rule.tag}` has a function without its crate", names_crates(rule)
         for name, _, crate in rule.names("definition"):
             if "." in name and crate in CRATE:
                 defined[crate, name].add(rule.tag)
@@ -246,6 +275,7 @@ def check_tags(text):
         yield from compare_tags(f"{crate}: `{name}`", found, defined[crate, name])
     for row, found in sorted(TAGS_OF_ROWS.items()):
         yield from compare_tags(f"row `{row}`", found, shown[row])
+    yield from same_names()
     words = {tag.split("-")[0] for tag in seen}
     for document in DOCUMENTS:
         for tag in set(re.findall(rf"\b{TAG}\b", document.read_text())):

@@ -95,6 +95,7 @@ StaysCheapIfQuiet core id piece result before now =
 
 -- A call that gives n bytes into a room pays no more than the bound of a `gave` of 1,028 bytes, for each 1,028 bytes of them
 -- and once more.
+-- STEPS-4
 abbrev pub GivesWithinSteps : CoreView → ℕ → Meter → Meter → Type 0
 GivesWithinSteps core n before now =
     (s : State) → StandsFor core s → IsReached s

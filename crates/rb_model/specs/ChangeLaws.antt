@@ -241,6 +241,7 @@ RowsAreSpelled = (s : State) → IsReachedByBytes s → All IsSpelled (set_rows 
 -- ---- the calls that set them again
 
 -- a caller from port 0 of 127.0.0.1, that claims who it is
+-- KEEP-2
 abbrev pub this_machine : Who
 this_machine = record {
   source = sources.Inet (record { host = V4 (127 ∷ 0 ∷ 0 ∷ 1 ∷ []); port = 0 });

@@ -102,12 +102,12 @@ is_here announced (sources.Inet peer) = is_local announced peer.host
 is_here announced sources.Local = true
 
 -- who claims to be of this machine has to be there by its address
+-- REGISTER-2
 abbrev pub is_trusted : Announced → Source → Trust → Bool
 is_trusted announced source trusts.Claims = is_here announced source
 is_trusted announced source (trusts.Local owner) = true
 is_trusted announced source trusts.Stranger = false
 
--- REGISTER-2
 abbrev pub may_register : Announced → Who → Bool
 may_register announced who = is_trusted announced who.source who.trust
 

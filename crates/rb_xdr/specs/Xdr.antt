@@ -120,6 +120,7 @@ read_numbers (suc k) = do
   give (n ∷ more)
 
 -- a variable-length array of at most this many numbers (section 4.13)
+-- XDR-3
 unfoldable pub read_array : ℕ → Reader (List ℕ)
 read_array limit = do
   count ← read_number

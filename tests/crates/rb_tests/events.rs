@@ -145,7 +145,7 @@ fn is_null_reply(outputs: &[Output]) -> bool {
 
 /// A NULL call and its reply, of which 24 bytes are held.
 #[test]
-fn null_reply(rt: HostRuntime) -> Result<(), Fail> {
+fn null_reply_is_held(rt: HostRuntime) -> Result<(), Fail> {
     let events = null_call(rt.alloc())?;
     let mut core = new_core(rt.alloc())?;
     assert_eq!(rt; core.held(), 270);
@@ -211,7 +211,7 @@ fn record_ends(rt: &impl Abort, alloc: Global, core: &mut Metered) -> Result<(),
 
 /// What is held while a record of 100,044 bytes comes in, in 101 pieces.
 #[test]
-fn overlong_record_is_answered(rt: HostRuntime) -> Result<(), Fail> {
+fn overlong_record_is_kept_in_part(rt: HostRuntime) -> Result<(), Fail> {
     let mut core = new_core(rt.alloc())?;
     assert_eq!(rt; core.held(), 270);
     connection_opens(&rt, rt.alloc(), &mut core)?;

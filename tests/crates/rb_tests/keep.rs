@@ -22,7 +22,7 @@ datagram 8 127.0.0.1:0 \
 ";
 
 #[test]
-fn kept_rows_are_set_again(rt: HostRuntime) -> Result<(), Fail> {
+fn kept_rows_are_written_again(rt: HostRuntime) -> Result<(), Fail> {
     let alloc = rt.alloc();
     let mut core = Metered::new(alloc, LIMITS, listener(), 1000, 8)?;
     let rows = read_rows(alloc, KEPT)?;

@@ -276,7 +276,7 @@ fn host_in(third: u8, last: u8) -> Host {
 
 /// What comes within a second of as many is dropped, and is not counted.
 #[test]
-fn datagrams_are_braked(rt: HostRuntime) -> Result<(), Fail> {
+fn datagrams_of_strangers_are_braked(rt: HostRuntime) -> Result<(), Fail> {
     let mut brake = Brake::new(rt.alloc(), FEW)?;
     let came = [
         (5000, host_in(2, 1), true),

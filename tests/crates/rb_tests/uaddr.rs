@@ -273,7 +273,7 @@ fn other_ipv6_hosts_are_refused(rt: HostRuntime) -> Result<(), Fail> {
 }
 
 #[test]
-fn address_transport_form(rt: HostRuntime) -> Result<(), Fail> {
+fn addresses_have_transport_forms(rt: HostRuntime) -> Result<(), Fail> {
     let form = [2, 0, 0, 0x6f, 0x7f, 0, 0, 1, 0, 0, 0, 0, 0, 0, 0, 0];
     let address = Uaddr::parse(b"127.0.0.1.0.111")?;
     assert_eq!(rt; address.to_transport().as_slice(), form.as_slice());
