@@ -37,7 +37,7 @@ pub data Taking : Type 0 where
   Ends : ℕ → List ℕ → Taking
 
 -- the bytes that came since the last record's end; None where the connection takes no bytes now
--- TAKE-2 AWAIT-1
+-- TAKE-2 GAVE-3 AWAIT-1
 abbrev pub fed_in : Phase → Option (List ℕ)
 fed_in Idle = Some []
 fed_in (Reading fed) = Some fed

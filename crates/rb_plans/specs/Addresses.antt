@@ -15,6 +15,7 @@ use Rattle.rb_plans.specs.declared.fault.Fault.{Fault}
 use Rattle.rb_plans.specs.declared.fault.Fault.TheVariants.{Info, NoConnection, NoSocket, NoReply, NoHost, NoAddress, TooManyRoutes}
 
 -- the family of the addresses that are asked where a program is; none where each is
+-- ADDRESS-1
 abbrev pub family_of : Way → Option Family
 family_of (ways.Getaddr netid) = family_of_netid netid
 family_of (ways.Getport transport) = None
