@@ -113,6 +113,10 @@ WritesHeld start buffer room before after next = (registry : Registry) → Write
 abbrev pub WritesList : Registry → ListReply → List ℕ → Kept → Kept → Next → Type 0
 WritesList registry list room before after next = (buffer : List ℕ) → WritesNext registry buffer (rests.Listed list) room before after next
 
+-- The first n bytes in the room, if there are some, are the fragment with this data.
+abbrev pub WritesFragment : List ℕ → Bool → ℕ → List ℕ → Type 0
+WritesFragment part last n room = 0 < n → take n room ≡ fragment_header (length part) last ++ part
+
 -- The part of a reply with this data was written, or is shown.
 abbrev pub WritesPart : List ℕ → Bool → Rest → List ℕ → Kept → Kept → Next → Type 0
 WritesPart part last rest room before after (nexts.Ended n) =
@@ -143,9 +147,9 @@ pub record GoesOnShown (registry : Registry) (buffer : List ℕ) (rest : Rest) (
   pub shows : ShowsNext registry buffer next before shown giving
 
 -- So the reply goes on after n bytes, or it has ended with them.
-abbrev pub GoesOnBehind : Registry → List ℕ → Rest → Kept → Kept → ℕ → Option Giving → Type 0
-GoesOnBehind registry buffer rest before after n None = (n ≡ length (marked_reply (rest_in registry buffer rest))) × (after ≡ before)
-GoesOnBehind registry buffer rest before after n (Some giving) = GoesOnShown registry buffer rest before after n giving
+abbrev pub GoesOn : Registry → List ℕ → Rest → Kept → Kept → ℕ → Option Giving → Type 0
+GoesOn registry buffer rest before after n None = (n ≡ length (marked_reply (rest_in registry buffer rest))) × (after ≡ before)
+GoesOn registry buffer rest before after n (Some giving) = GoesOnShown registry buffer rest before after n giving
 
 -- the same of a slot, whose buffers are empty where its reply has ended
 abbrev pub SlotIsBehind : Registry → Rest → ℕ → Slot → Slot → Option Giving → Type 0

@@ -1,7 +1,8 @@
 -- The slot of the live connection of a number, which is about to change.
-use Rattle.std.specs.Prelude.{◌≡◌, ℕ, List, Option, Some, None}
+use Rattle.std.specs.Prelude.{◌≡◌, ℕ, ◌+◌, ◌*◌, List, length, Option, Some, None}
 use Rattle.std.specs.Borrow.{Fml, MutBor}
 use Rattle.std.specs.Option.{option_map, option_map_or}
+use Rattle.rb_xdr.specs.Meter.{Meter, PaysAtMost}
 use Rattle.rb_xdr.specs.Pool.{Pool, value_at}
 use Rattle.rb_xdr.specs.PoolLends.{lends_entry}
 use Rattle.rb_connections.specs.declared.slot.Slot.{Slot}
@@ -38,3 +39,7 @@ charge_of (Some slot) = charge slot
 abbrev pub count_cost : Option Slot → ℕ
 count_cost None = 0
 count_cost (Some slot) = 2
+
+-- A search among these slots that finds this one pays that at most: two for each, 3, and what it costs to count the slot.
+abbrev pub PaysToFind : List (ℕ × Slot) → Option Slot → Meter → Meter → Type 0
+PaysToFind slots found before now = PaysAtMost before now (2 * length slots + 3 + count_cost found)

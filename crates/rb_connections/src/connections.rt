@@ -6,7 +6,7 @@ ghost use Rattle.std.specs.Map.{values_of};
 ghost use Rattle.rb_xdr.specs.Meter.{PaysAtMost};
 ghost use Rattle.rb_xdr.specs.Pool.{HasDistinctKeys, SameFrame};
 ghost use Rattle.rb_connections.specs.Slots.{wanted_slot, AreBuffers, AreSpare, HasBuffers, HasDistinctNumbers};
-ghost use Rattle.rb_connections.specs.LiveSlots.{charge_of, count_cost, FindsLive, LendsLive};
+ghost use Rattle.rb_connections.specs.LiveSlots.{charge_of, FindsLive, LendsLive, PaysToFind};
 ghost use Rattle.rb_connections.specs.StandsFor.{held_in};
 ghost use Rattle.rb_connections.specs.Listings.{began_before_earliest, with_evicted};
 ghost use Rattle.rb_model.specs.Costs.{evict_cost};
@@ -200,8 +200,7 @@ fn live_slot<'a>(
     ensures found { FindsLive id slots.old.entries (option_copied_mut result) }
     ensures its { IfSome (option_copied_mut result) (HasBuffers meter.old.tie) }
     ensures held { held.new + charge_of (option_copied_mut result) ≡ held.old }
-    ensures cost { PaysAtMost meter.old meter.new
-        (2 * length slots.old.entries + 3 + count_cost (option_copied_mut result)) }
+    ensures cost { PaysToFind slots.old.entries (option_copied_mut result) meter.old meter.new }
 {
     let key = wanted_key(slots, hints, Sought::Live(id), meter)?;
     hints.note(id, key);

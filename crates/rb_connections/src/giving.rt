@@ -2,13 +2,13 @@
 //!
 //! A window shows its current fragment, marked. What is after that is in the connection's buffer, unmarked, or it is
 //! a list, which is held nowhere as a whole: its next fragment is made from the registry once this one was given.
-ghost use Rattle.std.specs.Prelude.{◌≡◌, ◌+◌, ◌-◌, ◌<◌, ◌≤◌, ◌++◌, [], length, take, drop};
+ghost use Rattle.std.specs.Prelude.{◌≡◌, ◌+◌, ◌-◌, ◌<◌, ◌≤◌, [], length, take, drop};
 ghost use Rattle.rb_xdr.specs.Meter.{PaysAtMost};
 ghost use Rattle.rb_xdr.specs.Puts.{Appends, HasRoom};
 ghost use Rattle.rb_model.specs.Connections.{longest_fragment};
 ghost use Rattle.rb_connections.specs.StandsFor.{rest_in};
-ghost use Rattle.rb_connections.specs.Giving.{CanMake, ShowsNext, with_fragment, fragment_length, fitting_length, WritesPart, WritesHeld, WritesList, WritesNext, WritesFitting, GoesOnBehind};
-ghost use Rattle.rb_rpc.specs.Records.{fragment_header, fragment_size};
+ghost use Rattle.rb_connections.specs.Giving.{CanMake, ShowsNext, with_fragment, fragment_length, fitting_length, WritesPart, WritesHeld, WritesList, WritesNext, WritesFitting, WritesFragment, GoesOn};
+ghost use Rattle.rb_rpc.specs.Records.{fragment_size};
 ghost use Rattle.rb_connections.specs.Slots.{IsDraft, IsEmptyDraft};
 ghost use Rattle.rb_model.specs.Costs.{listed_cost, show_cost};
 ghost use Rattle.rb_connections.specs.Costs.{fragments_cost, next_cost, row_count};
@@ -103,8 +103,7 @@ fn write_fragment(part: &[u8], last: bool, room: &mut [u8]) -> usize
     requires some { 0 < length part.now }
     requires few { length part.now ≤ fragment_size }
     ensures count { result ≡ fragment_length (length room.old) (length part.now) }
-    ensures written { 0 < result
-        → take result room.new ≡ fragment_header (length part.now) last ++ part.now }
+    ensures written { WritesFragment part.now last result room.new }
     ensures within { result ≤ length room.new }
 {
     let end = FRAGMENT_HEADER + part.len();
@@ -303,7 +302,7 @@ pub fn write_fragments(
     requires some { 0 < length (rest_in registry.now buffer.now.bytes rest) }
     ensures written { WritesFitting
         (rest_in registry.now buffer.now.bytes rest) room.new result.0 }
-    ensures goes_on { GoesOnBehind registry.now buffer.now.bytes rest
+    ensures goes_on { GoesOn registry.now buffer.now.bytes rest
         window.old window.new result.0 result.1 }
     ensures draft { IsEmptyDraft meter.old.tie draft.new }
     ensures cost { PaysAtMost meter.old meter.new (fragments_cost registry.now rest result.0) }

@@ -1,5 +1,6 @@
 -- Where a connection stands after a call on it.
 use Rattle.std.specs.Prelude.{◌≡◌, ℕ, None}
+use Rattle.rb_model.specs.declared.types.Exchanged.{Exchanged}
 use Rattle.rb_model.specs.declared.types.Standing.{Standing}
 use Rattle.rb_model.specs.Standings.{standing_of, standing_behind}
 use Rattle.rb_connections.specs.StandsFor.{Table}
@@ -17,6 +18,10 @@ StandsThen id held standing = Shows StandsFor (standing_of id) held standing
 -- STANDING-2
 abbrev pub StandsBehind : ℕ → ℕ → CoreView → Standing → Type 0
 StandsBehind id count held standing = Shows StandsFor (λ s. standing_behind count (standing_of id s)) held standing
+
+-- So it stands there after what was taken of a piece, of whose reply some may have been given at once.
+abbrev pub StandsAfterPiece : ℕ → CoreView → Exchanged → Type 0
+StandsAfterPiece id held done = StandsBehind id done.taken.count held done.standing
 
 -- where it stands by the table, where no record ended in the piece
 abbrev pub TellsIfQuiet : ℕ → Table → Piece → Type 0

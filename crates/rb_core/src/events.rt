@@ -33,7 +33,7 @@ impl Core {
     ghost use Rattle.rb_core.specs.Memory.{KeepsMemory};
     ghost use Rattle.rb_model.specs.Exchanges.{count_given};
     ghost use Rattle.rb_model.specs.Standings.{as_done};
-    ghost use Rattle.rb_core.specs.Standings.{StandsThen, StandsBehind};
+    ghost use Rattle.rb_core.specs.Standings.{StandsThen, StandsAfterPiece, StandsBehind};
     ghost use Rattle.rb_core.specs.AtOnce.{AnswersGiving, CountsGiven, Exchanges, GivesAtOnce};
     ghost use Rattle.rb_core.specs.CallCosts.{sizes_of, PaysForBytes, PaysForDatagram, PaysForExchange, PaysForPlainDatagram, PaysForPlainExchange, PaysForPlainRecord, PaysToAnswer, PaysToGive, lending_cost};
     ghost use Rattle.rb_connections.specs.Costs.{look_cost, slot_count};
@@ -179,8 +179,7 @@ impl Core {
         requires { meter.old.tie ≡ self.old.tie }
         ensures acts { Exchanges now id piece.now self.old self.new result room.new }
         ensures count { CountsGiven now id piece.now room.old self.old result }
-        ensures stands { IfOk result
-            (λ done. StandsBehind id done.taken.count self.new done.standing) }
+        ensures stands { IfOk result (StandsAfterPiece id self.new) }
         ensures fits { count_given result ≤ length room.new }
         ensures within { IfOk result (λ done. done.taken.count ≤ length piece.now) }
         ensures refused { OnErr result (OnlyBegins self.old self.new) }

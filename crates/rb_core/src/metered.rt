@@ -58,7 +58,7 @@ impl Metered {
     ghost use Rattle.rb_core.specs.Memory.{KeepsMemory, LacksMemory};
     ghost use Rattle.rb_core.specs.Events.{count_shown, OnlyBegins, BeginsAt, GivesWithinSteps, TellsSteps, ExchangesWithinSteps, StaysCheapIfQuiet, TakesWithinSteps, GaveWithinSteps};
     ghost use Rattle.rb_core.specs.Core.{TakesBytes};
-    ghost use Rattle.rb_core.specs.Standings.{StandsThen, StandsBehind};
+    ghost use Rattle.rb_core.specs.Standings.{StandsThen, StandsAfterPiece, StandsBehind};
     ghost use Rattle.rb_core.specs.AtOnce.{CountsGiven, Exchanges};
     ghost use Rattle.rb_core.specs.Gives.{WritesInto};
     ghost use Rattle.rb_core.specs.CallCosts.{deadline_cost, making_cost, sizes_of, PaysForBytes, PaysForPlainRecord, PaysToGive, PaysToWriteInto};
@@ -188,8 +188,7 @@ impl Metered {
     ) -> Result<Exchanged, CoreFault>
         ensures acts { Exchanges now id piece.now self.old.core self.new.core result room.new }
         ensures count { CountsGiven now id piece.now room.old self.old.core result }
-        ensures stands { IfOk result
-            (λ done. StandsBehind id done.taken.count self.new.core done.standing) }
+        ensures stands { IfOk result (StandsAfterPiece id self.new.core) }
         ensures fits { count_given result ≤ length room.new }
         ensures within { IfOk result (λ done. done.taken.count ≤ length piece.now) }
         ensures refused { OnErr result (OnlyBegins self.old.core self.new.core) }

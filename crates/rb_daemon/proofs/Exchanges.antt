@@ -20,7 +20,7 @@ use Rattle.rb_connections.specs.Slots.{Acts, Shows}
 use Rattle.rb_model.specs.Exchanges.{count_now, without_front, exchange, fits_at_once, at_once_in, at_once_on, at_once}
 use Rattle.rb_core.specs.StandsFor.{CoreView, StandsFor}
 use Rattle.rb_lines.specs.RecordLaws.{Fits, AreBytes, HasLine}
-use Rattle.rb_daemon.specs.Recording.{given_events, exchange_events, output_or_refusal, given_entries, exchange_entries}
+use Rattle.rb_daemon.specs.Recording.{given_events, exchange_events, output_or_refusal, given_entries, taken_entries}
 use Rattle.rb_daemon.specs.Served.{IsServed}
 use Rattle.rb_daemon.proofs.Reached.{output_state, output_given, look_state, look_output, gave_output, given_state, served_on}
 
@@ -124,7 +124,7 @@ given_are s t now id n given same g = elim g.some [
       ∙ ap (λ (events : List Event). run_entries t events) (sym (cond-false _ _ _ (nonzero n some)))
 ]
 
-exchange_is : (s : State) (now id n : ℕ) (piece given : List ℕ) (taken : Result Taken CoreFault) → taken ≡ (bytes s now id piece).0 → GivenAtOnce (bytes s now id piece).1 now id n given → exchange_entries now id piece (output_or_refusal show_taken taken) given ≡ run_entries s (exchange_events now id piece n)
+exchange_is : (s : State) (now id n : ℕ) (piece given : List ℕ) (taken : Result Taken CoreFault) → taken ≡ (bytes s now id piece).0 → GivenAtOnce (bytes s now id piece).1 now id n given → taken_entries now id piece (output_or_refusal show_taken taken) given ≡ run_entries s (exchange_events now id piece n)
 unfolding run_entries
 exchange_is s now id n piece given taken is g =
     ap (λ (x : Output). entry_text (Bytes now id piece) x ∷ cond (eqb (length given) 0) [] (given_entries now id given)) (ap (output_or_refusal show_taken) is ∙ bytes_output s now id piece)
@@ -153,7 +153,7 @@ module _ (now id room n : ℕ) (piece given : List ℕ) (r : Result Taken CoreFa
       given_at_once s now id room n piece given h.count count
       (ap (λ (x : Result Taken CoreFault × List ℕ). x.1) (h.acts.gives s stands) ∙ ap (λ (k : ℕ). take k (pending_bytes (pending (bytes s now id piece).1 id))) (sym count))
 
-  pub exchange_records : (before later : Tape) → Records (exchange_entries now id piece (output_or_refusal show_taken r) given) before later → (s : State) → StandsFor old s → Records (run_entries s (exchange_events now id piece n)) before later
+  pub exchange_records : (before later : Tape) → Records (taken_entries now id piece (output_or_refusal show_taken r) given) before later → (s : State) → StandsFor old s → Records (run_entries s (exchange_events now id piece n)) before later
   exchange_records before later records s stands =
       subst (λ (entries : List (List ℕ)). Records entries before later) (exchange_is s now id n piece given r (ap (λ (x : Result Taken CoreFault × List ℕ). x.0) (h.acts.gives s stands)) (given_of s stands)) records
 
@@ -161,7 +161,7 @@ module _ (now id room n : ℕ) (piece given : List ℕ) (r : Result Taken CoreFa
   exchange_lines now_fits id_fits small n_fits true = ((now_fits, id_fits, small), tt)
   exchange_lines now_fits id_fits small n_fits false = ((now_fits, id_fits, small), (id_fits, ((now_fits, id_fits, n_fits), tt)))
 
-  pub exchange_served : (before later : Tape) → Records (exchange_entries now id piece (output_or_refusal show_taken r) given) before later → Fits now → Fits id → AreBytes piece → Fits n → ∥ IsServed old before ∥₁ → ∥ IsServed new later ∥₁
+  pub exchange_served : (before later : Tape) → Records (taken_entries now id piece (output_or_refusal show_taken r) given) before later → Fits now → Fits id → AreBytes piece → Fits n → ∥ IsServed old before ∥₁ → ∥ IsServed new later ∥₁
   exchange_served before later records now_fits id_fits small n_fits =
       served_on old new before later (λ s. exchange_events now id piece n) (λ s h. exchange_lines now_fits id_fits small n_fits (eqb n 0))
       (λ s stands. subst (StandsFor new) (ap (λ (k : ℕ). without_front now k id (bytes s now id piece).1) (sym (h.at_once s stands)) ∙ exchange_state s now id n piece given (given_of s stands)) (h.acts.stands s stands))

@@ -1,5 +1,5 @@
 -- What a call of the engine does, at the engine's moment.
-use Rattle.std.specs.Prelude.{◌≡◌, ℕ, ◌%◌, ◌^◌, List, ◌++◌, length, Result}
+use Rattle.std.specs.Prelude.{◌≡◌, ℕ, ◌%◌, ◌^◌, List, [], ◌∷◌, ◌++◌, length, Result}
 use Rattle.rb_proto.specs.declared.listener.Listener.{Listener}
 use Rattle.rb_model.specs.declared.types.Limits.{Limits}
 use Rattle.rb_model.specs.State.{State, opening}
@@ -12,6 +12,7 @@ use Rattle.rb_model.specs.declared.types.Exchanged.{Exchanged}
 use Rattle.rb_model.specs.declared.types.Given.{Given}
 use Rattle.rb_model.specs.Exchanges.{exchange, taken_in, count_given, count_now}
 use Rattle.rb_model.specs.Gives.{write_into, given_in, bytes_given}
+use Rattle.rb_model.specs.Sessions.{pending_bytes}
 use Rattle.rb_core.specs.AtOnce.{Exchanges}
 use Rattle.rb_core.specs.StandsFor.{StandsFor}
 use Rattle.rb_links.specs.Outgoing.{Outgoing}
@@ -36,6 +37,10 @@ ActsNow step old new result = Acts StandsFor (λ s. step s old.moment) old.core.
 abbrev pub RecordsEvents : (State → ℕ → List Event) → Engine → Engine → Type 0
 RecordsEvents events old new = (s : State) → StandsFor old.core.core s → Records (run_entries s (events s old.moment)) old.tape new.tape
 
+-- So this event, which is that of the engine's moment, was recorded with what it gave.
+abbrev pub RecordsEvent : (ℕ → Event) → Engine → Engine → Type 0
+RecordsEvent event old new = RecordsEvents (λ s now. event now ∷ []) old new
+
 -- Bytes came on a connection, and what was given at once of the reply stands in the room.
 abbrev pub ExchangesNow : ℕ → List ℕ → Engine → Engine → Result Exchanged CoreFault → List ℕ → Type 0
 ExchangesNow id piece old new result room = Exchanges old.moment id piece old.core.core new.core.core result room
@@ -47,6 +52,10 @@ RecordsExchange id piece count old new = RecordsEvents (λ s now. exchange_event
 -- These bytes were given on a connection, piece by piece, and that was recorded.
 abbrev pub RecordsGiving : ℕ → List ℕ → Engine → Engine → Type 0
 RecordsGiving id given old new = RecordsEvents (λ s now. give_events now id given s) old new
+
+-- What was given on a connection, or nothing if it was refused, and that was recorded.
+abbrev pub RecordsGiven : ℕ → Result (List ℕ) CoreFault → Engine → Engine → Type 0
+RecordsGiven id given old new = RecordsGiving id (pending_bytes given) old new
 
 -- What a connection owes is given into a room of this many bytes, as far as it fits: these bytes, or a refusal.
 abbrev pub WritesInto : ℕ → ℕ → Engine → Engine → Result (List ℕ) CoreFault → Type 0

@@ -65,12 +65,15 @@ given_entries now id bytes = entry_text (Pending id) (IsPending bytes) ∷ entry
 abbrev pub pieces_entries : ℕ → ℕ → List (List ℕ) → List (List ℕ)
 pieces_entries now id pieces = flat_map (given_entries now id) pieces
 
-abbrev pub exchange_entries : ℕ → ℕ → List ℕ → Output → List ℕ → List (List ℕ)
-exchange_entries now id piece taken given = entry_text (Bytes now id piece) taken ∷ (if length given == 0 then [] else given_entries now id given)
+abbrev pub taken_entries : ℕ → ℕ → List ℕ → Output → List ℕ → List (List ℕ)
+taken_entries now id piece taken given = entry_text (Bytes now id piece) taken ∷ (if length given == 0 then [] else given_entries now id given)
 
 -- what was taken of bytes that came
 abbrev pub taken_output : Result Exchanged CoreFault → Output
 taken_output done = output_or_refusal show_taken (taken_in done)
+
+abbrev pub exchange_entries : ℕ → ℕ → List ℕ → Result Exchanged CoreFault → List ℕ → List (List ℕ)
+exchange_entries now id piece done given = taken_entries now id piece (taken_output done) given
 
 -- the end of a forwarded call, with the last reply
 abbrev pub end_entry : LentEvent → List ℕ → Told → List ℕ

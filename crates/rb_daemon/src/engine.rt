@@ -145,7 +145,7 @@ fn count_fits(bytes: &[u8])
 impl Engine {
     ghost use Rattle.std.specs.Prelude.{◌≡◌, ◌≤◌, ◌↔◌, [], ◌∷◌, false, IsTrue, IsErrOf, length, not, IfOk, OnOk, OnErr};
     ghost use Rattle.rb_record.specs.Printing.{Writes};
-    ghost use Rattle.rb_record.specs.Tapes.{unwritten_text};
+    ghost use Rattle.rb_record.specs.Tapes.{all_written, unwritten};
     ghost use Rattle.rb_model.specs.Step.Event.{Open, Closed, NextLost, Datagram, Forward, Expire, ZeroStats};
     ghost use Rattle.rb_daemon.specs.Recording.{send_events};
     ghost use Rattle.rb_model.specs.State.{are_good};
@@ -157,10 +157,9 @@ impl Engine {
     ghost use Rattle.rb_core.specs.StandsFor.{StandsFor};
     ghost use Rattle.rb_model.specs.Exchanges.{count_given};
     ghost use Rattle.rb_model.specs.Gives.{given_in, bytes_given};
-    ghost use Rattle.rb_model.specs.Sessions.{pending_bytes};
-    ghost use Rattle.rb_core.specs.Standings.{StandsThen, StandsBehind};
+    ghost use Rattle.rb_core.specs.Standings.{StandsAfterPiece, StandsThen};
     ghost use Rattle.rb_daemon.specs.Served.{answer_datagram, change_count, set_again, ready_of, take_forward_reply, expire_due, send_forward};
-    ghost use Rattle.rb_daemon.specs.Moves.{IsNewEngine, Moves, ActsNow, RecordsEvents, RecordsExchange, RecordsGiving, ExchangesNow, WritesInto, CountsGiven};
+    ghost use Rattle.rb_daemon.specs.Moves.{IsNewEngine, Moves, ActsNow, RecordsEvent, RecordsEvents, RecordsExchange, RecordsGiven, ExchangesNow, WritesInto, CountsGiven};
 
     /// A new core at this moment, which is the first. The xid of the first forwarded call is the low 32 bits of it.
     /// Up to `record_limit` bytes of its events are recorded, and `logged` says of what the log has lines. `BadLimits`
@@ -212,9 +211,8 @@ impl Engine {
     /// Writes what was recorded and not yet written. Where that fails the recording ends.
     pub(crate) fn write_record<W: Write>(&mut self, writer: &mut W) -> io::Result<()>
         ensures written { OnOk result
-            (Writes W.contents writer.old writer.new (unwritten_text self.old.tape)) }
-        ensures ok { OnOk result (self.new.tape
-            ≡ record self.old.tape { written = length self.old.tape.text }) }
+            (Writes W.contents writer.old writer.new (unwritten self.old.tape)) }
+        ensures ok { OnOk result (self.new.tape ≡ all_written self.old.tape) }
         ensures err { OnErr result (self.new.tape ≡ record self.old.tape { is_on = false }) }
         ensures core { self.new.core ≡ self.old.core }
         ensures moment { self.new.moment ≡ self.old.moment }
@@ -260,7 +258,7 @@ impl Engine {
     pub(crate) fn open(&mut self, caller: Caller) -> Result<u64, CoreFault>
         ensures acts { ActsNow (λ s now. open_connection s now caller.who)
             self.old self.new result }
-        ensures recorded { RecordsEvents (λ s now. Open now caller.who ∷ []) self.old self.new }
+        ensures recorded { RecordsEvent (λ now. Open now caller.who) self.old self.new }
         ensures moment { self.new.moment ≡ self.old.moment }
     {
         let who = caller.who;
@@ -280,8 +278,7 @@ impl Engine {
     ) -> Result<Exchanged, CoreFault>
         ensures acts { ExchangesNow id piece.now self.old self.new result room.new }
         ensures count { CountsGiven id piece.now (length room.old) self.old (count_given result) }
-        ensures stands { IfOk result
-            (λ done. StandsBehind id done.taken.count self.new.core.core done.standing) }
+        ensures stands { IfOk result (StandsAfterPiece id self.new.core.core) }
         ensures fits { count_given result ≤ length room.new }
         ensures within { IfOk result (λ done. done.taken.count ≤ length piece.now) }
         ensures recorded { RecordsExchange id piece.now (count_given result) self.old self.new }
@@ -301,8 +298,7 @@ impl Engine {
             id (length room.old) self.old self.new (bytes_given room.new result) }
         ensures stands { IfOk result (λ done. StandsThen id self.new.core.core done.standing) }
         ensures fits { given_in result ≤ length room.new }
-        ensures recorded { RecordsGiving
-            id (pending_bytes (bytes_given room.new result)) self.old self.new }
+        ensures recorded { RecordsGiven id (bytes_given room.new result) self.old self.new }
         ensures moment { self.new.moment ≡ self.old.moment }
     {
         count_fits(room);
@@ -320,7 +316,7 @@ impl Engine {
     /// A connection was closed. One that the core does not know is closed already.
     pub(crate) fn closed(&mut self, id: u64)
         ensures acts { Moves (λ s now. (close_connection s id).1) self.old self.new }
-        ensures recorded { RecordsEvents (λ s now. Closed id ∷ []) self.old self.new }
+        ensures recorded { RecordsEvent (λ now. Closed id) self.old self.new }
         ensures moment { self.new.moment ≡ self.old.moment }
     {
         let done = self.core.closed(id);
@@ -331,7 +327,7 @@ impl Engine {
     pub(crate) fn next_lost(&mut self) -> Option<u64>
         ensures lost { Shows StandsFor next_lost self.old.core.core result }
         ensures stays { Moves (λ s now. s) self.old self.new }
-        ensures recorded { RecordsEvents (λ s now. NextLost ∷ []) self.old self.new }
+        ensures recorded { RecordsEvent (λ now. NextLost) self.old self.new }
         ensures moment { self.new.moment ≡ self.old.moment }
     {
         let lost = self.core.next_lost();
@@ -354,8 +350,7 @@ impl Engine {
     pub(crate) fn answer(&mut self, caller: Caller, content: &[u8]) -> Answer
         ensures acts { ActsNow (answer_datagram caller.who content.now)
             self.old self.new result }
-        ensures recorded { RecordsEvents
-            (λ s now. Datagram now caller.who content.now ∷ []) self.old self.new }
+        ensures recorded { RecordsEvent (λ now. Datagram now caller.who content.now) self.old self.new }
         ensures moment { self.new.moment ≡ self.old.moment }
     {
         let who = caller.who;
@@ -390,7 +385,7 @@ impl Engine {
     /// Sets a row again that was kept, as its owner's SET of version 4 from this machine does. Returns whether it is set.
     pub(crate) fn restore(&mut self, row: &Row) -> bool
         ensures acts { ActsNow (set_again row.now) self.old self.new result }
-        ensures recorded { RecordsEvents (λ s now. set_call now row.now ∷ []) self.old self.new }
+        ensures recorded { RecordsEvent (λ now. set_call now row.now) self.old self.new }
         ensures moment { self.new.moment ≡ self.old.moment }
     {
         let before = self.core.changes();
@@ -402,7 +397,7 @@ impl Engine {
     /// Statistics begin anew.
     pub(crate) fn zero_stats(&mut self)
         ensures acts { Moves (λ s now. zero_stats s) self.old self.new }
-        ensures recorded { RecordsEvents (λ s now. ZeroStats ∷ []) self.old self.new }
+        ensures recorded { RecordsEvent (λ now. ZeroStats) self.old self.new }
         ensures moment { self.new.moment ≡ self.old.moment }
     {
         self.core.zero_stats();
@@ -436,8 +431,7 @@ impl Engine {
     ) -> Option<u64>
         ensures acts { ActsNow (take_forward_reply sender.peer content.now)
             self.old self.new result }
-        ensures recorded { RecordsEvents
-            (λ s now. Forward now sender.peer content.now ∷ []) self.old self.new }
+        ensures recorded { RecordsEvent (λ now. Forward now sender.peer content.now) self.old self.new }
         ensures moment { self.new.moment ≡ self.old.moment }
     {
         let from = sender.peer;
@@ -452,7 +446,7 @@ impl Engine {
     /// Ends what is due first.
     pub(crate) fn expire(&mut self, calls: &mut CallSockets) -> Due
         ensures acts { ActsNow expire_due self.old self.new result }
-        ensures recorded { RecordsEvents (λ s now. Expire now ∷ []) self.old self.new }
+        ensures recorded { RecordsEvent (λ now. Expire now) self.old self.new }
         ensures moment { self.new.moment ≡ self.old.moment }
     {
         let event = Event::Expire(self.moment);

@@ -64,8 +64,7 @@ pub(crate) fn record_exchange(
     given: &[u8],
     done: &Result<Exchanged, CoreFault>,
 )
-    ensures { Records (exchange_entries now id piece.now (taken_output done.now) given.now)
-        tape.old tape.new }
+    ensures { Records (exchange_entries now id piece.now done.now given.now) tape.old tape.new }
 {
     tape.record(&Event::Bytes(now, id, piece), &show_taken(done));
     if !given.is_empty() {

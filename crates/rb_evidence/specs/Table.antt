@@ -41,6 +41,9 @@ upper_digit digit = if nat_lt digit 10 then digit + 48 else digit + 55
 abbrev pub byte_text : ℕ → List ℕ
 byte_text byte = upper_digit (byte / 16) ∷ upper_digit (byte % 16) ∷ []
 
+abbrev pub port_text : ℕ → List ℕ
+port_text port = byte_text (port / 256) ++ byte_text (port % 256)
+
 abbrev pub word_text : ℕ → ℕ → ℕ → ℕ → List ℕ
 word_text a b c d = byte_text d ++ byte_text c ++ byte_text b ++ byte_text a
 
@@ -49,7 +52,7 @@ words_text (a ∷ b ∷ c ∷ d ∷ octets) = word_text a b c d ++ words_text oc
 words_text octets = []
 
 abbrev pub text_at : Host → ℕ → List ℕ
-text_at host port = words_text (octets_of_host host) ++ codes ":" ++ byte_text (port / 256) ++ byte_text (port % 256)
+text_at host port = words_text (octets_of_host host) ++ codes ":" ++ port_text port
 
 -- EVIDENCE-3
 unfoldable pub endpoint_text : Peer → List ℕ

@@ -1,7 +1,7 @@
 //! A peer as the kernel's table of connections has it.
 ghost use Rattle.std.specs.Prelude.{◌≡◌, ◌<◌, ◌≤◌, ◌+◌, ◌/◌, ◌%◌, [], ◌∷◌, ◌++◌, length};
 ghost use Rattle.rb_address.specs.Hosts.{octets_of_host};
-ghost use Rattle.rb_evidence.specs.Table.{upper_digit, byte_text, word_text, words_text, text_at, endpoint_text, mapped_text};
+ghost use Rattle.rb_evidence.specs.Table.{upper_digit, byte_text, port_text, word_text, words_text, text_at, endpoint_text, mapped_text};
 
 use arrayvec::ArrayString;
 use rb_address::{Host, Peer};
@@ -51,7 +51,7 @@ fn push_host(text: &mut ArrayString<MAX_ENDPOINT>, host: Host)
 
 fn push_port(text: &mut ArrayString<MAX_ENDPOINT>, port: u16)
     requires { length text.old.bytes + 4 ≤ MAX_ENDPOINT }
-    ensures bytes { text.new.bytes ≡ text.old.bytes ++ byte_text (port / 256) ++ byte_text (port % 256) }
+    ensures bytes { text.new.bytes ≡ text.old.bytes ++ port_text port }
 {
     push_byte(text, (port / 256) as u8);
     push_byte(text, (port % 256) as u8);

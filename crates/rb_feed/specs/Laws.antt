@@ -14,6 +14,10 @@ use Rattle.rb_feed.specs.Feeds.{StandsForCall, arguments_of}
 abbrev pub StandsForMore : CallFeed → List ℕ → CallFeed → Type 0
 StandsForMore feed more behind = (fed : List ℕ) → StandsForCall feed fed → StandsForCall behind (fed ++ more)
 
+-- This feed stands for what the other one stands for.
+abbrev pub StandsForSame : CallFeed → CallFeed → Type 0
+StandsForSame feed other = (fed : List ℕ) → StandsForCall feed fed → StandsForCall other fed
+
 -- Of more bytes, these are the call's arguments.
 -- FEED-2
 abbrev pub AreArguments : CallFeed → List ℕ → List ℕ → Type 0

@@ -30,7 +30,7 @@ impl CallFeed {
     ghost use Rattle.rb_rpc.specs.Verdict.{verdict, EndsWithin};
     ghost use Rattle.rb_feed.specs.Stages.{verdict_at, is_call};
     ghost use Rattle.rb_feed.specs.Feeds.{StandsForCall};
-    ghost use Rattle.rb_feed.specs.Laws.{StandsForMore, AreArguments, max_head};
+    ghost use Rattle.rb_feed.specs.Laws.{StandsForMore, StandsForSame, AreArguments, max_head};
     ghost use Rattle.rb_feed.specs.Saved.{feed_saved_as};
 
     /// Before the first byte.
@@ -100,8 +100,7 @@ impl CallFeed {
     /// The feed as sixteen words, from which `load` makes the same feed again.
     pub fn save(&self) -> [u32; 16]
         ensures same { feed_saved_as result ≡ self.now }
-        ensures stands { (fed : List ℕ) → StandsForCall self.now fed
-            → StandsForCall (feed_saved_as result) fed }
+        ensures stands { StandsForSame self.now (feed_saved_as result) }
     {
         let CallFeed {
             seen,

@@ -19,6 +19,10 @@ soonest_of (moment ∷ rest) = sooner_of moment (soonest_of rest)
 abbrev pub TellsMoment : {F T : Type 0} → Shared F (Bor T × Unit {0}) (Option ℕ) → F → (T → Option ℕ) → Type 0
 TellsMoment {F} {T} calls tell moment = (value : T) (told : Option ℕ) → FnReturnsAt calls tell value told → told ≡ moment value
 
+-- It is the least of the moments that are told of these values.
+abbrev pub IsSoonest : {F T : Type 0} → Shared F (Bor T × Unit {0}) (Option ℕ) → F → List T → Option ℕ → Type 0
+IsSoonest {F} {T} calls tell values soonest = (moment : T → Option ℕ) → TellsMoment calls tell moment → soonest ≡ soonest_of (map moment values)
+
 -- what it costs to look for the least moment of so many values: 2 steps for each, and 1
 abbrev pub soonest_cost : ℕ → ℕ
 soonest_cost count = 2 * count + 1

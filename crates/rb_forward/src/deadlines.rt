@@ -1,8 +1,8 @@
 //! The least of moments, each of which may be missing.
-ghost use Rattle.std.specs.Prelude.{◌≡◌, ℕ, length, map, Option};
+ghost use Rattle.std.specs.Prelude.{◌≡◌, length};
 ghost use Rattle.std.specs.Map.{values_of};
 ghost use Rattle.rb_xdr.specs.Meter.{PaysAtMost};
-ghost use Rattle.rb_forward.specs.Deadlines.{sooner_of, soonest_of, soonest_cost, TellsMoment};
+ghost use Rattle.rb_forward.specs.Deadlines.{sooner_of, soonest_cost, IsSoonest};
 
 use rb_xdr::{Meter, Pool};
 
@@ -25,8 +25,7 @@ pub fn soonest_in<T, F: Fn(&T) -> Option<u64>>(
 ) -> Option<u64>
     requires tie { meter.old.tie ≡ table.now.tie }
     requires callable { F.IsAlwaysCallable moment }
-    ensures soonest { (m : T → Option ℕ) → TellsMoment F.Fn moment m
-        → result ≡ soonest_of (map m (values_of table.now.entries)) }
+    ensures soonest { IsSoonest F.Fn moment (values_of table.now.entries) result }
     ensures cost { PaysAtMost meter.old meter.new (soonest_cost (length table.now.entries)) }
 {
     let mut soonest = None;

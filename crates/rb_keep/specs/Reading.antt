@@ -103,12 +103,16 @@ with_line k rows Bad = Err (faults.BadLine k)
 with_line k rows NotKept = Err (faults.NotKept k)
 with_line k rows (Keeps row) = if nat_lt (length rows) most_rows then Ok (rows ++ row ∷ []) else Err (faults.TooMany k)
 
+-- the same of the line with this text
+abbrev pub with_text : ℕ → List Row → List ℕ → Result (List Row) KeepFault
+with_text k rows text = with_line k rows (kept_line text)
+
 -- the rows so far, and after them those of the lines, the first of which has this number; or the first fault
 -- KEEP-5
 unfoldable pub rows_from : ℕ → List (List ℕ) → Result (List Row) KeepFault → Result (List Row) KeepFault
 rows_from k texts (Err fault) = Err fault
 rows_from k [] (Ok rows) = Ok rows
-rows_from k (text ∷ texts) (Ok rows) = rows_from (k + 1) texts (with_line k rows (kept_line text))
+rows_from k (text ∷ texts) (Ok rows) = rows_from (k + 1) texts (with_text k rows text)
 
 -- the rows of a text
 -- KEEP-6

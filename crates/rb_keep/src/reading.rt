@@ -4,7 +4,7 @@ ghost use Rattle.rb_proto.specs.Callers.{owner_named};
 ghost use Rattle.rb_proto.specs.Answers.{row_of_rpcb};
 ghost use Rattle.rb_model.specs.Plain.{event_of};
 ghost use Rattle.rb_lines.specs.Lines.{lines_of};
-ghost use Rattle.rb_keep.specs.Reading.{is_this_machine, row_of_request, row_asked, row_set, kept_row, kept_line, with_line, rows_from, read, Gives, after_line, result_items};
+ghost use Rattle.rb_keep.specs.Reading.{is_this_machine, row_of_request, row_asked, row_set, kept_row, kept_line, with_text, rows_from, read, Gives, after_line, result_items};
 
 use crate::call::{set_call, this_machine};
 use crate::fault::KeepFault;
@@ -138,8 +138,7 @@ fn take_line(
     number: usize,
     text: &[u8],
 ) -> Result<(), KeepFault>
-    ensures { Gives (after_line result rows.new.items)
-        (with_line number rows.old.items (kept_line text.now)) }
+    ensures { Gives (after_line result rows.new.items) (with_text number rows.old.items text.now) }
 {
     match kept_line(alloc, text) {
         Err(NoMemory) => Err(KeepFault::NoMemory),

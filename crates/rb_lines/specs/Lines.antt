@@ -3,6 +3,8 @@ use Rattle.std.specs.Prelude.{◌≡◌, ℕ, ◌+◌, ◌^◌, ◌==◌, nat_lt
 use Rattle.std.specs.List.{slice_split}
 use Rattle.std.specs.Option.{option_map}
 use Rattle.std.specs.Str.{bytes_eq}
+use Rattle.std.specs.Global.{Vec}
+use Rattle.std.specs.Vec.{vec_items}
 use Rattle.rb_address.specs.CallerTexts.{who}
 use Rattle.rb_address.specs.Reading.{◌>>=◌, cut, number_below, peer}
 use Rattle.rb_model.specs.Step.{Event}
@@ -144,6 +146,10 @@ Fails (BadLine k) given = given ≡ Err (BadLine k)
 abbrev pub GivesEvents : {X : Type 0} → (X → List Event) → Result X ReadFault → Result (List Event) ReadFault → Type 0
 GivesEvents events (Ok x) given = given ≡ Ok (events x)
 GivesEvents events (Err fault) given = Fails fault given
+
+-- The events of this list were given.
+abbrev pub GivesItems : Result (Vec OwnedEvent) ReadFault → Result (List Event) ReadFault → Type 0
+GivesItems result given = GivesEvents (λ events. events_of (vec_items events)) result given
 
 -- the events that were read, in front of those that are left
 abbrev pub with_front : List Event → Result (List Event) ReadFault → Result (List Event) ReadFault

@@ -2,7 +2,7 @@
 use Rattle.std.specs.Prelude.{ℕ, Bool, true, false, List, [], ◌++◌, codes}
 use Rattle.std.specs.List.{flat_map}
 use Rattle.std.specs.Fmt.{decimal}
-use Rattle.rb_model.specs.Plain.{OwnedOutput, outputs_of}
+use Rattle.rb_model.specs.Plain.{OwnedOutput, output_of, outputs_of}
 use Rattle.rb_model.specs.Step.{Output}
 use Rattle.rb_record.specs.Printing.{output_text}
 
@@ -20,6 +20,10 @@ unfoldable pub report_of : List Output → List ℕ
 report_of outputs = flat_map output_text outputs
 
 -- ---- as the code has them
+
+-- the line of an output
+abbrev pub printed : OwnedOutput → List ℕ
+printed output = output_text (output_of output)
 
 abbrev pub report : List OwnedOutput → List ℕ
 report outputs = report_of (outputs_of outputs)

@@ -2,7 +2,7 @@
 ghost use Rattle.std.specs.Prelude.{◌≡◌, ◌≤◌, IfOk, IfErr, OnOk};
 ghost use Rattle.std.specs.Option.{option_map};
 ghost use Rattle.rb_model.specs.Plain.{event_of, events_of};
-ghost use Rattle.rb_lines.specs.Lines.{AddsLine, events_from, lines_of, IsLineFault, datagram_line, forward_line, open_line, bytes_line, gave_line, event, lone_event, line, line_of, longest_input, GivesEvents, read};
+ghost use Rattle.rb_lines.specs.Lines.{AddsLine, events_from, lines_of, IsLineFault, datagram_line, forward_line, open_line, bytes_line, gave_line, event, lone_event, line, line_of, longest_input, GivesEvents, GivesItems, read};
 
 use crate::fields::hex_bytes;
 use rb_address::{Peer, Who, cut, number_below};
@@ -231,8 +231,7 @@ fn take_line(
 
 /// The events of the lines of a text.
 fn read_lines(alloc: Global, text: &[u8]) -> Result<Vec<Event>, ReadFault>
-    ensures { GivesEvents (λ events. events_of events.items) result
-        (events_from 1 (lines_of text.now)) }
+    ensures { GivesItems result (events_from 1 (lines_of text.now)) }
 {
     let mut events = Vec::new(alloc);
     for (i, line) in text.split(|b| *b == b'\n').enumerate() {

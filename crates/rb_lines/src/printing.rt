@@ -1,8 +1,7 @@
 //! The lines that are printed of a run.
 ghost use Rattle.std.specs.Prelude.{OnOk};
-ghost use Rattle.rb_model.specs.Plain.{output_of};
-ghost use Rattle.rb_record.specs.Printing.{output_text, Writes};
-ghost use Rattle.rb_lines.specs.Printing.{steps_line, report};
+ghost use Rattle.rb_record.specs.Printing.{Writes};
+ghost use Rattle.rb_lines.specs.Printing.{printed, steps_line, report};
 
 use rb_model::Output;
 use rb_record::write_output;
@@ -16,8 +15,7 @@ pub struct WriteFailed;
 
 /// Writes the line of an output. `WriteFailed` where the writer fails; how much of the line it has then is not known.
 pub fn print_output<W: Write>(output: &Output, writer: &mut W) -> Result<(), WriteFailed>
-    ensures { OnOk result
-        (Writes W.contents writer.old writer.new (output_text (output_of output.now))) }
+    ensures { OnOk result (Writes W.contents writer.old writer.new (printed output.now)) }
 {
     match write_output(output, writer) {
         Ok(()) => Ok(()),

@@ -91,7 +91,7 @@ impl Outbox {
 
     /// Writes what waits, once.
     pub(crate) fn send<W: Write>(&mut self, writer: &mut W) -> io::Result<usize>
-        ensures written { WriteAppends (W.contents writer.old) (W.contents writer.new)
+        ensures sent { WriteAppends (W.contents writer.old) (W.contents writer.new)
             result self.old.bytes }
         ensures left { IfOk result (λ n. self.new.bytes ≡ drop n self.old.bytes) }
         ensures kept { OnErr result (self.new ≡ self.old) }

@@ -51,6 +51,13 @@ abbrev pub services_of : List (List ℕ) → List NamedNumber
 services_of (name ∷ number ∷ aliases) = each_with_number (name ∷ aliases) (number_in 0 4294967295 number)
 services_of _ = []
 
+-- the same of words that are lent
+abbrev pub pairs_of_lent : List (Bor (List ℕ)) → ℕ → List NamedNumber
+pairs_of_lent names number = pairs_with (borrowed_texts names) number
+
+abbrev pub services_of_lent : List (Bor (List ℕ)) → List NamedNumber
+services_of_lent words = services_of (borrowed_texts words)
+
 -- a longer line has no names
 -- NAMES-2
 abbrev pub longest_line : ℕ

@@ -4,7 +4,7 @@ ghost use Rattle.std.specs.Prelude.{◌≡◌, [], ◌∷◌, List, option_map, 
 ghost use Rattle.std.specs.List.{slice_split, before_first};
 ghost use Rattle.std.specs.Char.{is_ascii_whitespace};
 ghost use Rattle.rb_names.specs.Numbers.{number_in};
-ghost use Rattle.rb_names.specs.Services.{named_numbers, borrowed_texts, AddsNames, is_newline, is_hash, words_of, pairs_with, services_of, services_in_line, services_in, number_of, name_of};
+ghost use Rattle.rb_names.specs.Services.{named_numbers, borrowed_texts, AddsNames, is_newline, is_hash, words_of, pairs_of_lent, services_of_lent, services_in_line, services_in, number_of, name_of};
 
 use crate::number::number_in;
 use std::alloc::{AllocError, Global};
@@ -86,8 +86,7 @@ fn push_names(
     number: u32,
     services: &mut Vec<Service>,
 ) -> Result<(), AllocError>
-    ensures { OnOk result
-        (AddsNames services.old services.new (pairs_with (borrowed_texts names.now) number)) }
+    ensures { OnOk result (AddsNames services.old services.new (pairs_of_lent names.now number)) }
 {
     for name in names {
         push_name(alloc, name, number, services)?;
@@ -97,8 +96,7 @@ fn push_names(
 
 /// Adds the names that the words of a line give.
 fn push_words(alloc: Global, words: &[&[u8]], services: &mut Vec<Service>) -> Result<(), AllocError>
-    ensures { OnOk result
-        (AddsNames services.old services.new (services_of (borrowed_texts words.now))) }
+    ensures { OnOk result (AddsNames services.old services.new (services_of_lent words.now)) }
 {
     let [name, number, aliases @ ..] = words else {
         return Ok(());

@@ -11,7 +11,7 @@ use Rattle.rb_address.specs.declared.who.Trust.TheVariants.{Claims, Stranger}
 use Rattle.rb_address.specs.declared.who.Who.{Who}
 use Rattle.rb_address.specs.Hosts.{octets_of_host}
 use Rattle.rb_policy.specs.declared.brake.Rate.{Rate}
-use Rattle.rb_policy.specs.Recents.{RecentMoments, one_second, last_of}
+use Rattle.rb_policy.specs.Recents.{RecentMoments, has_room, one_second, last_of}
 
 -- ---- places
 
@@ -119,6 +119,11 @@ pub record BrakeTables : Type 0 where
   pub networks : List RecentMoments
   pub hosts : List RecentMoments
   pub latest : ℕ
+
+-- whether one more may be served of the place of a network, and of that of a host
+abbrev pub has_room_for : BrakeTables → ℕ → ℕ → ℕ → RecentMoments → Bool
+has_room_for brake network host now other =
+    has_room (slice_index_or brake.networks network other) now && has_room (slice_index_or brake.hosts host other) now
 
 -- The brake has what it wants to know of these, and they are all that were served.
 pub record StandsForServed (brake : BrakeTables) (served : List Datagram) : Type 0 where

@@ -1,5 +1,5 @@
 -- What is done about a file at the path of the local socket, as the daemon starts.
-use Rattle.std.specs.Prelude.{ℕ, ◌==◌, Bool, true, false, ◌&&◌, if◌then◌else◌, List, [], codes, Option, Some, None}
+use Rattle.std.specs.Prelude.{◌≡◌, ℕ, ◌==◌, Bool, true, false, IsTrue, ◌&&◌, if◌then◌else◌, List, [], codes, Option, Some, None}
 use Rattle.std.specs.declared.io.ErrorKind.{ErrorKind}
 use Rattle.std.specs.declared.io.ErrorKind.TheVariants as kinds
 use Rattle.rb_policy.specs.declared.trust.Entrance.{Entrance}
@@ -55,6 +55,10 @@ lets_in_root_by (Some mode) = lets_in_root_alone mode
 -- TRUST-3
 abbrev pub entrance_of : Option ℕ → ℕ → Entrance
 entrance_of made mode = if lets_in_root_by made && lets_in_root_alone mode then RootSocket else OpenSocket
+
+-- It is root's only if this mode lets in root alone.
+abbrev pub IsRootsByMode : ℕ → Entrance → Type 0
+IsRootsByMode mode entrance = entrance ≡ RootSocket → IsTrue (lets_in_root_alone mode)
 
 -- the abstract name is taken on the port of the portmapper (RFC 1833 section 3.1)
 -- LOCAL-3

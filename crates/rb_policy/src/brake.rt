@@ -1,8 +1,8 @@
 //! How many datagrams of strangers are served in a second: of one network, and of one host.
-ghost use Rattle.std.specs.Prelude.{◌≡◌, ◌<◌, ◌&&◌, [], List, slice_index_or, IfOk};
+ghost use Rattle.std.specs.Prelude.{◌≡◌, ◌<◌, [], List, IfOk};
 ghost use Rattle.rb_policy.specs.declared.recent.TheConstants.{PLACES};
-ghost use Rattle.rb_policy.specs.Recents.{RecentMoments, has_room};
-ghost use Rattle.rb_policy.specs.Brake.{place_by, network_place, host_place, Datagram, admits, admit, host_counted, passes, pass, StandsForServed, ShowsServed, BecomesServed};
+ghost use Rattle.rb_policy.specs.Recents.{RecentMoments};
+ghost use Rattle.rb_policy.specs.Brake.{has_room_for, place_by, network_place, host_place, Datagram, admits, admit, host_counted, passes, pass, StandsForServed, ShowsServed, BecomesServed};
 
 use crate::recent::{PLACES, Table};
 use rb_address::{Host, Source, Trust, Who};
@@ -96,9 +96,7 @@ impl Brake {
     fn has_room(&self, network: usize, host: usize, now: u64) -> bool
         requires network { network < PLACES }
         requires host { host < PLACES }
-        ensures { (d : RecentMoments) → result
-            ≡ (has_room (slice_index_or self.now.networks network d) now
-            && has_room (slice_index_or self.now.hosts host d) now) }
+        ensures { (other : RecentMoments) → result ≡ has_room_for self.now network host now other }
     {
         self.networks.has_room(network, now) && self.hosts.has_room(host, now)
     }

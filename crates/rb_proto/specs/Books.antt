@@ -1,5 +1,6 @@
 -- What calls on the books say of the ledger, and what of the books stays.
-use Rattle.std.specs.Prelude.{◌≡◌, ◌<◌, ◌↔◌, ⊤, ℕ, ◌+◌, Bool, true, IsTrue, if◌then◌else◌, List, [], ◌∷◌, ◌++◌, length, Option, is_some, Result, IsOk}
+use Rattle.std.specs.Prelude.{◌≡◌, ◌<◌, ◌↔◌, ⊤, ℕ, ◌+◌, Bool, true, IsTrue, if◌then◌else◌, List, [], ◌∷◌, ◌++◌, length, Option, is_some, option_copied, Result, IsOk}
+use Rattle.std.specs.Borrow.{Bor}
 use Rattle.std.specs.List.{filter_map}
 use Rattle.rb_rpc.specs.declared.call.CallHead.{CallHead}
 use Rattle.rb_rpc.specs.declared.caller.Caller.{Caller}
@@ -115,10 +116,10 @@ abbrev pub NotesForward : ForwardNote → Bool → Stats → Stats → Type 0
 NotesForward asked passed old new = HasNotedWhere (counts_forward asked.caller passed) (note_asked asked passed) old new
 
 -- A look-up of a call with this head is noted, where it counts, with whether it found a row.
-abbrev pub NotesLookUp : Context → CallHead → Target → Option Row → Stats → Stats → Type 0
+abbrev pub NotesLookUp : Context → CallHead → Target → Option (Bor Row) → Stats → Stats → Type 0
 NotesLookUp context head target found old new =
-    HasNotedWhere (counts_look_up (who_of context.caller) target.vers found)
-    (LookedUp (version_of head.vers) target (is_some found)) old new
+    HasNotedWhere (counts_look_up (who_of context.caller) target.vers (option_copied found))
+    (LookedUp (version_of head.vers) target (is_some (option_copied found))) old new
 
 -- no answer but this one leaves a new entry
 abbrev pub StayUnlessForwarded : Answer → Table → Table → Type 0

@@ -53,6 +53,12 @@ own_inet port None = []
 own_inet port (Some announced) =
     own_three netids.Tcp (text_of (V4 any_host port)) ++ own_three netids.Udp (text_of (V4 any_host port))
 
+abbrev pub inet6_rows : Listener → List Row
+inet6_rows listener = own_inet6 listener.port listener.announced.inet6
+
+abbrev pub inet_rows : Listener → List Row
+inet_rows listener = own_inet listener.port listener.announced.inet
+
 -- at the path of the local socket, where there is one
 abbrev pub own_local : Option (List ℕ) → List Row
 own_local None = []
@@ -60,9 +66,7 @@ own_local (Some path) = own_pair netids.Local path
 
 -- OWN-1
 unfoldable pub own_rows : Listener → List Row
-own_rows listener =
-    own_inet6 listener.port listener.announced.inet6
-    ++ own_inet listener.port listener.announced.inet ++ own_local listener.local
+own_rows listener = inet6_rows listener ++ inet_rows listener ++ own_local listener.local
 
 -- ---- who calls
 

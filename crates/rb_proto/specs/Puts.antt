@@ -82,6 +82,10 @@ PaysForCall context books call arguments before now = PaysAtMost before now (cos
 abbrev pub PaysToRegister : Context → ℕ → Meter → Meter → Type 0
 PaysToRegister context most before now = PaysAtMost before now (registering_cost (comes_from_here context) most)
 
+-- So does an UNSET of these rows in this context.
+abbrev pub PaysToUnset : Context → Registry → Option Which → Meter → Meter → Type 0
+PaysToUnset context kept which before now = PaysToRegister context (removal_cost kept which) before now
+
 -- a search for a row, and one step for the number of the live ones
 abbrev pub room_cost : Books → ℕ
 room_cost books = looks books.registry.limit + 2

@@ -2,7 +2,7 @@
 ghost use Rattle.std.specs.Prelude.{IsTrue, ◌≡◌, ◌++◌, ◌≤◌, length};
 ghost use Rattle.rb_registry.specs.Registry.{AreOwn};
 ghost use Rattle.rb_registry.specs.Rows.{are_distinct};
-ghost use Rattle.rb_proto.specs.Callers.{own_row, own_pair, own_three, own_inet6, own_inet, own_local, own_rows, is_local, announced_hosts, hosts_told};
+ghost use Rattle.rb_proto.specs.Callers.{own_row, own_pair, own_three, inet6_rows, inet_rows, own_local, own_rows, is_local, announced_hosts, hosts_told};
 
 use arrayvec::ArrayVec;
 use rb_address::{Host, Netid, Owner};
@@ -114,7 +114,7 @@ fn push_three(rows: &mut ArrayVec<Row, MOST_OWN_ROWS>, netid: Netid, addr: &Addr
 /// The rows over IPv6, where it is served.
 fn push_inet6(rows: &mut ArrayVec<Row, MOST_OWN_ROWS>, listener: &Listener)
     requires { length rows.old.items ≡ 0 }
-    ensures { rows.new.items ≡ own_inet6 listener.now.port listener.now.announced.inet6 }
+    ensures { rows.new.items ≡ inet6_rows listener.now }
 {
     if listener.announced.inet6.is_some() {
         let addr = Uaddr::any6(listener.port).text();
@@ -126,8 +126,7 @@ fn push_inet6(rows: &mut ArrayVec<Row, MOST_OWN_ROWS>, listener: &Listener)
 /// The rows over IPv4, where it is served.
 fn push_inet(rows: &mut ArrayVec<Row, MOST_OWN_ROWS>, listener: &Listener)
     requires { length rows.old.items ≤ 4 }
-    ensures { rows.new.items
-        ≡ rows.old.items ++ own_inet listener.now.port listener.now.announced.inet }
+    ensures { rows.new.items ≡ rows.old.items ++ inet_rows listener.now }
 {
     if listener.announced.inet.is_some() {
         let addr = Uaddr::any(listener.port).text();

@@ -120,8 +120,7 @@ fn note_lookup(
     meter: &mut Meter,
 )
     requires { meter.old.tie ≡ stats.old.tie }
-    ensures history { NotesLookUp context.now head.now
-        target (option_copied found.entry) stats.old stats.new }
+    ensures history { NotesLookUp context.now head.now target found.entry stats.old stats.new }
     ensures memory { stats.new.memory ≡ stats.old.memory }
     ensures tie { stats.new.tie ≡ stats.old.tie }
     ensures cost { PaysAtMost meter.old meter.new (note_cost + 2) }

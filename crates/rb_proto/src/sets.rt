@@ -3,7 +3,7 @@ ghost use Rattle.std.specs.Prelude.{◌≡◌, ◌+◌};
 ghost use Rattle.rb_xdr.specs.Meter.{PaysAtMost};
 ghost use Rattle.rb_xdr.specs.Ordered.{looks};
 ghost use Rattle.rb_registry.specs.Costs.{set_cost};
-ghost use Rattle.rb_proto.specs.Puts.{PaysToRegister, removal_cost};
+ghost use Rattle.rb_proto.specs.Puts.{PaysToRegister, PaysToUnset};
 ghost use Rattle.rb_registry.specs.Registry.{rows_of};
 ghost use Rattle.rb_registry.specs.Cursors.{GoesOn};
 ghost use Rattle.rb_proto.specs.Books.{ActsAs, AreTied, SameFrame, HasRoomFor};
@@ -158,8 +158,7 @@ pub(crate) fn unset_rows(
     ensures floor { books.new.registry.floor ≡ books.old.registry.floor }
     ensures forwards { books.new.forwards ≡ books.old.forwards }
     ensures frame { SameFrame books.old books.new }
-    ensures cost { PaysToRegister context.now
-        (removal_cost books.old.registry which) meter.old meter.new }
+    ensures cost { PaysToUnset context.now books.old.registry which meter.old meter.new }
 {
     let Some(which) = which else {
         return false;

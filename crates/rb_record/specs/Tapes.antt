@@ -10,8 +10,12 @@ pub record Tape : Type 0 where
   pub limit : ℕ
 
 -- what the file has not got yet
-abbrev pub unwritten_text : Tape → List ℕ
-unwritten_text tape = drop tape.written tape.text
+abbrev pub unwritten : Tape → List ℕ
+unwritten tape = drop tape.written tape.text
+
+-- the tape once the file has it all
+abbrev pub all_written : Tape → Tape
+all_written tape = record tape { written = length tape.text }
 
 -- the last line of a record that reached its limit
 abbrev pub last_line : List ℕ

@@ -109,7 +109,7 @@ impl Tape {
     ghost use Rattle.std.specs.Prelude.{◌≡◌, [], ◌∷◌, false, length, IfOk, OnOk, OnErr};
     ghost use Rattle.rb_record.specs.Printing.{Writes};
     ghost use Rattle.rb_record.specs.Entries.{entry_of, options_of};
-    ghost use Rattle.rb_record.specs.Tapes.{Records, empty_tape, unwritten_text};
+    ghost use Rattle.rb_record.specs.Tapes.{Records, all_written, empty_tape, unwritten};
 
     /// An empty one that records up to `limit` bytes, its last line among them; with no room for more than that it
     /// records nothing. An error if an allocation is refused.
@@ -173,9 +173,9 @@ impl Tape {
     /// is not known.
     pub fn write_out<W: Write>(&mut self, writer: &mut W) -> io::Result<()>
         ensures written { OnOk result
-            (Writes W.contents writer.old writer.new (unwritten_text self.old)) }
+            (Writes W.contents writer.old writer.new (unwritten self.old)) }
         ensures ok { OnOk result
-            (self.new ≡ record self.old { written = length self.old.text }) }
+            (self.new ≡ all_written self.old) }
         ensures err { OnErr result (self.new ≡ record self.old { is_on = false }) }
     {
         let text = self.page.text.as_slice();

@@ -5,7 +5,7 @@ use Rattle.std.specs.List.{flat_map}
 use Rattle.std.specs.Fmt.{decimal}
 use Rattle.std.specs.Borrow.{Bor}
 use Rattle.std.specs.declared.io.buffered.BufWriter.{BufWriter}
-use Rattle.rb_model.specs.Plain.{OwnedOutput, output_of}
+use Rattle.rb_model.specs.Plain.{OwnedOutput, output_of, outputs_of}
 use Rattle.rb_model.specs.Step.{Event, Output, run}
 use Rattle.rb_record.specs.Printing.{output_text}
 use Rattle.rb_lines.specs.declared.lines.ReadFault.{ReadFault}
@@ -163,6 +163,10 @@ ExplainsCheck beginning remaining reader contents old new result =
 abbrev pub output_line_of : Option (Bor (List ℕ)) → List (List ℕ)
 output_line_of None = []
 output_line_of (Some text) = (text.now ++ codes "\n") ∷ []
+
+-- the lines of outputs, as the input should have them
+abbrev pub lines_of_outputs : List OwnedOutput → List (List ℕ)
+lines_of_outputs outputs = output_lines (outputs_of outputs)
 
 -- what is said once all output lines of a text agreed: they are `found`, where the run has `count` outputs
 abbrev pub IsEnd : ℕ → ℕ → Fault → Type 0

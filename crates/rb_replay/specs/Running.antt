@@ -104,6 +104,14 @@ RunsFrom limits events core result =
 abbrev pub KeepsBound : Ran → Type 0
 KeepsBound ran = ran.steps ≤ ran.bound
 
+-- So is it of each state that the core stood for, if that is a new one with these limits.
+abbrev pub KeepsBoundFrom : Limits → CoreView → Result Ran Fault → Type 0
+KeepsBoundFrom limits core result = (s : State) → StandsFor core s → IsFresh limits s → IfOk result KeepsBound
+
+-- Its steps are those that the meter counted.
+abbrev pub CountsSteps : Meter → Meter → Ran → Type 0
+CountsSteps old now ran = ran.steps ≡ count_shown now - count_shown old
+
 -- A core was made, and its meter counted on: it paid no more than the making costs.
 abbrev pub BeginsFrom : Beginning → Meter → Meter → Type 0
 BeginsFrom beginning old begun = PaysAtMost old begun (making_cost beginning.limits beginning.listener)

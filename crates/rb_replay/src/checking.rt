@@ -6,8 +6,8 @@ ghost use Rattle.rb_model.specs.State.{are_good};
 ghost use Rattle.rb_model.specs.Plain.{outputs_of};
 ghost use Rattle.rb_lines.specs.Lines.{read};
 ghost use Rattle.rb_replay.specs.Running.{BufWrites};
-ghost use Rattle.rb_lines.specs.OutputLines.{output_line_in, output_lines};
-ghost use Rattle.rb_replay.specs.Checking.{output_line_of, agreement, whole_len, whole_lines, whole_input, IsPrintedAs, Agrees, AgreesWith, IsUnlike, OfRun, IsAgreed, FindsAgreed, CannotBeChecked, IsWrongWith, GoesOn, IsWrongAt, IsEnd, IsWhy, RefusesCheck, ExplainsCheck};
+ghost use Rattle.rb_lines.specs.OutputLines.{output_line_in};
+ghost use Rattle.rb_replay.specs.Checking.{output_line_of, lines_of_outputs, agreement, whole_len, whole_lines, whole_input, IsPrintedAs, Agrees, AgreesWith, IsUnlike, OfRun, IsAgreed, FindsAgreed, CannotBeChecked, IsWrongWith, GoesOn, IsWrongAt, IsEnd, IsWhy, RefusesCheck, ExplainsCheck};
 
 use crate::running::{read_input, run_from};
 use rb_lines::{
@@ -68,10 +68,8 @@ fn compare_line(
 ) -> Result<(), Fault>
     requires { next.old ≤ length outputs.now }
     ensures few { OnOk result (next.new ≤ length outputs.now) }
-    ensures ok { OnOk result
-        (GoesOn (output_lines (outputs_of outputs.now)) line.now next.old next.new) }
-    ensures err { IfErr result
-        (IsWrongAt number (output_lines (outputs_of outputs.now)) line.now next.old) }
+    ensures ok { OnOk result (GoesOn (lines_of_outputs outputs.now) line.now next.old next.new) }
+    ensures err { IfErr result (IsWrongAt number (lines_of_outputs outputs.now) line.now next.old) }
 {
     let Some(said) = output_line_in(line) else {
         return Ok(());

@@ -1,13 +1,12 @@
 //! The command `replay`.
-ghost use Rattle.std.specs.Prelude.{◌≡◌, ◌≤◌, ◌⊎◌, ◌-◌, [], IsTrue, IfOk, IfErr, OnOk};
+ghost use Rattle.std.specs.Prelude.{◌≡◌, ◌≤◌, ◌⊎◌, [], IsTrue, IfOk, IfErr, OnOk};
 ghost use Rattle.std.specs.Io.Buffered.{writer_buffer};
-ghost use Rattle.rb_model.specs.State.{State, are_good};
+ghost use Rattle.rb_model.specs.State.{are_good};
 ghost use Rattle.rb_model.specs.Plain.{events_of};
 ghost use Rattle.rb_core.specs.StandsFor.{StandsFor};
-ghost use Rattle.rb_core.specs.Events.{count_shown};
 ghost use Rattle.rb_lines.specs.Lines.{read};
 ghost use Rattle.rb_lines.specs.Faults.{status_of};
-ghost use Rattle.rb_replay.specs.Running.{first_state, BeginsFrom, AreCounted, IsFresh, IsRunOf, KeepsBound, BufWrites, IsEnoughOf, IsReplayFault, IsCoreFault, IsRefused, PrintsRun, Reads, Replays, Refuses, RunsFrom, ran_text, Explains};
+ghost use Rattle.rb_replay.specs.Running.{first_state, BeginsFrom, AreCounted, IsRunOf, CountsSteps, KeepsBound, KeepsBoundFrom, BufWrites, IsEnoughOf, IsReplayFault, IsCoreFault, IsRefused, PrintsRun, Reads, Replays, Refuses, RunsFrom, ran_text, Explains};
 
 use crate::run::replay;
 use crate::run_bound::whole_bound;
@@ -96,10 +95,8 @@ fn run_on(
     events: &[Event],
 ) -> Result<Ran, Fault>
     ensures ok { RunsFrom limits.now (events_of events.now) core.old.core result }
-    ensures steps { IfOk result
-        (λ ran. ran.steps ≡ count_shown core.new.meter - count_shown core.old.meter) }
-    ensures within { (s : State) → StandsFor core.old.core s → IsFresh limits.now s
-        → IfOk result KeepsBound }
+    ensures steps { IfOk result (CountsSteps core.old.meter core.new.meter) }
+    ensures within { KeepsBoundFrom limits.now core.old.core result }
     ensures err { IfErr result (λ fault. fault ≡ Fault.NoMemory) }
 {
     let before = core.count();

@@ -12,6 +12,7 @@ use Rattle.rb_arguments.specs.declared.request.Request.{Request}
 use Rattle.rb_arguments.specs.Arguments.{arguments}
 use Rattle.rb_proto.specs.Ledger.{Ledger}
 use Rattle.rb_model.specs.declared.message.Message.{Message}
+use Rattle.rb_serving.specs.declared.message.Called.{Called}
 use Rattle.rb_model.specs.declared.message.Message.TheVariants as says
 use Rattle.rb_model.specs.Calls.{kept_of, message_with, message_of, outcome}
 
@@ -22,9 +23,17 @@ abbrev pub asked_of : CallHead → Option Request → Message
 asked_of head (Some request) = says.Asked (record { head = head; request = request })
 asked_of head None = says.Garbage head
 
+-- what a call of a procedure says, with these bytes after its head
+abbrev pub said_by : Called → List ℕ → Message
+said_by called bytes = asked_of called.head.now (arguments called.procedure bytes)
+
 -- A message of this verdict calls this procedure, whatever bytes follow its head.
 abbrev pub CallsProcedure : Verdict → CallHead → Procedure → Type 0
 CallsProcedure verdict head procedure = (bytes : List ℕ) → message_with verdict bytes ≡ asked_of head (arguments procedure bytes)
+
+-- So this is what a message of this verdict calls.
+abbrev pub IsCalledBy : Verdict → Called → Type 0
+IsCalledBy verdict called = CallsProcedure verdict called.head.now called.procedure
 
 -- A message of this verdict says this, whatever bytes follow its head.
 abbrev pub IsMessageOf : Verdict → Message → Type 0

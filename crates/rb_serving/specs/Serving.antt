@@ -6,6 +6,7 @@ use Rattle.rb_rpc.specs.declared.caller.Caller.{Caller}
 use Rattle.rb_rpc.specs.declared.caller.Caller.TheVariants.{Tcp, Udp}
 use Rattle.rb_forward.specs.StandsFor.{Table as Entries, slots_of}
 use Rattle.rb_forward.specs.Table.{IsNew}
+use Rattle.rb_forward.specs.declared.types.Forward.{Forward}
 use Rattle.rb_proto.specs.declared.answers.Listing.{Listing}
 use Rattle.rb_proto.specs.declared.answers.Results.{Results}
 use Rattle.rb_proto.specs.declared.answers.Results.TheVariants as results
@@ -13,10 +14,11 @@ use Rattle.rb_proto.specs.declared.answers.Answer.{Answer}
 use Rattle.rb_proto.specs.declared.answers.Answer.TheVariants as answers
 use Rattle.rb_proto.specs.declared.books.Books.{Books}
 use Rattle.rb_proto.specs.declared.context.Context.{Context}
+use Rattle.rb_proto.specs.Forwarding.{forwarded_bytes}
 use Rattle.rb_proto.specs.Ledger.{Ledger, StandsForLedger}
 use Rattle.rb_proto.specs.Books.{ActsAs, AreTied, HasRowRoom, OnlyCallerWaits, SameFrame}
 use Rattle.rb_proto.specs.Results.{shown_of, result_bytes}
-use Rattle.rb_model.specs.Calls.{Outcome, answer_outcome, outcome, longest_reply}
+use Rattle.rb_model.specs.Calls.{Outcome, answer_outcome, outcome, success, longest_reply}
 use Rattle.rb_model.specs.declared.message.Message.{Message}
 use Rattle.rb_model.specs.declared.message.Message.TheVariants as says
 use Rattle.rb_model.specs.declared.served.Served.{Served}
@@ -47,6 +49,10 @@ ServesMessage context message arguments old new served out =
 abbrev pub ServesNull : CallHead → Books → Books → Served → Kept → Type 0
 ServesNull head old new served out =
     (context : Context) (arguments : List ℕ) → ServesMessage context (null_message head) arguments old new served out
+
+-- the reply of a forwarded call whose target gave these results
+abbrev pub passed_reply : Forward → List ℕ → List ℕ
+passed_reply forward results = success forward.caller forward.xid (forwarded_bytes forward results)
 
 -- the outcome of the code for an answer
 abbrev pub kind_of : Answer → Written

@@ -3,7 +3,7 @@ ghost use Rattle.std.specs.Prelude.{◌≡◌, ◌≤◌, length, IfOk, IfErr};
 ghost use Rattle.rb_rpc.specs.Verdict.{verdict as verdict_of, EndsWithin};
 ghost use Rattle.rb_feed.specs.Feeds.{arguments_of};
 ghost use Rattle.rb_model.specs.Calls.{is_served, kept_of};
-ghost use Rattle.rb_serving.specs.Messages.{AsksNothing, CallsProcedure, IsMessageOf};
+ghost use Rattle.rb_serving.specs.Messages.{AsksNothing, IsCalledBy, IsMessageOf};
 
 use rb_arguments::{Procedure, VoidProcedure};
 use rb_model::{LONGEST_KEPT, Message};
@@ -33,9 +33,8 @@ pub struct Called<'a> {
 
 impl Called<'_> {
     ghost use Rattle.std.specs.Prelude.{◌≡◌, ◌↔◌, IsTrue};
-    ghost use Rattle.rb_arguments.specs.Arguments.{arguments as arguments_in};
     ghost use Rattle.rb_model.specs.Grammar.{HasArgsIn};
-    ghost use Rattle.rb_serving.specs.Messages.{asked_of};
+    ghost use Rattle.rb_serving.specs.Messages.{said_by};
 
     /// Whether it is a call of NULL, which has neither arguments nor results (RFC 1833 sections 2.2 and 3.2).
     pub fn is_null(&self) -> bool
@@ -46,8 +45,7 @@ impl Called<'_> {
 
     /// What the call says; `arguments` are the bytes after its head.
     pub fn message<'a>(&self, arguments: &'a [u8]) -> Message<'a>
-        ensures message { result
-            ≡ asked_of self.now.head.now (arguments_in self.now.procedure arguments.now) }
+        ensures message { result ≡ said_by self.now arguments.now }
         ensures args { HasArgsIn result arguments.now }
     {
         match self.procedure.read(arguments) {
@@ -64,8 +62,7 @@ impl Called<'_> {
 /// instead: that it is no call, or is refused.
 #[tactic(auto, unfolding(rb_model::specs::Calls::call_of), using(crate::proofs::Procedures::calls, crate::proofs::Procedures::unavailable))]
 pub fn procedure_of(verdict: &Verdict) -> Result<Called<'_>, Message<'static>>
-    ensures calls { IfOk result
-        (λ called. CallsProcedure verdict.now called.head.now called.procedure) }
+    ensures calls { IfOk result (IsCalledBy verdict.now) }
     ensures refuses { IfErr result (IsMessageOf verdict.now) }
     ensures asks { IfErr result (λ message. AsksNothing message) }
 {

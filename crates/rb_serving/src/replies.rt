@@ -9,13 +9,12 @@ ghost use Rattle.rb_proto.specs.Results.{results_at, shown_in, shown_of};
 ghost use Rattle.rb_proto.specs.Puts.{are_rows, shows_rows};
 ghost use Rattle.rb_forward.specs.Forwards.{longest_results};
 ghost use Rattle.rb_forward.specs.Outcomes.{PassesWithin};
-ghost use Rattle.rb_proto.specs.Forwarding.{forwarded_bytes};
 ghost use Rattle.rb_model.specs.declared.served.Served.TheVariants.{Answered};
 ghost use Rattle.rb_model.specs.declared.served.Response.TheVariants.{Reply};
 ghost use Rattle.rb_model.specs.Calls.{reply_in, success, longest_reply};
 ghost use Rattle.rb_model.specs.Ending.{outcome_of_failure, outcome_at_end};
 ghost use Rattle.rb_model.specs.Grammar.{HasArgsIn};
-ghost use Rattle.rb_serving.specs.Serving.{kind_of, HasRoom, outcome_in, TellsAnswer, ServesMessage, ServesNull, CanServe, IsEmptyReply, LeavesBooks, WritesReply, IsStreamedTo, list_streamed};
+ghost use Rattle.rb_serving.specs.Serving.{kind_of, HasRoom, outcome_in, passed_reply, TellsAnswer, ServesMessage, ServesNull, CanServe, IsEmptyReply, LeavesBooks, WritesReply, IsStreamedTo, list_streamed};
 ghost use Rattle.rb_model.specs.Served.{kind_in, IsWritten};
 ghost use Rattle.rb_serving.specs.Costs.{PaysForResults, PaysToServe, ListsAnswer, ListsIfAsked};
 ghost use Rattle.rb_model.specs.Costs.{put_end_cost};
@@ -217,8 +216,7 @@ pub fn serve_null(books: &mut Books, head: &CallHead, out: &mut Kept, meter: &mu
 fn put_passed(forward: &Forward, results: &[u8], out: &mut Kept, meter: &mut Meter)
     requires results { length results.now ≤ longest_results }
     requires out { IsEmptyReply meter.old.tie out.old }
-    ensures writes { out.new.bytes ≡
-        success forward.now.caller forward.now.xid (forwarded_bytes forward.now results.now) }
+    ensures writes { out.new.bytes ≡ passed_reply forward.now results.now }
     ensures out { WritesReply out.old out.new }
     ensures some { 0 < length out.new.bytes }
     ensures cost { PaysAtMost meter.old meter.new (put_end_cost (length out.new.bytes)) }

@@ -1,9 +1,13 @@
 -- Texts of a reply, as they are printed.
-use Rattle.std.specs.Prelude.{ℕ, ◌-◌, nat_le, ◌&&◌, if◌then◌else◌, List, [], ◌∷◌, ◌++◌, map, length, replicate, codes, Option, Some, None}
+use Rattle.std.specs.Prelude.{◌≡◌, ℕ, ◌-◌, nat_le, ◌&&◌, if◌then◌else◌, List, [], ◌∷◌, ◌++◌, map, length, replicate, codes, Option, Some, None, String, string_bytes}
 use Rattle.std.specs.Fmt.{decimal}
 use Rattle.std.specs.List.{flat_map}
 use Rattle.rb_address.specs.declared.netid.Transport.{Transport}
 use Rattle.rb_address.specs.Netids.{netid_text, netid_of, transport_of_protocol}
+
+-- A text has these bytes.
+abbrev pub HasBytes : {Z : Type 0} → List ℕ → String Z → Type 0
+HasBytes bytes text = string_bytes text ≡ bytes
 
 -- ---- texts of a reply
 

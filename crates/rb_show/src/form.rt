@@ -1,7 +1,7 @@
 //! In which form lists are shown.
 ghost use Rattle.std.specs.Prelude.{◌≡◌, IfOk};
-ghost use Rattle.std.specs.String.{string_bytes};
 ghost use Rattle.rb_names.specs.Services.{name_of};
+ghost use Rattle.rb_show.specs.Texts.{HasBytes};
 ghost use Rattle.rb_show.specs.Lines.{is_json, name_text, line_end};
 
 use crate::texts::shown_text;
@@ -33,7 +33,7 @@ pub(crate) fn program_name(
     services: &[Service],
     prog: u32,
 ) -> Result<String, AllocError>
-    ensures { IfOk result (λ name. string_bytes name ≡ name_text (name_of services.now prog)) }
+    ensures { IfOk result (HasBytes (name_text (name_of services.now prog))) }
 {
     match name_of(services, prog) {
         Some(name) => shown_text(alloc, name),
@@ -43,7 +43,7 @@ pub(crate) fn program_name(
 
 /// What stands after the columns of a line that speaks of a program.
 pub(crate) fn line_end(alloc: Global, form: Form<'_>, prog: u32) -> Result<String, AllocError>
-    ensures { IfOk result (λ end. string_bytes end ≡ line_end form.entry prog) }
+    ensures { IfOk result (HasBytes (line_end form.entry prog)) }
 {
     match form {
         Form::Plain | Form::Json => String::from_str(alloc, "\n"),

@@ -1,6 +1,7 @@
 //! Texts of JSON (RFC 8259 section 7).
 ghost use Rattle.std.specs.Prelude.{◌≡◌, ◌<◌, ◌++◌, IfOk, OnOk};
 ghost use Rattle.std.specs.String.{string_bytes};
+ghost use Rattle.rb_show.specs.Texts.{HasBytes};
 ghost use Rattle.rb_show.specs.Json.{hex_digit, code_escape, escaped_byte, json_text};
 
 use std::alloc::{AllocError, Global};
@@ -42,7 +43,7 @@ fn push_escaped(byte: u8, text: &mut String) -> Result<(), AllocError>
 
 /// A text of JSON whose characters have the numbers of these bytes.
 pub(crate) fn json_text(alloc: Global, text: &[u8]) -> Result<String, AllocError>
-    ensures { IfOk result (λ json. string_bytes json ≡ json_text text.now) }
+    ensures { IfOk result (HasBytes (json_text text.now)) }
 {
     let mut json = String::from_str(alloc, "\"")?;
     for byte in text {

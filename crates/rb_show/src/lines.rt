@@ -1,6 +1,6 @@
 //! The lines of lists.
-ghost use Rattle.std.specs.Prelude.{◌≡◌, IfOk};
-ghost use Rattle.std.specs.String.{string_bytes};
+ghost use Rattle.std.specs.Prelude.{IfOk};
+ghost use Rattle.rb_show.specs.Texts.{HasBytes};
 ghost use Rattle.rb_show.specs.Lines.{mapping_columns, mapping_line, row_columns, row_line, short_line, entry_columns, entry_line};
 
 use crate::form::{Form, line_end};
@@ -14,7 +14,7 @@ use std::alloc::{AllocError, Global};
 /// The columns of a mapping.
 #[tactic(auto, using(crate::proofs::Columns::padded_right))]
 fn mapping_columns(alloc: Global, item: &Mapping) -> Result<String, AllocError>
-    ensures { IfOk result (λ columns. string_bytes columns ≡ mapping_columns item.now) }
+    ensures { IfOk result (HasBytes (mapping_columns item.now)) }
 {
     let name = prot_text(alloc, item.prot)?;
     let proto = at_left(alloc, &name, 5)?;
@@ -43,7 +43,7 @@ impl Style<Mapping> for Table<'_> {
 
 /// The columns of a row.
 fn row_columns(alloc: Global, form: Form<'_>, row: &Rpcb) -> Result<String, AllocError>
-    ensures { IfOk result (λ columns. string_bytes columns ≡ row_columns form.entry row.now) }
+    ensures { IfOk result (HasBytes (row_columns form.entry row.now)) }
 {
     let netid = shown_text(alloc, row.netid.as_slice())?;
     let addr = shown_text(alloc, row.addr.as_slice())?;
@@ -74,7 +74,7 @@ impl<T: AsRow> Style<T> for RowLines<'_> {
 
 /// The line of a row without its address and owner.
 fn short_line(alloc: Global, form: Form<'_>, row: &Rpcb) -> Result<String, AllocError>
-    ensures { IfOk result (λ line. string_bytes line ≡ short_line form.entry row.now) }
+    ensures { IfOk result (HasBytes (short_line form.entry row.now)) }
 {
     let netid = shown_text(alloc, row.netid.as_slice())?;
     let (prog, vers) = (row.prog, row.vers);
@@ -104,8 +104,7 @@ fn entry_columns(
     prog: u32,
     item: &Entry,
 ) -> Result<String, AllocError>
-    ensures { IfOk result
-        (λ columns. string_bytes columns ≡ entry_columns form.entry prog item.now) }
+    ensures { IfOk result (HasBytes (entry_columns form.entry prog item.now)) }
 {
     let netid = shown_text(alloc, item.netid.as_slice())?;
     let maddr = shown_text(alloc, item.maddr.as_slice())?;

@@ -1,6 +1,7 @@
 //! Objects of JSON, one on each line.
 ghost use Rattle.std.specs.Prelude.{◌≡◌, IfOk};
 ghost use Rattle.std.specs.String.{string_bytes};
+ghost use Rattle.rb_show.specs.Texts.{HasBytes};
 ghost use Rattle.rb_show.specs.Objects.{program_members, place_members, row_members, row_object, mapping_object, family_members, entry_object, numbers_object, found_members, look_ups_object, procedure_members, outcomes_members, forwards_object};
 
 use crate::json::json_text;
@@ -10,13 +11,13 @@ use rb_arguments::{Entry, Mapping, Rpcb};
 use std::alloc::{AllocError, Global};
 
 fn program_members(alloc: Global, prog: u32, vers: u32) -> Result<String, AllocError>
-    ensures { IfOk result (λ text. string_bytes text ≡ program_members prog vers) }
+    ensures { IfOk result (HasBytes (program_members prog vers)) }
 {
     format!(in alloc; "\"program\":{prog},\"version\":{vers}")
 }
 
 fn place_members(alloc: Global, netid: &[u8], addr: &[u8]) -> Result<String, AllocError>
-    ensures { IfOk result (λ text. string_bytes text ≡ place_members netid.now addr.now) }
+    ensures { IfOk result (HasBytes (place_members netid.now addr.now)) }
 {
     let netid = json_text(alloc, netid)?;
     let addr = json_text(alloc, addr)?;
@@ -30,8 +31,7 @@ fn row_members(
     netid: &[u8],
     addr: &[u8],
 ) -> Result<String, AllocError>
-    ensures { IfOk result
-        (λ text. string_bytes text ≡ row_members prog vers netid.now addr.now) }
+    ensures { IfOk result (HasBytes (row_members prog vers netid.now addr.now)) }
 {
     let program = program_members(alloc, prog, vers)?;
     let place = place_members(alloc, netid, addr)?;
@@ -50,7 +50,7 @@ pub(crate) fn row_object(alloc: Global, row: &Rpcb) -> Result<String, AllocError
 
 /// A mapping of version 2.
 pub(crate) fn mapping_object(alloc: Global, item: &Mapping) -> Result<String, AllocError>
-    ensures { IfOk result (λ object. string_bytes object ≡ mapping_object item.now) }
+    ensures { IfOk result (HasBytes (mapping_object item.now)) }
 {
     let program = program_members(alloc, item.prog, item.vers)?;
     let (prot, port) = (item.prot, item.port);
@@ -58,7 +58,7 @@ pub(crate) fn mapping_object(alloc: Global, item: &Mapping) -> Result<String, Al
 }
 
 fn family_members(alloc: Global, family: &[u8], proto: &[u8]) -> Result<String, AllocError>
-    ensures { IfOk result (λ text. string_bytes text ≡ family_members family.now proto.now) }
+    ensures { IfOk result (HasBytes (family_members family.now proto.now)) }
 {
     let family = json_text(alloc, family)?;
     let proto = json_text(alloc, proto)?;
@@ -67,7 +67,7 @@ fn family_members(alloc: Global, family: &[u8], proto: &[u8]) -> Result<String, 
 
 /// An address of a program's version.
 pub(crate) fn entry_object(alloc: Global, item: &Entry) -> Result<String, AllocError>
-    ensures { IfOk result (λ object. string_bytes object ≡ entry_object item.now) }
+    ensures { IfOk result (HasBytes (entry_object item.now)) }
 {
     let place = place_members(alloc, item.netid.as_slice(), item.maddr.as_slice())?;
     let family = family_members(alloc, item.protofmly.as_slice(), item.proto.as_slice())?;
@@ -81,7 +81,7 @@ pub(crate) fn numbers_object(
     rpcbind: u32,
     item: &VersionStat,
 ) -> Result<String, AllocError>
-    ensures { IfOk result (λ object. string_bytes object ≡ numbers_object rpcbind item.now) }
+    ensures { IfOk result (HasBytes (numbers_object rpcbind item.now)) }
 {
     let info = joined_ints(alloc, &item.info, ",")?;
     let (set, unset) = (item.setinfo, item.unsetinfo);
@@ -91,7 +91,7 @@ pub(crate) fn numbers_object(
 }
 
 fn found_members(alloc: Global, item: &AddrStat) -> Result<String, AllocError>
-    ensures { IfOk result (λ text. string_bytes text ≡ found_members item.now) }
+    ensures { IfOk result (HasBytes (found_members item.now)) }
 {
     let (success, failure) = (item.success, item.failure);
     format!(in alloc; "\"success\":{success},\"failure\":{failure}")
@@ -103,7 +103,7 @@ pub(crate) fn look_ups_object(
     rpcbind: u32,
     item: &AddrStat,
 ) -> Result<String, AllocError>
-    ensures { IfOk result (λ object. string_bytes object ≡ look_ups_object rpcbind item.now) }
+    ensures { IfOk result (HasBytes (look_ups_object rpcbind item.now)) }
 {
     let program = program_members(alloc, item.prog, item.vers)?;
     let netid = json_text(alloc, item.netid.as_slice())?;
@@ -112,7 +112,7 @@ pub(crate) fn look_ups_object(
 }
 
 fn procedure_members(alloc: Global, item: &CallStat) -> Result<String, AllocError>
-    ensures { IfOk result (λ text. string_bytes text ≡ procedure_members item.now) }
+    ensures { IfOk result (HasBytes (procedure_members item.now)) }
 {
     let program = program_members(alloc, item.prog, item.vers)?;
     let proc = item.proc;
@@ -120,7 +120,7 @@ fn procedure_members(alloc: Global, item: &CallStat) -> Result<String, AllocErro
 }
 
 fn outcomes_members(alloc: Global, item: &CallStat) -> Result<String, AllocError>
-    ensures { IfOk result (λ text. string_bytes text ≡ outcomes_members item.now) }
+    ensures { IfOk result (HasBytes (outcomes_members item.now)) }
 {
     let (success, failure, indirect) = (item.success, item.failure, item.indirect);
     format!(in alloc; "\"success\":{success},\"failure\":{failure},\"indirect\":{indirect}")
@@ -132,7 +132,7 @@ pub(crate) fn forwards_object(
     rpcbind: u32,
     item: &CallStat,
 ) -> Result<String, AllocError>
-    ensures { IfOk result (λ object. string_bytes object ≡ forwards_object rpcbind item.now) }
+    ensures { IfOk result (HasBytes (forwards_object rpcbind item.now)) }
 {
     let procedure = procedure_members(alloc, item)?;
     let netid = json_text(alloc, item.netid.as_slice())?;

@@ -1,7 +1,7 @@
 //! Rows of version 3, and what stands for one.
 ghost use Rattle.std.specs.Prelude.{◌≡◌, IfOk};
-ghost use Rattle.std.specs.String.{string_bytes};
 ghost use Rattle.rb_arguments.specs.declared.rpcb.Rpcb.{Rpcb};
+ghost use Rattle.rb_show.specs.Texts.{HasBytes};
 ghost use Rattle.rb_show.specs.Rows.{itself, address_of_port, mapping_row};
 
 use crate::texts::prot_text;
@@ -35,7 +35,7 @@ impl AsRow for Rpcb {
 
 /// The address of a port on every host.
 fn address_of_port(alloc: Global, port: u32) -> Result<String, AllocError>
-    ensures { IfOk result (λ text. string_bytes text ≡ address_of_port port) }
+    ensures { IfOk result (HasBytes (address_of_port port)) }
 {
     let (high, low) = (port / 256, port % 256);
     format!(in alloc; "0.0.0.0.{high}.{low}")

@@ -1,7 +1,7 @@
 //! The statistics of GETSTAT (RFC 1833 section 2.1, rpcb_stat_byvers).
 ghost use Rattle.std.specs.Prelude.{◌≡◌, [], ◌∷◌, IfOk};
-ghost use Rattle.std.specs.String.{string_bytes};
 ghost use Rattle.rb_ask.specs.Telling.{tell, Shows, WritesOnly};
+ghost use Rattle.rb_show.specs.Texts.{HasBytes};
 ghost use Rattle.rb_show.specs.Objects.{numbers_object};
 ghost use Rattle.rb_show.specs.Counts.{version_line, info_line, sets_line, addr_columns, addr_line, procedure_text, outcomes_text, call_columns, call_line, tell_count_lines, tell_counts, tell_lists, tell_version, tell_statistics, total};
 
@@ -48,7 +48,7 @@ impl Style<VersionStat> for SetsLine {
 }
 
 fn addr_columns(alloc: Global, item: &AddrStat) -> Result<String, AllocError>
-    ensures { IfOk result (λ line. string_bytes line ≡ addr_columns item.now) }
+    ensures { IfOk result (HasBytes (addr_columns item.now)) }
 {
     let netid = shown_text(alloc, item.netid.as_slice())?;
     let (prog, vers) = (item.prog, item.vers);
@@ -76,21 +76,21 @@ impl Style<AddrStat> for AddrLines<'_> {
 }
 
 fn procedure_text(alloc: Global, item: &CallStat) -> Result<String, AllocError>
-    ensures { IfOk result (λ text. string_bytes text ≡ procedure_text item.now) }
+    ensures { IfOk result (HasBytes (procedure_text item.now)) }
 {
     let (prog, vers, proc) = (item.prog, item.vers, item.proc);
     format!(in alloc; "{prog} {vers} {proc}")
 }
 
 fn outcomes_text(alloc: Global, item: &CallStat) -> Result<String, AllocError>
-    ensures { IfOk result (λ text. string_bytes text ≡ outcomes_text item.now) }
+    ensures { IfOk result (HasBytes (outcomes_text item.now)) }
 {
     let (success, failure, indirect) = (item.success, item.failure, item.indirect);
     format!(in alloc; "{success} {failure} {indirect}")
 }
 
 fn call_columns(alloc: Global, item: &CallStat) -> Result<String, AllocError>
-    ensures { IfOk result (λ line. string_bytes line ≡ call_columns item.now) }
+    ensures { IfOk result (HasBytes (call_columns item.now)) }
 {
     let procedure = procedure_text(alloc, item)?;
     let netid = shown_text(alloc, item.netid.as_slice())?;

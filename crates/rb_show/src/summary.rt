@@ -3,7 +3,7 @@ ghost use Rattle.std.specs.Prelude.{◌≡◌, ◌++◌, map, IfOk, OnOk};
 ghost use Rattle.std.specs.Fmt.{decimal};
 ghost use Rattle.std.specs.List.{list_any};
 ghost use Rattle.std.specs.Str.{bytes_eq};
-ghost use Rattle.std.specs.String.{string_bytes};
+ghost use Rattle.rb_show.specs.Texts.{HasBytes};
 ghost use Rattle.rb_show.specs.Summary.{shown_row, shown_rows, as_shown, items_shown, add_program, programs_of, AddsVersion, versions_of, borrowed_texts, AddsNetid, netids_of, owner_of, comma_list, service_text, versions_text, netids_text, summary_line, summary_text, items_summary};
 
 use crate::form::{Form, program_name};
@@ -132,8 +132,7 @@ fn owner_of(rows: &[Row], prog: u32) -> &str
 
 /// Texts with commas between them.
 fn comma_list(alloc: Global, texts: &[&str]) -> Result<String, AllocError>
-    ensures { IfOk result
-        (λ text. string_bytes text ≡ comma_list (borrowed_texts texts.now)) }
+    ensures { IfOk result (HasBytes (comma_list (borrowed_texts texts.now))) }
 {
     let [first, rest @ ..] = texts else {
         return Ok(String::new(alloc));
@@ -148,7 +147,7 @@ fn comma_list(alloc: Global, texts: &[&str]) -> Result<String, AllocError>
 
 /// Numbers with commas between them.
 fn joined_numbers(alloc: Global, numbers: &[u32]) -> Result<String, AllocError>
-    ensures { IfOk result (λ text. string_bytes text ≡ comma_list (map decimal numbers.now)) }
+    ensures { IfOk result (HasBytes (comma_list (map decimal numbers.now))) }
 {
     let [first, rest @ ..] = numbers else {
         return Ok(String::new(alloc));
@@ -162,7 +161,7 @@ fn joined_numbers(alloc: Global, numbers: &[u32]) -> Result<String, AllocError>
 }
 
 fn service_text(alloc: Global, form: Form<'_>, prog: u32) -> Result<String, AllocError>
-    ensures { IfOk result (λ name. string_bytes name ≡ service_text form.entry prog) }
+    ensures { IfOk result (HasBytes (service_text form.entry prog)) }
 {
     match form {
         Form::Plain | Form::Json => String::from_str(alloc, "-"),
@@ -172,8 +171,7 @@ fn service_text(alloc: Global, form: Form<'_>, prog: u32) -> Result<String, Allo
 
 /// The versions of a program as they are shown.
 fn versions_text(alloc: Global, rows: &[Row], prog: u32) -> Result<String, AllocError>
-    ensures { IfOk result
-        (λ text. string_bytes text ≡ versions_text (shown_rows rows.now) prog) }
+    ensures { IfOk result (HasBytes (versions_text (shown_rows rows.now) prog)) }
 {
     let versions = versions_of(alloc, rows, prog)?;
     let text = joined_numbers(alloc, &versions)?;
@@ -182,8 +180,7 @@ fn versions_text(alloc: Global, rows: &[Row], prog: u32) -> Result<String, Alloc
 
 /// The netids of a program as they are shown.
 fn netids_text(alloc: Global, rows: &[Row], prog: u32) -> Result<String, AllocError>
-    ensures { IfOk result
-        (λ text. string_bytes text ≡ netids_text (shown_rows rows.now) prog) }
+    ensures { IfOk result (HasBytes (netids_text (shown_rows rows.now) prog)) }
 {
     let netids = netids_of(alloc, rows, prog)?;
     let text = comma_list(alloc, &netids)?;
@@ -198,8 +195,7 @@ fn summary_line(
     rows: &[Row],
     prog: u32,
 ) -> Result<String, AllocError>
-    ensures { IfOk result
-        (λ line. string_bytes line ≡ summary_line form.entry (shown_rows rows.now) prog) }
+    ensures { IfOk result (HasBytes (summary_line form.entry (shown_rows rows.now) prog)) }
 {
     let versions = versions_text(alloc, rows, prog)?;
     let netids = netids_text(alloc, rows, prog)?;
@@ -211,8 +207,7 @@ fn summary_line(
 
 /// A line for each program, after the heading.
 fn summary_text(alloc: Global, form: Form<'_>, rows: &[Row]) -> Result<String, AllocError>
-    ensures { IfOk result
-        (λ text. string_bytes text ≡ summary_text form.entry (shown_rows rows.now)) }
+    ensures { IfOk result (HasBytes (summary_text form.entry (shown_rows rows.now))) }
 {
     let programs = programs_of(alloc, rows)?;
     let mut text = String::from_str(alloc, HEADING)?;
@@ -229,8 +224,7 @@ pub(crate) fn items_summary<T: AsRow>(
     form: Form<'_>,
     items: &[T],
 ) -> Result<String, AllocError>
-    ensures { IfOk result
-        (λ text. string_bytes text ≡ items_summary form.entry T.stands_for items.now) }
+    ensures { IfOk result (HasBytes (items_summary form.entry T.stands_for items.now)) }
 {
     let rows = rows_of(alloc, items)?;
     summary_text(alloc, form, &rows)

@@ -1,8 +1,7 @@
 //! Texts of a reply, as they are printed.
 ghost use Rattle.std.specs.Prelude.{◌≡◌, map, IfOk};
 ghost use Rattle.std.specs.Fmt.{signed_decimal};
-ghost use Rattle.std.specs.String.{string_bytes};
-ghost use Rattle.rb_show.specs.Texts.{shown_byte, shown_text, at_left, joined, prot_text};
+ghost use Rattle.rb_show.specs.Texts.{HasBytes, shown_byte, shown_text, at_left, joined, prot_text};
 
 use rb_address::{Family, Netid, Transport};
 use std::alloc::{AllocError, Global};
@@ -19,7 +18,7 @@ fn shown_char(byte: u8) -> char
 
 /// A text of a reply, with `?` for each byte that is no printable character, and `-` for none.
 pub(crate) fn shown_text(alloc: Global, text: &[u8]) -> Result<String, AllocError>
-    ensures { IfOk result (λ shown. string_bytes shown ≡ shown_text text.now) }
+    ensures { IfOk result (HasBytes (shown_text text.now)) }
 {
     if text.is_empty() {
         return String::from_str(alloc, "-");
@@ -33,7 +32,7 @@ pub(crate) fn shown_text(alloc: Global, text: &[u8]) -> Result<String, AllocErro
 
 /// A protocol by the name of its transport over IPv4; of any other one the number.
 pub(crate) fn prot_text(alloc: Global, prot: u32) -> Result<String, AllocError>
-    ensures { IfOk result (λ text. string_bytes text ≡ prot_text prot) }
+    ensures { IfOk result (HasBytes (prot_text prot)) }
 {
     match Transport::of_protocol(prot) {
         Some(transport) => String::from_str(alloc, Netid::of(transport, Family::Inet).text()),
@@ -43,7 +42,7 @@ pub(crate) fn prot_text(alloc: Global, prot: u32) -> Result<String, AllocError>
 
 /// A text with spaces after it, up to this width.
 pub(crate) fn at_left(alloc: Global, text: &str, width: usize) -> Result<String, AllocError>
-    ensures { IfOk result (λ padded. string_bytes padded ≡ at_left width text.now) }
+    ensures { IfOk result (HasBytes (at_left width text.now)) }
 {
     let mut padded = String::from_str(alloc, text)?;
     for place in 0..width.saturating_sub(text.len()) {
@@ -54,8 +53,7 @@ pub(crate) fn at_left(alloc: Global, text: &str, width: usize) -> Result<String,
 
 /// Numbers with this text between them.
 pub(crate) fn joined_ints(alloc: Global, ints: &[i32], between: &str) -> Result<String, AllocError>
-    ensures { IfOk result
-        (λ text. string_bytes text ≡ joined between.now (map signed_decimal ints.now)) }
+    ensures { IfOk result (HasBytes (joined between.now (map signed_decimal ints.now))) }
 {
     let [first, rest @ ..] = ints else {
         return Ok(String::new(alloc));

@@ -1,6 +1,6 @@
 //! The start of the local socket.
-ghost use Rattle.std.specs.Prelude.{◌≡◌, IsTrue, IfOk};
-ghost use Rattle.rb_policy.specs.Trusts.{lets_in_root_alone};
+ghost use Rattle.std.specs.Prelude.{IfOk};
+ghost use Rattle.rb_policy.specs.LocalFile.{IsRootsByMode};
 
 use crate::settings::LocalSocket;
 use mio::net::{UnixListener, UnixStream};
@@ -23,8 +23,7 @@ pub fn listen<R: Files + Net>(
     rt: &R,
     local: &LocalSocket<'_>,
 ) -> io::Result<(UnixListener, Entrance)>
-    ensures { IfOk result (λ r. r.1 ≡ Entrance.RootSocket
-        → IsTrue (lets_in_root_alone local.now.mode)) }
+    ensures { IfOk result (λ listening. IsRootsByMode local.now.mode listening.1) }
 {
     let LocalSocket { path, mode } = *local;
     let state = file_state(rt, path)?;
