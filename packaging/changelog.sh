@@ -26,7 +26,7 @@ read_newest() {
     date=${date%)}
 }
 
-# An entry begins with two spaces, and lines of more go on with it. Where entries also have a mark, * or -, a line of two
+# An entry begins with two spaces, and lines of more go on with it. If entries also have a mark, * or -, a line of two
 # spaces without one is a heading inside the version.
 write_entries() {
     awk '

@@ -4,13 +4,13 @@ tests/serving.sh. It is that at port 111, or at PORT of the environment.
 
 Each line of standard input is a question, NETID HOST WORDS: it goes to this host over tcp, udp, tcp6 or udp6, and its
 words are a call as tests/row.py has it. SOURCE>HOST in place of HOST says from which address it goes; with local a path
-stands there. It is printed again, with the answer behind it:
+stands there. It is printed again, with the answer after it:
 
     udp 192.0.2.2>192.0.2.1 4 getaddr 200001 1: 192.0.2.1.8.1
     tcp6 2001:db8:1::1 uid=1000 4 set 200001 1 tcp6 ::.8.1: 0
 
-An answer is a number; an address; the netids and addresses of a list, each with a space behind it, in their order; an
-address and the results of a call that was forwarded, in hexadecimal; `refused`; or `silent`, where none comes.
+An answer is a number; an address; the netids and addresses of a list, each with a space after it, in their order; an
+address and the results of a call that was forwarded, in hexadecimal; `refused`; or `silent`, if none comes.
 """
 import os
 import socket

@@ -117,8 +117,8 @@ run_rpcinfo_of_programs() {
     wait "$programs" 2> /dev/null
 }
 
-# -d removes what is named, and no more, where the user is the row's owner: of one netid or of all, over TCP and on the local
-# socket. --uid says who asks, which counts where claims are believed.
+# -d removes what is named, and no more, if the user is the row's owner: of one netid or of all, over TCP and on the
+# local socket. --uid says who asks, which counts if claims are believed.
 run_rpcinfo_removes() {
     local path=$work/removes.sock daemon
     start_daemon "$work/listening" --port 20112 --believe-claims --local "$path"

@@ -41,7 +41,7 @@ def line_of(program):
 
 
 class Daemon:
-    """A daemon with so many rows, its own among them, which keeps them in a folder where one is given."""
+    """A daemon with this many rows, its own among them, which keeps them in a folder if one is given."""
 
     def __init__(self, program, rows, folder):
         self.folder = folder and tempfile.TemporaryDirectory(dir=folder)

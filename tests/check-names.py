@@ -4,14 +4,14 @@
 In docs/RULES.md a name has to stand where its column says, once, in the crate of its table or in the one that is named
 with it. Each rule there has a tag of its own, which stands above its definitions and begins the comments of its rows, and a
 row, a test or an edit; a `-` in place of the definition, or of all of these, has a reason after it. A rule names a function
-and not only laws, and where it has no definition, or no row or test, the crate of each function. A crate or a file of tests
-in parentheses has the tests that stand before it, and they are no rows; no two tests, and no row and test, have one name.
-Specs and rows have no other tags. The tables stand in the order of crates.txt. In the other documents a name in backquotes
-that looks like one of this repository (it has an underscore, a `::`, a slash, a capital letter inside, or ends as a file)
-has to be one of it, or stand in tests/names-of-others. In docs/CLAIMS.md a name behind 'By CRATE:' has to stand in that
-crate. Code that a README shows of an example has to stand there. The picture of the crates has to be that of crates.txt
-(tests/draw-crates.py).
-Prints a line for each name or tag that is nowhere; the last line is 'N passed, N failed', and the status 1 where one failed.
+and not only laws, and if it has no definition, or no row or test, the crate of each function. A crate or a file of
+tests in parentheses has the tests that stand before it, and they are no rows; no two tests, and no row and test, have
+one name. Specs and rows have no other tags. The tables stand in the order of crates.txt. In the other documents a name
+in backquotes that looks like one of this repository (it has an underscore, a `::`, a slash, a capital letter inside, or
+ends as a file) has to be one of it, or stand in tests/names-of-others. In docs/CLAIMS.md a name after 'By CRATE:' has
+to stand in that crate. Code that a README shows of an example has to stand there. The picture of the crates has to be
+that of crates.txt (tests/draw-crates.py).
+Prints a line for each name or tag that is nowhere; the last line is 'N passed, N failed', the status 1 if one failed.
 """
 import re
 import subprocess

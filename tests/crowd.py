@@ -2,7 +2,7 @@
 """Holds connections to a daemon, each by a name, and says what becomes of them: crowd.py HOST PORT < LINES.
 
 `open NAME SOURCE` connects from this address and calls; `call NAME` calls on a connection that is there. A call is of
-procedure 0 (RFC 5531 section 9), and a line says whether it is `answered`, `closed` where the daemon has ended the
+procedure 0 (RFC 5531 section 9), and a line says whether it is `answered`, `closed` if the daemon has ended the
 connection, or `silent`.
 """
 import socket

@@ -1,7 +1,7 @@
 # Sourced by the scripts that run the built daemon: `program` is its path, and `daemon` its number once it was started.
 
-# Starts it with these words behind `serve`; what it writes goes to the file. The status is 1 where it doesn't listen, as
-# where it has ended. One with checks may take a minute, on a busy machine, for its memory and to set kept rows again.
+# Starts it with these words after `serve`; what it writes goes to the file. The status is 1 if it doesn't listen, as
+# when it has ended. One with checks may take a minute, on a busy machine, for its memory and to set kept rows again.
 start_daemon() {
     local written=$1
     shift
@@ -17,7 +17,7 @@ start_daemon() {
     return 1
 }
 
-# Runs the events of a daemon's record again, by the command in its first line. The status is 0 where all outputs agree.
+# Runs the events of a daemon's record again, by the command in its first line. The status is 0 if all outputs agree.
 check_record() {
     local words
     eval "words=($(sed -n '1s/^# rpcbind //p' "$1"))" # a path stands there in quotes, and has none

@@ -13,8 +13,8 @@ stop_daemon() {
     true
 }
 
-# Asks it, with a connection or a datagram for each call. Standard input has what is wanted: questions of tests/ask.py, each
-# with its answer, a number.
+# Asks it, with a connection or a datagram for each call. Standard input has what is expected: questions of
+# tests/ask.py, each with its answer, a number.
 answers_are() {
     cat > "$work/wanted-answers"
     sed 's/: [0-9]*$//' "$work/wanted-answers" | PORT=20112 timeout 60 python3 -B tests/ask.py > "$work/answers"
@@ -132,7 +132,7 @@ is_asked() {
     "$rpcinfo" --port 20112 -p 127.0.0.1 > /dev/null && "$rpcinfo" --port 20112 -p 127.0.0.1 > /dev/null
 }
 
-# Nothing is written where no change was accepted: by calls that only ask, by SETs and UNSETs that are refused, in empty
+# Nothing is written if no change was accepted: by calls that only ask, by SETs and UNSETs that are refused, in empty
 # turns, and by a start.
 run_keep_writes_changes_alone() {
     local file=$work/rows-still before
@@ -332,7 +332,7 @@ END
     refuses "a line that is cut off within a byte" 'line 1: bad event'
 }
 
-# At most 4,096 lines of rows, and so many bytes.
+# At most 4,096 lines of rows, and 16,777,216 bytes.
 run_keep_of_long_files() {
     local file=$work/rows-long
     seq 300001 304097 | sed 's/$/ 1 tcp 127.0.0.1.8.1 superuser/' > "$work/rows-1"
@@ -394,8 +394,8 @@ rows_of() {
     printf '%s 1 tcp 127.0.0.1.8.1 unknown\n' "$@"
 }
 
-# A file may have 1,024 bytes, in which five rows have room. That there is no more is said once, and again behind a write that
-# went well. The daemon serves on, the file stays, and the next change tries again.
+# A file may have 1,024 bytes, in which five rows have room. That there is no more is said once, and again after a write
+# that went well. The daemon serves on, the file stays, and the next change tries again.
 run_keep_without_room() {
     local file=$work/rows-small
     (

@@ -1,11 +1,11 @@
-# Sourced by the scripts behind `make run`, `make` and `make test`: the kit that they want, what of this machine they
+# Sourced by the scripts behind `make run`, `make` and `make test`: the kit that they need, what of this machine they
 # may use, and how long they take.
 
 # What the repository was proved with, by `rt version`. The sum is that of the logic: kits of one sum prove the same.
 kit_name=rattle-kit-13f
 kit_logic=dac8208d650f15bf
 
-# Says which kit is wanted and which is here. Another logic is only warned of. The status is 1 where there is no `rt`.
+# Says which kit is needed and which is here. Another logic is only warned of. The status is 1 if there is no `rt`.
 say_kit() {
     local found logic
     if ! found=$(rt version 2> /dev/null); then
@@ -45,7 +45,7 @@ count_memory() {
     echo "$free"
 }
 
-# How many commands may work side by side here, where each takes so many MiB of memory.
+# How many commands may work side by side here, if each takes this many MiB of memory.
 count_slots() {
     local slots cores
     slots=$(($(count_memory) / $1))
@@ -69,7 +69,7 @@ in_minutes() {
     fi
 }
 
-# About how many minutes `make` takes from nothing on so many processors, and `make test`.
+# About how many minutes `make` takes from nothing on this many processors, and `make test`.
 minutes_of_make() {
     echo $((12 + 60 / $1))
 }

@@ -2,9 +2,10 @@
 """A portmapper and its programs at one address of TCP, for rows of rpcinfo that no daemon of ours can give.
 
 programs.py HOST PORT prints 'listening' once it listens, and answers calls until it is ended. HOST may be of IPv6, and one
-of a link stands with its interface behind PORT. programs.py --old HOST PORT has a portmapper of version 2 alone, which lists
-version 1 of program 200001. Over UDP programs.py --null HOST PORT answers each call as procedure 0 is, --silent HOST PORT
-answers none, and --callit HOST PORT answers each CALLIT by a datagram that is no reply and by two that tell the port 2049.
+of a link stands with its interface after PORT. programs.py --old HOST PORT has a portmapper of version 2 alone, which
+lists version 1 of program 200001. Over UDP programs.py --null HOST PORT answers each call as procedure 0 is, --silent
+HOST PORT answers none, and --callit HOST PORT answers each CALLIT by a datagram that is no reply and by two that tell
+the port 2049.
 
 Program 200001 has versions 1 to 3, and GETPORT tells a port of version 2 at which nobody listens.
 Program 200002 answers every version.
@@ -128,7 +129,7 @@ class Datagrams(socketserver.UDPServer):
 
 
 def address_of(host, port, interface=None):
-    """The socket address of a host, on a link where an interface of it is given."""
+    """The socket address of a host, on a link if an interface of it is given."""
     of = socket.getaddrinfo(f"{host}%{interface}" if interface else host, int(port), type=socket.SOCK_STREAM)
     return of[0][4]
 

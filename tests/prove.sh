@@ -7,9 +7,9 @@
 #
 # `rt` lets one command at a time work in a crate's folder or in one below it. So each crate is proved in a room
 # of its own: a folder with links to its files and to the libraries below it, which has its out/ meanwhile. The crates'
-# own folders are locked for so long, as `rt` locks them.
+# own folders are locked for that time, as `rt` locks them.
 #
-# Where a crate fails, its output is shown and those above it are not tried. The status is 1 where one failed.
+# If a crate fails, its output is shown and those above it are not tried. The status is 1 if one failed.
 set -u
 cd "$(dirname "$0")/.." || exit 1
 . tests/machine.sh

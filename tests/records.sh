@@ -1,4 +1,4 @@
-# Sourced by run-rows.sh: what the built daemon writes while it serves, its record and its log, and that it rests where
+# Sourced by run-rows.sh: what the built daemon writes while it serves, its record and its log, and that it rests when
 # nobody asks. Records are checked by `rpcbind replay --check`.
 
 # ---- records
@@ -161,8 +161,8 @@ run_idle_daemon() {
 
 # ---- logs
 
-# Sends calls to the daemon, words of tests/row.py, one a line, over UDP from port 20113, each behind the reply to the one
-# before. \n in a word is a line break.
+# Sends calls to the daemon, words of tests/row.py, one a line, over UDP from port 20113, each after the reply to the
+# one before. \n in a word is a line break.
 send_calls() {
     python3 -c '
 import socket, sys
@@ -179,7 +179,7 @@ with socket.socket(socket.AF_INET, socket.SOCK_DGRAM) as asker:
 '
 }
 
-# Waits until a file has so many lines, or more.
+# Waits until a file has this many lines, or more.
 await_lines() {
     for _ in $(seq 50); do
         [ "$(wc -l < "$1")" -lt "$2" ] || return 0
@@ -215,7 +215,7 @@ END
     judge $bad "a log of changes"
 }
 
-# With --log all it tells of refused calls too, of 20 in a second, and of how many there were besides.
+# With --log all it tells of refused calls too, of 20 in a second, and of how many more there were.
 run_log_of_all() {
     local bad=0 told more begin seconds
     start_daemon "$work/log" --port 20112 --log all || { judge 1 "a log of all"; return; }

@@ -1,5 +1,5 @@
 /* Stands in front of the C library's calls that take memory, and refuses one of them: the one whose number, from 1, is in the
-   environment as REFUSE. Where it refuses it says so by a byte on descriptor 9. */
+   environment as REFUSE. If it refuses, it says so by a byte on descriptor 9. */
 #include <errno.h>
 #include <stdlib.h>
 #include <unistd.h>

@@ -1,8 +1,8 @@
 # Memory that is refused: the built programs with tests/refuse.c in front of the C library, which refuses them one allocation,
 # the first in the first run, the second in the next, and so on until a run asks for no more. Sourced by tests/run-rows.sh.
 #
-# A run that is refused memory does all that it does else, or ends with status 1 and the one line that says so; what it has
-# written then is a front of what it writes else.
+# A run that is refused memory does all that it does otherwise, or ends with status 1 and the one line that says so;
+# what it has written then is a front of what it writes otherwise.
 
 # Runs a command over a file, and refuses it the allocation of this number.
 run_refused() {
@@ -12,7 +12,7 @@ run_refused() {
     got=$?
 }
 
-# Whether the last run did all, which is to write what $1 has, or was refused memory and says so.
+# Whether the last run did all, that is, wrote what $1 has, or was refused memory and says so.
 is_right() {
     if [ "$got" -eq 0 ]; then
         as_wanted "$1" /dev/null 0

@@ -1,6 +1,6 @@
 # Sourced by run-rows.sh: the package of `make deb`, made twice, its changelog, and what `make release` makes and refuses.
-# That is tried in a checkout of its own, where `make`, `rt` and lintian are stand-ins that prove and test nothing: what
-# they say is written here, and FAULT in the environment has one of them fail.
+# That is tried in a checkout of its own, in which `make`, `rt` and lintian are stand-ins that prove and test nothing:
+# what they say is written here, and FAULT in the environment has one of them fail.
 
 # ---- the package
 

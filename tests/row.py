@@ -11,7 +11,7 @@ written by hand from the standards.
     forward 0 127.0.0.1:2049 (reply xid=1000 00000001)
 
 Above an event whose bytes were made so stands a comment with their words, and the number of the call among them: the
-first of these lines has `# (xid=1 2 set 200001 1 tcp 2049)`. Where the comment would have more than 120 characters it is
+first of these lines has `# (xid=1 2 set 200001 1 tcp 2049)`. If the comment would have more than 120 characters, it is
 left out. With --bare there are no such comments. With --compare FILE.. nothing is made: each event of these files below a
 comment of words has to have the bytes that they make; what has others is printed, and the status is 1.
 
@@ -23,12 +23,12 @@ Words in parentheses, in this order:
     uid=N           AUTH_SYS of this uid, with stamp 0, no name, gid 0 and no gids; without it AUTH_NONE
     rpcvers=N prog=N    other numbers than 2 and 100000
     cut=N           the first N bytes of the message alone
-    V PROCEDURE ..  a call of version V; PROCEDURE is a name or a number, and behind it are its arguments
+    V PROCEDURE ..  a call of version V; PROCEDURE is a name or a number, and after it are its arguments
     reply HEX       an accepted reply with these results
 
-Arguments: of version 2 `PROG VERS tcp|udp|N [PORT]`; of versions 3 and 4 `PROG VERS [NETID [ADDRESS [OWNER]]]`, where `-`
-is the empty text; of callit, bcast and indirect `PROG VERS PROC HEX`; of uaddr2taddr a text, of taddr2uaddr bytes in
-hexadecimal; of a procedure by its number bytes in hexadecimal.
+Arguments: of version 2 `PROG VERS tcp|udp|N [PORT]`; of versions 3 and 4 `PROG VERS [NETID [ADDRESS [OWNER]]]`, in
+which `-` is the empty text; of callit, bcast and indirect `PROG VERS PROC HEX`; of uaddr2taddr a text, of taddr2uaddr
+bytes in hexadecimal; of a procedure by its number bytes in hexadecimal.
 """
 import argparse
 import re
@@ -131,7 +131,7 @@ class Encoder:
         self.calls = 0
 
     def numbered(self, words):
-        """The words with the number of the call among them: the next one where they have none."""
+        """The words with the number of the call among them: the next one if they have none."""
         front = sum(word == "reply" or word.split("=")[0] == "record" for word in words[:2])
         options = list(takewhile(lambda word: "=" in word, words[front:]))
         if any(word.startswith("xid=") for word in options):

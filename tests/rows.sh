@@ -1,11 +1,11 @@
 # Sourced by run-rows.sh: runs of the built programs over files. These are the rows of tests/rows and
 # tests/rows-rpcinfo, and inputs that are made here since no file can hold them.
 #
-# A row of rpcbind is a dialogue, NAME.events: each event, and in the line below it what it gives, behind `#> `, with
-# the rule that the row shows, and its tag, in a first comment. Where they differ from the word `replay`, from 0 and
+# A row of rpcbind is a dialogue, NAME.events: each event, and in the line below it what it gives, after `#> `, with
+# the rule that the row shows, and its tag, in a first comment. If they differ from the word `replay`, from 0 and
 # from nothing, NAME.args has the program's words, one a line, NAME.status the exit status and NAME.stderr the standard
-# error. A row that hands lines behind `#> ` to `--check` has its standard output in NAME.expected. What is wanted is
-# taken out of a row by `sed`; `replay --check` must agree with it besides. A row with bytes of connections is run
+# error. A row that hands lines after `#> ` to `--check` has its standard output in NAME.expected. What is expected is
+# taken out of a row by `sed`; `replay --check` must also agree with it. A row with bytes of connections is run
 # again with them cut into pieces of 1, of 7 and of 1,000 bytes: all its outputs stay, with the sums of what the pieces
 # took.
 #
@@ -14,7 +14,7 @@
 
 # ---- rows of replay
 
-# The outputs that stand in a file of events, each behind `#> `.
+# The outputs that stand in a file of events, each after `#> `.
 outputs_of() {
     sed -n 's/^#> //p' "$1"
 }
@@ -181,7 +181,7 @@ run_rpcinfo_rows() {
 
 # ---- inputs of replay that are made here
 
-# The input has at most 16,777,216 bytes: so many are read, and of one more no event is run.
+# The input has at most 16,777,216 bytes: that many are read, and of one more no event is run.
 run_longest_inputs() {
     head -c 16777216 /dev/zero | tr '\0' '\n' > "$work/events"
     run "$work/events" replay
@@ -275,7 +275,7 @@ run_shortest_outputs_of_bytes() {
 
 # ---- inputs of rpcinfo that are made here
 
-# The reply to DUMP of version 2 with so many rows of program 7, as hexadecimal text of one fragment.
+# The reply to DUMP of version 2 with this many rows of program 7, as hexadecimal text of one fragment.
 long_dump() {
     printf '%08x0000000100000001%032x' $((0x80000000 + 28 + 20 * $1)) 0
     yes 0000000100000007000000010000001100000801 | head -n "$1"

@@ -1,8 +1,8 @@
 #!/usr/bin/env bash
 # The whole test: the tests without proof, `rt ci` (every proof from nothing, the edits that must be refused, and each
-# program), the rows, and two hosts. The last line is 'N passed, N failed' over all; the status is 1 where one failed. With --anew,
-# nothing that this machine passed before is kept. With --quick nothing is proved: the rows run programs that were built
-# without proof.
+# program), the rows, and two hosts. The last line is 'N passed, N failed' over all; the status is 1 if one failed. With
+# --anew, nothing that this machine passed before is kept. With --quick nothing is proved: the rows run programs that
+# were built without proof.
 set -u
 cd "$(dirname "$0")/.." || exit 1
 . tests/machine.sh
@@ -31,7 +31,7 @@ add() {
     failed=$((failed + f))
 }
 
-# Passes lines on. Behind one with which `rt ci` ends the proof of a crate, or begins its edits, it says how far it is.
+# Passes lines on. After one with which `rt ci` ends the proof of a crate, or begins its edits, it says how far it is.
 show_progress() {
     local line proved=0 tried=0
     while IFS= read -r line || [ -n "$line" ]; do

@@ -30,7 +30,7 @@ whole_calls() {
     done
 }
 
-# SETs of so many programs
+# SETs of this many programs
 sets() {
     for i in $(seq "$1"); do
         printf 'datagram 0 127.0.0.1:900 %s\n' "$(printf '%08x' "$i" 0 2 100000 2 1 0 0 0 0 $((200000 + i)) 1 6 2049)"
@@ -64,7 +64,7 @@ nanoseconds() {
     echo $((end - begin))
 }
 
-# The time for each of so many calls.
+# The time for each of this many calls.
 time_run() {
     local name=$1 calls=$2 taken
     taken=$(nanoseconds)

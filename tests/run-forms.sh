@@ -38,7 +38,7 @@ show() {
     [ "$status" -eq 0 ] || echo "        (status $status)"
 }
 
-# Both commands, our words and theirs behind `--`.
+# Both commands, our words and theirs after `--`.
 both() {
     local words=()
     while [ "$1" != -- ]; do words+=("$1"); shift; done

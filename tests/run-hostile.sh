@@ -2,33 +2,33 @@
 # Attacks the built daemon over sockets, each attack bounded in count and time, with a good client beside it that
 # makes calls over UDP and over TCP, a connection for each. A line for each attack says how many calls were answered
 # of how many, the longest wait, and what of the daemon's own memory is resident before and after. An attack fails
-# where fewer than 99 of 100 calls were answered, one waited over 50 milliseconds, or memory grew by a page.
+# if fewer than 99 of 100 calls were answered, one waited over 50 milliseconds, or memory grew by a page.
 # tests/hostile/attacks.py has them. A daemon beside them stands still for 34 seconds, and must answer all 200 calls then
 # that were half sent before and whole in time.
 #
-# Three attacks want strangers, and so root; tests/hostile/strangers.py has them. `reflector` fails where more than twice
-# the bytes of a stranger's datagram come back to it, `primed_statistics` where a stranger's look-ups of what is not there
-# are in the statistics, and `flood_of_one_network`, beside which a good client calls too, where in any second more of a
+# Three attacks need strangers, and so root; tests/hostile/strangers.py has them. `reflector` fails if more than twice
+# the bytes of a stranger's datagram come back to it, `primed_statistics` if a stranger's look-ups of what is not there
+# are in the statistics, and `flood_of_one_network`, beside which a good client calls too, if in any second more of a
 # network's or of a host's calls are answered than --udp-rate says.
 #
 # `kills_40` kills a daemon that keeps its rows 40 times by SIGKILL, each time under a load of SETs and UNSETs over TCP and
-# UDP, and starts it with the same file. It fails where a change that was answered TRUE is not there then, a row that was
+# UDP, and starts it with the same file. It fails if a change that was answered TRUE is not there then, a row that was
 # never set is, the order is another, or a line of the file is none that a replay answers with TRUE; tests/hostile/kills.py
 # has it. With RECORD=1 the record of each of these daemons has to agree too.
 #
-# Where strace is installed, each call of the system that serves clients fails then for three seconds, with each error
-# that its manual names: tests/hostile/faults.py says what is wanted.
+# If strace is installed, each call of the system that serves clients fails then for three seconds, with each error
+# that its manual names: tests/hostile/faults.py says what is expected.
 #
 # With RECORD=1 in the environment the daemon records its events, up to as many bytes as a replay reads; an attack then
-# fails too where `rpcbind replay --check` does not agree with its record, or the good client's first reply over TCP is
+# also fails if `rpcbind replay --check` does not agree with its record, or the good client's first reply over TCP is
 # not in it. A call may then wait 200 milliseconds, since the lists that are given are written down too. No faults are
 # tried then.
 #
 # The program may be another one: `PROGRAM=PATH make hostile`. Words are names of attacks or faults, in place of all: as
 # half_open_1500, kills_40, accept4_EPERM, accept4 for all of its errors, and faults for all faults. As root it
-# runs in a network namespace of its own, where attackers and good client have addresses of their own; else on the
-# loopback, at high ports, where all of them are peers of this host and none is a stranger. Wants python3. The last line
-# is 'N passed, N failed'; the status is 1 where one failed.
+# runs in a network namespace of its own, in which attackers and good client have addresses of their own; else on the
+# loopback, at high ports, where all of them are peers of this host and none is a stranger. Needs python3. The last line
+# is 'N passed, N failed'; the status is 1 if one failed.
 set -u
 here=$(cd "$(dirname "$0")" && pwd) || exit 1
 export PROGRAM=${PROGRAM:-$here/../crates/rpcbind/out/rpcbind}

@@ -1,10 +1,10 @@
 #!/usr/bin/env bash
 # Shows what of the built daemon is resident, at the default limits and on all kinds of listeners: after its start, and
 # after a load (a million calls over all 64 connections, half of them on [::1], the same connections on the local socket
-# where there is python3, and calls over UDP that fill its rows, ask for them, list them and are forwarded), which takes not
-# a page more of its own. Pages of its file, which the system maps as they are run and can let go, count in what is
+# if there is python3, and calls over UDP that fill its rows, ask for them, list them and are forwarded), which takes
+# not a page more of its own. Pages of its file, which the system maps as they are run and can let go, count in what is
 # resident alone. The word, if there is one, is the path of another built program. The last line is 'N passed, N failed';
-# the status is 1 where one failed.
+# the status is 1 if one failed.
 set -u
 cd "$(dirname "$0")/.." || exit 1
 

@@ -3,7 +3,7 @@
 # alone, an empty /run, and nothing of the machine is touched. First with /etc/netconfig as it is, then with one of IPv4
 # alone. Needs root, `unshare` and `ip`. What is not installed is skipped, and said so. The word, if there is one, is the
 # path of another built program. With RECORD=1 in the environment the daemon records its events, and its record is checked
-# at its end. The last line is 'N passed, N failed, N skipped'; the status is 1 where one failed.
+# at its end. The last line is 'N passed, N failed, N skipped'; the status is 1 if one failed.
 #
 # `rpcinfo` is that of Debian's package rpcbind, and what it shows of an empty daemon is what it shows of that package's; a
 # program of tests/peers is built with cc and libtirpc; services are those of nfs-common, nfs-kernel-server, rstatd, rusersd,
@@ -123,8 +123,8 @@ compare_own_rows() {
     judge $? "own rows are those of Debian's rpcbind"
 }
 
-# A DUMP of version 4 over TCP [::1]: the reply is one fragment that has the twelve rows of program 100000 behind a head of
-# 24 bytes, and a word of its end. A row has 56 bytes on tcp and udp, 48 on tcp6 and udp6, and 64 on local.
+# A DUMP of version 4 over TCP [::1]: the reply is one fragment that has the twelve rows of program 100000 after a head
+# of 24 bytes, and a word of its end. A row has 56 bytes on tcp and udp, 48 on tcp6 and udp6, and 64 on local.
 dump_over_loopback6() {
     local socket reply
     exec {socket}<> /dev/tcp/::1/111 || return 1
@@ -172,7 +172,8 @@ await_netid() {
     return 1
 }
 
-# Ends the service of this name. Its process has another number than the one that started where it goes into the background.
+# Ends the service of this name. Its process has another number than the one that started if it goes into the
+# background.
 end_service() {
     local number
     for number in $(pidof "$1"); do kill "$number"; done
@@ -223,7 +224,7 @@ ask_mountd() {
 
 ask_rusersd() {
     command -v rusers > /dev/null || { skip "rusers is not installed"; return; }
-    # It has nobody to tell, and its status is 1 where nobody answers.
+    # It has nobody to tell, and its status is 1 if nobody answers.
     echo "\$ rusers -a 127.0.0.1"
     timeout 30 rusers -a 127.0.0.1 > "$work/written" 2>&1
     judge $? "rusers"
@@ -265,7 +266,7 @@ ask_ganesha() {
     mount_by_kernel "[::1]" udp6
 }
 
-# A mount of NFS version 3 by the kernel. Where it has none, mount.nfs comes as far as the ports of nfs and mountd.
+# A mount of NFS version 3 by the kernel. If it has none, mount.nfs comes as far as the ports of nfs and mountd.
 mount_by_kernel() {
     local host=$1 protocol=$2 found='prog (100003 vers 3 prot [A-Z]+ port 2049|100005 vers 3 prot [A-Z]+ port [0-9]+)$'
     command -v mount.nfs > /dev/null || { skip "mount.nfs is not installed (package nfs-common)"; return; }

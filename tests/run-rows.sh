@@ -15,7 +15,7 @@
 #     releases.sh    the package, and what a release refuses
 #     repository.sh  proofs by hand, names in documents, words and versions
 #
-# Each difference is printed. The last line is 'N passed, N failed'; the status is 1 where one failed.
+# Each difference is printed. The last line is 'N passed, N failed'; the status is 1 if one failed.
 set -u
 cd "$(dirname "$0")/.." || exit 1
 
@@ -33,13 +33,13 @@ beside=()
 work=$(mktemp -d) || exit 1
 trap 'rm -rf "$work"' EXIT
 
-# Compares a file with what is wanted of it, and prints the first lines of the difference.
+# Compares a file with what is expected of it, and prints the first lines of the difference.
 same() {
     diff --label "$3, wanted" --label "$3, got" -u "$1" "$2" | head -n 20
     return "${PIPESTATUS[0]}"
 }
 
-# Compares what the last run wrote and how it ended with files of what is wanted, and a status.
+# Compares what the last run wrote and how it ended with files of what is expected, and a status.
 as_wanted() {
     local stdout=$1 stderr=$2 status=$3 bad=0
     same "$stdout" "$work/stdout" "standard output" || bad=1

@@ -1,7 +1,7 @@
-# Sourced by run-rows.sh: what a running daemon does where a machine is short of something, and who may call it: on the
+# Sourced by run-rows.sh: what a running daemon does if a machine is short of something, and who may call it: on the
 # local socket, and from which networks. tests/crowd.py holds connections, and tests/ask.py asks what rpcinfo does not.
 
-# Waits until a file has a line for this pattern, so many times, or more.
+# Waits until a file has a line for this pattern, this many times or more.
 await_line() {
     for _ in $(seq 100); do
         [ "$(grep -cE "$2" "$1")" -lt "${3:-1}" ] || return 0
@@ -11,15 +11,15 @@ await_line() {
     return 1
 }
 
-# Asks the daemon on port 20112 the lines of standard input by tests/ask.py, each of which has its answer behind `: `.
+# Asks the daemon on port 20112 the lines of standard input by tests/ask.py, each of which has its answer after `: `.
 asked_are() {
     cat > "$work/wanted-answers"
     sed 's/: .*//' "$work/wanted-answers" | PORT=20112 timeout 60 python3 -B tests/ask.py > "$work/answers"
     same "$work/wanted-answers" "$work/answers" answers
 }
 
-# Where no descriptor is left for a client that comes, it waits until there is one, though nothing else comes; calls over UDP
-# are answered meanwhile, and the fault is said once.
+# If no descriptor is left for a client that comes, it waits until there is one, though nothing else comes; calls over
+# UDP are answered meanwhile, and the fault is said once.
 run_without_descriptors() {
     local daemon client free=0 bad=0
     if ! command -v prlimit > /dev/null; then

@@ -24,7 +24,7 @@ run_all_listeners() {
     judge $bad "a daemon on all listeners, twice"
 }
 
-# Where the limit of open files is less than the connections want, there are fewer of them, and that is said.
+# If the limit of open files is less than the connections need, there are fewer of them, and that is said.
 run_few_descriptors() {
     local needed places
     echo 'rpcbind: listening on 127.0.0.1 port 20112' > "$work/wanted"
@@ -46,7 +46,7 @@ run_file_in_the_way() {
     judge $? "a file in the way of the local socket"
 }
 
-# Which limit is out of its range, and what is wanted.
+# Which limit is out of its range, and what is expected.
 run_daemon_with_bad_limits() {
     local option value wanted
     while read -r option value wanted; do
@@ -84,7 +84,7 @@ run_daemon_without_announce() {
     judge $? "a daemon at :: that announces nothing else"
 }
 
-# Words of `serve` that can't be read: the value, the option, and what is wanted.
+# Words of `serve` that can't be read: the value, the option, and what is expected.
 run_bad_words_of_serve() {
     local option value wanted words
     while IFS=: read -r option value wanted; do

@@ -8,7 +8,7 @@
 # The Debian is made by debootstrap, of the machine's own release and from the mirror of its package sources, in a folder
 # under /var/tmp that goes at the end. With CACHE=FOLDER in the environment it is kept there for the next time. Needs root,
 # and says what is missing. Each check is a line 'ok' or 'FAILED'; a line 'package: ' has the SHA-256 sum of the package;
-# the last line is 'N passed, N failed'; the status is 1 where one failed.
+# the last line is 'N passed, N failed'; the status is 1 if one failed.
 set -u
 cd "$(dirname "$0")/.." || exit 1
 
@@ -38,7 +38,7 @@ tree=$work/tree
 packages_made=$work/packages
 cgroup=
 
-# Ends what still runs in the control group, which is nothing where all went well.
+# Ends what still runs in the control group, which is nothing if all went well.
 finish() {
     if [ -n "$cgroup" ]; then
         echo 1 2> /dev/null > "$cgroup/cgroup.kill"
@@ -199,7 +199,7 @@ boot() {
     sed '/^end of the checks$/d' "$tree/checks/output" | tee -a "$work/output"
 }
 
-# Whether the package installs and is purged where no systemd runs, as in an image that is being made.
+# Whether the package installs and is purged if no systemd runs, as in an image that is being made.
 install_in_chroot() {
     if (
         chroot "$tree" sh -c 'apt-get install --yes /checks/packages/rpcbind-proved_*.deb' &&

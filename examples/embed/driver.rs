@@ -39,7 +39,7 @@ pub trait Outside {
 }
 
 /// Hands one input to the core at the moment `now`, and lets out all that follows from it. Returns the moment at which
-/// `Deadline` is the next input, where nothing comes before.
+/// `Deadline` is the next input, if nothing comes before.
 pub fn drive<O: Outside>(core: &mut Metered, out: &mut O, now: u64, input: Input) -> Option<u64> {
     match input {
         Input::Accepted(who) => out.opened(core.open(now, who)),

@@ -164,7 +164,7 @@ impl Played {
         &self.script.sent
     }
 
-    /// What went out where these bytes arrived on the connection.
+    /// What went out when these bytes arrived on the connection.
     fn hear(&mut self, now: u64, id: u64, bytes: &[u8]) -> Result<&[Sent], AllocError> {
         self.script.arrived.extend_from_slice(bytes)?;
         Ok(self.play(now, Input::Arrived(id)))

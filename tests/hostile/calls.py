@@ -74,7 +74,7 @@ def reset(client):
 
 
 def send_some(client, data):
-    """How many bytes the socket took without a wait, or None where the connection is over."""
+    """How many bytes the socket took without a wait, or None if the connection is over."""
     client.setblocking(False)
     try:
         return client.send(data)

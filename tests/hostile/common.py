@@ -7,7 +7,7 @@ import time
 
 from calls import PORT, PROGRAM, record, success
 
-# whether the daemon records its events, up to so many bytes, which is the most that a replay reads
+# whether the daemon records its events, up to this many bytes, which is the most that a replay reads
 RECORDS = bool(os.environ.get("RECORD"))
 RECORD_LIMIT = 16_777_216
 
@@ -23,7 +23,7 @@ class Unpassed(Exception):
 
 
 def in_time(count, seconds=SECONDS):
-    """Counts, so that the whole count takes the seconds, or longer where the machine is busy: what was missed is made
+    """Counts, so that the whole count takes the seconds, or longer if the machine is busy: what was missed is made
     up for by no more than a few milliseconds at a time. After three times the seconds no more is counted."""
     begin = time.monotonic()
     end = begin + 3 * seconds
@@ -105,7 +105,7 @@ class Daemon:
         self.process.wait()
 
     def check_record(self, has_good=True):
-        """Whether the record is what a replay gives, with the first reply that a good client got over TCP where there
+        """Whether the record is what a replay gives, with the first reply that a good client got over TCP if there
         was one; what is told of that."""
         with open(self.record.name) as lines:
             words = lines.readline().split()[2:]

@@ -24,7 +24,7 @@ FIRST_PORT = 20140
 WORKERS = max(4, min(8, os.cpu_count() or 4))
 RECOVERY = 10.0
 
-# How long it takes until two clients come, and how many stay connected: fewer than there are places. All stay where a
+# How long it takes until two clients come, and how many stay connected: fewer than there are places. All stay if a
 # call says EAGAIN, which is untrue: such a socket is looked at again when its client goes.
 PAUSE = 0.2
 STAYING = 10
@@ -63,7 +63,7 @@ class Daemon:
         return self.written.read().decode()
 
     def last_words(self):
-        """What it said behind the lines of its two listeners, and its status."""
+        """What it said after the lines of its two listeners, and its status."""
         return "; ".join(self.said().splitlines()[2:] + [f"status {self.process.poll()}"])
 
     def is_there(self):
@@ -145,7 +145,7 @@ def call_on(client):
 
 
 def call_for(seconds, daemon, most):
-    """Clients come and call on each way, and the earliest of more than so many go; those that are there at the end."""
+    """Clients come and call on each way, and the earliest of more than `most` go; those that are there at the end."""
     datagrams = udp_socket(HOST)
     kept = []
     end = time.monotonic() + seconds
@@ -169,7 +169,7 @@ def let_go(clients):
 
 
 def attach(daemon, name, error, counts):
-    """An strace that lets each of these calls fail, and counts them; None where it could not be attached."""
+    """An strace that lets each of these calls fail, and counts them; None if it could not be attached."""
     pid = daemon.process.pid
     inject = f"inject={name}:error={error}" + WHEN.get((name, error), "")
     options = ["-qq", "-c", "-o", counts, "-e", f"trace={name}", "-e", inject, "-p", str(pid)]
@@ -292,7 +292,7 @@ def why_not():
 
 
 def run_faults(names):
-    """Runs the faults of these names, or of these calls, or all where there is no name; how many passed, and failed."""
+    """Runs the faults of these names, or of these calls, or all if there is no name; how many passed, and failed."""
     faults = [(name, error) for name, error in FAULTS if not names or {name, f"{name}_{error}", "faults"} & set(names)]
     if not faults:
         return 0, 0

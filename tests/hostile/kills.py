@@ -31,7 +31,7 @@ MOST_CHANGES = 2000
 # how long a daemon may take to answer each client once, on a machine that is busy, and to answer one over TCP
 FIRST_ANSWERS, LONGEST = 5.0, 30.0
 
-# programs of client N begin at this number and N times a thousand; so many rows a client has at most
+# programs of client N begin at this number and N times a thousand; a client has at most this many rows
 FIRST = 310000
 MOST_ROWS = 40
 ROWS = "1024"
@@ -77,7 +77,7 @@ class Client:
         return f"{host}.{self.source.randrange(1, 256)}.{self.source.randrange(256)}"
 
     def next_change(self, taken):
-        """A key that is not among those taken, with the address that is to be there, or None where none is to be."""
+        """A key that is not among those taken, with the address that should be there, or None if none should be."""
         there = [key for key in self.rows if key not in taken]
         is_full = len(self.rows) + len(taken) >= MOST_ROWS
         if there and (is_full or self.source.random() < 0.4):
@@ -252,7 +252,7 @@ def kept_row(line):
 
 
 def kept_rows(path):
-    """The rows of the file, which is to be whole; there is none before the first change."""
+    """The rows of the file, which must be whole; there is none before the first change."""
     if not os.path.exists(path):
         return []
     with open(path, newline="") as file:
@@ -283,7 +283,7 @@ class Counts:
 
 
 def load_and_kill(clients, daemon, seconds, killer):
-    """Kills the daemon after so many seconds of load, or, where a client is named, as soon as that gets an answer then."""
+    """Kills the daemon after these seconds of load, or, if a client is named, as soon as that gets an answer then."""
     stop = threading.Event()
     threads = [threading.Thread(target=client.load, args=(stop,)) for client in clients]
     before = [client.answered for client in clients]
@@ -352,7 +352,7 @@ def kills_40(clients, path, counts):
 
 
 def run_kills(names):
-    """Runs the kills where they are named, or where there is no name, and prints their line; whether they passed."""
+    """Runs the kills if they are named, or if there is no name, and prints their line; whether they passed."""
     name = kills_40.__name__
     if names and name not in names:
         return []

@@ -1,5 +1,5 @@
 /* Registers a program with a stock libtirpc on each netid that /etc/netconfig has, looks it up, unregisters it, and looks
-   again. Each line says what was wanted and what came; the status is 0 where each came as wanted. */
+   again. Each line says what was expected, and whether it came; the status is 0 if all came. */
 #include <arpa/inet.h>
 #include <netconfig.h>
 #include <netinet/in.h>

@@ -17,7 +17,7 @@ served=/run/served
 services=()
 said=/run/said
 
-# Runs a check, and says how it went; what it wrote where it failed.
+# Runs a check, and says how it went; what it wrote if it failed.
 check() {
     local name=$1
     shift
@@ -30,7 +30,7 @@ check() {
     fi
 }
 
-# Whether a command has status 0 within so many seconds.
+# Whether a command has status 0 within this many seconds.
 within() {
     local end=$((SECONDS + $1))
     shift
@@ -42,8 +42,8 @@ within() {
 
 # ---- what is asked
 
-# Whether an rpcbind answers at this socket. Where nobody does the command would ask a port of 127.0.0.1, which is one here
-# that nobody has.
+# Whether an rpcbind answers at this socket. If nobody does, the command would ask a port of 127.0.0.1, which is one
+# here that nobody has.
 answers_at() {
     rpcinfo-proved --port 9 --local "$1" -p > /dev/null 2>&1
 }
@@ -249,7 +249,7 @@ lists_exports() {
     showmount -e 127.0.0.1 | grep 'Export list for 127.0.0.1'
 }
 
-# Calls procedure 0 at the address of each row of these services: each answers, and so many are there at least.
+# Calls procedure 0 at the address of each row of these services: each answers, and at least this many are there.
 each_row_answers() {
     local least=$1 program version netid address owner count=0
     while read -r program version netid address owner; do
@@ -263,7 +263,7 @@ each_row_answers() {
 }
 
 # A whole mount of NFS version 3 in user space, for which the ports of nfs and mountd are looked up; and one by the kernel,
-# where it has NFS. Where it has none mount.nfs comes as far as both ports.
+# if it has NFS. If it has none, mount.nfs comes as far as both ports.
 mounts() {
     local host=$1 protocol=$2 kernels=$3 found
     [ "$(nfs-cat "nfs://$host$served/greeting?version=3")" = hello ] || return 1
@@ -376,7 +376,7 @@ orders() {
     (cd $folder && systemd-analyze verify ./$ours ./var.mount ./tmp.mount) 2>&1
 }
 
-# The same is seen to be wrong where ours waits for /var.
+# The same is seen to be wrong if ours waits for /var.
 has_no_cycle() {
     orders '[Service]' 'PrivateTmp=yes' | grep 'ordering cycle' || { echo "no cycle is seen"; return 1; }
     ! orders | grep -B2 -A4 'ordering cycle'

@@ -1,5 +1,5 @@
 # Sourced by checks.sh: the checks of the package of Debian, which apt installs, upgrades, removes and purges beside the
-# package rpcbind. What is wanted of the Debian after a purge is what it was before.
+# package rpcbind. What is expected of the Debian after a purge is what it was before.
 
 this=$(echo /checks/packages/rpcbind-proved_*.deb)
 next=$(echo /checks/packages/next/rpcbind-proved_*.deb)

@@ -66,6 +66,6 @@ pub record SpellsWho (w : Who) (text : List ℕ) : Type 0 where
   pub is_who : IsWho w
   pub text_is : text ≡ who_text w
 
--- A text is read as this caller exactly where it is what is printed of it.
+-- A text is read as this caller exactly if it is what is printed of it.
 abbrev pub CallersAreSpelled : Type 0
 CallersAreSpelled = (text : List ℕ) (w : Who) → (who text ≡ Some w) ↔ SpellsWho w text

@@ -22,7 +22,7 @@ abbrev pub netid_from : Transport → Source → Netid
 netid_from transport (Inet peer) = netid_on transport (family_of peer.host)
 netid_from transport Local = netids.Local
 
--- what stands for the host that was asked where it is not known
+-- what stands for the host that was asked, if it is not known
 abbrev pub unknown_host : Host
 unknown_host = V4 (replicate 4 0)
 
@@ -51,7 +51,7 @@ abbrev pub source_text : Source → List ℕ
 source_text (Inet peer) = peer_text peer
 source_text Local = codes "local"
 
--- `>` and the host that was asked, or nothing where it is not known
+-- `>` and the host that was asked, or nothing if it is not known
 abbrev pub asked_text : Host → List ℕ
 asked_text asked = if is_same_host asked unknown_host then [] else codes ">" ++ bare_host_text asked
 
@@ -59,7 +59,7 @@ abbrev pub owner_text : Owner → List ℕ
 owner_text Unknown = codes "unknown"
 owner_text (Uid uid) = decimal uid
 
--- `/` and whose word it is, or nothing where there is none but the caller's own
+-- `/` and whose word it is, or nothing if there is none but the caller's own
 abbrev pub trust_text : Trust → List ℕ
 trust_text trusts.Claims = []
 trust_text (trusts.Local owner) = codes "/" ++ owner_text owner

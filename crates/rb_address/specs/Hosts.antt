@@ -45,7 +45,7 @@ mapped_front = 0 ∷ 0 ∷ 0 ∷ 0 ∷ 0 ∷ 0 ∷ 0 ∷ 0 ∷ 0 ∷ 0 ∷ 255 �
 unfoldable pub is_mapped : List ℕ → Bool
 is_mapped octets = bytes_eq (take 12 octets) mapped_front
 
--- as IPv4 where it is ::ffff:a.b.c.d
+-- as IPv4 if it is ::ffff:a.b.c.d
 -- MAPPED-1
 unfoldable pub plain_host : Host → Host
 plain_host (V4 octets) = V4 octets

@@ -86,7 +86,7 @@ pub record SpellsPeer (p : Peer) (text : List ℕ) : Type 0 where
   pub is_peer : IsPeer p
   pub text_is : text ≡ peer_text p
 
--- A text is read as this peer exactly where it is what is printed of it.
+-- A text is read as this peer exactly if it is what is printed of it.
 abbrev pub PeersAreSpelled : Type 0
 PeersAreSpelled = (text : List ℕ) (p : Peer) → (peer text ≡ Some p) ↔ SpellsPeer p text
 

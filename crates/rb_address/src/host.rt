@@ -71,7 +71,7 @@ impl Host {
         }
     }
 
-    /// The host, as one of IPv4 where it is ::ffff:a.b.c.d.
+    /// The host, as one of IPv4 if it is ::ffff:a.b.c.d.
     #[tactic(auto, unfolding(crate::specs::Hosts::plain_host))]
     pub fn plain(self) -> Host
         ensures { result ≡ plain_host self }

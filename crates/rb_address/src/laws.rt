@@ -19,12 +19,12 @@ pub fn name_laws()
     ensures protocols_are_exact { ProtocolsAreExact }
 {}
 
-/// A text is read as a peer exactly where it is what is printed of the peer.
+/// A text is read as a peer exactly if it is what is printed of the peer.
 pub fn peer_laws()
     ensures peers_are_spelled { PeersAreSpelled }
 {}
 
-/// A text is read as a caller exactly where it is what is printed of the caller.
+/// A text is read as a caller exactly if it is what is printed of the caller.
 pub fn caller_laws()
     ensures callers_are_spelled { CallersAreSpelled }
 {}

@@ -44,7 +44,7 @@ impl Peer {
         Peer { host, port }
     }
 
-    /// The peer that has this text: exactly where it is the text that is printed of the peer.
+    /// The peer that has this text, exactly if it is the text that is printed of the peer.
     pub fn read(text: &[u8]) -> Option<Peer>
         ensures { result ≡ peer text.now }
     {

@@ -28,7 +28,7 @@ pub fn cut(text: &[u8], at: u8) -> Option<(&[u8], &[u8])>
     Some((front, back))
 }
 
-/// The number with one digit more, where it fits in 64 bits.
+/// The number with one digit more, if it fits in 64 bits.
 fn with_digit(n: u64, digit: u32) -> Option<u64>
     ensures { SomeIff result (n * 10 + digit < 2 ^ 64) (n * 10 + digit) }
 {
@@ -131,7 +131,7 @@ fn ipv6_peer(text: &[u8]) -> Option<Peer>
     Some(Peer::at(Host::V6(host), port as u16))
 }
 
-/// The peer that has this text: exactly where it is what is printed of the peer.
+/// The peer that has this text, exactly if it is what is printed of the peer.
 #[tactic(auto, unfolding(crate::specs::Reading::peer))]
 pub(crate) fn peer(text: &[u8]) -> Option<Peer>
     ensures { result ≡ peer text.now }
@@ -205,7 +205,7 @@ fn claimant(text: &[u8]) -> Option<Who>
     })
 }
 
-/// The caller that has this text: exactly where it is what is printed of the caller.
+/// The caller that has this text, exactly if it is what is printed of the caller.
 #[tactic(auto, unfolding(crate::specs::CallerTexts::who))]
 pub(crate) fn who(text: &[u8]) -> Option<Who>
     ensures { result ≡ who text.now }

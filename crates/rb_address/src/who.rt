@@ -26,7 +26,7 @@ impl Owner {
 /// What is known of a caller, and by whose word.
 #[derive(Clone, Copy, PartialEq, Eq, Debug)]
 pub enum Trust {
-    /// Nothing but what it says: it may register where its address is one of this machine, as the owner that its
+    /// Nothing but what it says: it may register if its address is one of this machine, as the owner that its
     /// credential names.
     Claims,
     /// It is of this machine, and may register as this owner, whatever its credential says.
@@ -61,14 +61,14 @@ impl Source {
 pub struct Who {
     /// Where it comes from.
     pub source: Source,
-    /// The host of this machine that it asked; 0.0.0.0 where that is not known. None of IPv4 in IPv6's form.
+    /// The host of this machine that it asked; 0.0.0.0 if that is not known. None of IPv4 in IPv6's form.
     pub asked: Host,
     /// What is known of it.
     pub trust: Trust,
 }
 
 impl Who {
-    /// The caller that has this text: exactly where it is the text that is printed of the caller.
+    /// The caller that has this text, exactly if it is the text that is printed of the caller.
     pub fn read(text: &[u8]) -> Option<Who>
         ensures { result ≡ who text.now }
     {
@@ -130,8 +130,8 @@ impl fmt::Display for TrustText {
     }
 }
 
-/// The source; `>` and the host that was asked, where it is not 0.0.0.0; and `/` and the uid, `unknown` or `stranger`,
-/// where there is more than the caller's own word.
+/// The source; `>` and the host that was asked, if it is not 0.0.0.0; and `/` and the uid, `unknown` or `stranger`,
+/// if there is more than the caller's own word.
 impl fmt::Display for Who {
     ghost use Rattle.std.specs.Prelude.{Some};
     ghost use Rattle.rb_address.specs.Callers.{who_text};

@@ -1,4 +1,4 @@
--- Requests are read exactly where their arguments are spelled.
+-- Requests are read exactly if their arguments are spelled.
 use Rattle.std.proofs.Common.{◌≡◌, ℕ, List, drop, Option, Some, None, Ok, Err, refl, ap, subst, ◌∙◌}
 use Rattle.std.specs.Prelude.{option_map, option_and_then}
 use Rattle.std.proofs.lemmas.Option.{none-some, same_Some}

@@ -78,11 +78,11 @@ arguments Uaddr2taddr bytes = option_map requests.Uaddr2taddr (front (read_opaqu
 arguments Taddr2uaddr bytes = option_map requests.Taddr2uaddr (front read_netbuf bytes)
 arguments (Forward kind) bytes = option_map (requests.Forward kind) (front read_remote bytes)
 
--- what the bytes after the verifier ask for, None where they are unreadable
+-- what the bytes after the verifier ask for, None if they are unreadable
 unfoldable pub request : ℕ → ℕ → List ℕ → Option Request
 request vers proc bytes = option_and_then (λ procedure. arguments procedure bytes) (procedure_at vers proc)
 
--- with the reason where there is none
+-- with the reason if there is none
 abbrev pub or_garbage : Option Request → Result Request ArgumentFault
 or_garbage (Some request) = Ok request
 or_garbage None = Err GarbageArgs

@@ -14,7 +14,7 @@ pub struct Entry {
     pub semantics: u32,
     /// The protocol family: inet, inet6 or loopback.
     pub protofmly: Text<32>,
-    /// The protocol: tcp, udp, or - where there is none.
+    /// The protocol: tcp, udp, or - if there is none.
     pub proto: Text<32>,
 }
 

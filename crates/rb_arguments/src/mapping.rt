@@ -10,7 +10,7 @@ pub struct Mapping {
     pub prog: u32,
     /// The program's version.
     pub vers: u32,
-    /// The protocol's number: 6 or 17 where it is one of these transports.
+    /// The protocol's number: 6 or 17 if it is one of these transports.
     pub prot: u32,
     /// The port, at most 65,535 in a result.
     pub port: u32,

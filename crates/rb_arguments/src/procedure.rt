@@ -43,7 +43,7 @@ pub enum RpcbProcedure {
     Set,
     /// RPCBPROC_UNSET: removes the rows of a version of a program, on one netid or on all.
     Unset,
-    /// RPCBPROC_GETADDR: the address of a row, of another version where the one that is asked for has none.
+    /// RPCBPROC_GETADDR: the address of a row, of another version if the one that is asked for has none.
     Getaddr,
     /// RPCBPROC_GETVERSADDR of version 4: the address of a row of exactly this version.
     Getversaddr,
@@ -111,7 +111,7 @@ fn value_of<T: Drop>(read: Result<(T, usize), XdrFault>) -> Option<T>
 }
 
 impl Procedure {
-    /// The procedure of this number in this version, `None` where there is none (RFC 1833 sections 2.2 and 3.2).
+    /// The procedure of this number in this version, `None` if there is none (RFC 1833 sections 2.2 and 3.2).
     #[tactic(auto, unfolding(crate::specs::Arguments::procedure_at))]
     pub fn at(vers: u32, proc: u32) -> Option<Procedure>
         ensures { result ≡ procedure_at vers proc }
@@ -122,7 +122,7 @@ impl Procedure {
             .map(|row| row.2)
     }
 
-    /// What the bytes ask of the procedure, `None` where its arguments can't be read. Bytes after them count for nothing.
+    /// What the bytes ask of the procedure, `None` if its arguments can't be read. Bytes after them count for nothing.
     #[tactic(auto, unfolding(crate::specs::Arguments::arguments))]
     pub fn read(self, bytes: &[u8]) -> Option<Request<'_>>
         ensures request { result ≡ arguments self bytes.now }
@@ -184,7 +184,7 @@ fn is_procedure(a: Procedure, b: Procedure) -> bool
 }
 
 impl Procedure {
-    /// The number of a procedure with no argument, a mapping or an rpcb in this version, where the version has it.
+    /// The number of a procedure with no argument, a mapping or an rpcb in this version, if the version has it.
     #[tactic(auto, unfolding(crate::specs::Numbers::number_of))]
     pub fn number(self, vers: u32) -> Option<u32>
         ensures { result ≡ number_of vers self }

@@ -9,7 +9,7 @@ use rb_xdr::{Xdr, XdrFault, take_opaque};
 /// Where the content of args begins, after three numbers and its count.
 const CONTENT: usize = 16;
 
-/// rpcb_rmtcallargs of RFC 1833 section 2.1 and call_args of section 3.1: which procedure of which program is to be
+/// rpcb_rmtcallargs of RFC 1833 section 2.1 and call_args of section 3.1: which procedure of which program should be
 /// called, and how many bytes of arguments it must be given, at most 8,800. Those stay where they came.
 #[derive(Clone, Copy, PartialEq, Eq, Debug)]
 pub struct RemoteCall {
@@ -24,7 +24,7 @@ pub struct RemoteCall {
 }
 
 impl RemoteCall {
-    /// The call that the front of the bytes asks for, or `None` where none is spelled there or args has more than
+    /// The call that the front of the bytes asks for, or `None` if none is spelled there or args has more than
     /// 8,800 bytes. What follows it counts for nothing.
     #[tactic(auto, using(crate::proofs::Remotes::content_is_there))]
     pub fn read(bytes: &[u8]) -> Option<RemoteCall>

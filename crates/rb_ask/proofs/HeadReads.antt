@@ -116,7 +116,7 @@ at_front p bytes = number_at-drop p 0 bytes ∙ ap (λ (k : ℕ). number_at k by
 
 -- ---- a credential or a verifier, of which nothing is used
 
--- so much content at a place, and its residual bytes
+-- this much content at a place, and its residual bytes
 content_told : {A : Type 0} (rest : Front A) (c p : ℕ) (bytes : List ℕ) → p ≤ length bytes
     → tell_on (told_by Unreadable (read_content c (drop p bytes)) (drop p bytes)) (λ _. rest)
     ≡ cond (ltb (length bytes) (p + c + residue c) || not (are_zero (slice_range bytes (p + c) (p + c + residue c)))) (Stop [] Unreadable) (rest (drop (p + c + residue c) bytes))
@@ -267,7 +267,7 @@ refused_told bytes =
     by_length true = refl
     by_length false = known_told (auth_stat_of (word 4 bytes)) (word 0 bytes) bytes
 
--- a reply that refuses, where all its words but the versions are there
+-- a reply that refuses, if all its words but the versions are there
 denied_long : (bytes : List ℕ) → 20 ≤ length bytes → tell_on (reject_stat (word 3 bytes) Unreadable (drop 16 bytes)) (headed (word 0 bytes)) ≡ told_head (read_denied bytes) bytes
 unfolding ◌>>=◌ take_one read_denied read_rpc_mismatch
 denied_long bytes long =
@@ -277,7 +277,7 @@ denied_long bytes long =
     branch (eqb (word 3 bytes) 0) _ _ _ _ xid d bytes (versions_told RpcMismatch xid 16 bytes) (
     branch (eqb (word 3 bytes) 1) _ _ _ _ xid d bytes (refused_told bytes ∙ rw (le-ltb (length bytes) 20 long) refl) refl))
 
--- and where they are not
+-- and if they are not
 denied_short : (bytes : List ℕ) → length bytes < 20 → tell_on (reject_stat (word 3 bytes) Unreadable (drop 16 bytes)) (headed (word 0 bytes)) ≡ told_head (read_denied bytes) bytes
 unfolding ◌>>=◌ take_one read_denied
 denied_short bytes short =
@@ -307,7 +307,7 @@ denied_told bytes =
 
 -- ---- whatever is told of the data's end
 
--- The first is told where the end is `Unreadable`, the second where it is another fault.
+-- The first is told if the end is `Unreadable`, the second if it is another fault.
 abbrev Alike : {A : Type 0} → InfoFault → Told A → Told A → Type 0
 Alike end (Done lines x left) told = told ≡ Done lines x left
 Alike end (Stop lines fault) told = (told ≡ Stop lines fault) ⊎ ((fault ≡ Unreadable) × (told ≡ Stop lines end))

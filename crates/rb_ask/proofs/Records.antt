@@ -124,7 +124,7 @@ whole_step k bytes = by_tests (is_cut bytes) (is_last bytes)
     by_tests false true = refl
     by_tests false false = mapped (record_of k (drop (fragment_end bytes) bytes)) (λ n. fragment_end bytes + n)
 
--- a header is cut short where there are fewer than four bytes
+-- a header is cut short if there are fewer than four bytes
 whole_short : (k : ℕ) (bytes : List ℕ) → length bytes < 4 → whole_in k bytes ≡ false
 whole_short zero bytes few = refl
 whole_short (suc k) bytes few =
@@ -201,7 +201,7 @@ ends_some at at' b bytes more same =
     let one : at.left ≡ suc at'.left = omega (arith, more) in
     rw (one, same) (ap (λ (b : Bool). b && (at.last || is_whole (drop at'.left bytes))) (leb_suc at'.left (length bytes)))
 
--- where more of a fragment is to come
+-- if more of a fragment is to come
 ends_nil : (at : Record) → 0 < at.left → ends_in at [] ≡ false
 unfolding ends_in
 ends_nil at more = by_test (leb at.left 0) (elim (leb_tells at.left 0) [ inl h ↦ absurd (omega (arith, more, h.1)) | inr h ↦ h.0 ])
@@ -285,7 +285,7 @@ byte_gives b known known' at at' left last pays took input read content p =
     λ front x e. let s = snoc_is read front b x e in m.1 ∙ ap (λ (xs : List ℕ). data_read input xs ++ b ∷ []) s.0 ∙ ap (λ (y : ℕ). data_read input front ++ y ∷ []) s.1 in
     (data_left at' (take at'.allowed c.0), m.0, record { read = read ++ b ∷ []; passed = m.2; ends = ends })
 
--- ---- where there is no more
+-- ---- when there is no more
 
 -- what may be read is what was read, and as much as is allowed
 front_is : (input : Input) (read : List ℕ) (known : Supply) (at : Record) (content : List ℕ) (p : HasPassed input read known at content) → front_of input.bytes ≡ read ++ take at.allowed p.rest

@@ -43,7 +43,7 @@ data_read input front = if input.is_marked then data_of front else take (length 
 unfoldable pub is_over : Input → List ℕ → Bool
 is_over input front = if input.is_marked then is_whole front else nat_le (length input.bytes) (length front)
 
--- What is wrong where more is needed than the data that may be read: the input or its record ends there, or the record
+-- What is wrong if more is needed than the data that may be read: the input or its record ends there, or the record
 -- goes on after the bytes that may be read.
 -- DATA-3
 unfoldable pub end_of : Input → InfoFault

@@ -8,7 +8,7 @@ use Rattle.rb_ask.specs.Telling.{Told}
 use Rattle.rb_ask.specs.Telling.Told.{Done, Stop}
 use Rattle.rb_ask.specs.Heads.{take_head}
 
--- the head that was read, with the data after it; where there is none, the data is no reply or ends too early
+-- the head that was read, with the data after it; if there is none, the data is no reply or ends too early
 abbrev pub IsHead : Read → InfoFault → List ℕ → Told ReplyHead → Type 0
 IsHead (Some read) end content told = told ≡ Done [] read.0 (drop read.1 content)
 IsHead None end content told = (told ≡ Stop [] Unreadable) ⊎ (told ≡ Stop [] end)

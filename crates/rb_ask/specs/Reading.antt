@@ -46,7 +46,7 @@ Passes left source source' at at' =
     (input : Input) (read content : List ℕ) → HasPassed input read (left source) at content
     → (read' : List ℕ) × HasPassed input read' (left source') at' content
 
--- No data is to come, and this is what is wrong where more is needed.
+-- No data is to come, and this is what is wrong if more is needed.
 abbrev pub HasNoData : Supply → Record → InfoFault → Type 0
 HasNoData known at fault =
     (input : Input) (read content : List ℕ) → HasPassed input read known at content → (content ≡ []) × (fault ≡ end_of input)

@@ -3,7 +3,7 @@ use Rattle.std.specs.Prelude.{ℕ, Bool, IsTrue, List, [], ◌∷◌, Option, So
 use Rattle.std.specs.Io.KnownBytes.{Consumes, IsAtEnd}
 use Rattle.rb_ask.specs.declared.source.SourceFailed.{SourceFailed}
 
--- The bytes that a source has left, where they are known, and whether it can fail.
+-- The bytes that a source has left, if they are known, and whether it can fail.
 pub record Supply : Type 0 where
   pub bytes : Option (List ℕ)
   pub can_fail : Bool

@@ -17,7 +17,7 @@ pub data Told (A : Type 0) : Type 0 where
   Done : List (List ℕ) → A → List ℕ → Told A
   Stop : List (List ℕ) → InfoFault → Told A
 
--- from the front of data, of which is known what is wrong where more is needed than there is
+-- from the front of data, of which it is known what is wrong if more is needed than there is
 abbrev pub Teller : Type 0 → Type 0
 Teller A = InfoFault → List ℕ → Told A
 
@@ -45,7 +45,7 @@ stop fault = λ end content. Stop [] fault
 abbrev pub tell : List (List ℕ) → Teller (Unit {0})
 tell lines = λ end content. Done lines tt content
 
--- where more bytes could make a value of it, the data ends too early
+-- if more bytes could make a value of it, the data ends too early
 -- DATA-3
 abbrev pub told_by : {A : Type 0} → InfoFault → Reading A → List ℕ → Told A
 told_by end (Ok read) content = Done [] read.0 (drop read.1 content)
@@ -106,8 +106,8 @@ abbrev pub Outcome : {A : Type 0} → Told A → Input → Supply → Record →
 Outcome told input known at old new (Ok x) = HasFinished told x input known at old new
 Outcome told input known at old new (Err fault) = AfterFault told fault known old new
 
--- Of each input where the record stood before the data, its outcome is what the teller says of the data. The source had
--- `known` left, then `known'`, and the writer held `old`, then `new`.
+-- Of each input in which the record stood before the data, its outcome is what the teller says of the data. The source
+-- had `known` left, then `known'`, and the writer held `old`, then `new`.
 pub record Tells {A : Type 0} (teller : Teller A) (known known' : Supply) (at at' : Record) (old new : Option (List ℕ)) (result : Result A InfoFault) : Type 0 where
   pub outcome : (input : Input) (content : List ℕ) → StandsBefore input known at content
       → Outcome (teller (end_of input) content) input known' at' old new result

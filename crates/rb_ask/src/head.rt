@@ -104,7 +104,7 @@ fn reply_stat<B: ByteSource>(
 /// Reads the head of a reply (RFC 5531 section 9), and no byte after it. A verifier may have any flavor and at most 400
 /// bytes, and nothing is kept of it.
 ///
-/// `Unreadable` where the data is no reply; the other faults are those of `take_item`.
+/// `Unreadable` if the data is no reply; the other faults are those of `take_item`.
 #[tactic(auto, using(crate::proofs::Tellings::tells_then, crate::proofs::Tellings::tells_fault, crate::proofs::Tellings::tells_give, crate::proofs::Tellings::tells_stop), unfolding(crate::specs::Heads::take_head))]
 pub fn take_head<B: ByteSource>(
     alloc: Global,

@@ -21,8 +21,8 @@ fn is_short(fault: XdrFault) -> bool
 
 /// Reads a value from the front of the record's data, and no byte after it.
 ///
-/// `Unreadable` where the data does not begin with the spelling of a value, as soon as no further byte could complete
-/// one. `CutOff`, `TooLong` and `Read` as `Record::byte` says, and `Memory` where an allocation is refused.
+/// `Unreadable` if the data does not begin with the spelling of a value, as soon as no further byte could complete
+/// one. `CutOff`, `TooLong` and `Read` as `Record::byte` says, and `Memory` if an allocation is refused.
 pub fn take_item<T: Xdr, B: ByteSource>(
     alloc: Global,
     source: &mut B,

@@ -6,7 +6,7 @@ ghost use Rattle.rb_ask.specs.ListLaws.{ListsAreShown, LongerListsStop, ListsAre
 use rb_xdr::Xdr;
 
 /// What `take_head` takes from the front of a reply's data is the head that `read_reply` says of all the data, and the
-/// data after it is left; where `read_reply` says none, it is `Unreadable`.
+/// data after it is left; if `read_reply` says none, it is `Unreadable`.
 pub fn heads_are_read()
     ensures { HeadsAreRead }
 {}

@@ -20,12 +20,12 @@ pub trait Style<T> {
     /// The line of an item, with its line feed.
     ghost text: { Self → T → List ℕ };
 
-    /// Makes the line of an item. `AllocError` where an allocation is refused.
+    /// Makes the line of an item. `AllocError` if an allocation is refused.
     fn line(&self, alloc: Global, item: &T) -> Result<String, AllocError>
         ensures { IfOk result (λ line. string_bytes line ≡ text self.now item.now) };
 }
 
-/// Writes the line of an item, in one write. `Memory` where an allocation is refused, `Write` where the writer fails.
+/// Writes the line of an item, in one write. `Memory` if an allocation is refused, `Write` if the writer fails.
 #[tactic(auto, using(crate::proofs::Tellings::tells_line, crate::proofs::Tellings::tells_write_fault, crate::proofs::Tellings::tells_memory))]
 pub fn show_item<T: Xdr, S: Style<T>, W: Write>(
     alloc: Global,

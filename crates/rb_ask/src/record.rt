@@ -97,8 +97,8 @@ impl Record {
 
     /// Reads the next byte of the record's data.
     ///
-    /// `CutOff` where the record or the source ends before it, `TooLong` where 16,777,216 bytes of the record were
-    /// read before it, and `Read` where the source fails.
+    /// `CutOff` if the record or the source ends before it, `TooLong` if 16,777,216 bytes of the record were
+    /// read before it, and `Read` if the source fails.
     #[tactic(auto, using(crate::proofs::Records::byte_gives))]
     pub fn byte<B: ByteSource>(&mut self, source: &mut B) -> Result<u8, InfoFault>
         ensures gives { IfOk result (GivesByte B.left source.old source.new self.old self.new) }

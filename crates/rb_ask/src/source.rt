@@ -12,7 +12,7 @@ pub struct SourceFailed;
 
 /// A source of bytes, of which one is read at a time.
 pub trait ByteSource {
-    /// The bytes that it has left, where they are known, and whether it can fail.
+    /// The bytes that it has left, if they are known, and whether it can fail.
     ghost left: { Self → Supply };
 
     /// Reads the next byte; `None` at the end of the source.

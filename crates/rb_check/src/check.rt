@@ -61,8 +61,8 @@ struct Check<'a> {
 }
 
 /// Asks the programs of the rows that are of this machine over TCP and UDP, 64 at a time: those that it comes to in
-/// the first second, and waits for answers until two seconds are over. For each row what is known. Where the system
-/// gives no socket or no time, nothing is. An error where the allocation is refused.
+/// the first second, and waits for answers until two seconds are over. Returns for each row what is known. If the
+/// system gives no socket or no time, nothing is. An error if the allocation is refused.
 pub fn ask_all<R: Net + Clock>(
     rt: &R,
     alloc: Global,
@@ -122,7 +122,7 @@ impl Check<'_> {
         }
     }
 
-    /// Asks the next rows from this place, until one is to be waited for.
+    /// Asks the next rows from this place, until one must be waited for.
     fn ask_next<R: Net>(&mut self, rt: &R, place: usize) {
         let rows = self.rows;
         for row in rows.get(self.next..).unwrap_or(&[]) {

@@ -63,7 +63,7 @@ impl Probe {
         Ok(Probe { socket, call })
     }
 
-    /// What an event shows: `Answered` where something came, and none where nothing did so far.
+    /// What an event shows: `Answered` if something came, and none if nothing did so far.
     pub fn look(&mut self) -> Option<Found> {
         match self.receive() {
             Ok(0) => Some(Found::NotKnown),
@@ -72,7 +72,7 @@ impl Probe {
         }
     }
 
-    /// How many bytes came. The call goes out first, where it has not: once the connection is made.
+    /// How many bytes came. The call goes out first, if it has not yet: once the connection is made.
     fn receive(&mut self) -> io::Result<usize> {
         let mut room = [0; 512];
         match &mut self.socket {
@@ -98,7 +98,7 @@ impl Probe {
     }
 }
 
-/// What is known by an error: that nobody listens, where the system says so; none where it says to wait.
+/// What is known by an error: that nobody listens, if the system says so; none if it says to wait.
 pub fn found_by(error: &io::Error) -> Option<Found> {
     match error.kind() {
         ErrorKind::ConnectionRefused => Some(Found::NobodyThere),

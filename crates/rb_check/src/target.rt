@@ -21,7 +21,7 @@ pub struct Target {
     pub address: SocketAddr,
 }
 
-/// Where the program of a row is asked; none where it is of a local socket, or of another host.
+/// Where the program of a row is asked; none if it is of a local socket, or of another host.
 pub fn target_of(row: &Row, own: OwnHosts<'_>) -> Option<Target> {
     let (transport, address) = match row.netid {
         Netid::Tcp => (Transport::Tcp, row.addr.ipv4()?),

@@ -1,4 +1,4 @@
--- What is wrong with the value of an option, and what is wanted there.
+-- What is wrong with the value of an option, and what is expected there.
 use Rattle.std.specs.Prelude.{ℕ, ◌==◌, nat_lt, Bool, false, if◌then◌else◌, List, ◌++◌, codes, bytes_eq, Option, Some, None}
 use Rattle.std.specs.Borrow.{Bor}
 use Rattle.rb_commands.specs.declared.options.Valued.{Valued}
@@ -28,7 +28,7 @@ option_name RecordLimit = codes "record-limit"
 option_name Keep = codes "keep"
 option_name Log = codes "log"
 
--- ---- what is wanted
+-- ---- what is expected
 
 abbrev pub number_text : List ℕ
 number_text = codes "a number of 64 bits"

@@ -25,9 +25,9 @@ pub enum Words<'a> {
     Check(Beginning),
 }
 
-/// What the words ask for, the program's own name first. Where nothing needs to be run, what there is to say was
-/// written, and the exit status is the error: 0 where help or the version went to `output`; 2 where the words can't
-/// be read, and `faults` got the reason; 1 where memory or `output` failed.
+/// What the words ask for, the program's own name first. If nothing needs to be run, what there is to say was
+/// written, and the exit status is the error: 0 if help or the version went to `output`; 2 if the words can't
+/// be read, and `faults` got the reason; 1 if memory or `output` failed.
 pub fn read_words<'a, S: AsStr, O: Write, E: Write>(
     alloc: Global,
     words: &'a [S],

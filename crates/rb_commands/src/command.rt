@@ -99,7 +99,7 @@ fn from<'a>(alloc: Global) -> Arg<'a> {
     .action(ArgAction::Append)
 }
 
-/// What `serve` listens on besides.
+/// What else `serve` listens on.
 fn add_sockets<'a>(alloc: Global, command: Command<'a>) -> Result<Command<'a>, AllocError> {
     let loopback6 = Arg::new(alloc, "loopback6")
         .long("loopback6")

@@ -203,7 +203,7 @@ fn number32(option: Valued, text: &str) -> Result<u32, Valued>
     }
 }
 
-/// A port from 1 to 65535. `Port` where the text is none.
+/// A port from 1 to 65535. `Port` if the text is none.
 #[tactic(auto, unfolding(rb_address::specs::Reading::number_below))]
 pub(crate) fn read_port(text: &str) -> Result<u16, Valued>
     ensures { result ≡ value_of Valued.Port (port text.now) }
@@ -216,7 +216,7 @@ pub(crate) fn read_port(text: &str) -> Result<u16, Valued>
     }
 }
 
-/// Limits, whatever their ranges. The first option whose text is no number of 64 bits where one is none.
+/// Limits, whatever their ranges. The first option whose text is no number of 64 bits, if there is one.
 pub(crate) fn read_limits(conns: &str, rows: &str, forwards: &str) -> Result<Limits, Valued>
     ensures { result ≡ limits_of conns.now rows.now forwards.now }
 {
@@ -230,7 +230,7 @@ pub(crate) fn read_limits(conns: &str, rows: &str, forwards: &str) -> Result<Lim
     })
 }
 
-/// Whether a reply over UDP may be long to whomever: `all`, or `local`, where it may be to callers of this machine alone.
+/// Whether a reply over UDP may be long to anyone: `all`, or `local`, if it may be so to callers of this machine alone.
 pub(crate) fn read_udp_lists(text: &str) -> Result<bool, Valued>
     ensures { result ≡ value_of Valued.UdpLists (udp_lists text.now) }
 {

@@ -72,8 +72,8 @@ pub struct Serve<'a> {
     pub turns: u64,
 }
 
-/// The text that stands for the value of an option of `serve` that is not given, as it stands in the help. Where
-/// nothing stands for it, the empty text, which no reader of a value takes.
+/// The text that stands for the value of an option of `serve` that is not given, as it stands in the help. If nothing
+/// stands for it, the empty text, which no reader of a value takes.
 pub fn serve_default(option: Valued) -> &'static str
     ensures { result.now ≡ default_of option }
 {
@@ -206,7 +206,7 @@ fn read_rate_number(text: &[u8]) -> Result<u32, Valued>
     }
 }
 
-/// How many of one network and of one host: as many of one host as of its network where there is one number.
+/// How many of one network and of one host: as many of one host as of its network if there is only one number.
 fn read_rate(text: &str) -> Result<Rate, Valued>
     ensures { result ≡ rate_of text.now }
 {
@@ -226,7 +226,7 @@ fn read_rate(text: &str) -> Result<Rate, Valued>
     }
 }
 
-/// The same, where it is given.
+/// The same, if it is given.
 fn read_udp_rate(text: Option<&str>) -> Result<Option<Rate>, Valued>
     ensures { result ≡ udp_rate text.entry }
 {

@@ -1,4 +1,4 @@
-//! What is wrong with the value of an option, and what is wanted there.
+//! What is wrong with the value of an option, and what is expected there.
 ghost use Rattle.std.specs.Prelude.{◌≡◌};
 ghost use Rattle.rb_commands.specs.Wanted.{option_name, wanted_text, announced_text, bound_text, served_text};
 
@@ -22,7 +22,7 @@ pub(crate) struct BadValue<'a> {
     pub(crate) option: &'static str,
     /// Its value.
     pub(crate) value: &'a str,
-    /// What is wanted in place of that.
+    /// What is expected in place of that.
     pub(crate) wanted: &'static str,
 }
 
@@ -71,8 +71,8 @@ pub(crate) fn option_name(option: Valued) -> &'static str
     }
 }
 
-/// What is wanted as its value. That of `--announce` at a place after the first may be the second of its family, and those of
-/// `--bind` and `--from` may be one too many.
+/// What is expected as its value. That of `--announce` at a place after the first may be the second of its family, and
+/// those of `--bind` and `--from` may be one too many.
 pub(crate) fn wanted_text(option: Valued) -> &'static str
     ensures { result.now ≡ wanted_text option }
 {

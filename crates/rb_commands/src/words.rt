@@ -13,7 +13,7 @@ fn words_of<R: Env + AllocGlobal>(rt: &R) -> io::Result<Vec<String>> {
     Ok(words)
 }
 
-/// The words of the command line, where each is text. Where one is not, or memory is refused, that is said, and the
+/// The words of the command line, if each is text. If one is not, or memory is refused, that is said, and the
 /// error is the exit status.
 pub fn command_words<R: Env + AllocGlobal, E: Write>(
     rt: &R,

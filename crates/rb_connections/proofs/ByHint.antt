@@ -1,4 +1,4 @@
--- The slot under a hint, where it is the one that is wanted by its number.
+-- The slot under a hint, if it is the one that is asked for by its number.
 use Rattle.std.specs.Map.{values_of}
 use Rattle.std.proofs.Common.{◌≡◌, ℕ, Bool, true, not, eqb, List, [], ◌∷◌, Some, arith}
 use Rattle.std.proofs.lemmas.Grind.{common_steps}
@@ -16,7 +16,7 @@ pub distinct_numbers : (given : ℕ) (slots : List Slot) → AreNumbered given s
 distinct_numbers given [] n = tt
 distinct_numbers given (slot ∷ slots) n = (n.1, distinct_numbers given slots n.2)
 
--- where all that pass have this number, one that passes is the first
+-- if all that pass have this number, one that passes is the first
 module _ (test : Slot → Bool) (id : ℕ) (only : (s : Slot) → test s ≡ true → s.number ≡ id) where
   first_of : (es : List (ℕ × Slot)) (k : ℕ) (slot : Slot) → HasDistinctNumbers (values_of es) → value_at es k ≡ Some slot → test slot ≡ true → key_of test es ≡ Some k
   first_of [] k slot d v t = grind (arith, common_steps, some_is, eqb-true, any-there-of, eq-eqb)

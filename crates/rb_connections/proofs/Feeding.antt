@@ -17,7 +17,7 @@ use Rattle.rb_model.specs.Calls.{kept_of}
 use Rattle.rb_connections.specs.Reading.{Fed, Intake, Reader, HasData, IsInside, HasMore, fed_until, StandsBehind}
 use Rattle.rb_connections.specs.StandsFor.{IsReading}
 
--- After this front of a piece, where the reading began with the first reader and buffer.
+-- After this front of a piece, if the reading began with the first reader and buffer.
 pub record IsBehind (reader : Reader) (first : Kept) (marks : Marks) (intake : Intake) (kept : Kept) (front : List ℕ) : Type 0 where
   pub inside : (fed : List ℕ) → IsReading reader first fed → IsInside marks intake kept (fed ++ front)
   pub cap : kept.cap ≡ first.cap

@@ -40,7 +40,7 @@ behind (suc k) a b reply is_a is_b within =
       | inr few ↦ absurd (omega (arith, is_a, within, few, length-short reply few))
     ]
 
--- a fragment with this data is the first one of what is not shown yet, where it has the first 1,024 bytes of that
+-- a fragment with this data is the first one of what is not shown yet, if it has the first 1,024 bytes of that
 pub part_shown : (rest part : List ℕ) (last : Bool) → part ≡ take 1024 rest → last ≡ leb (length rest) 1024
     → fragment_header (length part) last ++ part ≡ take longest_fragment (marked_reply rest)
 part_shown rest part last is last_is =
@@ -170,7 +170,7 @@ place_inside reply shown o g = omega (arith, (place_of reply shown o g).inside, 
 pub pending_count : (reply : List ℕ) (shown : Kept) (o : Owed) → IsShown reply shown o → o.given % longest_fragment + length (pending_of o) ≡ length shown.bytes
 pending_count reply shown o g = grind (arith, common_steps, length-drop, place_inside reply shown o g, pending_shown reply shown o g)
 
--- the fragment is no longer than a whole one, and it is whole where more follows
+-- the fragment is no longer than a whole one, and it is whole if more follows
 pub fragment_few : (reply : List ℕ) (shown : Kept) (o : Owed) → IsShown reply shown o → length shown.bytes ≤ longest_fragment
 fragment_few reply shown o g = omega (arith, (place_of reply shown o g).few, longest_is)
 
@@ -181,7 +181,7 @@ fragment_full reply shown o g more = grind (arith, common_steps, place_of reply 
 pub fragment_behind : (reply : List ℕ) (shown : Kept) (o : Owed) → IsShown reply shown o → 1024 * (o.given / 1028) + 1024 < length reply → 1028 * (o.given / 1028) + 1028 < length (marked_reply reply)
 fragment_behind reply shown o g more = grind (arith, common_steps, place_of reply shown o g)
 
--- this many whole fragments are within the marked reply, where their data is within the reply
+-- this many whole fragments are within the marked reply, if their data is within the reply
 pub more_marked : (k : ℕ) (reply : List ℕ) → 1024 * k < length reply → 1028 * k < length (marked_reply reply)
 more_marked zero reply more = omega (arith, some-marked reply)
 more_marked (suc k) reply more =

@@ -26,7 +26,7 @@ any-there-of test [] k a v t = grind arith
 any-there-of test (e ∷ es) k a v t = grind (arith, any-there-of test es k a)
 
 module _ (test : Slot → Bool) where
-  -- one is changed, and passes only where it did before
+  -- one is changed, and passes only if it did before
   any-changed : (es : List (ℕ × Slot)) (k : ℕ) (old new : Slot) → value_at es k ≡ Some old → (test old ≡ false → test new ≡ false)
       → list_any test (values_of es) ≡ false → list_any test (values_of (with_value es k new)) ≡ false
   any-changed [] k old new v keeps none = grind arith
@@ -36,7 +36,7 @@ module _ (test : Slot → Bool) where
   any-put [] k old new v t = grind arith
   any-put (e ∷ es) k old new v t = grind (arith, any-put es k old new)
 
-  -- where all that pass are of this number, and none else is of it
+  -- if all that pass are of this number, and none of these is
   none-of : (id : ℕ) → ((s : Slot) → eqb s.number id ≡ false → test s ≡ false) → (slots : List Slot) → list_any (is_numbered id) slots ≡ false → list_any test slots ≡ false
   none-of id only [] none = grind arith
   none-of id only (s ∷ slots) none = grind (arith, none-of id only slots)
@@ -128,7 +128,7 @@ found_live id k es slot d h v =
     not-true : (b : Bool) → not b ≡ true → b ≡ false
     not-true bb e = grind (arith, common_steps)
 
--- where none is found, none is Idle
+-- if none is found, none is Idle
 pub none_idle : (id : ℕ) (es : List (ℕ × Slot)) → option_map (λ e. e.0) (wanted_slot (wanted.Live id) es) ≡ None → (table : Table) → table.slots ≡ es → has_idle id table ≡ true → ⊥
 unfolding wanted_slot is_wanted_slot has_idle
 none_idle id es none table is idle =

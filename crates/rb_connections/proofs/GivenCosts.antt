@@ -1,4 +1,4 @@
--- What it costs to count bytes as given: the rows count where the next fragment is of a list.
+-- What it costs to count bytes as given: the rows count if the next fragment is of a list.
 use Rattle.std.specs.Prelude.{is_some}
 use Rattle.std.proofs.Common.{◌≡◌, ◌≤◌, ℕ, ◌+◌, Option, Some, None, Ok, Err, subst, arith}
 use Rattle.std.specs.Option.{option_map}
@@ -29,7 +29,7 @@ shown_few registry slot giving is = rw is (by_rest giving.rest)
     by_rest (rests.Held start) = omega arith
     by_rest (rests.Listed list) = omega arith
 
--- by the live connection of the number, or where there is none
+-- by the live connection of the number, or if there is none
 module _ (registry : Registry) (id : ℕ) (table : Table) (a b : Meter) where
   pub gone_pays : option_map (λ e. e.0) (wanted_slot (wanted.Live id) table.slots) ≡ None → PaysAtMost a b (look_cost table) → PaysToGive table registry id a b
   gone_pays none pays x z = rw (not_live registry id table.slots x.all z.all none) pays

@@ -32,7 +32,7 @@ use Rattle.rb_connections.proofs.Rooms.{fitting_behind}
 
 -- ---- on the connection that a slot stands for
 
--- nothing fits but where a reply is owed
+-- nothing fits unless a reply is owed
 pub nothing_fits : (room : ℕ) (registry : Registry) (stage : Stage) (buffer window : Kept) (phase : Phase) → ((x : Giving) → stage ≡ stages.Owing x → ⊥) → StandsForPhase registry stage buffer window phase → fitting_in room phase ≡ []
 nothing_fits room registry stage buffer window phase other h = grind arith
 

@@ -1,4 +1,4 @@
--- A connection is live where its slot is Idle.
+-- A connection is live if its slot is Idle.
 use Rattle.std.specs.Prelude.{find}
 use Rattle.std.specs.List.{AllZip, list_any}
 use Rattle.std.specs.Map.{values_of}

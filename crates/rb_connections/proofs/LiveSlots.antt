@@ -30,11 +30,11 @@ charge_among slots k slot found =
     let its = ap (λ m. unwrap_or (option_map charge m) 0) found in
     omega (arith, sum, its)
 
--- it counts as so much, which is no more than with full buffers
+-- it counts as this much, which is no more than with full buffers
 pub within_by : (slot : Slot) (its : ℕ) → its ≡ charge slot → its ≤ most_charge → IsWithin slot
 within_by slot its counts few = rw (← counts) few
 
--- ---- it changed: the rest of what is held was counted without it, and now it counts as so much
+-- ---- it changed: the rest of what is held was counted without it, and now it counts as this much
 
 module _ (slots : Pool Slot) (spare : Pool Buffers) (given conns held : ℕ) (t : IsTable slots spare given conns held) (id : ℕ) (old new : Slot) (live : IsLiveSlot id slots.entries old)
     (rest : ℕ) (taken : rest + charge old ≡ held) (its : ℕ) (counts : its ≡ charge new) (few : its ≤ most_charge) where

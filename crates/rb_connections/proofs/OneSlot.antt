@@ -120,7 +120,7 @@ pub none_given : (registry : Registry) (old : Slot) (clock n : ℕ) → ((c : Co
 unfolding give with_given
 none_given registry old clock n none = grind arith
 
--- nothing is pending but where a reply is owed
+-- nothing is pending unless a reply is owed
 pub nothing_pending : (registry : Registry) (stage : Stage) (buffer window : Kept) (phase : Phase) → ((x : Giving) → stage ≡ stages.Owing x → ⊥) → StandsForPhase registry stage buffer window phase → pending_in phase ≡ []
 nothing_pending registry stage buffer window phase other h = grind arith
 

@@ -10,7 +10,7 @@ use Rattle.rb_connections.specs.declared.slot.Stage.TheVariants as stages
 use Rattle.rb_registry.specs.Registry.{Registry}
 use Rattle.rb_connections.specs.StandsFor.{StandsForPhase, IsGiving}
 
--- What holds where both are alike holds of each stage and the phase that it stands for.
+-- What holds if both are alike holds of each stage and the phase that it stands for.
 module _ (registry : Registry) (buffer window : Kept) (P : Stage → Phase → Type 0)
     (idle : StandsForPhase registry stages.Idle buffer window Idle → P stages.Idle Idle)
     (reading : (reader : Reader) (fed : List ℕ) → StandsForPhase registry (stages.Reading reader) buffer window (Reading fed) → P (stages.Reading reader) (Reading fed))

@@ -80,7 +80,7 @@ module _ (registry : Registry) (giving : Giving) (buffer : List ℕ) (window : K
         omega (arith, same, all)
 
 module _ (registry : Registry) (buffer : List ℕ) (rest : Rest) (before next : Kept) (new : Giving) (shows : ShowsNext registry buffer rest before next new) where
-  -- after a fragment that was shown and is not the last one, something is to come
+  -- after a fragment that was shown and is not the last one, something will come
   pub goes_on_shown : CanContinueReply registry buffer new
   goes_on_shown = grind (arith, common_steps, leb-false (length (rest_in registry buffer rest)) fragment_size, length-drop fragment_size (rest_in registry buffer rest))
 

@@ -83,7 +83,7 @@ pub now_standing : (id k : ℕ) (old new : Slot) (table : Table) → value_at ta
     → HasDistinctNumbers (values_of (with_value table.slots k new)) → IsStanding id (record table { slots = with_value table.slots k new }) (standing_of_slot new)
 now_standing id k old new table v n same d = is_standing id k new (record table { slots = with_value table.slots k new }) d (there_with table.slots k old new v) (same ∙ n)
 
--- where none is live
+-- if none is live
 pub gone_standing : (id : ℕ) (table : Table) → option_map (λ (e : ℕ × Slot). e.0) (wanted_slot (wanted.Live id) table.slots) ≡ None → IsStanding id table stands.Lost
 gone_standing id table none registry c h = rw (not_live registry id table.slots c.all h.all none) refl
 

@@ -45,7 +45,7 @@ has_idle id table = list_any (is_idle_slot id) (values_of table.slots)
 abbrev pub is_not_idle_since : ℕ → ℕ → Slot → Bool
 is_not_idle_since id clock slot = slot.number == id && not (is_idle_stage slot.stage && slot.since == clock)
 
--- The connection of this number, where there is one, is Idle since this moment.
+-- The connection of this number, if there is one, has been Idle since this moment.
 abbrev pub IsIdleIfThere : ℕ → ℕ → Table → Type 0
 IsIdleIfThere id clock table = list_any (is_not_idle_since id clock) (values_of table.slots) ≡ false
 
@@ -80,7 +80,7 @@ pub record StayOpen (old new : Table) : Type 0 where
 abbrev pub OnlyIsFreed : ℕ → Table → Table → Type 0
 OnlyIsFreed number old new = (id : ℕ) → (id == number) ≡ false → is_free id old ≡ false → is_free id new ≡ false
 
--- Where a call is forwarded for the connection of this number, which was Idle, it awaits that.
+-- If a call is forwarded for the connection of this number, which was Idle, it awaits that.
 abbrev pub AwaitsIfForwarded : Response → ℕ → Table → Table → Type 0
 AwaitsIfForwarded given id old new = given ≡ outcomes.Forwarded → has_idle id old ≡ true → is_free id new ≡ false
 

@@ -40,7 +40,7 @@ abbrev pub answered_cost : Registry → Served → ℕ
 answered_cost registry (Answered given) = show_cost + 1
 answered_cost registry (Listed xid listing) = listed_cost (row_count registry) + 1
 
--- what it costs to swap the buffer of a record, where one ended
+-- what it costs to swap the buffer of a record, if one ended
 abbrev pub record_swap_cost : Option EndedRecord → ℕ
 record_swap_cost None = 0
 record_swap_cost (Some ended) = swap_cost

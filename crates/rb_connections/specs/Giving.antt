@@ -17,7 +17,7 @@ use Rattle.rb_connections.specs.StandsFor.{rest_in, stamp_of_rest}
 use Rattle.rb_connections.specs.declared.slot.Stage.TheVariants as stages
 use Rattle.rb_connections.specs.declared.slot.Slot.{Slot}
 
--- What is not shown yet can be made from this registry, where that is of a list.
+-- What is not shown yet can be made from this registry, if it is of a list.
 abbrev pub CanMake : Registry → Rest → Type 0
 CanMake registry (rests.Held start) = ⊤
 CanMake registry (rests.Listed list) = CanBeContinued registry list
@@ -31,7 +31,7 @@ pub record CanContinueReply (registry : Registry) (buffer : List ℕ) (giving : 
 abbrev pub with_fragment : List ℕ → Bool → Kept → Kept
 with_fragment part last window = record window { bytes = fragment_header (length part) last ++ part }
 
--- The next fragment of a reply is shown, where `rest` was not shown yet, and `giving` is how it goes on.
+-- The next fragment of a reply, of which `rest` was not shown yet, is shown, and `giving` is how it goes on.
 pub record ShowsNext (registry : Registry) (buffer : List ℕ) (rest : Rest) (before shown : Kept) (giving : Giving) : Type 0 where
   pub fragment : shown ≡ record before { bytes = take longest_fragment (marked_reply (rest_in registry buffer rest)) }
   pub rest_is : rest_in registry buffer giving.rest ≡ drop fragment_size (rest_in registry buffer rest)
@@ -45,7 +45,7 @@ abbrev pub pending_count : Result (List ℕ) CoreFault → Result ℕ CoreFault
 pending_count (Ok bytes) = Ok (length bytes)
 pending_count (Err fault) = Err fault
 
--- A slot shows the next fragment of a reply, where `rest` was not shown yet.
+-- A slot shows the next fragment of a reply, of which `rest` was not shown yet.
 pub record SlotShowsNext (registry : Registry) (rest : Rest) (old new : Slot) : Type 0 where
   pub giving : Giving
   pub is : new ≡ record old { stage = stages.Owing giving; window = new.window }
@@ -60,22 +60,22 @@ pub record IsGivenWhole (before after : Kept) (given : List ℕ) : Type 0 where
   pub is_marked : given ≡ marked_reply before.bytes
   pub is_empty : after ≡ record before { bytes = [] }
 
--- how many bytes are written where a reply of n bytes is given whole in this room: 0 where it is not
+-- how many bytes are written if a reply of n bytes is given whole in this room: 0 if it is not
 abbrev pub whole_length : ℕ → ℕ → ℕ
 whole_length room n = if not (nat_lt fragment_size n) && not (nat_lt room longest_fragment) then 4 + n else 0
 
--- what it costs to give n bytes so, where there is this room: the look at how many there are, they themselves, and the
--- buffer emptied
+-- what it costs to give n bytes so, if there is this much room: the look at how many there are, they themselves, and
+-- the buffer emptied
 abbrev pub whole_cost : ℕ → ℕ → ℕ
 whole_cost room n = if room == 0 then 0 else n + 2
 
 -- ---- a reply of which as many fragments are written into a room as fit whole
 
--- how many bytes are written there for a fragment with n bytes of data: 0 where it does not fit
+-- how many bytes are written there for a fragment with n bytes of data: 0 if it does not fit
 abbrev pub fragment_length : ℕ → ℕ → ℕ
 fragment_length room n = if nat_le (4 + n) room then 4 + n else 0
 
--- how many of n bytes: all of them, or 0 where they do not fit
+-- how many of n bytes: all of them, or 0 if they do not fit
 abbrev pub fitting_length : ℕ → ℕ → ℕ
 fitting_length room n = if nat_le n room then n else 0
 
@@ -99,7 +99,7 @@ pub record ShowsInstead (registry : Registry) (buffer : List ℕ) (rest : Rest) 
   pub long : length room < length (take longest_fragment (marked_reply (rest_in registry buffer rest)))
   pub shows : ShowsNext registry buffer rest before shown giving
 
--- One of these came of the next fragment of a reply; the window stays where it was written.
+-- One of these came of the next fragment of a reply; if that was written, the window stays as it was.
 abbrev pub WritesNext : Registry → List ℕ → Rest → List ℕ → Kept → Kept → Next → Type 0
 WritesNext registry buffer rest room before after (nexts.Ended n) = WritesLast (rest_in registry buffer rest) room n × (after ≡ before)
 WritesNext registry buffer rest room before after (nexts.Behind behind) = WritesFull registry buffer rest room behind × (after ≡ before)
@@ -127,7 +127,7 @@ WritesPart part last rest room before after (nexts.Behind behind) =
 WritesPart part last rest room before after (nexts.Shown giving) =
     (length room < 4 + length part) × (after ≡ with_fragment part last before) × (giving ≡ record { rest = rest; place = 0; last = last })
 
--- the fragments that fit into so much room of a reply of which nothing was given
+-- the fragments that fit into this much room, of a reply of which nothing was given
 abbrev pub fitting_front : ℕ → List ℕ → List ℕ
 fitting_front room reply = fitting_of room (owed_of reply None 0)
 
@@ -151,7 +151,7 @@ abbrev pub GoesOn : Registry → List ℕ → Rest → Kept → Kept → ℕ →
 GoesOn registry buffer rest before after n None = (n ≡ length (marked_reply (rest_in registry buffer rest))) × (after ≡ before)
 GoesOn registry buffer rest before after n (Some giving) = GoesOnShown registry buffer rest before after n giving
 
--- the same of a slot, whose buffers are empty where its reply has ended
+-- the same of a slot, whose buffers are empty if its reply has ended
 abbrev pub SlotIsBehind : Registry → Rest → ℕ → Slot → Slot → Option Giving → Type 0
 SlotIsBehind registry rest n old new None =
     (n ≡ length (marked_reply (rest_in registry old.buffer.bytes rest)))

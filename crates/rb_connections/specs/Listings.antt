@@ -58,7 +58,7 @@ stamps_in slots = filter_map stamp_of_slot (values_of slots)
 abbrev pub stamps_of : Table → List ℕ
 stamps_of table = stamps_in table.slots
 
--- It is the least of these numbers, None where there is none.
+-- It is the least of these numbers, None if there is none.
 abbrev pub IsOldest : List ℕ → Option ℕ → Type 0
 IsOldest numbers None = numbers ≡ []
 IsOldest numbers (Some oldest) = Contains numbers oldest × All (λ n. oldest ≤ n) numbers
@@ -80,7 +80,7 @@ abbrev pub EvictsBefore : ℕ → Table → Table → Type 0
 EvictsBefore earliest old new =
     (changes : List ℕ) → IsEarliest changes earliest → TableBecomes (evict changes) old new
 
--- a slot after the eviction, Lost where its list began before the change
+-- a slot after the eviction, Lost if its list began before the change
 abbrev pub evicted_slot : ℕ → Slot → Slot
 evicted_slot earliest slot = if began_before_earliest earliest (stamp_of_slot slot) then record slot { stage = stages.Lost } else slot
 

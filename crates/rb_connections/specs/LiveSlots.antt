@@ -11,7 +11,7 @@ use Rattle.rb_connections.specs.contracts.slot.Slot.{the_row}
 use Rattle.rb_connections.specs.StandsFor.{charge}
 use Rattle.rb_connections.specs.Slots.{wanted_slot}
 
--- its key, 0 where there is none
+-- its key, 0 if there is none
 abbrev pub live_key : ℕ → List (ℕ × Slot) → ℕ
 live_key id slots = option_map_or (λ (e : ℕ × Slot). e.0) (wanted_slot (wanted.Live id) slots) 0
 
@@ -30,12 +30,12 @@ FindsLive id slots (Some slot) = IsLiveSlot id slots slot
 abbrev pub LendsLive : MutBor (Pool Slot) → ℕ → Option (MutBor Slot) → Fml
 LendsLive slots id found = lends_entry the_row slots (live_key id slots.now.entries) found
 
--- what it counts as, nothing where there is none
+-- what it counts as, nothing if there is none
 abbrev pub charge_of : Option Slot → ℕ
 charge_of None = 0
 charge_of (Some slot) = charge slot
 
--- what it costs to count it, nothing where there is none
+-- what it costs to count it, nothing if there is none
 abbrev pub count_cost : Option Slot → ℕ
 count_cost None = 0
 count_cost (Some slot) = 2

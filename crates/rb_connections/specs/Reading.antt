@@ -20,7 +20,7 @@ abbrev pub fed_until : List ℕ → List ℕ → Option ℕ → Fed
 fed_until fed piece None = record { count = length piece; verdict = None }
 fed_until fed piece (Some n) = record { count = n - length fed; verdict = Some (verdict (data_of (take n (fed ++ piece)))) }
 
--- The reader and the buffer stand for all these bytes, or where they have a whole record, the
+-- The reader and the buffer stand for all these bytes, or if these have a whole record, the
 -- buffer has what is kept of the first.
 abbrev pub StandsBehind : Reader → Kept → List ℕ → Option ℕ → Type 0
 StandsBehind reader kept all None = IsReading reader kept all
@@ -44,7 +44,7 @@ pub record AreKept (kept : Kept) (room : ℕ) (arguments : List ℕ) : Type 0 wh
   pub room_is : room + length kept.bytes ≡ longest_kept
   pub cap : kept.cap ≡ buffer_size
 
--- More arguments are kept as far as there is room, which leaves so much.
+-- More arguments are kept as far as there is room, which leaves this much.
 abbrev pub KeepsMore : Kept → ℕ → List ℕ → Kept → ℕ → Type 0
 KeepsMore kept room more now left = (arguments : List ℕ) → AreKept kept room arguments → AreKept now left (arguments ++ more)
 

@@ -105,7 +105,7 @@ arguments_after before TakesNone = before
 arguments_after before (GoesOn fed) = before
 arguments_after before (Ends n content) = kept_of content
 
--- the connection after the piece: where a record ended, Idle until that is answered
+-- the connection after the piece: if a record ended, Idle until that is answered
 abbrev pub connection_after : ℕ → Connection → Taking → Connection
 connection_after clock c TakesNone = c
 connection_after clock c (GoesOn fed) = keep_reading clock fed c
@@ -248,7 +248,7 @@ is_wanted (wanted.Numbered id) c = has_number id c
 is_wanted wanted.AnyLost c = is_lost c.phase
 is_wanted (wanted.Due clock) c = is_due clock c
 
--- it is wanted by its number, which no other connection has
+-- it is asked for by its number, which no other connection has
 abbrev pub is_by_number : Sought → Bool
 is_by_number (wanted.Live id) = true
 is_by_number (wanted.Numbered id) = true
@@ -262,18 +262,18 @@ number_wanted (wanted.Numbered id) = id
 number_wanted wanted.AnyLost = 0
 number_wanted (wanted.Due clock) = 0
 
--- the key and the slot of the first connection that is wanted
+-- the key and the slot of the first connection that is asked for
 -- HINT-1
 unfoldable pub wanted_slot : Sought → List (ℕ × Slot) → Option (ℕ × Slot)
 wanted_slot sought slots = find (λ (e : ℕ × Slot). is_wanted_slot sought e.1) slots
 
--- the first connection that is wanted, and its slot
+-- the first connection that is asked for, and its slot
 pub record IsFound (registry : Registry) (sought : Sought) (all : List Connection) (slot : Slot) : Type 0 where
   pub connection : Connection
   pub found : find (is_wanted sought) all ≡ Some connection
   pub stands : StandsForConnection registry slot connection
 
--- The first connection that is wanted was found, or there is none.
+-- The first connection that is asked for was found, or there is none.
 abbrev pub Finds : Sought → Table → Option (Bor Slot) → Type 0
 Finds sought table result =
     (registry : Registry) (c : Connections) → StandsForConnections registry table c

@@ -56,7 +56,7 @@ abbrev pub rest_in : Registry → List ℕ → Rest → List ℕ
 rest_in registry buffer (rests.Held start) = drop start buffer
 rest_in registry buffer (rests.Listed list) = rest_of registry list
 
--- the stamp of the reply, where it is a list: how many changes were accepted before it began
+-- the stamp of the reply, if it is a list: how many changes were accepted before it began
 abbrev pub stamp_of_rest : Rest → Option ℕ
 stamp_of_rest (rests.Held start) = None
 stamp_of_rest (rests.Listed list) = Some list.stamp
@@ -73,7 +73,8 @@ pub record IsGiving (registry : Registry) (giving : Giving) (buffer : List ℕ) 
 
 -- ---- one connection
 
--- The stage and the buffers hold what there is to know of the phase, but for the rest of a list, which is made from this registry.
+-- The stage and the buffers hold what there is to know of the phase, but for the rest of a list, which is made
+-- from this registry.
 abbrev pub StandsForPhase : Registry → Stage → Kept → Kept → Phase → Type 0
 StandsForPhase registry stages.Idle buffer window Idle = (buffer.bytes ≡ []) × (window.bytes ≡ [])
 StandsForPhase registry (stages.Reading reader) buffer window (Reading fed) = IsReading reader buffer fed × (window.bytes ≡ [])

@@ -163,9 +163,9 @@ fn make_spare(alloc: Global, conns: usize, meter: &mut Meter) -> Result<Pool<Buf
     Ok(spare)
 }
 
-/// The key of the first slot that is wanted. One that is wanted by its number is looked for under the hint first.
+/// The key of the first slot that is asked for. One that is asked for by its number is looked for under the hint first.
 ///
-/// It is inlined, since each caller knows what kind is wanted, and each call over TCP looks its connection up more
+/// It is inlined, since each caller knows what kind is asked for, and each call over TCP looks its connection up more
 /// than once.
 #[tactic(auto, unfolding(crate::specs::Slots::wanted_slot))]
 #[inline(always)]
@@ -245,8 +245,8 @@ impl Connections {
         })
     }
 
-    /// Opens a connection, and gives its number: `Full` where there are as many as there may be, lost ones among
-    /// them, else `Spent` where no number is left.
+    /// Opens a connection, and gives its number: `Full` if there are as many as there may be, lost ones among
+    /// them, else `Spent` if no number is left.
     pub fn open(&mut self, clock: u64, who: Who, meter: &mut Meter) -> Result<u64, CoreFault>
         requires { meter.old.tie ≡ self.old.tie }
         ensures acts { TableActs (open_in_table self.old.conns who clock) self.old self.new result }
@@ -276,7 +276,7 @@ impl Connections {
         Ok(self.last_number)
     }
 
-    /// Removes the connection of the number, live or Lost: `Gone` where there is none.
+    /// Removes the connection of the number, live or Lost: `Gone` if there is none.
     pub fn close(&mut self, id: u64, meter: &mut Meter) -> Result<(), CoreFault>
         requires { meter.old.tie ≡ self.old.tie }
         ensures acts { TableActs (close_in_table id) self.old self.new result }
@@ -296,8 +296,8 @@ impl Connections {
         Ok(())
     }
 
-    /// Takes a record that is one fragment and lies whole in the piece, as most do, where the live connection of the
-    /// number is Idle and under its hint. The connection is Idle until it is settled. `None` where it is not so, and
+    /// Takes a record that is one fragment and lies whole in the piece, as most do, if the live connection of the
+    /// number is Idle and under its hint. The connection is Idle until it is settled. `None` if it is not so, and
     /// then nothing changed.
     pub fn take_whole<'a>(
         &mut self,
@@ -323,7 +323,7 @@ impl Connections {
     }
 
     /// Takes bytes that arrive on the live connection of the number, up to the end of a record, and returns the
-    /// verdict on a record that ended, whose arguments go into `arguments`: `Gone` where there is no such connection.
+    /// verdict on a record that ended, whose arguments go into `arguments`: `Gone` if there is no such connection.
     pub fn take(
         &mut self,
         id: u64,
@@ -394,7 +394,7 @@ impl Connections {
     }
 
     /// Counts n of the pending bytes of the live connection of the number as given, or as many as there are, and
-    /// returns where it stands then: `Gone` where there is none. The next fragment of a list is made in a buffer that
+    /// returns where it stands then: `Gone` if there is none. The next fragment of a list is made in a buffer that
     /// is empty before and after.
     pub fn gave(
         &mut self,
@@ -430,8 +430,8 @@ impl Connections {
     }
 
     /// Gives what is pending of the reply on the live connection of the number into `room`, and each fragment after
-    /// that, as many as fit whole, and returns how many bytes and where it stands then: `Gone` where there is none.
-    /// Where none fits or is owed, nothing changes. Fragments of a list are made in a buffer that is empty before and
+    /// that, as many as fit whole, and returns how many bytes and where it stands then: `Gone` if there is none.
+    /// If none fits or is owed, nothing changes. Fragments of a list are made in a buffer that is empty before and
     /// after.
     pub fn write_into(
         &mut self,
@@ -514,7 +514,7 @@ impl Connections {
         self.held
     }
 
-    /// The first connection that is wanted.
+    /// The first connection that is asked for.
     #[inline(always)]
     fn first(&self, wanted: Sought, meter: &mut Meter) -> Option<&Slot>
         requires { meter.old.tie ≡ self.now.tie }
@@ -531,7 +531,7 @@ impl Connections {
         }
     }
 
-    /// How many bytes are pending on the live connection of the number: `Gone` where there is none.
+    /// How many bytes are pending on the live connection of the number: `Gone` if there is none.
     pub fn pending_len(&self, id: u64, meter: &mut Meter) -> Result<usize, CoreFault>
         requires { meter.old.tie ≡ self.now.tie }
         ensures len { TableShows (λ c. pending_count (pending_at id c)) self.now result }
@@ -543,8 +543,8 @@ impl Connections {
         Ok(slot.pending_len(meter))
     }
 
-    /// The rest of the current fragment of the reply that the live connection of the number owes, empty where it owes
-    /// none: `Gone` where there is no such connection.
+    /// The rest of the current fragment of the reply that the live connection of the number owes, empty if it owes
+    /// none: `Gone` if there is no such connection.
     pub fn pending(&self, id: u64, meter: &mut Meter) -> Result<&[u8], CoreFault>
         requires { meter.old.tie ≡ self.now.tie }
         ensures lent { TableLends (pending_at id) self.now result }
@@ -578,7 +578,7 @@ impl Connections {
     ghost use Rattle.rb_connections.specs.Costs.{slot_count};
     ghost use Rattle.rb_connections.specs.Slots.{TableShows};
 
-    /// The least deadline of the connections, or `None` where none of them has one. Before it `expire` makes none Lost.
+    /// The least deadline of the connections, or `None` if none of them has one. Before it `expire` makes none Lost.
     pub fn next_deadline(&self, meter: &mut Meter) -> Option<u64>
         requires { meter.old.tie ≡ self.now.tie }
         ensures soonest { TableShows next_connection_deadline self.now result }

@@ -14,7 +14,7 @@ const READING_TIME: u64 = 30_000;
 /// From the end of a call, or a byte of its reply given, to the next byte given, in milliseconds.
 const OWING_TIME: u64 = 30_000;
 
-/// How long a connection may stay in this stage, from `since` on, in milliseconds: None where it has no deadline.
+/// How long a connection may stay in this stage, from `since` on, in milliseconds: None if it has no deadline.
 pub(crate) fn time_in(stage: &Stage) -> Option<u64>
     ensures { result ≡ time_in (phase_like stage.now) }
 {

@@ -33,7 +33,7 @@ impl Rest {
     ghost use Rattle.std.specs.Prelude.{◌≡◌};
     ghost use Rattle.rb_connections.specs.StandsFor.{stamp_of_rest};
 
-    /// The stamp of the reply, where it is a list: how many changes were accepted before it began.
+    /// The stamp of the reply, if it is a list: how many changes were accepted before it began.
     pub fn stamp(self) -> Option<u64>
         ensures { result ≡ stamp_of_rest self }
     {
@@ -70,7 +70,7 @@ fn layout(giving: &Giving) {
     }
 }
 
-/// Appends bytes where there is room for them.
+/// Appends bytes for which there is room.
 fn put(window: &mut Kept, bytes: &[u8], meter: &mut Meter)
     requires tie { meter.old.tie ≡ window.old.tie }
     requires room { HasRoom bytes.now window.old }
@@ -98,7 +98,7 @@ fn frame(part: &[u8], last: bool, window: &mut Kept, meter: &mut Meter)
 }
 
 /// Writes a fragment with this data to `room`, with its header (RFC 5531 section 11). Returns the number of bytes
-/// written, 0 where there is no room for them.
+/// written, 0 if there is no room for them.
 fn write_fragment(part: &[u8], last: bool, room: &mut [u8]) -> usize
     requires some { 0 < length part.now }
     requires few { length part.now ≤ fragment_size }
@@ -126,7 +126,7 @@ enum Next {
     Shown(Giving),
 }
 
-/// Writes the fragment with this data to `room`, or else puts it in the window. `rest` is after it, where it is not
+/// Writes the fragment with this data to `room`, or else puts it in the window. `rest` is after it, if it is not
 /// the last one and has 1,024 bytes of data.
 fn write_part(
     part: &[u8],
@@ -208,8 +208,8 @@ fn write_list(
     next
 }
 
-/// Writes the next fragment of a reply to `room`, where `rest` was not shown yet, or else puts it in the window: from
-/// `buffer`, or of a list, whose fragment is made in `draft`, which is empty before and after.
+/// Writes the next fragment of a reply, of which `rest` was not shown yet, to `room`, or else puts it in the window:
+/// from `buffer`, or of a list, whose fragment is made in `draft`, which is empty before and after.
 fn write_next(
     rest: Rest,
     buffer: &Kept,
@@ -237,7 +237,7 @@ fn write_next(
     }
 }
 
-/// Puts the next fragment of a reply in the window, where `rest` was not shown yet: from `buffer`, or of a list,
+/// Puts the next fragment of a reply, of which `rest` was not shown yet, in the window: from `buffer`, or of a list,
 /// whose fragment is made in `draft`, which is empty before and after.
 pub fn frame_next(
     rest: Rest,
@@ -265,7 +265,7 @@ pub fn frame_next(
     }
 }
 
-/// Copies what is left of a window from this place on to `room`. Returns how many bytes, 0 where they do not fit.
+/// Copies what is left of a window from this place on to `room`. Returns how many bytes, 0 if they do not fit.
 pub fn copy_framed(place: usize, window: &Kept, room: &mut [u8], meter: &mut Meter) -> usize
     requires tie { meter.old.tie ≡ window.now.tie }
     ensures count { result ≡ fitting_length (length room.old) (length window.now.bytes - place) }
@@ -282,8 +282,8 @@ pub fn copy_framed(place: usize, window: &Kept, room: &mut [u8], meter: &mut Met
     left
 }
 
-/// Writes fragments of a reply to `room`, where `rest` was not shown yet, as many as fit whole. The next one is put in
-/// the window. Returns how many bytes were written, and how the reply goes on, `None` where it has ended.
+/// Writes fragments of a reply, of which `rest` was not shown yet, to `room`, as many as fit whole. The next one is put
+/// in the window. Returns how many bytes were written, and how the reply goes on, `None` if it has ended.
 pub fn write_fragments(
     mut rest: Rest,
     buffer: &Kept,
@@ -321,8 +321,8 @@ pub fn write_fragments(
     }
 }
 
-/// Writes a reply of one fragment, with its header, to `room`, where that has place for the longest fragment, and
-/// empties its buffer. Returns the number of bytes written, 0 where nothing was.
+/// Writes a reply of one fragment, with its header, to `room`, if that has place for the longest fragment, and
+/// empties its buffer. Returns the number of bytes written, 0 if nothing was.
 #[tactic(auto, unfolding(rb_model::specs::Connections::longest_fragment))]
 pub fn write_whole(reply: &mut Kept, room: &mut [u8], meter: &mut Meter) -> usize
     requires tie { meter.old.tie ≡ reply.old.tie }

@@ -24,8 +24,8 @@ impl Hints {
         Hints { keys: [0; 256] }
     }
 
-    /// The key to try first for the wanted connection; where that is not wanted by its number, the key for number 0,
-    /// which no connection has.
+    /// The key to try first for the connection that is asked for; if it is not asked for by its number, the key for
+    /// number 0, which no connection has.
     pub fn key(&self, wanted: Sought) -> usize
         ensures { result ≡ slice_index self.now.keys (number_wanted wanted % 256) }
     {

@@ -32,7 +32,7 @@ fn layout(reader: &Reader) {
 #[derive(Clone, Copy)]
 struct Intake {
     head: CallFeed,
-    /// How many more bytes of its arguments are to be kept.
+    /// For how many more bytes of its arguments there is room.
     room: usize,
 }
 
@@ -41,7 +41,7 @@ struct Intake {
 pub struct Fed {
     /// How many of its bytes were taken.
     pub count: usize,
-    /// Where a record ended with the last of them, the verdict on its data.
+    /// If a record ended with the last of them, the verdict on its data.
     pub verdict: Option<Verdict>,
 }
 

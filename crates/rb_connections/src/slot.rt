@@ -49,7 +49,7 @@ impl Sought {
     ghost use Rattle.std.specs.Prelude.{◌≡◌};
     ghost use Rattle.rb_connections.specs.Slots.{is_by_number};
 
-    /// Whether it is wanted by its number, which no other connection has.
+    /// Whether it is asked for by its number, which no other connection has.
     pub fn is_by_number(self) -> bool
         ensures { result ≡ is_by_number self }
     {
@@ -87,7 +87,7 @@ pub struct Slot {
     pub stage: Stage,
     /// The moment of its last progress, from which its deadline counts.
     pub since: u64,
-    /// The first bytes of the arguments of the call that is read, or the whole reply that is given, where that is no
+    /// The first bytes of the arguments of the call that is read, or the whole reply that is given, if that is no
     /// list.
     pub buffer: Kept,
     /// The marked fragment of the reply that is being given.
@@ -281,7 +281,7 @@ impl Slot {
     }
 
     /// Notes that a record came whole at this moment, and returns its sender. The connection stays Idle until it is
-    /// settled. `None` where it is not the connection of this number, or not Idle; then nothing changed.
+    /// settled. `None` if it is not the connection of this number, or not Idle; then nothing changed.
     pub fn take_whole(&mut self, id: u64, clock: u64) -> Option<Who>
         ensures idle { IfSome result (λ who. self.old.stage ≡ Stage.Idle) }
         ensures number { IfSome result (λ who. self.old.number ≡ id) }
@@ -396,7 +396,7 @@ impl Slot {
         }
     }
 
-    /// Puts the next fragment of a reply in its window, where `rest` was not shown yet.
+    /// Puts the next fragment of a reply, of which `rest` was not shown yet, in its window.
     fn frame(&mut self, rest: Rest, registry: &Registry, draft: &mut Kept, meter: &mut Meter)
         requires registry { meter.old.tie ≡ registry.now.tie }
         requires buffers { HasBuffers meter.old.tie self.old }
@@ -452,7 +452,7 @@ impl Slot {
     }
 
     /// Gives what is pending of its reply into `room`, and each fragment after that, as many as fit whole: with the
-    /// last byte of its reply the connection is Idle again. Returns how many bytes; 0 where none fits or is owed, and
+    /// last byte of its reply the connection is Idle again. Returns how many bytes; 0 if none fits or is owed, and
     /// then nothing changed. Fragments of a list are made in a buffer that is empty before and after.
     pub fn write_into(
         &mut self,
@@ -491,8 +491,8 @@ impl Slot {
         shown + self.write_rest(giving.rest, free, registry, draft, meter)
     }
 
-    /// Gives fragments of a reply into `room`, where `rest` was not shown yet, as many as fit whole. Returns how many
-    /// bytes.
+    /// Gives fragments of a reply, of which `rest` was not shown yet, into `room`, as many as fit whole. Returns how
+    /// many bytes.
     fn write_rest(
         &mut self,
         rest: Rest,
@@ -564,7 +564,7 @@ impl Slot {
         }
     }
 
-    /// The rest of the current fragment of the reply that is owed, empty where none is.
+    /// The rest of the current fragment of the reply that is owed, empty if none is.
     #[tactic(auto, unfolding(rb_model::specs::Connections::longest_fragment))]
     pub fn pending(&self, meter: &mut Meter) -> &[u8]
         requires { HasBuffers meter.old.tie self.now }

@@ -35,7 +35,7 @@ module _ (view : CoreView) (caller : Caller) (context : Context) (is : context �
   served_by message arguments table books given acts frame stays =
       subst (λ (x : Context). Served x view message arguments table books given) is (record { acts = acts; frame = frame; stays = stays })
 
--- where a message adds no row, no room is to be made
+-- if a message adds no row, no room needs to be made
 pub nothing_evicts : (context : Context) (message : Message) (before : Table) (old : Books) → ((l : Ledger) → asks_room context message l ≡ false) → Evicts context message before old before old
 nothing_evicts context message before old none = λ c l z h. (rw (not_asked context message c.all l (none l), none_evicted c) z, h)
 
@@ -52,7 +52,7 @@ module _ (context : Context) (message : Message) (arguments : List ℕ) (before 
       low : All (λ n. books.registry.floor ≤ n) (stamps_of table)
       low = subst (λ (f : ℕ). All (λ n. f ≤ n) (stamps_of table)) (sym floor) (stamps_low mid.registry table told)
 
-  -- where the message adds no row, and no row changes
+  -- if the message adds no row, and no row changes
   pub serves_without_room : (books : Books) → ((l : Ledger) → asks_room context message l ≡ false) → books.registry ≡ old.registry
       → ActsAs (outcome context message arguments) old books given → ServesInRoom context message arguments before old before books given
   serves_without_room books none same acts = record {

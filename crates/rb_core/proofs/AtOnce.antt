@@ -83,7 +83,7 @@ leaves_none registry served before after given some is = record {
   later = λ more clock c. rw is.is_reply (whole_leaves clock c before.bytes given some is.whole.is_marked);
 }
 
--- and all of an answer where no byte is given.
+-- and all of an answer if no byte is given.
 pub leaves_all : (given : Outcome) → Leaves given given []
 leaves_all given = record {
   all = λ none. refl;
@@ -214,7 +214,7 @@ counted now id n piece room old new x acts same = record {
   stands = λ s h. subst (λ (k : ℕ). StandsFor new (then_gave now id k (bytes s now id piece)).1) (same s h) (acts.stands s h);
 }
 
--- none are where the bytes are refused
+-- none are if the bytes are refused
 pub none_refused : (now id : ℕ) (piece : List ℕ) (room : ℕ) (old new : CoreView) (f : CoreFault) → Acts StandsFor (λ s. bytes s now id piece) old new (Err f)
     → (s : State) → StandsFor old s → 0 ≡ at_once room id (live_connection id s.connections.all) (bytes s now id piece)
 none_refused now id piece room old new f acts s h = by_result (live_connection id s.connections.all) (bytes s now id piece) (acts.gives s h)
@@ -224,7 +224,7 @@ none_refused now id piece room old new f acts s h = by_result (live_connection i
     by_result (Some c) (Err g, t) e = refl
     by_result (Some c) (Ok x, t) e = absurd cc
 
--- Where nothing is given at once it is the event alone.
+-- If nothing is given at once it is the event alone.
 pub plainly : (now id : ℕ) (piece : List ℕ) (old new : CoreView) (taken : Result Taken CoreFault) → Acts StandsFor (λ s. bytes s now id piece) old new taken → Acts StandsFor (giving_by now id piece 0) old new (taken, [])
 plainly now id piece old new taken acts = record {
   gives = λ s h. ap (λ (r : Result Taken CoreFault). pair r) (acts.gives s h);
@@ -234,7 +234,7 @@ plainly now id piece old new taken acts = record {
     pair : Result Taken CoreFault → Result Taken CoreFault × List ℕ
     pair r = (r, [])
 
--- where there is no room, none are
+-- if there is no room, none are
 no_room : (id : ℕ) (m : Option Connection) (r : Result Taken CoreFault × State) → at_once 0 id m r ≡ 0
 unfolding longest_fragment
 no_room id None r = refl

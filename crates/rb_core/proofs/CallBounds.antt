@@ -40,7 +40,7 @@ use Rattle.rb_core.specs.Events.{StaysCheapIfQuiet, StaysWithinSteps, length_tak
 use Rattle.rb_core.proofs.Outputs.{datagram_shown, same_state}
 use Rattle.rb_core.proofs.Spending.{at_most, connections_held, rows_held}
 
--- where no record ends, there is none to be answered
+-- if no record ends, there is none to be answered
 no_record : (may : Bool) (sizes : Sizes) (c : Connection) (piece : List ℕ) → IfSome (fed_in c.phase) (λ fed. first_record (fed ++ piece) ≡ None) → record_cost may sizes (taking_of c.phase piece) ≡ 0
 unfolding taking_of
 no_record may sizes c piece none = by_fed (fed_in c.phase) piece none
@@ -112,7 +112,7 @@ module _ (core : CoreView) (a b : Meter) where
 
   -- ---- calls that serve a message
 
-  -- the rows that are left where what is held stands for a state of the same limits
+  -- the rows that are left if what is held stands for a state of the same limits
   rows_left : (new : CoreView) (s t : State) → StandsFor core s → StandsFor new t → t.setting ≡ s.setting → length (slots_of new.books.registry) ≤ core.setting.limits.rows
   rows_left new s t h k same =
       let limit : t.setting.limits.rows ≡ core.setting.limits.rows = ap (λ (x : Setting). x.limits.rows) (same ∙ sym h.setting) in
@@ -131,7 +131,7 @@ module _ (core : CoreView) (a b : Meter) where
         (omega (arith, few_connections s h reached, few_rows s h, few_looks s h, left, shows.1.short, most)) pays;
   }
 
-  -- the state keeps its setting where bytes are given
+  -- the state keeps its setting when bytes are given
   kept_setting : (now n id : ℕ) (s : State) → (without_front now n id s).setting ≡ s.setting
   unfolding gave
   kept_setting now n id s = elim (eqb n 0) as (λ b. (cond b s (gave s now id n).1).setting ≡ s.setting) [ true ↦ refl | false ↦ by_result (on_live id (give (max s.clock now) n) s.connections) ]
@@ -179,7 +179,7 @@ module _ (core : CoreView) (a b : Meter) where
         by_there s h reached None there paid = at_most a b (find_cost (length core.connections.slots) + more) _ (omega (arith, few, few_connections s h reached)) paid
         by_there s h reached (Some c) there paid = by_taking s h reached (may_register_in core c.who) (taking_of c.phase piece) (counts s c result there (ap (λ (x : Result Taken CoreFault × List ℕ). x.0) (acts.gives s h))) paid
 
-    -- where no record ends, a piece costs a step for each byte that is taken, two for each connection, and 9
+    -- if no record ends, a piece costs a step for each byte that is taken, two for each connection, and 9
     pub cheap_within : (new : CoreView) (result : Result (Taken × Standing) CoreFault) → TakesBytes now id piece core new result → PaysForBytes core new id piece a b → StaysCheapIfQuiet core id piece result a b
     cheap_within new result acts pays = λ s h reached none. by_there s h reached none (live_connection id s.connections.all) refl (pays s h)
       where

@@ -153,7 +153,7 @@ one_fewer p (y ∷ ys) x (suc i) within is out =
     let rest = one_fewer p ys x i (omega (arith, within)) is out in
     elim (p y) as (λ b. length (cond b (y ∷ filter p ys) (filter p ys)) < suc (length ys)) [ true ↦ omega (arith, rest) | false ↦ omega (arith, rest) ]
 
--- where each list that is left began at the earliest removal or after it, a trim drops the row that was removed by it
+-- if each list that is left began at the earliest removal or after it, a trim drops the row that was removed by it
 pub room_is_made : (removals after stamps : List ℕ) (earliest : ℕ) (oldest : Option ℕ) → IsEarliest removals earliest → All (λ stamp. earliest ≤ stamp) stamps → IsOldest stamps oldest
     → after ≡ later_than oldest removals → length after < length removals
 room_is_made removals after stamps earliest None first low none is =

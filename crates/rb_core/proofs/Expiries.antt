@@ -30,7 +30,7 @@ due_closed old table found result is stays acts = record {
   };
 }
 
--- where no entry ended, and this came of the connections
+-- if no entry ended, and this came of the connections
 pub none_ended_then : (old mid new : CoreView) (act : State → Option Told × State) (result : Expired) → Acts StandsFor act old mid None → Acts StandsFor expire_connection mid new result
     → Acts StandsFor (λ s. expired_as (act s)) old new result
 none_ended_then old mid new act result acts then = record { gives = λ s h. (goes (act s) (acts.gives s h) (acts.stands s h)).0; stands = λ s h. (goes (act s) (acts.gives s h) (acts.stands s h)).1 }

@@ -153,7 +153,7 @@ module _ (announced : Announced) (sizes : Sizes) (piece : List ℕ) where
 
 -- ---- a message
 
--- where no room is made
+-- if no room is made
 pub served_alone : (context : Context) (message : Message) (table : Table) (old new : Books) (args : List ℕ) (out : Kept) (m0 m1 : Meter) → PaysToServe context message old new args out m0 m1
     → PaysAtMost m0 m1 (message_cost (sizes_for (comes_from_here context) message (sizes table old new)) (length args) (length out.bytes))
 served_alone context message table old new args out m0 m1 pays =
@@ -174,7 +174,7 @@ served_in_room context message table old mid new args out m0 m1 m2 limit fewer r
       tie = served.tie ∙ room.tie;
     }
 
--- the caller of a context may register where it may by what is held
+-- the caller of a context may register if it may by what is held
 pub registers_as : (context : Context) (held : CoreView) (caller : Caller) → context ≡ context_of held caller → comes_from_here context ≡ may_register_in held (who_of caller)
 unfolding comes_from_here
 registers_as context held caller is = rw is refl
@@ -203,7 +203,7 @@ list_asks may says.NoCall lists = lists
 list_asks may (says.Refused head) lists = lists
 list_asks may (says.Garbage head) lists = lists
 
--- a list is begun where one is asked for alone
+-- a list is begun only if one is asked for
 pub begun_few : (may : Bool) (message : Message) (registry : Registry) (served : Served) → ListsIfAsked message served → answered_cost registry served ≤ listed_cost (walked (asks_for_rows may message) (length (slots_of registry))) + 1
 begun_few may message registry (Answered given) lists = omega arith
 begun_few may message registry (Listed xid listing) lists = by_asked (asks_for_rows may message) (list_asks may message (lists refl))
@@ -241,7 +241,7 @@ module _ (context : Context) (may : Bool) (registers : comes_from_here context �
         tie = fifth.tie ∙ same_meter;
       }
 
--- ---- where no rows are asked for
+-- ---- if no rows are asked for
 
 pub plain_datagram_paid : (may : Bool) (table : Table) (old new : Books) (content : List ℕ) (limit written : ℕ) (a b : Meter) → old.registry.limit ≡ limit
     → PaysAtMost a b (datagram_cost (sizes_for may (message_of content) (sizes table old new)) (length content) written) → asks_for_rows may (message_of content) ≡ false

@@ -185,7 +185,7 @@ closed_refused old id table f acts = record {
 
 -- ---- a message
 
--- What serving a message did where a call sees this: these connections and books are left.
+-- What serving a message did, as a call sees it: these connections and books are left.
 pub record Served (context : Context) (old : CoreView) (message : Message) (arguments : List ℕ) (table : Table) (books : Books) (given : Outcome) : Type 0 where
   pub acts : ServesInRoom context message arguments old.connections old.books table books given
   pub frame : SameFrame old.books books
@@ -311,7 +311,7 @@ reading_is_live : (clock id : ℕ) (fed : List ℕ) (c : Connection) → is_live
 unfolding is_live keep_reading
 reading_is_live clock id fed c h = let p = and_parts (eqb c.number id) (not (is_lost c.phase)) h in rw p.0 refl
 
--- the live connection is found changed where it stays live
+-- the live connection is found changed if it stays live
 find_changed_live : (id : ℕ) (f : Connection → Connection) → ((c : Connection) → is_live id c ≡ true → is_live id (f c) ≡ true) → (all : List Connection) (c : Connection) → find (is_live id) all ≡ Some c → find (is_live id) (change_first (is_live id) f all) ≡ Some (f c)
 find_changed_live id f still [] c there = absurd cc
 find_changed_live id f still (x ∷ all) c there = by_test (is_live id x) refl (find_changed_live id f still all c)
@@ -342,7 +342,7 @@ found_passes test (x ∷ all) c e = by_test (test x) refl (found_passes test all
     by_test true t further = let same : Some x ≡ Some c = rw t at e in let is : x ≡ c = cc in sym (ap test is) ∙ t
     by_test false t further = further (rw t at e)
 
--- A message is answered alike where the connection, which has no list, was Idle meanwhile.
+-- A message is answered alike if the connection, which has no list, was Idle meanwhile.
 answering_alike : (clock id : ℕ) (who : Who) (message : Message) (arguments : List ℕ) (s : State) (c : Connection) → live_connection id s.connections.all ≡ Some c → stamp_in c.phase ≡ None
     → settle_on id (serve_message (record s { connections = changed_at id (idle clock) s.connections }) (Tcp id who) message arguments) ≡ settle_on id (serve_message s (Tcp id who) message arguments)
 unfolding live_connection
@@ -437,7 +437,7 @@ module _ (old : CoreView) (now clock id : ℕ) (piece : List ℕ) (is : clock �
   unfolding bytes
   bytes_by s c t there takes = rw there (rw takes refl)
 
-  -- the connections where the one that is found takes this
+  -- the connections if the one that is found takes this
   fed_to : (s : State) (c : Connection) (t : Taking) (change : Connection → Connection) → live_connection id s.connections.all ≡ Some c → taking_of c.phase piece ≡ t → connection_after clock c t ≡ change c
       → changed_at id (λ x. connection_after clock x (taking_of x.phase piece)) s.connections ≡ changed_at id change s.connections
   unfolding live_connection
@@ -470,7 +470,7 @@ module _ (old : CoreView) (now clock id : ℕ) (piece : List ℕ) (is : clock �
     arguments = none;
   }
 
-  -- what is given where no record ended
+  -- what is given if no record ended
   pub record Quiet (s : State) (count : ℕ) : Type 0 where
     pub gives : Ok (record { count = count; lost = false }) ≡ (bytes s now id piece).0
     pub stands : StandsFor (held_with arguments) (bytes s now id piece).1
@@ -525,7 +525,7 @@ module _ (old : CoreView) (now clock id : ℕ) (piece : List ℕ) (is : clock �
           let gives : quiet count ≡ ended n (record { who = f.connection.who; verdict = verdict content }) = rw t at f.gives in
           absurd (nobody (record { who = f.connection.who; verdict = verdict content }) (sym (ap (λ (r : Received). r.ended) gives)))
 
-  -- where one ended: the state meanwhile, and what it said is answered from there
+  -- if one ended: the state meanwhile, and what it said is answered from there
   pub record RecordEnded (count : ℕ) (said : EndedRecord) (s : State) : Type 0 where
     pub meanwhile : State
     pub stands : StandsFor (held_with []) meanwhile

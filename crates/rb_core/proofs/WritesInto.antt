@@ -1,4 +1,4 @@
--- What a core does where it gives a reply into a room, and what it pays.
+-- What a core does when it gives a reply into a room, and what it pays.
 use Rattle.std.proofs.Common.{◌≡◌, ◌<◌, ◌≤◌, ◌+◌, ◌*◌, ◌/◌, ℕ, max, List, [], ◌∷◌, length, take, Option, Some, None, Result, Ok, Err, refl, sym, ap, subst, ◌∙◌, arith}
 use Rattle.std.proofs.Math.Nat.{mul-le-mul_left, mul-le-mul_right}
 use Rattle.rb_xdr.specs.Meter.{Meter, PaysAtMost}

@@ -23,7 +23,7 @@ abbrev pub CountsGiven : ℕ → ℕ → List ℕ → List ℕ → CoreView → 
 CountsGiven now id piece room held result =
     Shows StandsFor (count_now now id piece (length room)) held (count_given result)
 
--- From each state that the old core stands for, the call does the model's `exchange` with so much room, and the first
+-- From each state that the old core stands for, the call does the model's `exchange` with this much room, and the first
 -- bytes of `room` are those that were given.
 -- EXCHANGE-1
 abbrev pub Exchanges : ℕ → ℕ → List ℕ → CoreView → CoreView → Result Exchanged CoreFault → List ℕ → Type 0

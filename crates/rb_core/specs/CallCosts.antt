@@ -55,7 +55,7 @@ sizes_of old new = sizes old.connections old.books new.books
 
 -- ---- what is paid at most
 
--- to take a piece of bytes, where no record is answered yet
+-- to take a piece of bytes, while no record is answered yet
 abbrev pub PaysForPiece : Table → Result Piece CoreFault → Meter → Meter → Type 0
 PaysForPiece table result before now = PaysAtMost before now (look_cost table + taken_cost (received_in result))
 
@@ -83,7 +83,7 @@ PaysForDatagram old new who content before now =
     (datagram_cost (sizes_for (may_register_in old who) (message_of content) (sizes_of old new))
     (length content) (length new.reply))
 
--- to answer a record of this verdict with these arguments, of whose reply n bytes are given where there is this room
+-- to answer a record of this verdict with these arguments, of whose reply n bytes are given if there is this much room
 abbrev pub PaysToAnswer : EndedRecord → CoreView → CoreView → Option (Bor (List ℕ)) → List ℕ → ℕ → Meter → Meter → Type 0
 PaysToAnswer ended old new args room n before now =
     let lent : List ℕ = arguments_in args old.arguments in
@@ -98,7 +98,7 @@ PaysForBytes old new id piece before now =
     → PaysAtMost before now
     (bytes_cost (announced_in old) (sizes_of old new) piece (live_connection id s.connections.all))
 
--- the same where a reply may be given at once, in this room
+-- the same if a reply may be given at once, in this room
 abbrev pub PaysForExchange : CoreView → CoreView → ℕ → List ℕ → List ℕ → Result Exchanged CoreFault → Meter → Meter → Type 0
 PaysForExchange old new id piece room result before now =
     (s : State) → StandsFor old s
@@ -120,7 +120,7 @@ PaysToWriteInto old id result before now =
     → PaysAtMost before now
     (write_into_cost (slot_count old.connections) (row_count_of old.books) (given_in result) (live_connection id s.connections.all))
 
--- ---- what is paid where no rows are asked for, and by a SET or an UNSET of a caller that may not register, whatever is
+-- ---- what is paid if no rows are asked for, and by a SET or an UNSET of a caller that may not register, whatever is
 -- registered or retained
 
 -- how many looks a search takes
@@ -141,7 +141,7 @@ PaysForPlainRecord old id piece more before now =
     → asks_for_rows (may_register_in old c.who) (message_of content) ≡ false
     → PaysAtMost before now (plain_record_cost (looks_in old) (slot_count old.connections) n (length (kept_of content)) + more)
 
--- the same where its reply may be given at once, in this room
+-- the same if its reply may be given at once, in this room
 abbrev pub PaysForPlainExchange : CoreView → ℕ → List ℕ → List ℕ → Result Exchanged CoreFault → Meter → Meter → Type 0
 PaysForPlainExchange old id piece room result before now =
     PaysForPlainRecord old id piece (whole_cost (length room) (count_given result)) before now

@@ -73,13 +73,13 @@ received_in (Err fault) = Err fault
 abbrev pub TakesPiece : ℕ → ℕ → List ℕ → Table → Table → Result Piece CoreFault → Type 0
 TakesPiece id clock piece old new result = TableActs (on_live id (take_piece clock piece)) old new (received_in result)
 
--- the arguments of a record: those in the piece where it came whole, else those that are held
+-- the arguments of a record: those in the piece if it came whole, else those that are held
 abbrev pub arguments_in : Option (Bor (List ℕ)) → List ℕ → List ℕ
 arguments_in (Some lent) held = lent.now
 arguments_in None held = held
 
 -- These are the arguments that the core has after a piece for the connection of the number; `before` and `after` are
--- the buffer that was handed in for them. None lie in the piece where no record ended.
+-- the buffer that was handed in for them. None lie in the piece if no record ended.
 pub record AreArguments (id : ℕ) (piece : List ℕ) (table : Table) (before after : Kept) (got : Piece) : Type 0 where
   pub shows : TableShows (arguments_on id before.bytes piece) table (arguments_in got.arguments after.bytes)
   pub none : got.received.ended ≡ None → got.arguments ≡ None

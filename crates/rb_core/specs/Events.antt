@@ -60,7 +60,7 @@ abbrev pub length_lent : Result (Bor (List ℕ)) CoreFault → ℕ
 length_lent (Ok bytes) = length bytes.now
 length_lent (Err fault) = 0
 
--- the bytes that it reports as given, none where it is refused
+-- the bytes that it reports as given, none if it is refused
 abbrev pub length_given : Result (Unit {0}) CoreFault → ℕ → ℕ
 length_given (Ok u) n = n
 length_given (Err fault) n = 0
@@ -85,7 +85,7 @@ abbrev pub ExchangesWithinSteps : CoreView → Result Exchanged CoreFault → Me
 ExchangesWithinSteps core result before now =
     StaysWithinSteps core (length_taken (taken_in result)) (count_given result) before now
 
--- From each state that a run reaches and that the core stood for: where no record ends in a piece on a connection, no more
+-- From each state that a run reaches and that the core stood for: if no record ends in a piece on a connection, no more
 -- is paid than 8 steps for each byte that is taken, 64 for each connection that there may be, and 64.
 -- STEPS-3
 abbrev pub StaysCheapIfQuiet : CoreView → ℕ → List ℕ → Result (Taken × Standing) CoreFault → Meter → Meter → Type 0

@@ -6,8 +6,8 @@ use Rattle.rb_model.specs.Gives.{write_into, bytes_given}
 use Rattle.rb_connections.specs.Slots.{Acts}
 use Rattle.rb_core.specs.StandsFor.{CoreView, StandsFor}
 
--- From each state that the old core stands for, the call does the model's `write_into` with so much room, and the first
--- bytes of `room` are those that were given.
+-- From each state that the old core stands for, the call does the model's `write_into` with this much room, and the
+-- first bytes of `room` are those that were given.
 -- GIVE-1
 abbrev pub WritesInto : ℕ → ℕ → CoreView → CoreView → List ℕ → Result Given CoreFault → Type 0
 WritesInto now id old new room result =

@@ -46,7 +46,7 @@ pub record IsBounded (core : CoreView) (s : State) : Type 0 where
   pub each : AllZip HoldsArguments (values_of core.connections.slots) s.connections.all
   pub whole : held core + unheld_share * count_by takes_bytes s.connections.all ≤ bytes_bound s.setting.limits
 
--- A listener has a port of 16 bits, and the path of its local socket, where it has one, has at most 128 bytes.
+-- A listener has a port of 16 bits, and the path of its local socket, if it has one, has at most 128 bytes.
 pub record IsListener (listener : Listener) : Type 0 where
   pub port : listener.port < 2 ^ 16
   pub path : IfSome listener.local (λ path. length path ≤ 128)

@@ -13,7 +13,7 @@ use Rattle.rb_core.specs.Looks.{slots_behind, PaysIfLent}
 use Rattle.rb_core.specs.Metered.{Metered}
 use Rattle.rb_core.specs.contracts.metered.Metered.{the_row}
 
--- An event lent this many bytes and paid at most so much, and changed nothing of the core but `steps_before`.
+-- An event lent this many bytes and paid at most this much, and changed nothing of the core but `steps_before`.
 pub record HasLent (most given : ℕ) (old new : Metered) : Type 0 where
   pub begun : BeginsAt old.meter old.core new.core
   pub cost : PaysAtMost old.meter new.meter most
@@ -31,11 +31,11 @@ LendsReply metered lent = LendsWithin metered (1 + length metered.now.core.reply
 abbrev pub LendsPending : MutBor Metered → Result (Bor (List ℕ)) CoreFault → Fml
 LendsPending metered lent = LendsWithin metered (lend_pending_cost metered.now.core) (length_lent lent)
 
--- a forwarded call is lent, if one is to be sent
+-- a forwarded call is lent, if one must be sent
 abbrev pub LendsUnsent : MutBor Metered → Option Unsent → Fml
 LendsUnsent metered lent = LendsWithin metered (lending_cost metered.now.core (count_lent lent)) (count_lent lent)
 
--- A look at the rows after a cursor changed nothing of the core, and paid at most 2 steps for each of them, and 1; where
+-- A look at the rows after a cursor changed nothing of the core, and paid at most 2 steps for each of them, and 1; if
 -- it lent a row, no more than for those up to it.
 pub record HasLentRow (first next : Option ℕ) (result : Option (Bor Row)) (old new : Metered) : Type 0 where
   pub stays : new.core ≡ old.core

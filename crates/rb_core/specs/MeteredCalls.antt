@@ -36,7 +36,7 @@ StepsWithin taken given old new = StaysWithinSteps old.core taken given old.mete
 abbrev pub StepsForDatagram : Who → List ℕ → Metered → Metered → Type 0
 StepsForDatagram who content old new = PaysForDatagram old.core new.core who content old.meter new.meter
 
--- what it costs where no rows are asked for
+-- what it costs if no rows are asked for
 abbrev pub StepsForPlainDatagram : Who → List ℕ → Metered → Metered → Type 0
 StepsForPlainDatagram who content old new = PaysForPlainDatagram old.core new.core who content old.meter new.meter
 
@@ -45,7 +45,7 @@ abbrev pub StepsForExchange : ℕ → List ℕ → List ℕ → Metered → Mete
 StepsForExchange id piece room old new result =
     PaysForExchange old.core new.core id piece room result old.meter new.meter
 
--- what it costs where no rows are asked for
+-- what it costs if no rows are asked for
 abbrev pub StepsForPlainExchange : ℕ → List ℕ → List ℕ → Metered → Metered → Result Exchanged CoreFault → Type 0
 StepsForPlainExchange id piece room old new result =
     PaysForPlainExchange old.core id piece room result old.meter new.meter

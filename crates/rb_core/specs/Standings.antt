@@ -23,6 +23,6 @@ StandsBehind id count held standing = Shows StandsFor (λ s. standing_behind cou
 abbrev pub StandsAfterPiece : ℕ → CoreView → Exchanged → Type 0
 StandsAfterPiece id held done = StandsBehind id done.taken.count held done.standing
 
--- where it stands by the table, where no record ended in the piece
+-- where it stands by the table, if no record ended in the piece
 abbrev pub TellsIfQuiet : ℕ → Table → Piece → Type 0
 TellsIfQuiet id table got = got.received.ended ≡ None → IsStanding id table got.standing

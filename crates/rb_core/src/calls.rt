@@ -25,8 +25,8 @@ use rb_rpc::{FRAGMENT_HEADER, Verdict, read_call};
 use rb_serving::{kept_arguments, procedure_of, serve, serve_null};
 use rb_xdr::{Kept, Meter};
 
-/// What came of a piece of bytes. The arguments of the record that ended with it lie in the piece where that came
-/// whole, and else in the buffer that was handed in for them.
+/// What came of a piece of bytes. The arguments of the record that ended with it lie in the piece if the record
+/// came whole, and else in the buffer that was handed in for them.
 #[derive(Clone, Copy, Debug, PartialEq, Eq)]
 pub struct Piece<'a> {
     pub received: Received,
@@ -47,7 +47,7 @@ pub fn standing_behind(count: usize, standing: Standing) -> Standing
 }
 
 /// Takes bytes that arrive on the live connection of the number, at most up to the end of a record (RFC 5531 section
-/// 11). A record that comes whole on an Idle connection is read where it lies. `Gone` where there is no such
+/// 11). A record that comes whole on an Idle connection is read where it lies. `Gone` if there is no such
 /// connection, or it is Lost.
 pub fn take_piece<'a>(
     connections: &mut Connections,
@@ -90,7 +90,7 @@ pub fn take_piece<'a>(
     })
 }
 
-/// The arguments of a record: those in the piece, where it came whole, else those in the buffer.
+/// The arguments of a record: those in the piece, if it came whole, else those in the buffer.
 pub fn lend_arguments<'a>(piece: Option<&'a [u8]>, buffer: &'a Kept, meter: &mut Meter) -> &'a [u8]
     requires { meter.old.tie ≡ buffer.now.tie }
     ensures value { result.now ≡ arguments_in piece.entry buffer.now.bytes }
@@ -161,8 +161,8 @@ fn note(seen: &mut Option<Seen>, context: &Context, message: &Message, is_accept
     }
 }
 
-/// Writes the reply into `room`, with its header, where it is one fragment and `room` has place for the longest, and
-/// then empties its buffer. Returns the number of bytes written, 0 where nothing was.
+/// Writes the reply into `room`, with its header, if it is one fragment and `room` has place for the longest, and
+/// then empties its buffer. Returns the number of bytes written, 0 if nothing was.
 pub fn write_at_once(served: Served, draft: &mut Kept, room: &mut [u8], meter: &mut Meter) -> usize
     requires draft { IsDraft meter.old.tie draft.old }
     requires written { IsWritten served draft.old.bytes }

@@ -94,7 +94,7 @@ impl Core {
         }
     }
 
-    /// The reply over UDP of the last `datagram`, `forward_reply` or `expire`, of at most 9,000 bytes; empty where it had
+    /// The reply over UDP of the last `datagram`, `forward_reply` or `expire`, of at most 9,000 bytes; empty if it had
     /// none.
     pub fn udp_reply(&mut self, meter: &mut Meter) -> &[u8]
         requires { meter.old.tie ≡ self.old.tie }
@@ -109,7 +109,7 @@ impl Core {
     }
 
     /// Opens a connection from `who` at the moment `now`, and returns its number; the first is 1, and none recurs.
-    /// `Full` where there are as many connections as there may be, Lost ones among them, else `Spent` where no number is
+    /// `Full` if there are as many connections as there may be, Lost ones among them, else `Spent` if no number is
     /// left.
     #[tactic(auto, using(crate::proofs::HeldBytes::never_passes, crate::proofs::CallBounds::open_within))]
     pub fn open(&mut self, now: u64, who: Who, meter: &mut Meter) -> Result<u64, CoreFault>
@@ -131,8 +131,8 @@ impl Core {
     }
 
     /// Takes bytes that arrive on a connection at the moment `now`, at most up to the end of a record (RFC 5531 section
-    /// 11), which is answered, and returns where the connection stands then: Lost where the record is no call, `Sends`
-    /// where its call is forwarded. Takes none while a reply is owed or awaited. `Gone` where it is not there, or Lost.
+    /// 11), which is answered, and returns where the connection stands then: Lost if the record is no call, `Sends`
+    /// if its call is forwarded. Takes none while a reply is owed or awaited. `Gone` if it is not there, or Lost.
     #[tactic(auto, using(crate::proofs::HeldBytes::never_passes))]
     pub fn bytes(
         &mut self,
@@ -164,7 +164,7 @@ impl Core {
         Ok((taken, standing))
     }
 
-    /// Takes bytes as `bytes` does. Where a record ends and its reply is one fragment and no list, and `room` has place
+    /// Takes bytes as `bytes` does. If a record ends and its reply is one fragment and no list, and `room` has place
     /// for the longest fragment, 1,028 bytes, the reply is written there and counts as given. So one call is up to two
     /// events, `bytes` and `gave`, and it is priced as both. `Gone` as in `bytes`.
     #[tactic(auto, using(crate::proofs::HeldBytes::never_passes))]
@@ -221,9 +221,9 @@ impl Core {
         })
     }
 
-    /// Answers the record that ended on a connection, and lets the connection go on. Its arguments are `lent` where they
-    /// lie in the piece, and else in the core's buffer, which is empty after it. Returns whether the connection is Lost now, and how many bytes
-    /// of the reply were given at once.
+    /// Answers the record that ended on a connection, and lets the connection go on. Its arguments are `lent` if they
+    /// lie in the piece, and else in the core's buffer, which is empty after it. Returns whether the connection is Lost
+    /// now, and how many bytes of the reply were given at once.
     #[tactic(auto, unfolding(rb_model::specs::Calls::longest_reply, rb_model::specs::Calls::longest_kept, rb_connections::specs::StandsFor::buffer_size))]
     fn answer(
         &mut self,
@@ -276,9 +276,9 @@ impl Core {
         (served.is_no_call(), 0, standing)
     }
 
-    /// Records that `n` pending bytes were given at the moment `now`, or all if fewer are pending, and returns where the
-    /// connection stands then. `Gone` where there is no such connection, or it is Lost. However great `n` is, it costs no
-    /// more than where nothing was given.
+    /// Records that `n` pending bytes were given at the moment `now`, or all if fewer are pending, and returns where
+    /// the connection stands then. `Gone` if there is no such connection, or it is Lost. However great `n` is, it costs
+    /// no more than if nothing was given.
     #[tactic(auto, using(crate::proofs::HeldBytes::never_passes))]
     pub fn gave(
         &mut self,
@@ -309,7 +309,7 @@ impl Core {
         Ok(standing)
     }
 
-    /// Removes a connection that was closed, live or Lost, and drops its forwarded call. `Gone` where there is none of
+    /// Removes a connection that was closed, live or Lost, and drops its forwarded call. `Gone` if there is none of
     /// that number.
     #[tactic(auto, using(crate::proofs::HeldBytes::never_passes, crate::proofs::CallBounds::closed_within))]
     pub fn closed(&mut self, id: u64, meter: &mut Meter) -> Result<(), CoreFault>
@@ -329,7 +329,7 @@ impl Core {
         Ok(())
     }
 
-    /// The least number of a Lost connection, which the caller has to close; `None` where none is Lost.
+    /// The least number of a Lost connection, which the caller must close; `None` if none is Lost.
     #[tactic(auto, using(crate::proofs::CallBounds::look_within))]
     pub fn next_lost(&mut self, meter: &mut Meter) -> Option<u64>
         requires { meter.old.tie ≡ self.old.tie }
@@ -342,8 +342,8 @@ impl Core {
         self.connections.next_lost(meter)
     }
 
-    /// The forwarded call to be sent next: the unsent one of least number, whether or not its deadline has come, with at
-    /// most 8,840 bytes. `None` where all are sent (RFC 1833 sections 2.2.1 and 3.2).
+    /// The forwarded call to be sent next: the unsent one of least number, whether or not its deadline has come, with
+    /// at most 8,840 bytes. `None` if all are sent (RFC 1833 sections 2.2.1 and 3.2).
     #[tactic(auto, using(crate::proofs::CallBounds::unsent_within))]
     pub fn unsent(&mut self, meter: &mut Meter) -> Option<Unsent<'_>>
         requires { meter.old.tie ≡ self.old.tie }
@@ -357,7 +357,7 @@ impl Core {
         self.lend_unsent(meter)
     }
 
-    /// Records that the forwarded call of this number was sent: from now on a reply to it counts. `Gone` where there is
+    /// Records that the forwarded call of this number was sent: from now on a reply to it counts. `Gone` if there is
     /// no such call, or it was sent before.
     #[tactic(auto, using(crate::proofs::HeldBytes::never_passes, crate::proofs::CallBounds::sent_within))]
     pub fn sent(&mut self, id: FwdId, meter: &mut Meter) -> Result<(), CoreFault>
@@ -378,9 +378,9 @@ impl Core {
         Ok(())
     }
 
-    /// Takes a datagram from `from`, at the moment `now`, on the socket that sends forwarded calls. A reply to a call that
-    /// was sent there and whose deadline is later than `now` ends that call, and its caller gets what `Told` says. `None`
-    /// where it is no such reply; it is ignored.
+    /// Takes a datagram from `from`, at the moment `now`, on the socket that sends forwarded calls. A reply to a call
+    /// that was sent there and whose deadline is later than `now` ends that call, and its caller gets what `Told` says.
+    /// `None` if it is no such reply; it is ignored.
     #[tactic(auto, using(crate::proofs::HeldBytes::never_passes, crate::proofs::CallBounds::ending_within))]
     pub fn forward_reply(
         &mut self,
@@ -409,7 +409,7 @@ impl Core {
         Some(self.tell(&ended, bytes, meter))
     }
 
-    /// Does one thing that is due at the moment `now`: ends the due forwarded call of least number, or where there is
+    /// Does one thing that is due at the moment `now`: ends the due forwarded call of least number, or if there is
     /// none, makes the due connection of least number Lost. Call it until it answers `Nothing`: then nothing is due.
     #[tactic(auto, using(crate::proofs::HeldBytes::never_passes, crate::proofs::CallBounds::ending_within))]
     pub fn expire(&mut self, now: u64, meter: &mut Meter) -> Expired
@@ -529,7 +529,7 @@ impl Core {
     }
 
     /// The moment from which `expire` finds something: the least deadline of the connections and of the forwarded
-    /// calls. Before it `expire` finds nothing, nor ever where there is none. It changes nothing but the count from
+    /// calls. Before it `expire` finds nothing, and never if there is none. It changes nothing but the count from
     /// which `steps` starts.
     #[tactic(auto, using(crate::proofs::CallBounds::deadline_within))]
     pub fn next_deadline(&mut self, meter: &mut Meter) -> Option<u64>

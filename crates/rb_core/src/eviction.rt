@@ -32,7 +32,7 @@ fn is_roomy(registry: &Registry, limit: usize, meter: &mut Meter) -> bool
     retained < MANY_RETAINED && retained < limit - live
 }
 
-/// Makes room for the row that a message is to add: where the live and the retained rows reach the limit,
+/// Makes room for the row that a message will add: if the live and the retained rows reach the limit,
 /// the connections become Lost whose lists began before the earliest change that removed a retained row.
 ///
 /// It is inlined, since for most calls there is nothing to do.

@@ -17,8 +17,8 @@ impl Core {
     /// (RFC 5531 section 11): the rest of the fragment that is pending, and each fragment after it, as many as fit
     /// whole, up to the end of the reply. It returns how many bytes, from the first one on, and where the connection
     /// stands then. It is what `pending` and `gave` of each of these fragments do, one after the other. Room for 1,028
-    /// bytes has place for the longest fragment. Where none fits or is owed, nothing changes but the count from which
-    /// `steps` starts. `Gone` where there is no such connection, or it is Lost.
+    /// bytes has place for the longest fragment. If none fits or is owed, nothing changes but the count from which
+    /// `steps` starts. `Gone` if there is no such connection, or it is Lost.
     #[tactic(auto, using(crate::proofs::HeldBytes::never_passes))]
     pub fn write_into(
         &mut self,

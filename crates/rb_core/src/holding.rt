@@ -166,8 +166,8 @@ impl Core {
     ghost use Rattle.rb_core.specs.CallCosts.{making_cost};
 
     /// Makes a core with the daemon's own rows alone, at the moment `now` (milliseconds since the start of 1970). It
-    /// takes all its memory here. `first_xid` is the xid of the first call that it forwards. `BadLimits` where a limit is
-    /// out of its range, or the rows have no room for the own ones and two more; else `NoMemory` where an allocation is
+    /// takes all its memory here. `first_xid` is the xid of the first call that it forwards. `BadLimits` if a limit is
+    /// out of its range, or the rows have no room for the own ones and two more; else `NoMemory` if an allocation is
     /// refused.
     #[tactic(auto, unfolding(rb_model::specs::Calls::longest_reply, rb_model::specs::Calls::longest_kept, rb_connections::specs::StandsFor::buffer_size))]
     pub fn new(

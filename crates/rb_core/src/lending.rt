@@ -26,7 +26,7 @@ impl Core {
         self.steps_before = meter.count();
     }
 
-    /// The last reply over UDP; empty where the last event had none.
+    /// The last reply over UDP; empty if the last event had none.
     pub(crate) fn lend_reply(&self, meter: &mut Meter) -> &[u8]
         requires { meter.old.tie ≡ self.now.tie }
         ensures held { result.now ≡ self.now.reply }
@@ -37,7 +37,7 @@ impl Core {
         self.reply.lend(0..len, meter)
     }
 
-    /// What is pending on a connection. `Gone` where there is no such connection, or it is Lost.
+    /// What is pending on a connection. `Gone` if there is no such connection, or it is Lost.
     pub(crate) fn lend_pending(&self, id: u64, meter: &mut Meter) -> Result<&[u8], CoreFault>
         requires { meter.old.tie ≡ self.now.tie }
         ensures lent { Lends StandsFor (λ s. pending s id) self.now result }
@@ -47,7 +47,7 @@ impl Core {
         self.connections.pending(id, meter)
     }
 
-    /// The number of bytes that are pending on a connection. `Gone` where there is no such connection, or it is Lost.
+    /// The number of bytes that are pending on a connection. `Gone` if there is no such connection, or it is Lost.
     #[tactic(auto, using(crate::proofs::CallBounds::length_within))]
     pub fn pending_len(&self, id: u64, meter: &mut Meter) -> Result<usize, CoreFault>
         requires { meter.old.tie ≡ self.now.tie }
@@ -59,7 +59,7 @@ impl Core {
     }
 
     /// The rest of the current fragment of the reply that a connection owes (RFC 5531 section 11), at most 1,028 bytes;
-    /// empty where it owes none. `Gone` where there is no such connection, or it is Lost.
+    /// empty if it owes none. `Gone` if there is no such connection, or it is Lost.
     #[tactic(auto, using(crate::proofs::CallBounds::pending_within))]
     pub fn pending(&mut self, id: u64, meter: &mut Meter) -> Result<&[u8], CoreFault>
         requires { meter.old.tie ≡ self.old.tie }
@@ -73,7 +73,7 @@ impl Core {
         self.lend_pending(id, meter)
     }
 
-    /// The unsent forwarded call of least number. `None` where all are sent.
+    /// The unsent forwarded call of least number. `None` if all are sent.
     pub(crate) fn lend_unsent(&self, meter: &mut Meter) -> Option<Unsent<'_>>
         requires { meter.old.tie ≡ self.now.tie }
         ensures unsent { Shows StandsFor unsent_call self.now (plain_unsent result) }

@@ -1,7 +1,7 @@
 //! The portmapper's logic without sockets: each event is one call on `Core`, and nothing happens between two. The
 //! look at a reply over UDP, `udp_reply`, belongs to the event before it. `Core::exchange` alone is up to two events
-//! in one: bytes that arrive, and the `gave` of a short reply to them; and `Core::give` is the `pending` and `gave` of
-//! each fragment that it writes.
+//! in one: bytes that arrive, and the `gave` of a short reply to them; and `Core::write_into` is the `pending` and
+//! `gave` of each fragment that it writes.
 #![tactic(auto)]
 
 mod calls;

@@ -38,7 +38,7 @@ impl Core {
     }
 
     /// The live row after the cursor, and the cursor after it. From `first_place` on each of them comes once, the
-    /// daemon's own first, in their order, and then `None`, where no event comes between. It costs at most 2 steps for
+    /// daemon's own first, in their order, and then `None`, if no event comes between. It costs at most 2 steps for
     /// each row after the cursor, retained ones among them, and 1.
     pub fn next_row(&self, cursor: Cursor, meter: &mut Meter) -> Option<(Cursor, &Row)>
         requires tie { meter.old.tie ≡ self.now.tie }
@@ -56,7 +56,7 @@ impl Core {
         registry.next_row(registry.stamp(), cursor, meter)
     }
 
-    /// The same, and the cursor moves on after the row. It stays where no row is after it.
+    /// The same, and the cursor moves on after the row. It stays if no row is after it.
     pub(crate) fn lend_row(&self, cursor: &mut Cursor, meter: &mut Meter) -> Option<&Row>
         requires tie { meter.old.tie ≡ self.now.tie }
         requires place { StandsAmong self.now cursor.old }

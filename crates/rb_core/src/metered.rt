@@ -66,8 +66,8 @@ impl Metered {
     ghost use Rattle.rb_core.specs.Lending.{LendsReply, LendsPending, LendsUnsent, LendsRow};
     ghost use Rattle.rb_core.specs.MeteredCalls.{Does, DoesWithReply, StepsAtMost, StepsWithin, StepsForDatagram, StepsForPlainDatagram, StepsForExchange, StepsForPlainExchange};
 
-    /// Makes a core, as `Core::new`, and a meter for it that begins at 0. `BadLimits` where a limit is out of its range,
-    /// or the rows have no room for the own ones and two more; else `NoMemory` where an allocation is refused.
+    /// Makes a core, as `Core::new`, and a meter for it that begins at 0. `BadLimits` if a limit is out of its range,
+    /// or the rows have no room for the own ones and two more; else `NoMemory` if an allocation is refused.
     pub fn new(
         alloc: Global,
         limits: Limits,
@@ -130,7 +130,7 @@ impl Metered {
         self.core.datagram(now, who, content, &mut self.meter)
     }
 
-    /// The reply over UDP of the last `datagram`, `forward_reply` or `expire`, of at most 9,000 bytes; empty where it had
+    /// The reply over UDP of the last `datagram`, `forward_reply` or `expire`, of at most 9,000 bytes; empty if it had
     /// none.
     pub fn udp_reply(&mut self) -> &[u8]
         ensures* begun { sem 𝓛 (LendsReply self.entry result.now) }
@@ -141,8 +141,8 @@ impl Metered {
         self.core.lend_reply(&mut self.meter)
     }
 
-    /// Opens a connection from `who` at the moment `now`, as `Core::open`, and returns its number. `Full` where there are
-    /// as many connections as there may be, Lost ones among them, else `Spent` where no number is left.
+    /// Opens a connection from `who` at the moment `now`, as `Core::open`, and returns its number. `Full` if there are
+    /// as many connections as there may be, Lost ones among them, else `Spent` if no number is left.
     pub fn open(&mut self, now: u64, who: Who) -> Result<u64, CoreFault>
         ensures acts { Does (λ s. open_connection s now who) self.old self.new result }
         ensures refused { OnErr result (OnlyBegins self.old.core self.new.core) }
@@ -155,9 +155,9 @@ impl Metered {
         self.core.open(now, who, &mut self.meter)
     }
 
-    /// Takes bytes that arrive on a connection at the moment `now`, as `Core::bytes`: at most up to the end of a record,
-    /// which is answered. Returns how many were taken and where the connection stands then. `Gone` where there is no such
-    /// connection, or it is Lost.
+    /// Takes bytes that arrive on a connection at the moment `now`, as `Core::bytes`: at most up to the end of a
+    /// record, which is answered. Returns how many were taken and where the connection stands then. `Gone` if there is
+    /// no such connection, or it is Lost.
     pub fn bytes(&mut self, now: u64, id: u64, piece: &[u8]) -> Result<(Taken, Standing), CoreFault>
         ensures acts { TakesBytes now id piece.now self.old.core self.new.core result }
         ensures stands { IfOk result (λ done. StandsBehind id done.0.count self.new.core done.1) }
@@ -177,7 +177,7 @@ impl Metered {
         self.core.bytes(now, id, piece, &mut self.meter)
     }
 
-    /// Takes bytes as `bytes` does, and gives a reply of one fragment at once, as `Core::exchange`: where `room` has place
+    /// Takes bytes as `bytes` does, and gives a reply of one fragment at once, as `Core::exchange`: if `room` has place
     /// for the longest, 1,028 bytes, the reply is written there and counts as given. `Gone` as in `bytes`.
     pub fn exchange(
         &mut self,
@@ -203,7 +203,7 @@ impl Metered {
         self.core.exchange(now, id, piece, room, &mut self.meter)
     }
 
-    /// The number of bytes that are pending on a connection. `Gone` where there is no such connection, or it is Lost.
+    /// The number of bytes that are pending on a connection. `Gone` if there is no such connection, or it is Lost.
     pub fn pending_len(&mut self, id: u64) -> Result<usize, CoreFault>
         ensures len { Shows StandsFor (λ s. pending_count (pending s id)) self.old.core result }
         ensures stays { self.new.core ≡ self.old.core }
@@ -214,7 +214,7 @@ impl Metered {
     }
 
     /// The rest of the current fragment of the reply that a connection owes (RFC 5531 section 11), at most 1,028 bytes;
-    /// empty where it owes none. `Gone` where there is no such connection, or it is Lost.
+    /// empty if it owes none. `Gone` if there is no such connection, or it is Lost.
     pub fn pending(&mut self, id: u64) -> Result<&[u8], CoreFault>
         ensures* begun { sem 𝓛 (LendsPending self.entry result) }
         ensures lent { Lends StandsFor (λ s. pending s id) self.old.core result }
@@ -225,7 +225,7 @@ impl Metered {
     }
 
     /// Records that `n` pending bytes were given at the moment `now`, or all if fewer are pending, as `Core::gave`, and
-    /// returns where the connection stands then. `Gone` where there is no such connection, or it is Lost.
+    /// returns where the connection stands then. `Gone` if there is no such connection, or it is Lost.
     pub fn gave(&mut self, now: u64, id: u64, n: usize) -> Result<Standing, CoreFault>
         ensures acts { Does (λ s. gave s now id n) self.old self.new (as_done result) }
         ensures stands { IfOk result (StandsThen id self.new.core) }
@@ -240,9 +240,9 @@ impl Metered {
         self.core.gave(now, id, n, &mut self.meter)
     }
 
-    /// Gives the reply that a connection owes into `room` at the moment `now`, as `Core::give`: as many whole fragments as
-    /// fit, of which the longest is 1,028 bytes. Returns how many bytes, and where the connection stands then. `Gone`
-    /// where there is no such connection, or it is Lost.
+    /// Gives the reply that a connection owes into `room` at the moment `now`, as `Core::write_into`: as many whole
+    /// fragments as fit, of which the longest is 1,028 bytes. Returns how many bytes, and where the connection stands
+    /// then. `Gone` if there is no such connection, or it is Lost.
     pub fn write_into(&mut self, now: u64, id: u64, room: &mut [u8]) -> Result<Given, CoreFault>
         ensures acts { WritesInto now id self.old.core self.new.core room.new result }
         ensures within { given_in result ≤ length room.new }
@@ -259,7 +259,7 @@ impl Metered {
         self.core.write_into(now, id, room, &mut self.meter)
     }
 
-    /// Removes a connection that was closed, live or Lost, and drops its forwarded call. `Gone` where there is none of
+    /// Removes a connection that was closed, live or Lost, and drops its forwarded call. `Gone` if there is none of
     /// that number.
     pub fn closed(&mut self, id: u64) -> Result<(), CoreFault>
         ensures acts { Does (λ s. close_connection s id) self.old self.new result }
@@ -273,7 +273,7 @@ impl Metered {
         self.core.closed(id, &mut self.meter)
     }
 
-    /// The least number of a Lost connection, which the caller has to close; `None` where none is Lost.
+    /// The least number of a Lost connection, which the caller must close; `None` if none is Lost.
     pub fn next_lost(&mut self) -> Option<u64>
         ensures begun { BeginsAt self.old.meter self.old.core self.new.core }
         ensures lost { Shows StandsFor next_lost self.old.core result }
@@ -284,7 +284,7 @@ impl Metered {
     }
 
     /// The forwarded call to be sent next, as `Core::unsent`: the unsent one of least number, with at most 8,840 bytes.
-    /// `None` where all are sent.
+    /// `None` if all are sent.
     pub fn unsent(&mut self) -> Option<Unsent<'_>>
         ensures* begun { sem 𝓛 (LendsUnsent self.entry result) }
         ensures unsent { Shows StandsFor unsent_call self.old.core (plain_unsent result) }
@@ -294,7 +294,7 @@ impl Metered {
         self.core.lend_unsent(&mut self.meter)
     }
 
-    /// Records that the forwarded call of this number was sent: from now on a reply to it counts. `Gone` where there is
+    /// Records that the forwarded call of this number was sent: from now on a reply to it counts. `Gone` if there is
     /// no such call, or it was sent before.
     pub fn sent(&mut self, id: FwdId) -> Result<(), CoreFault>
         ensures acts { Does (λ s. sent_call s id.number) self.old self.new result }
@@ -309,7 +309,7 @@ impl Metered {
     }
 
     /// Takes a datagram from `from`, at the moment `now`, on the socket that sends forwarded calls, as
-    /// `Core::forward_reply`. `None` where it is no reply to a call that was sent there and whose deadline is later than
+    /// `Core::forward_reply`. `None` if it is no reply to a call that was sent there and whose deadline is later than
     /// `now`; it is ignored.
     pub fn forward_reply(&mut self, now: u64, from: Peer, bytes: &[u8]) -> Option<Told>
         ensures acts { Does (λ s. forward_reply s now from bytes.now) self.old self.new result }
@@ -323,7 +323,7 @@ impl Metered {
         self.core.forward_reply(now, from, bytes, &mut self.meter)
     }
 
-    /// Does one thing that is due at the moment `now`, as `Core::expire`. `Nothing` where nothing is due. Call it until it
+    /// Does one thing that is due at the moment `now`, as `Core::expire`. `Nothing` if nothing is due. Call it until it
     /// answers `Nothing`.
     pub fn expire(&mut self, now: u64) -> Expired
         ensures acts { Does (λ s. expire s now) self.old self.new result }
@@ -337,8 +337,8 @@ impl Metered {
         self.core.expire(now, &mut self.meter)
     }
 
-    /// The moment from which `expire` finds something, as `Core::next_deadline`. Before it `expire` finds nothing, nor
-    /// ever where there is none.
+    /// The moment from which `expire` finds something, as `Core::next_deadline`. Before it `expire` finds nothing, and
+    /// never if there is none.
     pub fn next_deadline(&mut self) -> Option<u64>
         ensures begun { BeginsAt self.old.meter self.old.core self.new.core }
         ensures soonest { Shows StandsFor next_deadline self.old.core result }
@@ -369,14 +369,14 @@ impl Metered {
     }
 
     /// How many steps the last event took, and the looks since: what the meter counted since the last call that is an
-    /// event or lends began, also where it was refused. It is right while the count is below 2^128 - 1.
+    /// event or lends began, also if it was refused. It is right while the count is below 2^128 - 1.
     pub fn steps(&self) -> u128
         ensures { TellsSteps self.now.core self.now.meter result }
     {
         self.core.steps(&self.meter)
     }
 
-    /// How many steps were counted so far, those of `new` among them, or 2^128 - 1 where they are more.
+    /// How many steps were counted so far, those of `new` among them, or 2^128 - 1 if they are more.
     pub fn count(&self) -> u128
         ensures { result ≡ count_shown self.now.meter }
     {
@@ -419,8 +419,8 @@ impl Metered {
         self.core.first_place()
     }
 
-    /// The live row after the cursor, as `Core::next_row`, and the cursor moves on after it; it stays where there is
-    /// none. From `first_place` on each row comes once, and then `None`, where no event comes between.
+    /// The live row after the cursor, as `Core::next_row`, and the cursor moves on after it; it stays if there is
+    /// none. From `first_place` on each row comes once, and then `None`, if no event comes between.
     pub fn next_row(&mut self, cursor: &mut Cursor) -> Option<&Row>
         requires { StandsAmong self.old.core cursor.old }
         ensures* stays { sem 𝓛 (LendsRow self.entry cursor.old cursor.new result) }

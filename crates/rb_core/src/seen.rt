@@ -27,11 +27,11 @@ pub struct RowNamed {
     pub prog: u32,
     /// The program's version.
     pub vers: u32,
-    /// The netid as it was named. Of a SET of version 2 that of its protocol, where it has one, and of an UNSET of
-    /// version 2 no bytes.
+    /// The netid as it was named. For a SET of version 2 it is that of its protocol, if that has one, and for an UNSET
+    /// of version 2 no bytes.
     pub netid: Text<32>,
-    /// The text of the address as it was given. Of a SET of version 2 that of its port, where it is one, at every host,
-    /// and of an UNSET of version 2 no bytes.
+    /// The text of the address as it was given. For a SET of version 2 it is that of its port at every host, if the
+    /// number is a port, and for an UNSET of version 2 no bytes.
     pub addr: Text<128>,
 }
 
@@ -69,7 +69,8 @@ pub enum Seen {
     Refused(RefusedCall),
 }
 
-/// There is nothing to tell any more. Where nothing was, nothing is written: it is as long as the longest texts of a call.
+/// There is nothing to tell any more. If there was nothing, nothing is written: it is as long as the longest texts of a
+/// call.
 pub(crate) fn forget(seen: &mut Option<Seen>) {
     if seen.is_some() {
         *seen = None;

@@ -17,12 +17,12 @@ IsOfCall (answers.Refused status) = ⊤
 IsOfCall (answers.Port port) = ⊥
 IsOfCall (answers.Address address) = ⊥
 
--- what follows where there is this answer, or none
+-- what follows if there is this answer, or none
 abbrev pub follow : Course → Stage → Option Answer → Step
 follow course stage (Some answer) = next course stage answer
 follow course stage None = unwrap_or (unanswered course stage) (step_to stage)
 
--- the versions that are called from a stage on, at most this many, where each has this answer, or none
+-- the versions that are called from a stage on, at most this many, if each has this answer, or none
 abbrev pub versions_called_from : ℕ → Course → (ℕ → Option Answer) → Stage → List ℕ
 versions_called_from zero course answer stage = []
 versions_called_from (suc n) course answer (Call (aims.Each vers high lacks) place) = vers ∷ versions_called_from n course answer (follow course (Call (aims.Each vers high lacks) place) (answer vers)).stage

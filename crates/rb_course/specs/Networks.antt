@@ -53,7 +53,7 @@ abbrev pub option_list : Option (List ℕ) → List (List ℕ)
 option_list None = []
 option_list (Some network) = network ∷ []
 
--- the broadcast address of the network that a line's route leads to, where this machine is on it
+-- the broadcast address of the network that a line's route leads to, if this machine is on it
 abbrev pub networks_in_line : List ℕ → List (List ℕ)
 networks_in_line line = option_list (network_of (pieces_of tab line))
 

@@ -48,7 +48,7 @@ call_question prog (aims.Each vers high lacks) = questions.Null prog vers
 call_question prog aims.Least = questions.Probe prog 0
 call_question prog aims.Greatest = questions.Probe prog 4294967295
 
--- the place of a program, where nothing is asked for it
+-- the place of a program, if nothing is asked to find it
 abbrev pub place_of : Way → Option Place
 place_of (ways.Getport transport) = None
 place_of (ways.Getaddr netid) = None
@@ -86,7 +86,7 @@ abbrev pub begin_at : Option Place → Aim → Stage
 begin_at (Some place) aim = Call aim place
 begin_at None aim = Find aim
 
--- a version is called where its place is known, and found else
+-- a version is called if its place is known, and else found first
 abbrev pub begin : Course → Aim → Stage
 begin course aim = begin_at (place_of course.way) aim
 
@@ -208,7 +208,7 @@ next course (End end) answer = step_to (End end)
 
 -- ---- without an answer
 
--- the next of several versions; none where another is asked of
+-- the next of several versions; none for any other aim
 abbrev pub lack_of_several : Course → Aim → Option Step
 lack_of_several course (aims.Each vers high lacks) = Some (after_lack course (aims.Each vers high lacks) None)
 lack_of_several course aim = None

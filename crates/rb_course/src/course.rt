@@ -33,7 +33,7 @@ pub enum Aim {
     Only(u32),
     /// Version 0, whose refusal tells which there are.
     Least,
-    /// The greatest version, where version 0 is one.
+    /// The greatest version, if version 0 is one too.
     Greatest,
     /// One of those that there are.
     Each {
@@ -53,7 +53,7 @@ pub enum End {
     Ready,
     /// One of several is not available.
     SomeLack,
-    /// The version that was named is not available, for this refusal where procedure 0 was called.
+    /// The version that was named is not available, because of this refusal if procedure 0 was called.
     NotAvailable(u32, Option<ReplyStatus>),
     /// The program is not available, in the same way.
     NoProgram(Option<ReplyStatus>),
@@ -94,7 +94,7 @@ pub enum Answer {
 /// What follows of an answer.
 #[derive(Clone, Copy, Debug, PartialEq, Eq)]
 pub struct Step {
-    /// The version that is not available, where it is one of several.
+    /// The version that is not available, if it is one of several.
     pub lacks: Option<u32>,
     /// The stage after the answer.
     pub stage: Stage,

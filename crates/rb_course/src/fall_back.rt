@@ -21,7 +21,7 @@ fn has_two(status: ReplyStatus) -> bool
     }
 }
 
-/// The question of version 2 that shows what this one does, where there is one.
+/// The question of version 2 that shows what this one does, if there is one.
 fn old_of(question: Question) -> Option<Question>
     ensures { result ≡ old_of question }
 {
@@ -33,7 +33,7 @@ fn old_of(question: Question) -> Option<Question>
     }
 }
 
-/// Returns the question of version 2 that is asked in place of one that was refused; `None` where the refusal does not
+/// Returns the question of version 2 that is asked in place of one that was refused; `None` if the refusal does not
 /// say that the server has version 2, or the question is for no list of rows.
 pub fn fallback(question: Question, status: ReplyStatus) -> Option<Question>
     ensures { result ≡ fallback question status }

@@ -46,7 +46,7 @@ fn broadcast_of(network: [u8; 4], mask: [u8; 4]) -> [u8; 4]
     [a | !e, b | !f, c | !g, d | !h]
 }
 
-/// The broadcast address of the network that these fields of a route lead to; `None` where this machine is not on it,
+/// The broadcast address of the network that these fields of a route lead to; `None` if this machine is not on it,
 /// or there are too few.
 fn network_of(fields: &[&[u8]]) -> Option<[u8; 4]>
     ensures { result ≡ network_of (borrowed_texts fields.now) }
@@ -72,7 +72,7 @@ fn push_line(alloc: Global, line: &[u8], networks: &mut Vec<[u8; 4]>) -> Result<
 }
 
 /// Reads the broadcast addresses of the networks that this machine is on, from the text of its routes, in their order. A
-/// line that is no route, or one through a gateway or to one host, has none. `AllocError` where an allocation is refused.
+/// line that is no route, or one through a gateway or to one host, has none. `AllocError` if an allocation is refused.
 pub fn read_networks(alloc: Global, routes: &[u8]) -> Result<Vec<[u8; 4]>, AllocError>
     ensures { IfOk result (λ networks. networks.items ≡ networks_in routes.now) }
 {

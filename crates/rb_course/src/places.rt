@@ -25,7 +25,7 @@ fn scope_of(portmapper: SocketAddr) -> u32
     }
 }
 
-/// The scope of an address that a portmapper told: that of the portmapper's host, where the address is one of a link.
+/// The scope of an address that a portmapper told: that of the portmapper's host, if the address is one of a link.
 fn told_scope(address: Uaddr, portmapper: SocketAddr) -> u32
     ensures { result ≡ told_scope address portmapper }
 {

@@ -40,7 +40,7 @@ fn call_question(prog: u32, aim: Aim) -> Question
     }
 }
 
-/// The place of a program, where nothing is asked for it.
+/// The place of a program, if nothing is asked to find it.
 fn place_of(way: Way) -> Option<Place>
     ensures { result ≡ place_of way }
 {
@@ -104,7 +104,7 @@ pub fn asked(course: &Course, stage: Stage) -> Option<(Place, Ask)>
     }
 }
 
-/// Returns the first stage of a version: its call where the place is known, else the question where it is.
+/// Returns the first stage of a version: its call if the place is known, else the question where it is.
 pub fn begin(course: &Course, aim: Aim) -> Stage
     ensures { result ≡ begin course.now aim }
 {
@@ -256,7 +256,7 @@ fn after_find_refusal(course: &Course, aim: Aim, status: ReplyStatus) -> Step
     }
 }
 
-/// What follows where it was asked where the version is.
+/// What follows the answer to the question where the version is.
 fn after_find(course: &Course, aim: Aim, answer: Answer) -> Step
     ensures { result ≡ after_find course.now aim answer }
 {
@@ -269,7 +269,7 @@ fn after_find(course: &Course, aim: Aim, answer: Answer) -> Step
     }
 }
 
-/// The same where it was asked by GETPORT in place of GETADDR.
+/// The same, if it was asked by GETPORT in place of GETADDR.
 fn after_find_old(course: &Course, aim: Aim, answer: Answer) -> Step
     ensures { result ≡ after_find_old course.now aim answer }
 {
@@ -280,7 +280,7 @@ fn after_find_old(course: &Course, aim: Aim, answer: Answer) -> Step
     }
 }
 
-/// What follows where procedure 0 answered.
+/// What follows if procedure 0 answered.
 fn after_ready(course: &Course, aim: Aim) -> Step
     ensures { result ≡ after_ready course.now aim }
 {
@@ -292,7 +292,7 @@ fn after_ready(course: &Course, aim: Aim) -> Step
     }
 }
 
-/// What follows where procedure 0 was refused.
+/// What follows if procedure 0 was refused.
 fn after_refusal(course: &Course, aim: Aim, status: ReplyStatus) -> Step
     ensures { result ≡ after_refusal course.now aim status }
 {
@@ -304,7 +304,7 @@ fn after_refusal(course: &Course, aim: Aim, status: ReplyStatus) -> Step
     }
 }
 
-/// What follows where procedure 0 was called.
+/// What follows if procedure 0 was called.
 fn after_call(course: &Course, aim: Aim, answer: Answer) -> Step
     ensures { result ≡ after_call course.now aim answer }
 {
@@ -315,7 +315,7 @@ fn after_call(course: &Course, aim: Aim, answer: Answer) -> Step
     }
 }
 
-/// Returns the stage after an answer, and the version that is not available, where it is one of several.
+/// Returns the stage after an answer, and the version that is not available, if it is one of several.
 ///
 /// Without a version that is named, at most 256 versions are called; a server that names more ends in `TooMany`.
 pub fn next(course: &Course, stage: Stage, answer: Answer) -> Step
@@ -329,7 +329,7 @@ pub fn next(course: &Course, stage: Stage, answer: Answer) -> Step
     }
 }
 
-/// The next of several versions; none where another is asked of.
+/// The next of several versions; none for any other aim.
 fn lack_of_several(course: &Course, aim: Aim) -> Option<Step>
     ensures { result ≡ lack_of_several course.now aim }
 {
@@ -340,7 +340,7 @@ fn lack_of_several(course: &Course, aim: Aim) -> Option<Step>
 }
 
 /// Returns the step after a question that had no answer, or none that can be read: of several versions this one is not
-/// available, and the next one follows. `None` where the course ends.
+/// available, and the next one follows. `None` if the course ends.
 pub fn unanswered(course: &Course, stage: Stage) -> Option<Step>
     ensures { result ≡ unanswered course.now stage }
 {

@@ -155,13 +155,13 @@ some_on s now id room bytes (Some c) gives some =
     let fits : bytes ≡ fitting_in room c.phase = ap (λ (x : Result (List ℕ) CoreFault). pending_bytes x) (gives ∙ nothing_gives s r) in
     some_in room c.phase (subst (λ (xs : List ℕ). 0 < length xs) fits some)
 
--- where bytes are given, some are pending
+-- if bytes are given, some are pending
 pub some_first : (s : State) (now id room : ℕ) (bytes : List ℕ) → Ok bytes ≡ (write_into s now id room).0 → 0 < length bytes → 0 < first_piece s id
 unfolding write_into pending
 some_first s now id room bytes gives some = some_on s now id room bytes (live_connection id s.connections.all) gives some
 
 module _ (s : State) (now id room : ℕ) where
-  -- where it is refused the state stays
+  -- if it is refused, the state stays
   refused_on : (fault : CoreFault) (c : Option Connection) → Err fault ≡ (unless_nothing s (unless_refused now s (on_found id (write_fitting (max s.clock now) room) s.connections c))).0
       → (unless_nothing s (unless_refused now s (on_found id (write_fitting (max s.clock now) room) s.connections c))).1 ≡ s
   refused_on fault None gives = refl
@@ -236,7 +236,7 @@ module _ (now id room : ℕ) (r : Result (List ℕ) CoreFault) (old new : CoreVi
 pub off_pieces : (now id : ℕ) (bytes : List ℕ) (core : CoreView) (tape : Tape) → tape.is_on ≡ false → ∥ IsServed core tape ∥₁ → RecordsPieces now id bytes core tape tape
 off_pieces now id bytes core tape off held s h = off_recorded _ core tape off held
 
--- where nothing is given
+-- if nothing is given
 pub no_pieces : (now id : ℕ) (bytes : List ℕ) (core : CoreView) (tape : Tape) → bytes ≡ [] → ∥ IsServed core tape ∥₁ → RecordsPieces now id bytes core tape tape
 no_pieces now id bytes core tape none held s h =
     let is : pieces_of (first_piece s id) bytes ≡ [] = ap (λ (xs : List ℕ). pieces_of (first_piece s id) xs) none ∙ pieces_none (first_piece s id) in
@@ -246,7 +246,7 @@ pub all_pieces : (now id first : ℕ) (bytes : List ℕ) (core : CoreView) (befo
 all_pieces now id first bytes core before later shows records s h =
     subst (λ (n : ℕ). Records (pieces_entries now id (pieces_of n bytes)) before later) (shows s h) records
 
--- where bytes are given, some are pending
+-- if bytes are given, some are pending
 pub first_some : (now id room first : ℕ) (bytes : List ℕ) (old new : CoreView) (tape : Tape) → Shows StandsFor (λ s. first_piece s id) old first → Acts StandsFor (λ s. write_into s now id room) old new (Ok bytes) → 0 < length bytes → ∥ IsServed old tape ∥₁ → 0 < first
 first_some now id room first bytes old new tape shows acts some held =
     ∥∥₁_elim held le_prop (λ h. subst (λ (n : ℕ). 0 < n) (sym (shows h.state h.stands)) (some_first h.state now id room bytes (acts.gives h.state h.stands) some))

@@ -135,7 +135,7 @@ written_served core before later n (Ok done) same failed =
 written_served core before later n (Err error) written same =
     still_served core before later (ap (λ (t : Tape). t.text) same) (ap (λ (t : Tape). t.limit) same) (λ on. absurd (true≢false (sym on ∙ ap (λ (t : Tape). t.is_on) same)))
 
--- where nothing is recorded
+-- if nothing is recorded
 pub none_recorded : (core : CoreView) (tape : Tape) → ∥ IsServed core tape ∥₁ → Records [] tape tape
 none_recorded core tape held = record {
   on = λ is. is;
@@ -147,7 +147,7 @@ none_recorded core tape held = record {
   within = ∥∥₁_elim held le_prop (λ h. h.recorded.within);
 }
 
--- where the recording is over
+-- if the recording is over
 pub off_recorded : (entries : List (List ℕ)) (core : CoreView) (tape : Tape) → tape.is_on ≡ false → ∥ IsServed core tape ∥₁ → Records entries tape tape
 off_recorded entries core tape off held = record {
   on = λ is. is;

@@ -1,4 +1,5 @@
--- What is given into a room of this size is given into a room of that size, where they are the same; and what no byte leaves.
+-- What is given into a room of this size is given into a room of that size, if they are the same; and what no byte
+-- leaves.
 use Rattle.std.proofs.Common.{◌≡◌, ℕ, max, List, [], ◌∷◌, take, Result, Ok, Err, refl, sym, ap, subst, ◌∙◌}
 use Rattle.rb_model.specs.declared.types.CoreFault.{CoreFault}
 use Rattle.rb_model.specs.declared.types.Taken.{Taken}
@@ -21,7 +22,7 @@ pub gives_in : (id room free : ℕ) (old new : Engine) (result : Result (List �
 gives_in id room free old new result same acts =
     subst (λ (n : ℕ). ActsNow (λ s now. write_into s now id n) old new result) same acts
 
--- ---- where no byte is given
+-- ---- if no byte is given
 
 nothing_on : (s : State) (r : Result (List ℕ) CoreFault × State) → Ok [] ≡ (unless_nothing s r).0 → (unless_nothing s r).1 ≡ s
 nothing_on s (Ok [], new) is = refl

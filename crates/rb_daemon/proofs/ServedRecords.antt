@@ -33,7 +33,7 @@ module _ (s : State) (r : IsReached s) (tape : Tape) (recorded : HasRecorded r t
             (records_are_read r.limits r.listener r.first_xid r.now r.events path lines (subst (λ (text : List ℕ). length text ≤ longest_input) whole short)));
       }
 
-  -- where it has ended
+  -- if it has ended
   first_read : tape.is_on ≡ false → (held : HasFirst (options_text r.limits r.listener r.first_xid r.now ∷ run_entries (opening r.limits r.listener r.first_xid r.now) r.events) tape.text) (count : ℕ) → held.count ≡ count → ReadsBack s r tape
   first_read off held zero none = record {
     count = 0;

@@ -61,7 +61,7 @@ RecordsGiven id given old new = RecordsGiving id (pending_bytes given) old new
 abbrev pub WritesInto : ℕ → ℕ → Engine → Engine → Result (List ℕ) CoreFault → Type 0
 WritesInto id room old new given = ActsNow (λ s now. write_into s now id room) old new given
 
--- This many bytes are given at once of the reply to a record that ends with these bytes, where there is so much room.
+-- This many bytes are given at once of the reply to a record that ends with these bytes, if there is this much room.
 abbrev pub CountsGiven : ℕ → List ℕ → ℕ → Engine → ℕ → Type 0
 CountsGiven id piece room engine count = Shows StandsFor (count_now engine.moment id piece room) engine.core.core count
 
@@ -75,8 +75,8 @@ pub record FillsOutbox (id : ℕ) (piece : List ℕ) (old new : Engine) (before 
   pub appended : after.bytes ≡ before.bytes ++ given
   pub moment : new.moment ≡ old.moment
 
--- What is owed on a connection is given into all the free room of the outbox, as far as it fits. It stands there, after what
--- the outbox held, and is recorded. Where that is no byte, the core stays.
+-- What is owed on a connection is given into all the free room of the outbox, as far as it fits. It stands there, after
+-- what the outbox held, and is recorded. If that is no byte, the core stays.
 -- OUTBOX-3
 pub record WritesToOutbox (id : ℕ) (old new : Engine) (before after : Outgoing) (result : Result Given CoreFault) : Type 0 where
   pub given : List ℕ

@@ -45,7 +45,7 @@ send_events s = send_events_of (unsent_call s)
 abbrev pub entries_of : {s : State} → IsReached s → List (List ℕ)
 entries_of r = options_text r.limits r.listener r.first_xid r.now ∷ run_entries (opening r.limits r.listener r.first_xid r.now) r.events
 
--- The tape has all of them while the recording goes on, and the first ones, whole, where it has ended.
+-- The tape has all of them while the recording goes on, and the first ones, whole, once it has ended.
 -- TAPE-4
 abbrev pub HasRecorded : {s : State} → IsReached s → Tape → Type 0
 HasRecorded r tape = IsRecordOf (entries_of r) tape

@@ -104,7 +104,7 @@ due_after (ConnectionLost id, s) = (dues.Closed id, s)
 abbrev pub expire_due : State → ℕ → Due × State
 expire_due s now = due_after (expire s now)
 
--- The call that must be sent first was sent, where there is one: its number.
+-- The call that must be sent first was sent, if there is one: its number.
 abbrev pub send_unsent : State → Option Unsent → Option ℕ × State
 send_unsent s None = (None, s)
 send_unsent s (Some unsent) = (Some unsent.number, (sent_call s unsent.number).1)

@@ -42,8 +42,8 @@ pub record ReadsBack (s : State) (r : IsReached s) (tape : Tape) : Type 0 where
   pub all : tape.is_on ≡ true → count ≡ length r.events
   pub reads : ReadsAs tape.text (take count r.events) (run (opening r.limits r.listener r.first_xid r.now) (take count r.events))
 
--- So does the record of the daemon, where it may be no longer than an input, and the path of the local socket is as `--local`
--- takes it. Its first line has the options of the run, so `replay --check` finds no difference.
+-- So does the record of the daemon, if it may be no longer than an input, and the path of the local socket is as
+-- `--local` takes it. Its first line has the options of the run, so `replay --check` finds no difference.
 abbrev pub ServedRecordsAreRead : Type 0
 ServedRecordsAreRead =
     (core : CoreView) (tape : Tape) (served : IsServed core tape)

@@ -36,8 +36,8 @@ pub struct Daemon<'a, R: Clock> {
 }
 
 impl<'a, R: Clock> Daemon<'a, R> {
-    /// A daemon that listens where the settings say: over TCP and UDP on each of their hosts, and besides on ::1 and on a
-    /// local socket where they are asked for. Before that it sets the rows again that were kept. `Limits` where a limit is
+    /// A daemon that listens where the settings say: over TCP and UDP on each of their hosts, and also on ::1 and on a
+    /// local socket if they are asked for. Before that it sets the rows again that were kept. `Limits` if a limit is
     /// out of its range, or the rows have no room for the own ones and two more; else `Memory` or `Socket`, whichever
     /// occurs first.
     pub fn new<H: Files + Net>(
@@ -94,7 +94,7 @@ impl<'a, R: Clock> Daemon<'a, R> {
         })
     }
 
-    /// That the limit of open files leaves fewer places for connections than the settings ask for, where it does.
+    /// That the limit of open files leaves fewer places for connections than the settings ask for, if it does.
     pub fn shortage(&self) -> Option<Shortage> {
         self.shortage
     }
@@ -104,13 +104,13 @@ impl<'a, R: Clock> Daemon<'a, R> {
         self.left_out.as_slice()
     }
 
-    /// Waits for events once, until the next deadline or for `longest` milliseconds, whichever is sooner, without an end
-    /// where there is neither, and not at all where something is left from the last turn. Then it serves all that it
-    /// showed, in this order: datagrams, what comes back for forwarded calls, connections, those that are owed bytes
-    /// last, and what is due, unless the turn is behind: then the next one does not wait. It closes Lost connections, and
-    /// accepts connections as far as there are free places. Those from this host over TCP it opens by what the kernel's
-    /// tables, which are files of `host`, show of them. After a fault, `Socket` of the wait or the clock, what was handed
-    /// to the core stands, and the daemon can do no more.
+    /// Waits for events once, until the next deadline or for `longest` milliseconds, whichever is sooner, without an
+    /// end if there is neither, and not at all if something is left from the last turn. Then it serves all that the
+    /// wait showed, in this order: datagrams, what comes back for forwarded calls, connections, those that are owed
+    /// bytes last, and what is due, unless the turn is behind: then the next one does not wait. It closes Lost
+    /// connections, and accepts connections as far as there are free places. Those from this host over TCP it opens by
+    /// what the kernel's tables, which are files of `host`, show of them. After a fault, `Socket` of the wait or the
+    /// clock, what was handed to the core stands, and the daemon can do no more.
     pub fn turn<H: Files>(&mut self, host: &H, longest: Option<u64>) -> Result<(), DaemonFault> {
         let deadline = self.serving.next_deadline();
         let wait = wait_of(
@@ -144,8 +144,8 @@ impl<'a, R: Clock> Daemon<'a, R> {
         self.serving.take_fault()
     }
 
-    /// The error of a write of the rows that are kept, once where more follow: the daemon goes on, and tries again at the next
-    /// change.
+    /// The error of a write of the rows that are kept, only once if more follow: the daemon goes on, and tries again at
+    /// the next change.
     pub fn take_keep_fault(&mut self) -> Option<io::Error> {
         self.serving.take_keep_fault()
     }
@@ -156,8 +156,8 @@ impl<'a, R: Clock> Daemon<'a, R> {
         self.serving.write_record(writer)
     }
 
-    /// Writes the lines of the log that the turns added and that are not written yet (rpcbind(8), `--log`). Where that fails
-    /// they are lost, and the daemon goes on.
+    /// Writes the lines of the log that the turns added and that are not written yet (rpcbind(8), `--log`). If that
+    /// fails, they are lost, and the daemon goes on.
     pub fn write_log<W: Write>(&mut self, writer: &mut W) -> io::Result<()> {
         self.serving.write_log(writer)
     }
@@ -190,8 +190,8 @@ impl<'a, R: Clock> Daemon<'a, R> {
         }
     }
 
-    /// Where a signal ended a wait of this many milliseconds, which showed nothing, the rest of it passes all the same: waits
-    /// that always end so take no processor.
+    /// If a signal ended a wait of this many milliseconds, which showed nothing, the rest of it passes all the same: so
+    /// waits that always end in this way take no processor time.
     fn sleep_on(&self, wait: Option<u64>) -> Result<(), DaemonFault> {
         let monotonic = match self.clock.monotonic() {
             Ok(time) => millis(time),
@@ -204,7 +204,7 @@ impl<'a, R: Clock> Daemon<'a, R> {
         Ok(())
     }
 
-    /// Reads the moment of the turn off the clocks. It follows a wall clock that was set where nothing has a deadline.
+    /// Reads the moment of the turn off the clocks. If nothing has a deadline, it follows a wall clock that was set.
     fn read_moment(&mut self, follows_wall: bool) -> Result<(), DaemonFault> {
         match read_clocks(self.clock) {
             Ok(Times { wall, monotonic }) => {
@@ -220,7 +220,7 @@ impl<'a, R: Clock> Daemon<'a, R> {
 /// kept, while that is written.
 const TABLE: u64 = 1;
 
-/// How many places there are for connections, and the shortage, where they are fewer than the settings ask for.
+/// How many places there are for connections, and the shortage, if they are fewer than the settings ask for.
 fn places_of(settings: &Settings<'_>, sockets: &Sockets) -> (usize, Option<Shortage>) {
     let asked = settings.limits.conns;
     let limit = settings.open_files;
@@ -241,8 +241,8 @@ fn places_of(settings: &Settings<'_>, sockets: &Sockets) -> (usize, Option<Short
     (places, Some(shortage))
 }
 
-/// Sets the rows again that were kept, and begins the statistics anew after them. Returns the places of those that are not
-/// set. An error where an allocation is refused.
+/// Sets the rows again that were kept, and begins the statistics anew after them. Returns the places of those that are
+/// not set. An error if an allocation is refused.
 fn restore(alloc: Global, engine: &mut Engine, rows: &[Row]) -> Result<Vec<usize>, AllocError> {
     let mut left_out = Vec::new(alloc);
     for (place, row) in rows.iter().enumerate() {

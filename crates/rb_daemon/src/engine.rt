@@ -97,7 +97,7 @@ fn tell(
     }
 }
 
-/// How many bytes of a fragment are pending on a connection; 0 where there is no such connection.
+/// How many bytes of a fragment are pending on a connection; 0 if there is no such connection.
 fn count_pending(core: &mut Metered, id: u64) -> usize
     ensures count { Shows StandsFor (λ s. first_piece s id) core.old.core result }
     ensures stays { core.new.core ≡ core.old.core }
@@ -108,7 +108,7 @@ fn count_pending(core: &mut Metered, id: u64) -> usize
     }
 }
 
-/// A tape of up to `limit` bytes of a run that begins so. `NoMemory` where an allocation is refused.
+/// A tape of up to `limit` bytes of a run that begins so. `NoMemory` if an allocation is refused.
 fn begin_tape(alloc: Global, limit: usize, start: &Start<'_>) -> Result<Tape, CoreFault>
     ensures begun { IfOk result (Records (options_of start.now ∷ []) (empty_tape limit)) }
     ensures fault { IfErr result (λ fault. fault ≡ CoreFault.NoMemory) }
@@ -163,7 +163,7 @@ impl Engine {
 
     /// A new core at this moment, which is the first. The xid of the first forwarded call is the low 32 bits of it.
     /// Up to `record_limit` bytes of its events are recorded, and `logged` says of what the log has lines. `BadLimits`
-    /// where a limit is out of its range, else `NoMemory` where an allocation is refused.
+    /// if a limit is out of its range, else `NoMemory` if an allocation is refused.
     pub(crate) fn new(
         alloc: Global,
         limits: Limits,
@@ -208,7 +208,7 @@ impl Engine {
         self.moment = moment;
     }
 
-    /// Writes what was recorded and not yet written. Where that fails the recording ends.
+    /// Writes what was recorded and not yet written. If that fails, the recording ends.
     pub(crate) fn write_record<W: Write>(&mut self, writer: &mut W) -> io::Result<()>
         ensures written { OnOk result
             (Writes W.contents writer.old writer.new (unwritten self.old.tape)) }
@@ -220,7 +220,7 @@ impl Engine {
         self.tape.write_out(writer)
     }
 
-    /// Tells the log of the call that the last `answer` or `exchange` brought, where that must be told.
+    /// Tells the log of the call that the last `answer` or `exchange` brought, if that must be told.
     pub(crate) fn tell_call(&mut self)
         ensures core { self.new.core ≡ self.old.core }
         ensures moment { self.new.moment ≡ self.old.moment }
@@ -240,12 +240,12 @@ impl Engine {
         self.log.note_given_up(self.moment, source);
     }
 
-    /// The moment, in milliseconds, from which the log tells of lines that were left out, where some were.
+    /// The moment, in milliseconds, from which the log tells of lines that were left out, if some were.
     pub(crate) fn next_log_line(&self) -> Option<u64> {
         self.log.next_line()
     }
 
-    /// Writes the lines of the log that are not written yet. Where that fails they are lost.
+    /// Writes the lines of the log that are not written yet. If that fails, they are lost.
     pub(crate) fn write_log<W: Write>(&mut self, writer: &mut W) -> io::Result<()>
         ensures core { self.new.core ≡ self.old.core }
         ensures moment { self.new.moment ≡ self.old.moment }
@@ -254,7 +254,7 @@ impl Engine {
         self.log.write(self.moment, writer)
     }
 
-    /// A connection was accepted. `Full` where all places of the core are taken, `Spent` where its numbers are.
+    /// A connection was accepted. `Full` if all places of the core are taken, `Spent` if its numbers are.
     pub(crate) fn open(&mut self, caller: Caller) -> Result<u64, CoreFault>
         ensures acts { ActsNow (λ s now. open_connection s now caller.who)
             self.old self.new result }
@@ -268,8 +268,8 @@ impl Engine {
         opened
     }
 
-    /// Bytes came on a connection. A reply of one fragment to the record that ends with them goes into the room,
-    /// where there is enough.
+    /// Bytes came on a connection. A reply of one fragment to the record that ends with them goes into the room, if
+    /// there is enough of it.
     pub(crate) fn exchange(
         &mut self,
         id: u64,
@@ -291,8 +291,8 @@ impl Engine {
         done
     }
 
-    /// Gives whole fragments of the reply that a connection owes into the room, as many as fit: the longest is 1,028 bytes.
-    /// `Gone` where there is no such connection, or the core has given it up.
+    /// Gives whole fragments of the reply that a connection owes into the room, as many as fit: the longest is 1,028
+    /// bytes. `Gone` if there is no such connection, or the core has given it up.
     pub(crate) fn write_into(&mut self, id: u64, room: &mut [u8]) -> Result<Given, CoreFault>
         ensures acts { WritesInto
             id (length room.old) self.old self.new (bytes_given room.new result) }
@@ -335,7 +335,7 @@ impl Engine {
         lost
     }
 
-    /// The moment from which `expire` finds something, in milliseconds since the start of 1970; `None` where nothing has a
+    /// The moment from which `expire` finds something, in milliseconds since the start of 1970; `None` if nothing has a
     /// deadline. It is a look, and no event.
     pub(crate) fn next_deadline(&mut self) -> Option<u64>
         ensures soonest { Shows StandsFor next_deadline self.old.core.core result }
@@ -346,7 +346,7 @@ impl Engine {
         self.core.next_deadline()
     }
 
-    /// Takes a datagram in. Where it has a reply, `reply` sends it.
+    /// Takes a datagram in. If it has a reply, `reply` sends it.
     pub(crate) fn answer(&mut self, caller: Caller, content: &[u8]) -> Answer
         ensures acts { ActsNow (answer_datagram caller.who content.now)
             self.old self.new result }

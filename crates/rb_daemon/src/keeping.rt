@@ -12,7 +12,7 @@ use std::io;
 /// digits for each byte, and what is between them.
 const LONGEST_LINE: usize = 43 + 2 * LONGEST_SET;
 
-/// The file in which the rows are kept that were set, where one is asked for.
+/// The file in which the rows are kept that were set, if one is asked for.
 #[derive(Drop)]
 pub(crate) struct Keeper {
     file: Option<KeptFile>,
@@ -27,8 +27,8 @@ pub(crate) struct Keeper {
 }
 
 impl Keeper {
-    /// A keeper of at most this many rows in the file at a path, which has what this many changes made. Without a path nothing is
-    /// kept. An error where an allocation is refused.
+    /// A keeper of at most this many rows in the file at a path, which has what this many changes made. Without a path
+    /// nothing is kept. An error if an allocation is refused.
     pub(crate) fn new(
         alloc: Global,
         path: Option<&str>,
@@ -60,7 +60,7 @@ impl Keeper {
         self.changes != changes
     }
 
-    /// Writes the file anew, where changes were accepted since it was last written. Where that fails the file stays as it
+    /// Writes the file anew if changes were accepted since it was last written. If that fails, the file stays as it
     /// is, and the next change tries again.
     pub(crate) fn keep<H: Files>(&mut self, host: &H, engine: &mut Engine) {
         let changes = engine.changes();
@@ -83,7 +83,7 @@ impl Keeper {
         file.replace(host, self.text.as_slice())
     }
 
-    /// A write failed. The first one after a write that went well is to be told.
+    /// A write failed. The first one after a write that went well must be told.
     fn fail(&mut self, error: io::Error) {
         if !self.has_failed {
             self.fault = Some(error);

@@ -32,7 +32,7 @@ pub(crate) struct Log {
 }
 
 impl Log {
-    /// A log of this. An error where an allocation is refused.
+    /// A log of this. An error if an allocation is refused.
     pub(crate) fn new(alloc: Global, logged: Logged) -> Result<Log, AllocError> {
         let room = match logged {
             Logged::Nothing => 0,
@@ -78,7 +78,7 @@ impl Log {
         }
     }
 
-    /// The moment, in milliseconds, from which lines are told that were left out, where some were.
+    /// The moment, in milliseconds, from which the log tells of lines that were left out, if some were.
     pub(crate) fn next_line(&self) -> Option<u64> {
         let mut next = None;
         for rate in [self.accepted, self.refused, self.calls, self.given_up] {
@@ -87,8 +87,8 @@ impl Log {
         next
     }
 
-    /// Writes the lines that are not written yet, and at this moment, in milliseconds, how many were left out of seconds
-    /// before. Where that fails they are lost.
+    /// Writes the lines that are not written yet, and at this moment, in milliseconds, how many were left out in the
+    /// seconds before. If that fails, they are lost.
     pub(crate) fn write<W: Write>(&mut self, now: u64, writer: &mut W) -> io::Result<()> {
         for kind in KINDS {
             self.tell_left_out(now, kind);
@@ -101,7 +101,7 @@ impl Log {
         done
     }
 
-    /// Adds a line, after how many of its kind were left out before; or counts it, where its second has had enough.
+    /// Adds a line, after how many of its kind were left out before; or counts it, if its second has had enough.
     fn tell(&mut self, now: u64, kind: LogKind, line: &LogLine<'_>) {
         self.tell_left_out(now, kind);
         if self.rate(kind).ask(now) {
@@ -125,7 +125,7 @@ impl Log {
         }
     }
 
-    /// Adds a line where there is room for the longest.
+    /// Adds a line if there is room for the longest.
     fn add(&mut self, line: &LogLine<'_>) {
         if self.text.len() <= ROOM - LONGEST_LOG_LINE {
             let _ = writeln!(self.text, "{line}");

@@ -40,7 +40,7 @@ pub(crate) struct Serving {
     /// As many things can be due at one moment: connections and forwarded calls.
     most_due: usize,
     datagram: Vec<u8>,
-    /// What drops datagrams of strangers that come too often, where that is asked for.
+    /// What drops datagrams of strangers that come too often, if that is asked for.
     brake: Option<Brake>,
     /// The kernel's tables of connections, which show whose those from this host are.
     table: Table,
@@ -62,7 +62,7 @@ fn brake_of(alloc: Global, rate: Option<Rate>) -> Result<Option<Brake>, AllocErr
     }
 }
 
-/// Whether a datagram of this caller is served that came at this moment: each one, where there is no brake.
+/// Whether a datagram of this caller is served that came at this moment: each one is, if there is no brake.
 fn passes(brake: &mut Option<Brake>, now: u64, who: &Who) -> bool {
     match brake {
         Some(brake) => brake.passes(now, who),
@@ -71,8 +71,8 @@ fn passes(brake: &mut Option<Brake>, now: u64, who: &Who) -> bool {
 }
 
 impl Serving {
-    /// With this many places for connections, and this many datagrams of strangers in a second where that is limited. An
-    /// error where an allocation is refused.
+    /// With this many places for connections, and this many datagrams of strangers in a second if that is limited. An
+    /// error if an allocation is refused.
     pub(crate) fn new(
         alloc: Global,
         engine: Engine,
@@ -144,9 +144,9 @@ impl Serving {
         sooner(self.engine.next_deadline(), self.places.next_stuck())
     }
 
-    /// The moment at which the next turn comes though nothing shows it, where it would else come at a deadline, if it does:
-    /// for connections that wait to be opened, where the kernel's tables may be read; for a line of the log on those that
-    /// were left out; for a socket that failed.
+    /// The moment at which the next turn comes though nothing shows it, given that it would otherwise come at this
+    /// deadline, if there is one: for connections that wait to be opened, when the kernel's tables may be read; for a
+    /// line of the log on those that were left out; for a socket that failed.
     pub(crate) fn next_turn(&self, deadline: Option<u64>) -> Option<u64> {
         let mut next = sooner(deadline, self.engine.next_log_line());
         if self.places.are_held() {
@@ -322,7 +322,7 @@ impl Serving {
         self.take_forward_replies_from(Family::Inet6);
     }
 
-    /// Takes what comes back from targets of a family, where that must be served.
+    /// Takes what comes back from targets of a family, if that must be served.
     fn take_forward_replies_from(&mut self, family: Family) {
         let forwards = self.sockets.forwards.of(family);
         if !forwards.is_some_and(|forwards| forwards.is_ready()) {
@@ -370,8 +370,9 @@ impl Serving {
         }
     }
 
-    /// Ends what is due, unless the turn is behind. `deadline` is the next one as the turn began; `is_fresh` is whether the
-    /// turn looked for events after its moment, and this many sockets were shown, where no more than `most` can be.
+    /// Ends what is due, unless the turn is behind. `deadline` is the next one as the turn began; `is_fresh` is whether
+    /// the turn looked for events after its moment, and `shown` is how many sockets were shown, of which there can be
+    /// no more than `most`.
     pub(crate) fn expire(
         &mut self,
         deadline: Option<u64>,
@@ -483,7 +484,7 @@ impl Serving {
         after_all_calls(got_some)
     }
 
-    /// An accept of the listener of this number failed. It must be told, where none of that listener was.
+    /// An accept of the listener of this number failed, which must be told if it is the listener's first failure.
     fn note_fault(&mut self, which: usize, error: io::Error) {
         if self.fault.is_none() {
             if let Some(listener) = self.sockets.listeners.get_mut(which) {
@@ -499,8 +500,8 @@ impl Serving {
         self.fault.take()
     }
 
-    /// Gives a connection a free place, or that of one that is given up for it, and opens it, unless the kernel's tables are
-    /// to show first whose it is. One that is nobody's is closed at once.
+    /// Gives a connection a free place, or that of one that is given up for it, and opens it, unless the kernel's
+    /// tables must show first whose it is. One that is nobody's is closed at once.
     fn open(&mut self, registry: &Registry, stream: Stream, from: Option<Visitor>) {
         let Some(visitor) = from else {
             return;
@@ -553,7 +554,7 @@ impl Serving {
         }
     }
 
-    /// Reads the table of a family, where it must be looked at for one that waits.
+    /// Reads the table of a family, if it must be looked at for one that waits.
     fn look_in<R: Files>(&mut self, rt: &R, table: Family) {
         if self.places.looks_in(table) {
             let text = self.table.read(rt, table);

@@ -54,7 +54,7 @@ pub(crate) fn count_given(done: &Result<Exchanged, CoreFault>) -> usize
     }
 }
 
-/// Records that bytes came on a connection, and where some were given at once, the look at them and that they were
+/// Records that bytes came on a connection, and, if some were given at once, the look at them and that they were
 /// given.
 pub(crate) fn record_exchange(
     tape: &mut Tape,
@@ -94,7 +94,7 @@ pub(crate) fn record_pieces(tape: &mut Tape, now: u64, id: u64, first: usize, gi
     }
 }
 
-/// Records the look for a call that must be sent, where there is one.
+/// Records the look for a call that must be sent, and that there is this one.
 pub(crate) fn record_unsent(tape: &mut Tape, number: u64, target: Peer, call: &[u8])
     ensures { Records (unsent_entry number target call.now ∷ []) tape.old tape.new }
 {

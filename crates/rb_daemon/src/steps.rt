@@ -25,8 +25,8 @@ pub(crate) enum Progress {
 }
 
 /// Hands in, takes over, writes and reads until the socket would block or has used up its calls of this turn.
-/// `may_end` is whether its peer may have ended what it sends. It has the long outbox meanwhile, where that is to spare,
-/// and longer where bytes are left in it.
+/// `may_end` is whether its peer may have ended what it sends. It has the long outbox meanwhile, if that is free, and
+/// longer if bytes are left in it.
 pub(crate) fn serve<H: Files>(
     host: &H,
     link: &mut Link,
@@ -44,7 +44,7 @@ pub(crate) fn serve<H: Files>(
 }
 
 /// Calls the core and the socket in turn, until the socket's calls are enough for a turn, or none is left to make: what
-/// changed is kept before what tells it is written. Where they were enough and none moved a byte, each was interrupted:
+/// changed is kept before what tells it is written. If they were enough and none moved a byte, each was interrupted:
 /// the connection would keep turns from waiting, and is over.
 fn serve_calls<H: Files>(
     host: &H,

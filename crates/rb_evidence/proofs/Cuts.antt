@@ -83,7 +83,7 @@ last_is p rest without is = ap (filter p) (one_piece 10 rest without) ∙ rw is 
 pub last_is_not : (p : List ℕ → Bool) (rest : List ℕ) → IsWithout 10 rest → p rest ≡ false → filter p (lines_of rest) ≡ []
 last_is_not p rest without is = ap (filter p) (one_piece 10 rest without) ∙ rw is refl
 
--- those of the table, where the lines so far had this one or none
+-- those of the table, if the lines so far had this one or none
 abbrev pub IsSeen : List (List ℕ) → Option (Bor (List ℕ)) → List (List ℕ) → Type 0
 IsSeen all found rest = all ≡ option_list (borrowed found) ++ rest
 

@@ -32,7 +32,7 @@ UidIsOfOneLine =
     → uid_between table theirs ours ≡ Some uid
     → (line : List ℕ) × (filter (is_between theirs ours) (lines_of table) ≡ line ∷ []) × IsOwnedLine theirs ours line uid
 
--- Where two lines are between them, it is nobody's.
+-- If two lines are between them, it is nobody's.
 -- EVIDENCE-1
 abbrev pub TwoLinesAreNone : Type 0
 TwoLinesAreNone =

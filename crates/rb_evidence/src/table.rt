@@ -11,7 +11,7 @@ const ESTABLISHED: &[u8] = b"01";
 
 /// The uid of the process's socket at the other end of a TCP connection that came from this host, by the text of
 /// /proc/net/tcp or /proc/net/tcp6: of the one line from that peer to us, which is established and has an inode.
-/// `None` where there is none, more than one, or a line of another form.
+/// `None` if there is none, more than one, or a line of another form.
 #[tactic(auto, unfolding(crate::specs::Table::uid_of))]
 pub fn uid_of(table: &[u8], theirs: &Peer, ours: &Peer) -> Option<u32>
     ensures { result ≡ uid_of table.now theirs.now ours.now }
@@ -68,7 +68,7 @@ fn is_between(line: &[u8], theirs: &[u8], ours: &[u8]) -> bool
     is_field(line, 1, theirs) && is_field(line, 2, ours)
 }
 
-/// The uid of a line, where that is established and has a socket.
+/// The uid of a line, if that is established and has a socket.
 #[tactic(auto, unfolding(crate::specs::Table::owner_in))]
 fn owner_in(line: &[u8]) -> Option<u32>
     ensures { result ≡ owner_in line.now }

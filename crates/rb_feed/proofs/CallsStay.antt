@@ -95,7 +95,7 @@ one_byte : (byte : ℕ) → byte < 256 → AreBytes (byte ∷ [])
 one_byte byte small zero = small
 one_byte byte small (suc i) = omega arith
 
--- where the bytes are no call yet, the first byte of the arguments is still to come
+-- if the bytes are no call yet, the first byte of the arguments is still to come
 pub none_yet : (fed : List ℕ) (byte : ℕ) → AreBytes fed → byte < 256 → is_call (verdict fed) ≡ false → arguments_of (fed ++ byte ∷ []) ≡ []
 unfolding arguments_of
 none_yet fed byte are small not_yet = by_verdict (verdict (fed ++ byte ∷ [])) refl

@@ -37,6 +37,6 @@ behind_head verdicts.NoCall bytes = []
 behind_head (verdicts.RpcMismatch xid) bytes = []
 behind_head (verdicts.AuthError xid stat) bytes = []
 
--- the arguments of a call as far as they have come; nothing where the bytes are no call yet, or none that is taken
+-- the arguments of a call as far as they have come; nothing if the bytes are no call yet, or none that is taken
 unfoldable pub arguments_of : List ℕ → List ℕ
 arguments_of bytes = behind_head (verdict bytes) bytes

@@ -1,4 +1,4 @@
--- The head of a call word by word (RFC 5531 section 9), and the verdict where it has come so far.
+-- The head of a call word by word (RFC 5531 section 9), and the verdict when it has come so far.
 use Rattle.std.specs.Prelude.{ℕ, ◌+◌, ◌-◌, ◌==◌, nat_lt, Bool, true, false, if◌then◌else◌}
 use Rattle.rb_xdr.specs.Xdr.{residue}
 use Rattle.rb_rpc.specs.Messages.{max_auth_body}
@@ -55,7 +55,7 @@ credential_after call flavor len left field w =
 abbrev pub head_of : CallWords → Credential → CallHead
 head_of call cred = record { xid = call.xid; prog = call.prog; vers = call.vers; proc = call.proc; cred = cred }
 
--- after the verifier, where the arguments begin at this place
+-- after the verifier, if the arguments begin at this place
 unfoldable pub stage_behind : CallWords → Claim → ℕ → Stage
 stage_behind call (claims.Taken cred) place = stages.Arguments (head_of call cred) place
 stage_behind call claims.Unreadable place = stages.BadCredential call.xid

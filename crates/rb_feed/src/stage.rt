@@ -290,7 +290,7 @@ fn head_of(call: CallWords, cred: Credential) -> CallHead
     }
 }
 
-/// After the verifier, where the arguments begin at this place.
+/// After the verifier, if the arguments begin at this place.
 #[tactic(auto, unfolding(crate::specs::Stages::stage_behind))]
 pub(crate) fn stage_behind(call: CallWords, claim: Claim, place: u32) -> Stage
     ensures { result ≡ stage_behind call claim place }

@@ -21,7 +21,7 @@ impl KeptFile {
     ghost use Rattle.std.specs.Prelude.{◌≡◌, ◌++◌, string_bytes, codes, IfOk};
 
     /// The file at the path, whose new text is written beside it, at the path with `.new` after it. It takes the
-    /// memory for both paths, and looks at no file. An error where the allocation is refused.
+    /// memory for both paths, and looks at no file. An error if the allocation is refused.
     pub fn new(alloc: Global, path: &str) -> Result<KeptFile, AllocError>
         ensures path { IfOk result (λ file. string_bytes file.path ≡ path.now) }
         ensures beside { IfOk result (λ file. string_bytes file.beside
@@ -43,8 +43,8 @@ impl KeptFile {
     }
 
     /// Puts a new file with this text in place of what is at the path, which its owner alone may read: it is written
-    /// beside it, reaches the disk, and is renamed. A plain file that is there beside goes. No memory is taken. Where
-    /// the system refuses a step, its error: what is at the path stays, and the file beside goes.
+    /// beside it, reaches the disk, and is renamed. A plain file that is there beside goes. No memory is taken. If the
+    /// system refuses a step, its error: what is at the path stays, and the file beside goes.
     pub fn replace<R: Files>(&self, rt: &R, text: &[u8]) -> io::Result<()> {
         let file = new_file(rt, &self.beside)?;
         let replaced = self.put_in_place(rt, file, text);

@@ -1,5 +1,5 @@
 //! Files at a path: new ones, which no link leads elsewhere, one that is replaced as a whole, and one that is
-//! believed only where nobody else may have written it.
+//! believed only if nobody else may have written it.
 #![tactic(auto)]
 
 mod kept;

@@ -12,7 +12,7 @@ use std::{fs, io};
 const MODE: u32 = 0o600;
 
 /// A new file at the path, which its owner alone may read. A plain file that is there goes; one of another kind
-/// stays, and no link is followed. An error where the system refuses a step, and `AlreadyExists` where a file stays.
+/// stays, and no link is followed. An error if the system refuses a step, and `AlreadyExists` if a file stays.
 pub fn new_file<R: Files>(rt: &R, path: &str) -> io::Result<R::File> {
     match record_action(file_state(rt, path)?) {
         RecordAction::Make => {}

@@ -1,4 +1,4 @@
-//! A file that is believed only where nobody else may have written it.
+//! A file that is believed only if nobody else may have written it.
 ghost use Rattle.std.specs.Prelude.{◌≤◌, length, IfOk, IfSome};
 ghost use Rattle.std.specs.Fs.{file_type, metadata_mode};
 ghost use Rattle.rb_files.specs.Found.{IsKeepState};
@@ -27,8 +27,8 @@ pub enum KeptFileFault {
     Failed(io::Error),
 }
 
-/// The text of the file at the path; none where nothing is there. `Distrusted` where it is no plain file, or somebody
-/// other than root and the daemon's own user may have written it; `TooLong` where it has over `most` bytes. A file
+/// The text of the file at the path; none if nothing is there. `Distrusted` if it is no plain file, or somebody
+/// other than root and the daemon's own user may have written it; `TooLong` if it has over `most` bytes. A file
 /// that is not believed is not read, and no link at the path is followed.
 pub fn read_kept<R: Files>(
     rt: &R,
@@ -93,7 +93,7 @@ fn state_of(found: &Metadata) -> KeepState
     }
 }
 
-/// An error where the file of this metadata is not believed.
+/// An error if the file of this metadata is not believed.
 fn believe(found: &Metadata) -> Result<(), KeptFileFault> {
     match keep_action(libc::geteuid(), state_of(found)) {
         KeepAction::Begin | KeepAction::Read => Ok(()),

@@ -36,7 +36,7 @@ any-rest test first slots h = rw (any-first test first slots h) at h
 
 -- ---- one more
 
--- where the second is of no connection of the first, the first is of none of the second
+-- if the second is of no connection of the first, the first is of none of the second
 apart : (caller other : Caller) (rest : List Slot) (first : Slot) → first.forward.caller ≡ caller → IsNew other (first ∷ rest) → (slot : Slot) → slot.forward.caller ≡ other
     → (id : ℕ) (who : Who) → caller ≡ Tcp id who → is_connection id slot.forward.caller ≡ false
 apart caller (Udp p longest) rest first is new slot is_other id who tcp = rw is_other refl

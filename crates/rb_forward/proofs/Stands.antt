@@ -22,7 +22,7 @@ use Rattle.rb_forward.specs.StandsFor.{StandsForEntry, held_in}
 use Rattle.rb_forward.proofs.Tables.{none_some, IsFirst, is_first, nothing_found, found_any, found_none, all_stay, Beside, found_beside, none_beside, without_beside, changed_beside, one_more_each, same_length, same_sum}
 use Rattle.std.proofs.lemmas.Map.Entries.{length-values_of}
 
--- an entry is wanted as its slot is
+-- an entry is looked for as its slot is
 pub wanted_alike : (first_xid : ℕ) (sought : Sought) (slot : Slot) (e : Entry) → StandsForEntry first_xid slot e → is_wanted_slot sought slot ≡ is_wanted first_xid sought e
 unfolding is_wanted_slot is_wanted is_answered
 wanted_alike first_xid wanted.AnyUnsent slot e h = rw h.sent refl
@@ -46,7 +46,7 @@ module _ (sought : Sought) (slots : List (ℕ × Slot)) where
   pub is_there : (k : ℕ) → HasDistinctKeys slots → option_map (λ e. e.0) (wanted_slot sought slots) ≡ Some k → value_at slots k ≡ None → ⊥
   is_there k d h missing = let f = first_wanted k d h in absurd (none_some f.value (sym missing ∙ f.here))
 
-  -- the slot under that key is the first that is wanted
+  -- the slot under that key is the first that is looked for
   pub found_first : (k : ℕ) (slot : Slot) → HasDistinctKeys slots → option_map (λ e. e.0) (wanted_slot sought slots) ≡ Some k → value_at slots k ≡ Some slot → find (is_wanted_slot sought) (values_of slots) ≡ Some slot
   found_first k slot d h v = let f = first_wanted k d h in f.found ∙ sym f.here ∙ v
 

@@ -23,7 +23,7 @@ TellsMoment {F} {T} calls tell moment = (value : T) (told : Option ℕ) → FnRe
 abbrev pub IsSoonest : {F T : Type 0} → Shared F (Bor T × Unit {0}) (Option ℕ) → F → List T → Option ℕ → Type 0
 IsSoonest {F} {T} calls tell values soonest = (moment : T → Option ℕ) → TellsMoment calls tell moment → soonest ≡ soonest_of (map moment values)
 
--- what it costs to look for the least moment of so many values: 2 steps for each, and 1
+-- what it costs to look for the least moment of this many values: 2 steps for each, and 1
 abbrev pub soonest_cost : ℕ → ℕ
 soonest_cost count = 2 * count + 1
 
@@ -31,6 +31,6 @@ soonest_cost count = 2 * count + 1
 unfoldable pub deadlines_of : List Entry → List (Option ℕ)
 deadlines_of all = map (λ (e : Entry). Some e.deadline) all
 
--- the least deadline of the entries, where there are some
+-- the least deadline of the entries, if there are any
 abbrev pub next_deadline : Forwards → Option ℕ
 next_deadline f = soonest_of (deadlines_of f.all)

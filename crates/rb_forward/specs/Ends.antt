@@ -23,7 +23,7 @@ pub record IsFirst (Is : Entry → Type 0) (all : List Entry) (e : Entry) (rest 
   pub is_first : NoneIs Is before
   pub rest_are : rest ≡ before ++ behind
 
--- What is told and left: the first such entry has ended so, and the others stay; where there is none, nothing changes.
+-- What is told and left: the first such entry has ended so, and the others stay; if there is none, nothing changes.
 abbrev pub EndsFirst : (Entry → Type 0) → ForwardEnd → Forwards → Option Ended → Forwards → Type 0
 EndsFirst Is outcome f None left = NoneIs Is f.all × (left ≡ f)
 EndsFirst Is outcome f (Some ended) left =

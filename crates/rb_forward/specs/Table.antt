@@ -54,11 +54,11 @@ is_wanted first_xid (wanted.Answered xid from clock) e = is_answered first_xid c
 is_wanted first_xid (wanted.Due clock) e = is_due clock e
 is_wanted first_xid (wanted.OfConnection id) e = is_of_connection id e
 
--- the first entry that is wanted ends so
+-- the first entry that is looked for ends so
 abbrev pub end_of : ℕ → Sought → ForwardEnd → Forwards → Option Ended × Forwards
 end_of first_xid sought outcome f = with_end (is_wanted first_xid sought) outcome f
 
--- the key and the slot of the first entry that is wanted
+-- the key and the slot of the first entry that is looked for
 unfoldable pub wanted_slot : Sought → List (ℕ × Slot) → Option (ℕ × Slot)
 wanted_slot sought slots = find (λ (e : ℕ × Slot). is_wanted_slot sought e.1) slots
 

@@ -125,7 +125,7 @@ impl Slot {
     }
 }
 
-/// The key of the first slot that is wanted.
+/// The key of the first slot that is looked for.
 #[tactic(auto, unfolding(crate::specs::Table::wanted_slot))]
 pub(crate) fn wanted_key(slots: &Pool<Slot>, wanted: Sought, meter: &mut Meter) -> Option<usize>
     requires tie { meter.old.tie ≡ slots.now.tie }

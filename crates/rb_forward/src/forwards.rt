@@ -48,7 +48,7 @@ fn layout(forwards: &Forwards) {
     let _: (u64, u32, u32, u64) = (*last_number, *first_xid, *cap, *held);
 }
 
-/// The head of the next forwarded call, where the last one had the number `last_number`.
+/// The head of the next forwarded call, if the last one had the number `last_number`.
 #[tactic(auto, unfolding(crate::specs::Forwards::xid_of), using(crate::proofs::Xids::xids))]
 fn head_of(first_xid: u32, last_number: u64, forward: &Forward) -> CallHead
     ensures { result ≡ head_of first_xid (last_number + 1) forward.now }
@@ -92,7 +92,7 @@ impl Forwards {
     ghost use Rattle.rb_forward.specs.Table.{Whatever, Becomes, GivenBy, LeftBy, end_of, IsNew, NoneWaitsAnew, OnlyWaitsAnew, is_waiting, AreOfDistinctCallers, is_wanted_slot, plain_unsent, count_lent};
 
     /// An empty table for at most `cap` entries; the first one will have the xid `first_xid`. It takes the memory for
-    /// all of them, or answers `NoMemory` where an allocation is refused.
+    /// all of them, or answers `NoMemory` if an allocation is refused.
     pub fn new(
         alloc: Global,
         cap: u32,
@@ -120,7 +120,7 @@ impl Forwards {
     /// Adds an entry at the moment `clock`, in milliseconds, and returns its number. Its deadline is 5,000 ms later.
     /// `args` are the arguments for the target, at most 8,800 bytes.
     ///
-    /// `Full` where there are as many entries as there may be, or no number is left: then nothing changes. A
+    /// `Full` if there are as many entries as there may be, or no number is left: then nothing changes. A
     /// connection may have one entry at a time.
     pub fn start(
         &mut self,
@@ -167,7 +167,7 @@ impl Forwards {
         })
     }
 
-    /// The unsent entry of least number, whether or not its deadline has come, or `None` where all were sent.
+    /// The unsent entry of least number, whether or not its deadline has come, or `None` if all were sent.
     pub fn unsent(&self, meter: &mut Meter) -> Option<Unsent<'_>>
         requires { meter.old.tie ≡ self.now.tie }
         ensures unsent { Whatever self.now (λ f. plain_unsent result ≡ unsent self.now.first_xid f) }
@@ -192,7 +192,7 @@ impl Forwards {
     }
 
     /// Notes that the call of this entry was sent: from now on a reply counts, and its bytes are held no longer. `Gone`
-    /// where no such entry is there, or it was sent before: then nothing changes.
+    /// if no such entry is there, or it was sent before: then nothing changes.
     pub fn sent(&mut self, id: FwdId, meter: &mut Meter) -> Result<(), Gone>
         requires { meter.old.tie ≡ self.old.tie }
         ensures there { Whatever self.old (λ f. IsOk result ↔ IsTrue (can_be_sent id.number f)) }
@@ -239,7 +239,7 @@ impl Forwards {
     }
 
     /// The entry of least number whose deadline has come at the moment `clock`, in milliseconds, ends, as `Failed`.
-    /// Where there is none, nothing changes, and the answer is `None`.
+    /// If there is none, nothing changes, and the answer is `None`.
     pub fn due(&mut self, clock: u64, meter: &mut Meter) -> Option<Ended>
         requires { meter.old.tie ≡ self.old.tie }
         ensures ended { GivenBy (due clock) self.old result }
@@ -254,7 +254,7 @@ impl Forwards {
         self.end(Sought::Due(clock), ForwardEnd::Failed, meter)
     }
 
-    /// The entry of the connection of this number ends, as `Dropped`. Where there is none, nothing changes, and the
+    /// The entry of the connection of this number ends, as `Dropped`. If there is none, nothing changes, and the
     /// answer is `None`.
     pub fn drop_caller(&mut self, id: u64, meter: &mut Meter) -> Option<Ended>
         requires { meter.old.tie ≡ self.old.tie }
@@ -277,7 +277,7 @@ impl Forwards {
         self.held
     }
 
-    /// The first entry that is wanted ends so.
+    /// The first entry that is looked for ends so.
     fn end(&mut self, wanted: Sought, outcome: ForwardEnd, meter: &mut Meter) -> Option<Ended>
         requires { meter.old.tie ≡ self.old.tie }
         ensures ended { GivenBy (end_of self.old.first_xid wanted outcome) self.old result }
@@ -318,7 +318,7 @@ impl Forwards {
     ghost use Rattle.rb_forward.specs.Table.{Whatever};
     ghost use Rattle.rb_forward.specs.Deadlines.{next_deadline, soonest_cost};
 
-    /// The least deadline of the entries, or `None` where there is none. Before it `due` ends nothing.
+    /// The least deadline of the entries, or `None` if there is none. Before it `due` ends nothing.
     pub fn next_deadline(&self, meter: &mut Meter) -> Option<u64>
         requires { meter.old.tie ≡ self.now.tie }
         ensures soonest { Whatever self.now (λ f. result ≡ next_deadline f) }

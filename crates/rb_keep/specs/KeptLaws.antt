@@ -24,7 +24,7 @@ pub record SetsAgain (text : List ℕ) (row : Row) : Type 0 where
 abbrev pub LinesKeepTheirRows : Type 0
 LinesKeepTheirRows = (text : List ℕ) (row : Row) → kept_line text ≡ Keeps row → SetsAgain text row
 
--- Where bytes can spell a row, at an address of at most 128 bytes, a line that sets it again keeps it.
+-- If bytes can spell a row, at an address of at most 128 bytes, a line that sets it again keeps it.
 abbrev pub LinesOfRowsKeepThem : Type 0
 LinesOfRowsKeepThem = (text : List ℕ) (row : Row) → IsSpelled row → length row.addr ≤ 128 → SetsAgain text row → kept_line text ≡ Keeps row
 
@@ -46,7 +46,7 @@ row_in Bad = []
 abbrev pub kept_lines : List ℕ → List KeptLine
 kept_lines text = map kept_line (lines_of text)
 
--- A text reads as these rows exactly where it is short enough, no line is wrong, they are those of its lines, and
+-- A text reads as these rows exactly if it is short enough, no line is wrong, they are those of its lines, and
 -- they are no more than there may be.
 -- KEEP-5
 abbrev pub ReadsTheRows : Type 0

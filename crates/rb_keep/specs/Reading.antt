@@ -55,7 +55,7 @@ abbrev pub row_of_reading : Owner → Result Request ArgumentFault → Option Ro
 row_of_reading owner (Ok request) = row_of_request owner request
 row_of_reading owner (Err fault) = None
 
--- the row that a call asks to be set, where it is read as a SET of version 4
+-- the row that a call asks to be set, if it is read as a SET of version 4
 abbrev pub row_by_verdict : List ℕ → Verdict → Option Row
 row_by_verdict bytes (verdicts.Call head used) = row_of_reading (owner_named head.cred) (read_request 4 1 (drop used bytes))
 row_by_verdict bytes _ = None
@@ -63,7 +63,7 @@ row_by_verdict bytes _ = None
 unfoldable pub row_asked : List ℕ → Option Row
 row_asked bytes = row_by_verdict bytes (verdict bytes)
 
--- the row, where these bytes are those that set it
+-- the row, if these bytes are those that set it
 abbrev pub row_set_by : List ℕ → Option Row → Option Row
 row_set_by bytes None = None
 row_set_by bytes (Some row) = if bytes_eq (set_bytes row) bytes then Some row else None

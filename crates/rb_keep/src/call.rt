@@ -58,8 +58,8 @@ fn put_opaque(content: &[u8], call: &mut ArrayVec<u8, LONGEST_SET>)
     put_bytes(&[0; 3][..residue(content.len())], call);
 }
 
-/// Adds the head: a call of the portmapper's SET, in version 4, by AUTH_SYS of the owner, or by AUTH_NONE where none
-/// is known (RFC 5531 sections 9 and 10.1, appendix A).
+/// Adds the head: a call of the portmapper's SET, in version 4, by AUTH_SYS of the owner, or by AUTH_NONE if none is
+/// known (RFC 5531 sections 9 and 10.1, appendix A).
 #[tactic(auto, unfolding(rb_rpc::specs::CallBytes::call_bytes, rb_xdr::specs::Xdr::number, rb_xdr::specs::Xdr::opaque))]
 fn put_head(row: &Row, call: &mut ArrayVec<u8, LONGEST_SET>)
     requires { call.old.items ≡ [] }

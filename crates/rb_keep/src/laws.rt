@@ -1,9 +1,9 @@
 //! What holds of the definitions.
 ghost use Rattle.rb_keep.specs.KeptLaws.{LinesKeepTheirRows, LinesOfRowsKeepThem, ReadsTheRows, KeptTextIsRead};
 
-/// A line keeps no row but the one that it sets again; and where bytes can spell a row, a line that sets it again
-/// keeps it. A text reads as the rows of its lines, exactly where it is short enough, each line that says something
-/// keeps one, and they are at most 4,096.
+/// A line keeps no row but the one that it sets again; and if bytes can spell a row, at an address of at most 128
+/// bytes, a line that sets it again keeps it. A text reads as the rows of its lines, exactly if it is short enough,
+/// each line that says something keeps one, and they are at most 4,096.
 pub fn kept_lines_are_read()
     ensures lines { LinesKeepTheirRows }
     ensures rows { LinesOfRowsKeepThem }

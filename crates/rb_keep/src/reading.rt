@@ -167,9 +167,9 @@ fn read_lines(alloc: Global, text: &[u8]) -> Result<Vec<Row>, KeepFault>
 /// `write_rows` writes it, at any moment: a datagram from port 0 of 127.0.0.1 with the bytes of the call that sets
 /// the row again.
 ///
-/// The first line that is not names the fault: `BadLine` where it is no event line, `NotKept` where it is another,
-/// and `TooMany` where it is that of a row after 4,096 others. A text of more than 16,777,216 bytes is `TooLong`,
-/// whatever it says. `NoMemory` where an allocation was refused.
+/// The first line that is not names the fault: `BadLine` if it is no event line, `NotKept` if it is another, and
+/// `TooMany` if it is that of a row after 4,096 others. A text of more than 16,777,216 bytes is `TooLong`,
+/// whatever it says. `NoMemory` if an allocation was refused.
 #[tactic(auto, unfolding(crate::specs::Reading::read))]
 pub fn read_rows(alloc: Global, text: &[u8]) -> Result<Vec<Row>, KeepFault>
     ensures { Gives (result_items result) (read text.now) }

@@ -38,7 +38,7 @@ fn write_where_set<W: Write>(now: u64, row: &Row, writer: &mut W) -> io::Result<
 }
 
 /// Writes what is kept of the core: for each row that was set the line of the event that sets it again, at the moment
-/// of the last event. An error where the writer fails; how much it has then is not known. It costs at most 2 steps
+/// of the last event. An error if the writer fails; how much it has then is not known. It costs at most 2 steps
 /// for each row, retained ones among them, and 1.
 pub fn write_rows<W: Write>(core: &mut Metered, writer: &mut W) -> io::Result<()>
     ensures written { OnOk result (WritesKept core.old.core W.contents writer.old writer.new) }

@@ -146,7 +146,7 @@ brought-hears s (Forward now from message) m brings = absurd cc
 brought-hears s (Expire now) m brings = absurd cc
 brought-hears s ZeroStats m brings = absurd cc
 
--- a SET or an UNSET is TRUE alone where its caller may register
+-- a SET or an UNSET is TRUE only if its caller may register
 
 accepted-here : (context : Context) (l : Ledger) (row : Row) → accepts_row context l row ≡ true → (comes_from_here context ≡ true) × (can_be_set row ≡ true)
 unfolding accepts_row
@@ -166,7 +166,7 @@ unset-here context head prog vers (Some which) l e = (and_parts (comes_from_here
 
 -- ---- what a call changes
 
--- the change that it asks for, where it is told TRUE
+-- the change that it asks for, if it is told TRUE
 abbrev Appends : Ledger → List Change → Ledger → Type 0
 Appends old more new = new.changes ≡ old.changes ++ more
 
@@ -281,7 +281,7 @@ after-appends s (event ∷ events) =
 pub changes_are_those_accepted : ChangesAreThoseAccepted
 changes_are_those_accepted limits listener first_xid now events = after-appends (opening limits listener first_xid now) events
 
--- The answer to a call that asks for the change: it is TRUE alone where its caller may register, and the change may be made.
+-- The answer to a call that asks for the change: it is TRUE only if its caller may register and the change may be made.
 record Decided (context : Context) (xid : ℕ) (change : Change) (said : Outcome) : Type 0 where
   accepted : Bool
   says : said ≡ outcomes.Reply (success context.caller xid (boolean accepted)) None

@@ -80,7 +80,7 @@ not-lost : (id : ℕ) (d : Connection) → is_live id d ≡ true → is_lost d.p
 unfolding is_live
 not-lost id d e = is-false (is_lost d.phase) (and_parts (eqb d.number id) (not (is_lost d.phase)) e).1
 
--- where one of the number is live, none is Lost, and one is there
+-- if one of the number is live, none is Lost, and one is there
 live-not-lost : (id least next : ℕ) (all : List Connection) (c : Connection) → AreSound least next all → find (is_live id) all ≡ Some c → lost_in id all ≡ false
 live-not-lost id least next [] c a is = grind (arith, common_steps, not-lost, both-false, lost-above, number-is, find-holds, found-above, ne_eqb)
 live-not-lost id least next (d ∷ all) c a is = grind (arith, common_steps, not-lost, both-false, lost-above, number-is, find-holds, found-above, ne_eqb, live-not-lost id (d.number + 1) next all c a.2)
@@ -178,7 +178,7 @@ way-of (x ∷ xs) began n is some later = rw is (later-all n (x ∷ xs) later)
 pub asks-within : (context : Context) (message : Message) (l : Ledger) → asks_room context message l ≡ true → length (rows_in l) < context.limit
 asks-within context message l is = grind (arith, common_steps, row_within)
 
--- where something is in the way, room is asked for and there is none
+-- if something is in the way, room is asked for and there is none
 record IsCrowding (context : Context) (message : Message) (all : List Connection) (l : Ledger) (c : Connection) : Type 0 where
   asks : asks_room context message l ≡ true
   full : context.limit ≤ length (rows_in l) + length (needed_removals all l)
@@ -219,7 +219,7 @@ module _ (s : State) (sound : IsSound s) (id : ℕ) (c : Connection) (there : fi
     | inr goes ↦ Loses (inr (inr (for-room event at caller content brings goes.0))) (ap (λ (x : Connections). there_in id x.all) same ∙ lost-there id _ goes.1)
   ]
 
-  -- where another's record is answered
+  -- when another's record is answered
   gives-way-to : (event : Event) (at k : ℕ) (caller : Caller) (content : List ℕ) → Brings s event at caller content → (f : Connection → Connection) → ((d : Connection) → (f d).number ≡ d.number) → eqb k id ≡ false
       → (now : Connections) → now ≡ changed_at k f (evict (crowd_at s at caller content) s.connections) → Fate s id c event now
   gives-way-to event at k caller content brings f keeps e now same = elim (live_or_lost id (crowd_at s at caller content) s.connections.all c there) [

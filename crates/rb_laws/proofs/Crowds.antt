@@ -57,7 +57,7 @@ module _ (id : ℕ) where
   live_or_lost changes [] c there = grind arith
   live_or_lost changes (x ∷ all) c there = grind (arith, live_or_lost changes all c)
 
-  -- a Lost one stays where another number changes
+  -- a Lost one stays when another number changes
   pub lost_stays : (k : ℕ) (f : Connection → Connection) → ((d : Connection) → (f d).number ≡ d.number) → eqb k id ≡ false → (all : List Connection)
       → list_any (is_lost_one id) all ≡ true → list_any (is_lost_one id) (change_first (is_live k) f all) ≡ true
   unfolding is_live

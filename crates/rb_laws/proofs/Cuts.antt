@@ -108,7 +108,7 @@ pub gone-at : (s : State) (now id : ℕ) (piece : List ℕ) → live_connection 
 unfolding bytes
 gone-at s now id piece none = ap (bytes_to s now id piece) none
 
--- where the first record in them ends there
+-- if the first record in them ends there
 abbrev fed_to : State → ℕ → Connection → List ℕ → List ℕ → Option ℕ → Result Taken CoreFault × State
 fed_to t id c fed piece m = (Ok (when_taken t id piece c (taking_up_to fed piece m)).0, (when_taken t id piece c (taking_up_to fed piece m)).1)
 

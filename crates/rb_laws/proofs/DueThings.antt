@@ -31,7 +31,7 @@ pub data Expiry (s : State) (clock : ℕ) (fresh : State) (r : Expired × State)
   NothingDue : find (entry_is_due clock) s.ledger.forwards.all ≡ None → find (is_due clock) s.connections.all ≡ None
       → r ≡ (Nothing, fresh) → Expiry s clock fresh r
 
--- where no entry ends, the ledger stays
+-- if no entry ends, the ledger stays
 ledger-stays : (clock : ℕ) (l : Ledger) → find (entry_is_due clock) l.forwards.all ≡ None
     → record l { history = l.history ++ []; forwards = record l.forwards { all = without_first (entry_is_due clock) l.forwards.all } } ≡ l
 ledger-stays clock l none = rw (append-nil l.history, all_stay (entry_is_due clock) l.forwards.all none) refl

@@ -1,4 +1,4 @@
--- What a call does to the entries of forwarded calls: it begins one where it is forwarded, and else leaves them.
+-- What a call does to the entries of forwarded calls: it begins one if it is forwarded, and else leaves them.
 use Rattle.std.proofs.Common.{◌≡◌, ℕ, Bool, true, false, cond, Option, Some, None, List, length, refl, arith}
 use Rattle.rb_rpc.specs.declared.call.CallHead.{CallHead}
 use Rattle.rb_rpc.specs.declared.caller.Caller.{Caller}

@@ -82,12 +82,12 @@ kept : (id number : ℕ) (all : List Entry) → sum_by (one_at id) (change_entry
 kept id number [] = grind (arith, common_steps)
 kept id number (e ∷ all) = grind (arith, common_steps, kept id number all)
 
--- where none is of it
+-- if none is of it
 none-present : (id : ℕ) (all : List Entry) → find (is_of_connection id) all ≡ None → sum_by (one_at id) all ≡ 0
 none-present id [] h = grind arith
 none-present id (e ∷ all) h = grind (arith, none-present id all)
 
--- where one is there, it counts
+-- if one is there, it counts
 some-present : (id : ℕ) (all : List Entry) → list_any (is_of_connection id) all ≡ true → 1 ≤ sum_by (one_at id) all
 some-present id [] h = grind (arith, common_steps)
 some-present id (e ∷ all) h = grind (arith, common_steps, some-present id all)

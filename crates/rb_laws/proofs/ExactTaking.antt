@@ -1,4 +1,4 @@
--- Of a piece just the bytes are taken that end the first record, or all where there is none.
+-- Of a piece just the bytes are taken that end the first record, or all if there is none.
 use Rattle.std.proofs.Common.{◌≡◌, ◌⊎◌, ℕ, ◌+◌, ◌-◌, max, false, Option, Some, None, Result, Ok, List, [], ◌∷◌, ◌++◌, length, map, take, refl, sym, ap, subst, ◌∙◌, inl, inr, arith}
 use Rattle.rb_xdr.specs.Xdr.{AreBytes}
 use Rattle.rb_rpc.specs.RecordLaws.{IsFirstRecord}

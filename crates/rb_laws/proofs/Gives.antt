@@ -161,7 +161,7 @@ all-pend : (o : Owed) (k : ℕ) → o.given ≡ longest_fragment * k → front_e
 unfolding longest_fragment
 all-pend o k at more = omega (arith, at, count_pending o, more)
 
--- so is a fragment where the giving stands at the end of one
+-- so is a fragment if the giving stands at the end of one
 fragment-first : (room : ℕ) (o : Owed) (k : ℕ) → o.given ≡ longest_fragment * k → IsFirst longest_fragment room o
 fragment-first room o k at some =
     let can = some-pending room o some in
@@ -246,7 +246,7 @@ gives-in s now id room c o live owes =
     by_bytes (byte ∷ bytes) =
         ap (λ (t : State). let r : Result (List ℕ) CoreFault × State = (Ok (byte ∷ bytes), t) in r) (sym (some-given s now id (length (byte ∷ bytes)) (omega arith)))
 
--- where nothing is owed nothing is given
+-- if nothing is owed, nothing is given
 gives-none : (s : State) (now id room : ℕ) (c : Connection) → live_connection id s.connections.all ≡ Some c → fitting_in room c.phase ≡ [] → write_into s now id room ≡ (Ok [], s)
 unfolding write_into write_fitting
 gives-none s now id room c live none =

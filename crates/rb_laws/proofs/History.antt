@@ -73,7 +73,7 @@ unset-noted context head prog vers None l = sym (append-nil l.history)
 unset-noted context head prog vers (Some which) l =
     change-noted (removal_of context head prog vers which) (WasUnset (version_of head.vers)) l (accepts_removal context l (removal_of context head prog vers which))
 
--- a note where it counts
+-- a note if it counts
 where-noted : (b : Bool) (note : Note) (l : Ledger) → Notes l (notes_where b note) (note_where b note l)
 where-noted true note l = refl
 where-noted false note l = sym (append-nil l.history)
@@ -139,7 +139,7 @@ message-noted s (Some m) hears =
     outcome-noted (context_in (at_moment m.now s) m.caller) (message_of m.content) (arguments_of m.content) s.ledger (hears m refl)
     ∙ ap (λ (notes : List Note). s.ledger.history ++ notes) (sym (append-nil (notes_from s (Some m))))
 
--- the ledger is left with these notes, after the history, or after nothing where statistics begin anew
+-- the ledger is left with these notes, after the history, or after nothing if statistics begin anew
 left-noted : (s : State) (event : Event) → (ledger_left s event).history ≡ unless_anew (begins_anew event) s.ledger.history ++ notes_by s event
 unfolding target_replied fell_due caller_dropped call_sent
 left-noted s (Open now who) = sym (append-nil s.ledger.history)

@@ -19,7 +19,7 @@ use Rattle.rb_rpc.proofs.Auths.{or_parts, or_no}
 use Rattle.rb_feed.specs.Feeds.{behind_head, arguments_of}
 use Rattle.rb_model.specs.Calls.{longest_kept, kept_of}
 
--- ---- what is read at a place in front is the same where more follows
+-- ---- what is read at a place in front is the same if more follows
 
 module _ (a b : List ℕ) where
   same_number : (place : ℕ) → place + 4 ≤ length a → number_at place (a ++ b) ≡ number_at place a

@@ -56,7 +56,7 @@ use Rattle.rb_laws.proofs.KeptRows.{retained_by, KeepsLess, KeepsNoMore, same-ke
 
 -- ---- what a call leaves behind
 
--- its changes as they were, or one more: a row is added where the call asks for room
+-- its changes as they were, or one more: a row is added only if the call asks for room
 data Effect (asks : Bool) (l new : Ledger) : Type 0 where
   Same : new.own ≡ l.own → new.changes ≡ l.changes → Effect asks l new
   Set : (row : Row) → asks ≡ true → new.own ≡ l.own → new.changes ≡ l.changes ++ Added row ∷ [] → Effect asks l new
@@ -162,7 +162,7 @@ module _ (context : Context) (message : Message) (all : List Connection) (l : Le
   abbrev left : List Connection
   left = map (evict_early (removals_in_the_way context message all l)) all
 
-  -- where those connections are evicted whose lists are in the way
+  -- if those connections are evicted whose lists are in the way
   evicted-fits : (change : ℕ) (changes : List ℕ) → needed_removals all l ≡ change ∷ changes → total (map (evict_early (change ∷ changes)) all) l.own l.changes < context.limit
   unfolding needed_removals
   evicted-fits change changes is =

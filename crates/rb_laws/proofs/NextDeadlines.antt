@@ -1,4 +1,4 @@
--- The next deadline has come exactly where something is due.
+-- The next deadline has come exactly if something is due.
 use Rattle.std.specs.Prelude.{find, map, ◌||◌, nat_le, min}
 use Rattle.std.proofs.Common.{◌≡◌, ℕ, max, Bool, true, false, Option, Some, None, List, [], ◌∷◌, refl, sym, ap, ◌∙◌, arith}
 use Rattle.std.proofs.lemmas.Bool.Decides.{nat_tests}
@@ -59,7 +59,7 @@ module _ (s : State) (now : ℕ) where
   unfolding next_deadline
   come-in-two = sooner-come clock (next_connection_deadline s.connections) (next_entry_deadline s.ledger.forwards)
 
-  -- where it has not come, nothing is found
+  -- if it has not come, nothing is found
   before : (o : Option ℕ) → has_come clock o ≡ false → expire s now ≡ (Nothing, at_fresh_moment now s) → IsNextDeadline s now o
   before None not is = is
   before (Some moment) not is = (λ early. is, λ late. grind (arith, nat_tests))

@@ -30,7 +30,7 @@ module _ (s : State) (waits : Await s) (event : Event) (id : ℕ) (c : Connectio
   unfolding live_connection
   changed k f now keeps e same = ap (λ (x : Connections). live_connection id x.all) same ∙ changed-other id k f keeps e s.connections.all ∙ there
 
-  -- where it is in the way of a row it is Lost, and else it stays; so too where another goes on then
+  -- if it is in the way of a row, it is Lost, and else it stays; so too if another goes on then
   in-the-way : (changes : List ℕ) (now : Connections) → now ≡ evict changes s.connections → (live_connection id now.all ≡ Some c) ⊎ (lost_in id now.all ≡ true)
   unfolding live_connection
   in-the-way changes now same = elim (live_or_lost id changes s.connections.all c there) [

@@ -276,7 +276,7 @@ restored s r good are =
     ∙ ap (λ (rows : List Row). own_rows s.setting.listener ++ rows) (all_left (set_rows s))
     ∙ ap (λ (own : List Row). own ++ set_rows s) (sym k.own)
 
--- where statistics begin anew after some events, the rows are those after the events, and nothing was called
+-- if statistics begin anew after some events, the rows are those after the events, and nothing was called
 pub begun-anew : (s : State) (events : List Event) → let left : State = after s (events ++ ZeroStats ∷ []) in
     (rows_in left.ledger ≡ rows_in (after s events).ledger) × (left.ledger.history ≡ [])
 unfolding step zero_stats

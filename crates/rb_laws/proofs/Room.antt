@@ -83,7 +83,7 @@ module _ (s : State) where
   either : (b : Bool) (x y : Output × State) → count x.1 ≤ count s → count y.1 ≤ count s → count (cond b x y).1 ≤ count s
   either b x y left right = grind arith
 
--- ---- there is room for one more where it is opened
+-- ---- there is room for one more when it is opened
 
 abbrev HasRoom : State → Type 0
 HasRoom s = count s ≤ s.setting.limits.conns

@@ -64,7 +64,7 @@ last-unsent id who clock forward args old s from is =
       mapped-is (unsent_of s.setting.first_xid) (find (λ (e : Entry). not e.sent) (old.all ++ new ∷ [])) ∙ found-last (λ (e : Entry). not e.sent) old.all new refl,
     )
 
--- where a call is forwarded it begins one
+-- if a call is forwarded, it begins one
 begun-unsent : (id : ℕ) (who : Who) (old : Forwards) (s : State) (context : Context) (b : Bool) → context.caller ≡ Tcp id who → b ≡ true → Entering context old s.ledger.forwards b → IsUnsent id s
 begun-unsent id who old s context b from forwarded (Same not same) = absurd cc
 begun-unsent id who old s context b from forwarded (Begins is forward args by can more) = last-unsent id who context.clock forward args old s (by ∙ from) more

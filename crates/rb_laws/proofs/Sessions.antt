@@ -127,7 +127,7 @@ given-on p n given all sound few is =
     ∙ ap (λ (xs : List ℕ). given ++ xs) (sym (append_assoc (take n front) (drop n front) (behind p)) ∙ ap (λ (xs : List ℕ). xs ++ behind p) (take-append-drop n front) ∙ sym whole)
     ∙ is
 
--- nothing is taken or ended where bytes are given
+-- nothing is taken or ended when bytes are given
 giving-unfinished : (clock n : ℕ) (c : Connection) → unfinished_in (give clock n c).1.phase ≡ unfinished_in c.phase
 unfolding give with_given
 giving-unfinished clock n c = grind arith
@@ -164,7 +164,7 @@ opened-fits id old c t h number idle = grind (arith, common_steps, find-after, n
 without-fits : (id k : ℕ) (all : List Connection) (t : Session) → FitsIn id all t → FitsIn id (without k all) t
 without-fits id k all t fits = grind (arith, common_steps, fits-same, closed-other, eqb-true, closed-gone, not-none)
 
--- where numbers rise, a live connection that is left was live before
+-- if numbers rise, a live connection that is left was live before
 found_above : (id least next : ℕ) (all : List Connection) (d : Connection) → AreSound least next all → find (is_live id) all ≡ Some d → least ≤ d.number
 found_above id least next [] d a is = grind arith
 found_above id least next (x ∷ all) d a is = grind (arith, found_above id (x.number + 1) next all d a.2)

@@ -120,7 +120,7 @@ module _ (s : State) (reached : IsReached s) (good : are_good s.setting.limits s
   event_paid (Expire now) = let kept = expiry-waits s now in let shown = expiry-shown s now in omega (arith, few, kept, shown)
   event_paid ZeroStats = let kept = zero-waits s in omega (arith, kept)
 
--- what is told of a refused call counts besides
+-- what is told of a refused call counts as well
 out_told : (event : Event) (output : Output) → bytes_out event output ≤ bytes_reported event output
 out_told event output = grind arith
 

@@ -23,10 +23,10 @@ pub fn sessions_are_whole()
     ensures { SessionsAreWhole }
 {}
 
-/// A message asks for a procedure exactly where its bytes begin with a call of it and its arguments. It is refused with each
-/// status exactly where they begin with what that status is for. Its arguments are garbage exactly where they begin with a
-/// call of a procedure that there is, and then with the arguments of no request. It is no call exactly where they begin with
-/// no call and with nothing that RPC refuses.
+/// A message asks for a procedure exactly if its bytes begin with a call of it and its arguments. It is refused with
+/// each status exactly if they begin with what that status is for. Its arguments are garbage exactly if they begin
+/// with a call of a procedure that there is, and then with the arguments of no request. It is no call exactly if they
+/// begin with no call and with nothing that RPC refuses.
 pub fn messages_are_of_the_grammar()
     ensures asked { AskedMessagesAreOfTheGrammar }
     ensures refused { RefusedMessagesAreOfTheGrammar }
@@ -50,7 +50,7 @@ pub fn numbers_never_recur()
     ensures { NumbersNeverRecur }
 {}
 
-/// Bytes in two pieces do what they do in one, where no record ends in the first.
+/// Bytes in two pieces do what they do in one, if no record ends in the first.
 pub fn cuts_do_not_matter()
     ensures { CutsDoNotMatter }
 {}
@@ -60,7 +60,7 @@ pub fn next_lost_is_least()
     ensures { NextLostIsLeast }
 {}
 
-/// In each state that a run reaches, bytes are taken up to the end of the first record, which is answered, or all where
+/// In each state that a run reaches, bytes are taken up to the end of the first record, which is answered, or all if
 /// there is none: by cases, how many, and what the connection is about from then on.
 pub fn bytes_are_taken_exactly()
     ensures { BytesAreTakenExactly }
@@ -82,9 +82,9 @@ pub fn owed_replies_stay()
     ensures { OwedRepliesStay }
 {}
 
-/// In each state that a run reaches, a live connection becomes Lost exactly by the end of a record that is no call; or at
-/// its deadline, when no forwarded call is due and no connection of lesser number is; or where a SET wants room, by the list
-/// that is given on it. It is gone exactly by its close.
+/// In each state that a run reaches, a live connection becomes Lost exactly by the end of a record that is no call; or
+/// at its deadline, when no forwarded call is due and no connection of lesser number is; or, if a SET needs room, by
+/// the list that is given on it. It is gone exactly by its close.
 pub fn connections_close_exactly()
     ensures { ConnectionsCloseExactly }
 {}
@@ -95,8 +95,8 @@ pub fn connections_await()
     ensures { ConnectionsAwait }
 {}
 
-/// In each state that a run reaches: where a connection stands as Sends after bytes, its forwarded call is there and was not
-/// sent, and so the look for an unsent call finds one.
+/// In each state that a run reaches: if a connection stands as Sends after bytes, its forwarded call is there and was
+/// not sent, and so the look for an unsent call finds one.
 pub fn sends_are_unsent()
     ensures { SendsAreUnsent }
 {}
@@ -129,15 +129,16 @@ pub fn nothing_is_due_soon()
     ensures { NothingIsDueSoon }
 {}
 
-/// In each state that a run reaches, `expire` ends the due forwarded call of least number; where none is due, the due
-/// connection of least number is Lost; and where none is due either, it changes nothing but the clock and the last reply.
+/// In each state that a run reaches, `expire` ends the due forwarded call of least number; if none is due, the due
+/// connection of least number is Lost; and if none is due either, it changes nothing but the clock and the last
+/// reply.
 pub fn expire_does_one_thing()
     ensures { ExpireDoesOneThing }
 {}
 
-/// In each state, `expire` finds nothing at a moment before the next deadline, or where there is none, and changes nothing
-/// but the clock and the last reply; from the next deadline on it finds something. A moment before the clock counts as the
-/// clock.
+/// In each state, `expire` finds nothing at a moment before the next deadline, or if there is none, and changes nothing
+/// but the clock and the last reply; from the next deadline on it finds something. A moment before the clock counts as
+/// the clock.
 pub fn next_deadlines_are_exact()
     ensures { NextDeadlinesAreExact }
 {}
@@ -185,28 +186,29 @@ pub fn callers_change_their_own()
     ensures notes { StrangersBringNoKeys }
 {}
 
-/// Where replies over UDP are held to that, from every state, the reply to a stranger's datagram has at most twice its
-/// bytes. In every run that begins so, strangers are sent over UDP, at once and at the end of forwarded calls, at most
-/// twice the bytes that came in their names: all of them together, those at one host, or each alone.
+/// From every state in which long replies over UDP are not allowed, the reply to a stranger's datagram has at most
+/// twice its bytes. In every run that begins so, strangers are sent over UDP, at once and at the end of forwarded
+/// calls, at most twice the bytes that came in their names: all of them together, those at one host, or each alone.
 pub fn strangers_are_sent_at_most_twice()
     ensures replies { RepliesAreAtMostTwice }
     ensures runs { StrangersAreSentAtMostTwice }
 {}
 
 /// From every state, an event appends to the history its notes and nothing else: a whole call that it brings counts as
-/// called where it reaches its procedure, and as what it did there; a forwarded call that it ends counts by its outcome. Where
-/// statistics begin anew the history is empty. In every run from an opening, the history is the notes of its events, in order,
-/// from where statistics last began anew.
+/// called if it reaches its procedure, and as what it did there; a forwarded call that it ends counts by its outcome.
+/// If statistics begin anew, the history is empty. In every run from an opening, the history is the notes of its
+/// events, in order, from where statistics last began anew.
 pub fn calls_are_noted()
     ensures events { EventsAreNoted }
     ensures runs { HistoryIsOfItsEvents }
 {}
 
-/// In each state that a run reaches, each row that was set may be set: it is of another program than the portmapper, at an
-/// address of its netid. Where the run is of bytes and of uids of 32 bits, bytes can spell each, in a SET of at most 368 bytes.
-/// These SETs, from this machine and by the owners of the rows, are all answered TRUE in a run from any opening with room for
-/// them, and set just these rows, in their order. From the opening of the same setting, at good limits, the live rows are then
-/// the same; and where statistics begin anew after these SETs, they stay so, and nothing was called.
+/// In each state that a run reaches, each row that was set may be set: it is of another program than the portmapper, at
+/// an address of its netid. If the run is of bytes and of uids of 32 bits, bytes can spell each, in a SET of at most
+/// 368 bytes. These SETs, from this machine and by the owners of the rows, are all answered TRUE in a run from any
+/// opening with room for them, and set just these rows, in their order. From the opening of the same setting, at good
+/// limits, the live rows are then the same; and if statistics begin anew after these SETs, they stay so, and nothing
+/// was called.
 pub fn kept_rows_are_restored()
     ensures settable { RowsCanBeSet }
     ensures spelled { RowsAreSpelled }

@@ -91,7 +91,7 @@ lower_digit_of c low high =
     let value = lower_value c low high in
     rw (a, b, d, e, value) refl
 
--- where a digit of a base below 37 may stand
+-- the bytes of hexadecimal digits
 abbrev IsHexDigit : ℕ → Type 0
 IsHexDigit c = ((48 ≤ c) × (c ≤ 57)) ⊎ (((65 ≤ c) × (c ≤ 70)) ⊎ ((97 ≤ c) × (c ≤ 102)))
 

@@ -9,7 +9,7 @@ use Rattle.rb_lines.specs.Lines.{Line, line, lines_of, longest_input, read, add_
 use Rattle.rb_lines.specs.Lines.Line.{Skipped, Happens, Bad}
 use Rattle.rb_lines.specs.LineLaws.{is_bad, event_in, has_bad, IsFirstBad}
 
--- ---- where no line is bad
+-- ---- if no line is bad
 
 good_line : (k : ℕ) (said : Line) (later : Bool) (rest : Result (List Event) ReadFault) (events : List Event) → (is_bad said || later) ≡ false → (later ≡ false → rest ≡ Ok events) → add_line k said rest ≡ Ok (event_in said ++ events)
 good_line k Skipped later rest events none is = is none
@@ -21,7 +21,7 @@ unfolding events_from
 all_good k [] none = refl
 all_good k (text ∷ texts) none = good_line k (line text) (has_bad texts) (events_from (k + 1) texts) (flat_map event_in (map line texts)) none (all_good (k + 1) texts)
 
--- ---- where one is
+-- ---- if one is
 
 passes_on : (k : ℕ) (said : Line) (fault : ReadFault) → is_bad said ≡ false → add_line k said (Err fault) ≡ Err fault
 passes_on k Skipped fault good = refl

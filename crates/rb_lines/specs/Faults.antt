@@ -43,7 +43,7 @@ fault_line NoOutputs = codes "rpcbind: no output lines\n"
 fault_line (Differs n) = codes "rpcbind: line " ++ (decimal n ++ codes ": the run gives another output\n")
 fault_line (Lacks n) = codes "rpcbind: output " ++ (decimal n ++ codes " of the run has no line\n")
 
--- the line of a limit that is out of its range, where one is
+-- the line of a limit that is out of its range, if one is
 abbrev pub limit_line : Option BadLimit → List ℕ
 limit_line None = []
 limit_line (Some bad) = codes "rpcbind: " ++ (limit_text bad ++ codes "\n")
@@ -58,6 +58,6 @@ lines_before limits listener other = []
 abbrev pub fault_lines : Limits → Listener → Fault → List ℕ
 fault_lines limits listener fault = lines_before limits listener fault ++ fault_line fault
 
--- Where all that there is to tell was written, it is this.
+-- If all that there is to tell was written, it is this.
 abbrev pub Says : {E : Type 0} → (E → Option (List ℕ)) → E → E → Ending → List ℕ → Type 0
 Says contents old new ending text = ending.is_told ≡ true → Writes contents old new text

@@ -77,14 +77,14 @@ SaysNothing text = (text ≡ []) ⊎ ((rest : List ℕ) × (text ≡ codes "#" +
 
 -- ---- the laws
 
--- A line is this event exactly where it is spelled so.
+-- A line is this event exactly if it is spelled so.
 abbrev pub EventsAreSpelled : Type 0
 EventsAreSpelled = (text : List ℕ) (event : Event) → (line text ≡ Happens event) ↔ SpellsEvent event text
 
 abbrev pub SkippedSayNothing : Type 0
 SkippedSayNothing = (text : List ℕ) → (line text ≡ Skipped) ↔ SaysNothing text
 
--- A line is bad exactly where it says something, and no event.
+-- A line is bad exactly if it says something, and no event.
 abbrev pub BadSpellNothing : Type 0
 BadSpellNothing =
     (text : List ℕ)

@@ -19,7 +19,7 @@ event_in Bad = []
 abbrev pub has_bad : List (List ℕ) → Bool
 has_bad texts = list_any is_bad (map line texts)
 
--- A text reads as these events exactly where it is short enough, no line is bad, and they are those of its lines.
+-- A text reads as these events exactly if it is short enough, no line is bad, and they are those of its lines.
 abbrev pub ReadsTheEvents : Type 0
 ReadsTheEvents =
     (text : List ℕ) (events : List Event)
@@ -36,14 +36,14 @@ pub record IsFirstBad (texts : List (List ℕ)) (from n : ℕ) : Type 0 where
   pub here : line bad ≡ Bad
   pub number : n ≡ from + length before
 
--- A text is refused at this line exactly where it is short enough and this is its first bad line, counted from 1.
+-- A text is refused at this line exactly if it is short enough and this is its first bad line, counted from 1.
 -- LINE-11
 abbrev pub StopsAtTheFirstBadLine : Type 0
 StopsAtTheFirstBadLine =
     (text : List ℕ) (n : ℕ)
     → (read text ≡ Err (BadLine n)) ↔ ((length text ≤ longest_input) × IsFirstBad (lines_of text) 1 n)
 
--- A text is too long exactly where it has more bytes than the longest input, whatever they say.
+-- A text is too long exactly if it has more bytes than the longest input, whatever they say.
 -- LINE-12
 abbrev pub RefusesLongText : Type 0
 RefusesLongText = (text : List ℕ) → (read text ≡ Err TooLong) ↔ (longest_input < length text)

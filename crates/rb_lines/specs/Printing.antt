@@ -11,7 +11,7 @@ use Rattle.rb_record.specs.Printing.{output_text}
 abbrev pub steps_line : ℕ → ℕ → List ℕ
 steps_line taken bound = codes "steps " ++ (decimal taken ++ (codes " bound " ++ (decimal bound ++ codes "\n")))
 
--- the last line, where it is asked for
+-- the last line, if it is asked for
 abbrev pub steps_line_if : Bool → ℕ → ℕ → List ℕ
 steps_line_if false taken bound = []
 steps_line_if true taken bound = steps_line taken bound

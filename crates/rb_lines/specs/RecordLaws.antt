@@ -36,7 +36,7 @@ HasLine (Forward now from bytes) = Fits now × IsPeer from × AreBytes bytes
 HasLine (Expire now) = Fits now
 HasLine ZeroStats = Unit {0}
 
--- The path of the local socket, where there is one, is as `--local` takes it.
+-- The path of the local socket, if there is one, is as `--local` takes it.
 abbrev pub HasPath : Listener → Type 0
 HasPath listener = IfSome listener.local (λ path. is_path path ≡ true)
 

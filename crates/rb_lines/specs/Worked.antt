@@ -195,7 +195,7 @@ CallersAreRead =
     × (read (codes "forward 2000 127.0.0.1:900>192.0.2.9 -") ≡ Err (BadLine 1))
     × (read (codes "forward 2000 127.0.0.1:900/0 -") ≡ Err (BadLine 1))
 
--- An output has where the call came from alone.
+-- An output has only where the call came from.
 abbrev pub CallersArePrinted : Type 0
 CallersArePrinted =
     (event_text (Open 5 (record here { asked = V4 (192 ∷ 0 ∷ 2 ∷ 9 ∷ []); trust = trusts.Stranger })) ≡ with_line_feed (codes "open 5 127.0.0.1:900>192.0.2.9/stranger"))
@@ -208,7 +208,7 @@ abbrev pub open_terms : Terms
 open_terms = record { long_replies = true; forwarding = Anywhere }
 
 -- The command in the first line of a record, of a daemon that serves both families and a local socket, and of one that
--- serves IPv6 alone; and where the terms hold somebody back.
+-- serves IPv6 alone; and when the terms hold somebody back.
 abbrev pub OptionsArePrinted : Type 0
 OptionsArePrinted =
     (listener_text (record { announced = record { inet = Some (192 ∷ 0 ∷ 2 ∷ 1 ∷ []); inet6 = Some (replicate 15 0 ++ 1 ∷ []) }; port = 111; local = Some (codes "/run/rpcbind.sock"); terms = open_terms })

@@ -38,7 +38,7 @@ pub enum Fault {
 impl Fault {
     ghost use Rattle.rb_lines.specs.Faults.{status_of};
 
-    /// The exit status of a program that ends by this fault: 2 where its words or its input are at fault, else 1.
+    /// The exit status of a program that ends by this fault: 2 if its words or its input are at fault, else 1.
     pub fn status(self) -> u8
         ensures { result ≡ status_of self }
     {
@@ -161,7 +161,7 @@ fn write_fault<E: Write>(fault: Fault, faults: &mut E) -> io::Result<()>
     }
 }
 
-/// Ends by a fault: its line is written, where that can be.
+/// Ends by a fault: its line is written, if that can be.
 pub fn explain<E: Write>(fault: Fault, faults: &mut E) -> Ending
     ensures status { result.status ≡ status_of fault }
     ensures told { Says E.contents faults.old faults.new result (fault_line fault) }

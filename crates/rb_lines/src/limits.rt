@@ -13,7 +13,7 @@ use std::fmt::{Display, Formatter};
 pub enum BadLimit {
     /// Connections: 1 to 256.
     Conns(usize),
-    /// Rows, and the least that are wanted; the most are 4096.
+    /// Rows, and the least that are needed; the most are 4096.
     Rows(usize, usize),
     /// Forwarded calls: 0 to 64.
     Forwards(usize),
@@ -27,7 +27,7 @@ fn least_rows(listener: &Listener) -> usize
 }
 
 /// The first limit that is out of its range, if one is: connections, then rows, then forwarded calls. At least as many
-/// rows are wanted as the listener has itself, and two more.
+/// rows are needed as the listener has itself, and two more.
 pub fn bad_limit(limits: &Limits, listener: &Listener) -> Option<BadLimit>
     ensures first { result ≡ bad_limit limits.now listener.now }
     ensures bad { IsSome result ↔ IsTrue (not (are_good limits.now listener.now)) }

@@ -13,7 +13,7 @@ use thiserror::Error;
 #[error("write failed")]
 pub struct WriteFailed;
 
-/// Writes the line of an output. `WriteFailed` where the writer fails; how much of the line it has then is not known.
+/// Writes the line of an output. `WriteFailed` if the writer fails; how much of the line it has then is not known.
 pub fn print_output<W: Write>(output: &Output, writer: &mut W) -> Result<(), WriteFailed>
     ensures { OnOk result (Writes W.contents writer.old writer.new (printed output.now)) }
 {

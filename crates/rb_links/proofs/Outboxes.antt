@@ -3,7 +3,7 @@ use Rattle.std.proofs.Common.{◌≡◌, ◌≤◌, ◌+◌, ◌-◌, ℕ, List,
 use Rattle.std.proofs.lemmas.List.{length-append, length-drop, length-take, length-take-le, take-take, take_at, drop_at, drop-append-le, take-append-le, take-append-drop, drop-take}
 use borrow.Rule.Slice.PartMut.{post_of}
 
--- what stands in front of a place and after it, where the bytes after it are new
+-- what stands in front of a place and after it, if the bytes after it are new
 front_and_new : (end n : ℕ) (front more : List ℕ) → length front ≡ end → take (end + n) (front ++ more) ≡ front ++ take n more
 front_and_new end n front more len =
     sym (take-append-drop end (take (end + n) (front ++ more)))
@@ -19,7 +19,7 @@ waits_more sent end n held room behind before fits few =
     ∙ drop-append-le sent (take end held) (take n (room ++ behind)) (omega (arith, len, before))
     ∙ ap (λ (xs : List ℕ). drop sent (take end held) ++ xs) (take-append-le n room behind few)
 
--- an outbox keeps its room where this many bytes of it are written
+-- an outbox keeps its room if this many bytes of it are written
 pub room_stays : (end k : ℕ) (held new : List ℕ) → end ≤ length held → length new ≡ length (take k (drop end held)) → length (take end held ++ (new ++ post_of end k held)) ≡ length held
 room_stays end k held new fits as_many =
     let all = length-append (take end held) (new ++ post_of end k held) in

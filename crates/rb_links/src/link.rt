@@ -37,7 +37,7 @@ struct Held {
 pub struct Link {
     /// The core's number of the connection; none before it is opened.
     id: Option<u64>,
-    /// None where no connection has the place.
+    /// None if no connection has the place.
     stream: Option<Stream>,
     /// Whether it waits to be opened, and for what.
     held: Option<Held>,
@@ -91,7 +91,7 @@ impl Link {
         })
     }
 
-    /// The core's number of the connection that has the place, where that is opened.
+    /// The core's number of the connection that has the place, if that is opened.
     pub fn id(&self) -> Option<u64> {
         self.id
     }
@@ -129,7 +129,7 @@ impl Link {
         });
     }
 
-    /// Whether the table of a family is to be looked at for it.
+    /// Whether the table of a family must be looked at for it.
     pub(crate) fn looks_in(&self, table: Family) -> bool {
         match &self.held {
             Some(held) => looks_in(table, held.ends.theirs.family(), held.known),
@@ -137,7 +137,7 @@ impl Link {
         }
     }
 
-    /// Notes what the table of a family, where it was read, shows of it.
+    /// Notes what the table of a family, if it was read, shows of it.
     pub(crate) fn look_in(&mut self, table: Family, text: Option<&[u8]>) {
         if !self.looks_in(table) {
             return;
@@ -147,8 +147,8 @@ impl Link {
         }
     }
 
-    /// Who it is, where it waited for that, by what the tables showed. They say nothing of it where it is connected no
-    /// longer: another connection may have its two ends by then.
+    /// Who it is, if it waited for that, by what the tables showed. They say nothing of it if it is no longer
+    /// connected: another connection may have its two ends by then.
     pub(crate) fn shown(&mut self) -> Option<Who> {
         let held = self.held.take()?;
         let is_connected = self
@@ -176,7 +176,7 @@ impl Link {
         true
     }
 
-    /// Closes the connection that has the place, and gives its number, where it is opened. The long outbox is for others
+    /// Closes the connection that has the place, and gives its number, if it is opened. The long outbox is for others
     /// from here on.
     pub(crate) fn close(&mut self, long_outbox: &mut Outbox) -> Option<u64> {
         self.stream = None;
@@ -240,7 +240,7 @@ impl Link {
         }
     }
 
-    /// A turn serves it from here on. It has the long outbox meanwhile, where that is to spare.
+    /// A turn serves it from here on. It has the long outbox meanwhile, if that is free.
     pub fn begin(&mut self, turn: Turn, long_outbox: &mut Outbox) {
         self.served_in = turn.number;
         self.is_waiting = false;
@@ -251,7 +251,7 @@ impl Link {
         self.outbox.take_longer(long_outbox);
     }
 
-    /// The turn has served it. The long outbox is for others, but where bytes are left in it.
+    /// The turn has served it. The long outbox is for others, unless bytes are left in it.
     pub fn end(&mut self, turn: Turn, long_outbox: &mut Outbox) {
         long_outbox.take_longer(&mut self.outbox);
         if self.made_progress {
@@ -274,7 +274,7 @@ impl Link {
         self.standing
     }
 
-    /// Whether the core is to be called for it: bytes must be handed in, or a reply is owed, and its socket has taken
+    /// Whether the core must be called for it: bytes must be handed in, or a reply is owed, and its socket has taken
     /// all replies that were before.
     pub fn is_for_the_core(&self) -> bool {
         let has_some = !self.inbox.is_empty() || self.standing == Standing::Owing;
@@ -301,7 +301,7 @@ impl Link {
         self.standing = Standing::Awaiting;
     }
 
-    /// Makes at most one socket call: a write where replies wait, else a read. Where bytes are left that the core does
+    /// Makes at most one socket call: a write if replies wait, else a read. If bytes are left that the core does
     /// not take while no reply is owed, it waits for the end of its forwarded call. A read that gets less than it has
     /// room for is the last of the turn, unless the peer may have ended what it sends: of that no other event comes.
     pub fn call_socket(&mut self, may_end: bool) -> Next {

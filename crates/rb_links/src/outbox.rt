@@ -63,7 +63,7 @@ impl Outbox {
         self.sent == self.end
     }
 
-    /// Whether any fragment fits. Where one may not, nothing more is taken over until the socket has taken all, so
+    /// Whether any fragment fits. If one may not, nothing more is taken over until the socket has taken all, so
     /// that each fragment is taken over whole.
     pub fn has_room(&self) -> bool
         ensures { result ≡ nat_le longest_fragment self.now.free }
@@ -79,7 +79,7 @@ impl Outbox {
         self.end = 0;
     }
 
-    /// Swaps the two where both are empty and the other one is longer.
+    /// Swaps the two if both are empty and the other one is longer.
     pub(crate) fn take_longer(&mut self, other: &mut Outbox)
         ensures stays { self.new.bytes ≡ self.old.bytes }
         ensures other { other.new.bytes ≡ other.old.bytes }

@@ -87,7 +87,7 @@ impl Places {
         }
     }
 
-    /// Whether this turn is to serve the connection at a place. One that it has served is left for the next, if it is to
+    /// Whether this turn must serve the connection at a place. One that it has served is left for the next, if it must
     /// be served again.
     pub fn is_served_by(&mut self, turn: Turn, key: usize) -> bool {
         let Some(link) = self.links.get(key) else {
@@ -100,7 +100,7 @@ impl Places {
         link.id().is_some()
     }
 
-    /// The connection at a place is to be served though no event shows it again, if there is one.
+    /// The connection at a place must be served though no event shows it again, if there is one.
     pub fn leave(&mut self, key: usize) {
         if let Some(link) = self.links.get_mut(key) {
             link.leave();
@@ -124,13 +124,13 @@ impl Places {
         self.are_left
     }
 
-    /// Whether the connection at a place is to be served though no event shows it.
+    /// Whether the connection at a place must be served though no event shows it.
     pub fn is_waiting(&self, key: usize) -> bool {
         self.links.get(key).is_some_and(|link| link.is_waiting())
     }
 
-    /// The key at which the last round of a turn begins, where connections are left for it. Who is left from here on is
-    /// left for the next turn.
+    /// The key at which the last round of a turn begins, if connections are left for it. One that is left from here on
+    /// is left for the next turn.
     pub fn begin_last_round(&mut self) -> Option<usize> {
         if !self.are_left {
             return None;
@@ -151,7 +151,7 @@ impl Places {
     }
 
     /// The moment, in milliseconds, at which the connection at a place is given up, if its socket takes nothing of what
-    /// waits for it until then; none where nothing waits.
+    /// waits for it until then; none if nothing waits.
     pub fn stuck_at(&self, key: usize) -> Option<u64> {
         self.links.get(key)?.stuck_at()
     }
@@ -169,7 +169,7 @@ impl Places {
         next
     }
 
-    /// Closes the connection at a place, if there is one, and gives its number, where it is opened.
+    /// Closes the connection at a place, if there is one, and gives its number, if it is opened.
     pub fn close(&mut self, key: usize) -> Option<u64> {
         let link = self.links.get_mut(key)?;
         if link.is_free() {
@@ -219,24 +219,24 @@ impl Places {
         self.are_held
     }
 
-    /// Whether the table of a family is to be looked at for one that waits.
+    /// Whether the table of a family must be looked at for one that waits.
     pub fn looks_in(&self, table: Family) -> bool {
         self.links.iter().any(|link| link.looks_in(table))
     }
 
-    /// Notes what the table of a family, where it was read, shows of those that wait.
+    /// Notes what the table of a family, if it was read, shows of those that wait.
     pub fn look_in(&mut self, table: Family, text: Option<&[u8]>) {
         for link in &mut self.links {
             link.look_in(table, text);
         }
     }
 
-    /// All tables were looked at: those that wait are to be opened, each by `shown`.
+    /// All tables were looked at: those that wait must be opened, each by `shown`.
     pub fn end_looking(&mut self) {
         self.are_held = false;
     }
 
-    /// Who is at a place, where that waited to be opened.
+    /// Who is at a place, if that waited to be opened.
     pub fn shown(&mut self, key: usize) -> Option<Who> {
         self.links.get_mut(key)?.shown()
     }

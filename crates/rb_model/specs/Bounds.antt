@@ -58,7 +58,7 @@ abbrev pub bytes_out : Event → Output → ℕ
 bytes_out (Gave now id n) Done = n
 bytes_out event output = bytes_lent output
 
--- the most steps of an event at these limits, where it takes this many bytes, and lends or reports as given this many
+-- the most steps of an event at these limits, if it takes this many bytes, and lends or reports as given this many
 -- STEPS-1
 abbrev pub steps_bound : Limits → ℕ → ℕ → ℕ
 steps_bound limits taken given =

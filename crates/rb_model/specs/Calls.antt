@@ -79,7 +79,7 @@ is_no_call (Reply bytes stamp) = false
 is_no_call Forwarded = false
 is_no_call Silent = false
 
--- no bytes where there is no reply
+-- no bytes if there is no reply
 abbrev pub reply_in : Outcome → List ℕ
 reply_in NoCall = []
 reply_in (Reply bytes stamp) = bytes
@@ -153,7 +153,7 @@ outcome context (says.Asked call) arguments ledger =
 unfoldable pub longest_kept : ℕ
 longest_kept = 8816
 
--- What is kept of a record with this data: the first bytes after the head of its call, nothing where it is no call.
+-- What is kept of a record with this data: the first bytes after the head of its call, nothing if it is no call.
 -- TAKE-4
 abbrev pub kept_of : List ℕ → List ℕ
 kept_of content = take longest_kept (arguments_of content)

@@ -80,7 +80,7 @@ record_in now id who TakesNone = None
 record_in now id who (GoesOn fed) = None
 record_in now id who (Ends n content) = Some (record { now = now; caller = Tcp id who; content = content })
 
--- none where no connection of the number is live
+-- none if no connection of the number is live
 abbrev pub record_on : ℕ → ℕ → List ℕ → Option Connection → Option Brought
 record_on now id piece None = None
 record_on now id piece (Some c) = record_in now id c.who (taking_of c.phase piece)
@@ -112,13 +112,13 @@ is_told_true xid Silent = false
 
 -- ---- the changes that were accepted
 
--- the change, if there is one, where the test holds
+-- the change, if there is one and the test holds
 abbrev pub change_where : Bool → Option Change → List Change
 change_where told None = []
 change_where true (Some change) = change ∷ []
 change_where false (Some change) = []
 
--- the change that a caller's message asks for, where it is answered TRUE
+-- the change that a caller's message asks for, if it is answered TRUE
 abbrev pub change_told : Caller → Outcome → Message → List Change
 change_told caller said (says.Asked call) = change_where (is_told_true call.head.xid said) (change_asked caller call.head call.request)
 change_told caller said says.NoCall = []
@@ -129,7 +129,7 @@ abbrev pub change_from : State → Option Brought → List Change
 change_from s None = []
 change_from s (Some m) = change_told m.caller (said_to s m) (message_of m.content)
 
--- the change of the call that an event brings, where it asks for one and is answered TRUE
+-- the change of the call that an event brings, if it asks for one and is answered TRUE
 -- CHANGE-3
 abbrev pub change_by : State → Event → List Change
 change_by s event = change_from s (brought_by s event)

@@ -28,7 +28,7 @@ owed_of reply stamp given = record { marked = marked_reply reply; given = given;
 
 -- ---- bytes that arrive on one (RFC 5531 section 11)
 
--- What a connection takes of a piece of bytes: nothing; or all of it, where no record ends in it (`GoesOn`, with all
+-- What a connection takes of a piece of bytes: nothing; or all of it, if no record ends in it (`GoesOn`, with all
 -- bytes since the last record's end); or its bytes up to the end of the first record (`Ends`, with how many they are,
 -- and the record's data).
 pub data Taking : Type 0 where
@@ -36,7 +36,7 @@ pub data Taking : Type 0 where
   GoesOn : List ℕ → Taking
   Ends : ℕ → List ℕ → Taking
 
--- the bytes that came since the last record's end; None where the connection takes no bytes now
+-- the bytes that came since the last record's end; None if the connection takes no bytes now
 -- TAKE-2 GAVE-3 AWAIT-1
 abbrev pub fed_in : Phase → Option (List ℕ)
 fed_in Idle = Some []
@@ -151,7 +151,7 @@ changed_at id change c = record c { all = change_first (is_live id) change c.all
 abbrev pub on_connection : ℕ → (Connection → Connection) → State → State
 on_connection id change s = record s { connections = changed_at id change s.connections }
 
--- Something is done with the live connection of the number. It is refused where there is none, and nothing changes.
+-- Something is done with the live connection of the number. If there is none, it is refused and nothing changes.
 abbrev pub on_found : {A : Type 0} → ℕ → (Connection → A × Connection) → Connections → Option Connection → Result A CoreFault × Connections
 on_found id act connections None = (Err Gone, connections)
 on_found id act connections (Some c) = (Ok (act c).0, changed_at id (λ x. (act x).1) connections)
@@ -180,7 +180,7 @@ abbrev pub opening_as : Who → ℕ → Connections → Result ℕ CoreFault →
 opening_as who clock c (Err fault) = (Err fault, c)
 opening_as who clock c (Ok number) = (Ok number, with_new who clock c)
 
--- a connection is opened where there may be one more
+-- a connection is opened if there may be one more
 unfoldable pub open_in_table : ℕ → Who → ℕ → Connections → Result ℕ CoreFault × Connections
 open_in_table conns who clock c = opening_as who clock c (number_for conns c)
 

@@ -36,7 +36,7 @@ pub record Sizes : Type 0 where
 abbrev pub change_cost : ℕ → ℕ → ℕ
 change_cost search rows = 2 * search + rows + 2
 
--- those of a state, where the rows count by their limit
+-- those of a state, in which the rows count by their limit
 abbrev pub sizes_in : State → Sizes
 sizes_in s = record {
   connections = length s.connections.all;
@@ -55,7 +55,7 @@ asks_for_list says.NoCall = false
 asks_for_list (says.Refused head) = false
 asks_for_list (says.Garbage head) = false
 
--- or a SET or an UNSET, where its caller may register
+-- or a SET or an UNSET, if its caller may register
 -- COST-2
 abbrev pub asks_for_rows : Bool → Message → Bool
 asks_for_rows may (says.Asked call) = walks_rows may call.request
@@ -114,7 +114,7 @@ recount_cost = 4
 abbrev pub given_cost : ℕ → ℕ
 given_cost rows = 3 + listed_cost rows
 
--- what it costs to look a connection up: under its hint, twice where a record comes whole, then among this many, and
+-- what it costs to look a connection up: under its hint, twice if a record comes whole, then among this many, and
 -- its slot
 -- COST-1
 abbrev pub find_cost : ℕ → ℕ
@@ -137,11 +137,11 @@ oldest_cost connections = 2 * connections + 1
 abbrev pub evict_cost : ℕ → ℕ
 evict_cost connections = 3 * connections + 1
 
--- what it costs to check whether there is room for a row, and whether a message wants it, and to make it
+-- what it costs to check whether there is room for a row, and whether a message needs it, and to make it
 abbrev pub room_cost : Sizes → ℕ
 room_cost sizes = 8 * sizes.rows + sizes.looks + 2 * oldest_cost sizes.lists + evict_cost sizes.lists + 12
 
--- what it costs to serve a message with this many bytes of arguments, once there is room for the row that it adds, where a
+-- what it costs to serve a message with this many bytes of arguments, once there is room for the row that it adds, if a
 -- reply of this many bytes is written
 abbrev pub message_cost : Sizes → ℕ → ℕ → ℕ
 message_cost sizes args written = room_cost sizes + serve_cost sizes args written
@@ -192,7 +192,7 @@ record_cost may sizes (GoesOn fed) = 0
 record_cost may sizes (Ends n content) =
     swap_cost + answer_cost (sizes_for may (message_of content) sizes) (length (kept_of content))
 
--- to take bytes where this is the connection, if there is one
+-- to take bytes on this connection, if there is one
 -- COST-1
 abbrev pub bytes_cost : Announced → Sizes → List ℕ → Option Connection → ℕ
 bytes_cost announced sizes piece None = find_cost sizes.connections
@@ -205,7 +205,7 @@ bytes_cost announced sizes piece (Some c) =
 abbrev pub gives_list : Connection → Bool
 gives_list c = is_some (stamp_in c.phase)
 
--- to count bytes as given where this is the connection, if there is one, of this many, beside this many rows: only the next
+-- to count bytes as given on this connection, if there is one, of this many, beside this many rows: only the next
 -- fragment of a list walks them
 -- COST-3
 abbrev pub gave_cost : ℕ → ℕ → Option Connection → ℕ
@@ -235,7 +235,7 @@ reply_count s event = length (step s event).1.reply
 abbrev pub reply_cost : State → Event → ℕ
 reply_cost s event = 1 + reply_count s event
 
--- how many bytes the forwarded call has that must be sent next, 0 where there is none
+-- how many bytes the forwarded call has that must be sent next, 0 if there is none
 abbrev pub unsent_count : Option UnsentCall → ℕ
 unsent_count None = 0
 unsent_count (Some unsent) = length unsent.call

@@ -36,11 +36,11 @@ refused_by xid (answers.Results results) = Silent
 refused_by xid answers.Forwarded = Silent
 refused_by xid answers.Silent = Silent
 
--- what the caller is told where its forwarded call failed with this status
+-- what the caller is told if its forwarded call failed with this status
 abbrev pub outcome_of_failure : Forward → ReplyStatus → Outcome
 outcome_of_failure forward status = refused_by forward.xid (refusal forward.kind status)
 
--- what the caller is told where its forwarded call ended with this outcome; `message` is the datagram of the target,
+-- what the caller is told if its forwarded call ended with this outcome; `message` is the datagram of the target,
 -- whose last bytes are the results
 -- END-2
 abbrev pub outcome_of_end : Forward → List ℕ → target.ForwardEnd → Outcome
@@ -82,7 +82,7 @@ tell_end message s (Some ended, ledger) =
 abbrev pub at_fresh_moment : ℕ → State → State
 at_fresh_moment now s = record (at_moment now s) { reply = [] }
 
--- A datagram comes in where forwarded calls are sent from: None where it is no reply to an entry.
+-- A datagram comes in where forwarded calls are sent from: None if it is no reply to an entry.
 -- END-3
 unfoldable pub forward_reply : State → ℕ → Peer → List ℕ → Option Told × State
 forward_reply s now from message =
@@ -102,7 +102,8 @@ abbrev pub expired_as : Option Told × State → Expired × State
 expired_as (None, s) = expire_connection s
 expired_as (Some told, s) = (Ended told, s)
 
--- One thing that is due is done: the due entry of least number ends, or where there is none, a connection becomes Lost.
+-- One thing that is due is done: the due entry of least number ends, or, if there is none, the due connection of least
+-- number becomes Lost, if there is one.
 -- EXPIRE-1
 unfoldable pub expire : State → ℕ → Expired × State
 expire s now = expired_as (tell_end [] (at_fresh_moment now s) (fell_due (max s.clock now) s.ledger))

@@ -37,14 +37,14 @@ abbrev pub at_once_on : ℕ → Option Connection → ℕ
 at_once_on room None = 0
 at_once_on room (Some c) = at_once_in room c.phase
 
--- how many bytes are given at once by the result of taking bytes: none where that is refused, a
+-- how many bytes are given at once by the result of taking bytes: none if that is refused, a
 -- reply was owed before, or the record is no call
 abbrev pub at_once_of : ℕ → ℕ → Connection → Result Taken CoreFault × State → ℕ
 at_once_of room id before (Err fault, s) = 0
 at_once_of room id before (Ok taken, s) =
     if is_owing before.phase || taken.lost then 0 else at_once_on room (live_connection id s.connections.all)
 
--- how many bytes are given at once where bytes came on the connection
+-- how many bytes are given at once if bytes came on the connection
 -- EXCHANGE-2
 abbrev pub at_once : ℕ → ℕ → Option Connection → Result Taken CoreFault × State → ℕ
 at_once room id None result = 0
@@ -53,8 +53,8 @@ at_once room id (Some before) result = at_once_of room id before result
 abbrev pub count_now : ℕ → ℕ → List ℕ → ℕ → State → ℕ
 count_now now id piece room s = at_once room id (live_connection id s.connections.all) (bytes s now id piece)
 
--- Bytes arrive on a connection; where they end a record whose reply is one fragment, and no list, and there is room for the
--- longest, the reply is given.
+-- Bytes arrive on a connection; if they end a record whose reply is one fragment, and no list, and there is room for
+-- the longest, the reply is given.
 -- EXCHANGE-1
 abbrev pub exchange : ℕ → ℕ → List ℕ → ℕ → State → (Result Taken CoreFault × List ℕ) × State
 exchange now id piece room s =

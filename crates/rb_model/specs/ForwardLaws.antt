@@ -47,7 +47,7 @@ ConnectionsAwait =
 abbrev pub has_unsent : ℕ → State → Bool
 has_unsent id s = list_any (λ (e : Entry). is_of_connection id e && not e.sent) s.ledger.forwards.all
 
--- Where a connection stands as Sends after bytes, its call is there and was not sent, so an unsent call is lent.
+-- If a connection stands as Sends after bytes, its call is there and was not sent, so an unsent call is lent.
 -- STANDING-2
 abbrev pub SendsAreUnsent : Type 0
 SendsAreUnsent =
@@ -107,7 +107,7 @@ EndsByDeadline s now (Ended told) after =
 EndsByDeadline s now (ConnectionLost id) after =
     NoneIs (EntryIsDue (clock_at now s)) s.ledger.forwards.all × (after.ledger ≡ s.ledger)
 
--- The first entry whose deadline has come ends, if there is one. Where there is none, no entry changes.
+-- The first entry whose deadline has come ends, if there is one. If there is none, no entry changes.
 -- END-2
 abbrev pub DeadlinesEndOne : Type 0
 DeadlinesEndOne = (s : State) (now : ℕ) → EndsByDeadline s now (expire s now).0 (expire s now).1
@@ -121,7 +121,7 @@ later_output who NoCall = outputs.Silent
 later_output who Forwarded = outputs.Silent
 later_output who Silent = outputs.Silent
 
--- Where the caller of the first entry for which `Is` holds is over UDP, the output of the event has what `says` gives
+-- If the caller of the first entry for which `Is` holds is over UDP, the output of the event has what `says` gives
 -- for it.
 abbrev pub TellsOverUdp : (Entry → Type 0) → (Entry → Outcome) → State → Event → Type 0
 TellsOverUdp Is says s event =

@@ -15,7 +15,7 @@ use Rattle.rb_model.specs.Step.Output.{IsPending, Done}
 
 -- ---- on one connection
 
--- where in the marked reply the last fragment ends that fits whole into so much room
+-- where in the marked reply the last fragment ends that fits whole into this much room
 abbrev pub end_within : ℕ → Owed → ℕ
 end_within room o =
     if nat_le (length o.marked) (o.given + room) then length o.marked
@@ -38,7 +38,7 @@ write_fitting clock room c = (fitting_in room c.phase, with_given clock (length 
 
 -- ---- in a state
 
--- where no byte was given the state stays, its clock too
+-- if no byte was given, the state stays, its clock too
 -- GIVE-2
 abbrev pub unless_nothing : State → Result (List ℕ) CoreFault × State → Result (List ℕ) CoreFault × State
 unless_nothing s (Ok [], new) = (Ok [], s)

@@ -41,7 +41,7 @@ use Rattle.rb_model.specs.ChangeLaws.{Brought, brought_by, said_to, is_told_true
 abbrev pub call_note : CallHead → Note
 call_note head = Called (version_of head.vers) head.proc
 
--- a look-up of the target: whether it found a row, where that counts
+-- a look-up of the target: whether it found a row, if that counts
 abbrev pub lookup_notes : Context → CallHead → Target → Option Row → List Note
 lookup_notes context head target found =
     notes_where (counts_look_up (who_of context.caller) target.vers found) (LookedUp (version_of head.vers) target (is_some found))
@@ -52,13 +52,14 @@ getport_notes context head m rows None = []
 getport_notes context head m rows (Some transport) =
     lookup_notes context head (record { prog = m.prog; vers = m.vers; netid = netid_of transport }) (find_row m.prog m.vers (netid_of transport) rows)
 
--- a call that is forwarded counts when it ends, one that could not be as a failure at once, where that counts
+-- a call that is forwarded counts when it ends, and one that could not be forwarded counts as a failure at once, if
+-- that counts
 abbrev pub failure_notes : Caller → Outcome → Note → List Note
 failure_notes caller Forwarded failure = []
 failure_notes caller said failure = notes_where (counts_forward caller false) failure
 
--- what a call with this request did, by what it was answered and the rows that were live before it: a SET or an UNSET counts
--- once more where it is answered TRUE
+-- what a call with this request did, by what it was answered and the rows that were live before it: a SET or an UNSET
+-- counts once more if it is answered TRUE
 abbrev pub notes_done : Context → CallHead → Request → Outcome → List Row → List Note
 notes_done context head (requests.Mapping mappings.Set m) said rows = notes_where (is_told_true head.xid said) (WasSet (version_of head.vers))
 notes_done context head (requests.Mapping mappings.Unset m) said rows = notes_where (is_told_true head.xid said) (WasUnset (version_of head.vers))
@@ -112,7 +113,7 @@ history_by s [] = []
 history_by s (event ∷ events) =
     unless_anew (list_any begins_anew events) (notes_by s event) ++ history_by (step s event).1 events
 
--- From every state, the history after an event is the one before it, or nothing where statistics begin anew, and after it
+-- From every state, the history after an event is the one before it, or nothing if statistics begin anew, and after it
 -- the notes of the event.
 -- HISTORY-1
 abbrev pub EventsAreNoted : Type 0

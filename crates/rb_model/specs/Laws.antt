@@ -83,7 +83,7 @@ SameInOnePiece s now id first second =
     let before : Result Taken CoreFault × State = bytes s now id first in
     AreTogether (bytes s now id (first ++ second)) before (bytes before.1 now id second)
 
--- no record ends in the piece, where a live connection of the number takes it
+-- no record ends in the piece, if a live connection of the number takes it
 abbrev pub NoRecordEnds : State → ℕ → List ℕ → Type 0
 NoRecordEnds s id piece =
     IfSome (live_connection id s.connections.all) (λ (c : Connection).
@@ -177,7 +177,7 @@ pub record EndsRecord (a : Arrival) (fed : List ℕ) : Type 0 where
   pub ends : IsFirstRecord (length fed + count) (fed ++ a.piece)
   pub answers : IsAnswered a count (said_to a (take (length fed + count) (fed ++ a.piece)))
 
--- Where the connection takes no bytes, or there are none, nothing is taken; else a record ends in them, or none does.
+-- If the connection takes no bytes, or there are none, nothing is taken; else a record ends in them, or none does.
 abbrev pub TakesExactly : Arrival → Option (List ℕ) → List ℕ → Type 0
 TakesExactly a None piece = TakesNothing a
 TakesExactly a (Some fed) [] = TakesNothing a
@@ -219,13 +219,13 @@ is_awaiting (Owing owed) = false
 is_awaiting Lost = false
 
 -- The first n bytes of what was still to be given were given: the rest is still to be given.
--- The connection is Idle where that is none, and one that owed nothing is as it was.
+-- The connection is Idle if there is no rest, and one that owed nothing is as it was.
 pub record IsGiven (n : ℕ) (old new : Phase) : Type 0 where
   pub left : owed_in new ≡ drop n (owed_in old)
   pub ended : is_owing old ≡ true → (new ≡ Idle) ↔ (owed_in new ≡ [])
   pub kept : is_owing old ≡ false → new ≡ old
 
--- What is pending on the live connection is a front of what is still to be given, and is not empty where a reply is owed.
+-- What is pending on the live connection is a front of what is still to be given, and is not empty if a reply is owed.
 -- However many of its bytes are given, the connection is live after it, and the rest is still to be given.
 pub record GivesInOrder (s : State) (id : ℕ) (c : Connection) : Type 0 where
   pub front : List ℕ

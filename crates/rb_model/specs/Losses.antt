@@ -1,4 +1,4 @@
--- When a connection becomes Lost: at its deadline, or where the rows that its list needs are in the way. Moments are in
+-- When a connection becomes Lost: at its deadline, or when the rows that its list needs are in the way. Moments are in
 -- milliseconds.
 use Rattle.std.specs.Prelude.{ℕ, ◌+◌, nat_le, nat_lt, Bool, false, not, ◌&&◌, if◌then◌else◌, List, [], ◌∷◌, length, map, find, filter, filter_map, Option, Some, None}
 use Rattle.std.specs.Option.{option_map}
@@ -113,8 +113,8 @@ asks_room context (says.Garbage head) l = false
 abbrev pub is_crowded : ℕ → List Connection → Ledger → Bool
 is_crowded limit all l = not (nat_lt (length (rows_in l) + length (needed_removals all l)) limit)
 
--- where a message wants room for a row and there is none, the changes that removed the rows which lists need, of
--- which one has to go
+-- if a message needs room for a row and there is none, the changes that removed the rows which lists need, one of which
+-- has to go
 unfoldable pub removals_in_the_way : Context → Message → List Connection → Ledger → List ℕ
 removals_in_the_way context message all l =
     if asks_room context message l && is_crowded context.limit all l then needed_removals all l else []
@@ -131,8 +131,8 @@ evict_early changes c = if began_before changes (stamp_in c.phase) then lose c e
 abbrev pub evict : List ℕ → Connections → Connections
 evict changes c = record c { all = map (evict_early changes) c.all }
 
--- Before a message is answered that wants room, the connections become Lost whose lists began before the earliest change
--- that removed a row which some list needs, where the live rows and those that lists need reach the limit.
+-- Before a message that needs room is answered, the connections whose lists began before the earliest change that
+-- removed a row which some list needs become Lost, if the live rows and those that lists need reach the limit.
 -- LOST-1 EVICT-1
 abbrev pub with_room : Context → Message → State → State
 with_room context message s =

@@ -13,7 +13,7 @@ use Rattle.rb_model.specs.DeadlineLaws.{clock_at}
 unfoldable pub connection_deadlines : List Connection → List (Option ℕ)
 connection_deadlines all = map (λ (c : Connection). deadline c.since c.phase) all
 
--- the least deadline of the connections, where one of them has a deadline
+-- the least deadline of the connections, if one of them has a deadline
 abbrev pub next_connection_deadline : Connections → Option ℕ
 next_connection_deadline c = soonest_of (connection_deadlines c.all)
 

@@ -1,4 +1,4 @@
--- What an event of an outsider costs at most, in counted steps, where it is for no list. No number of connections, rows or
+-- What an event of an outsider costs at most, in counted steps, if it is for no list. No number of connections, rows or
 -- forwarded calls stands in it.
 use Rattle.std.specs.Prelude.{◌≡◌, ◌≤◌, ℕ, ◌+◌, ◌*◌, Bool, true, false, not, List, length, find, Option}
 use Rattle.std.specs.Option.{option_map_or}
@@ -54,9 +54,9 @@ is_for_list s other = false
 
 -- ---- laws
 
--- What an event of an outsider may take besides its bytes. It has two steps for each byte of the longest arguments, which
--- earlier events brought, one for each byte of the longest reply, and the looks for a connection among 256, for a row
--- among 4,096 and for a forwarded call among 64: good limits have no more.
+-- What an event of an outsider may take apart from its bytes. It has two steps for each byte of the longest arguments,
+-- which earlier events brought, one for each byte of the longest reply, and the looks for a connection among 256, for a
+-- row among 4,096 and for a forwarded call among 64: good limits have no more.
 abbrev pub outsider_allowance : ℕ
 outsider_allowance = 34000
 

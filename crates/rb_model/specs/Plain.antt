@@ -1,4 +1,4 @@
--- Events and outputs as plain data, without where their bytes lie in memory.
+-- Events and outputs as plain data, without the places where their bytes lie in memory.
 use Rattle.std.specs.Prelude.{ℕ, List, map, option_map}
 use Rattle.std.specs.Borrow.{Bor}
 use Rattle.std.specs.Global.{Vec}

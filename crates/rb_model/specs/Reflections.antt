@@ -23,7 +23,8 @@ bytes_to test (Datagram now who content) (Replied reply) = if test who then leng
 bytes_to test event (RepliedTo who reply) = if test who then length reply else 0
 bytes_to test event output = 0
 
--- Where replies over UDP are held to that, from every state, the reply to a stranger's datagram has at most twice its bytes.
+-- From every state in which long replies over UDP are not allowed, the reply to a stranger's datagram has at most twice
+-- its bytes.
 abbrev pub RepliesAreAtMostTwice : Type 0
 RepliesAreAtMostTwice =
     (s : State) → s.setting.listener.terms.long_replies ≡ false → (now : ℕ) (who : Who) (content : List ℕ)

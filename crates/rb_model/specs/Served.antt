@@ -33,7 +33,7 @@ abbrev pub kind_in : Served → Written
 kind_in (Answered given) = given
 kind_in (Listed xid listing) = outcomes.Reply
 
--- Where the answer is a reply that is no streamed list, some bytes are written, and else none.
+-- If the answer is a reply that is no streamed list, some bytes are written, and else none.
 abbrev pub IsWritten : Served → List ℕ → Type 0
 IsWritten (Answered outcomes.Reply) reply = 0 < length reply
 IsWritten (Answered outcomes.NoCall) reply = reply ≡ []

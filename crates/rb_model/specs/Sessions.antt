@@ -55,7 +55,7 @@ abbrev pub pending_bytes : Result (List ℕ) CoreFault → List ℕ
 pending_bytes (Ok bytes) = bytes
 pending_bytes (Err fault) = []
 
--- of what was pending on a connection, as many bytes as an event says, where it is not refused
+-- of what was pending on a connection, as many bytes as an event says, if it is not refused
 abbrev pub given_by : State → ℕ → Event → Output → List ℕ
 given_by s id event Done = take (gave_to id event) (pending_bytes (pending s id))
 given_by s id event other = []
@@ -71,12 +71,12 @@ at_event other s = s
 abbrev pub exchange_in : State → Caller → List ℕ → Exchange
 exchange_in s caller content = record { content = content; said = (serve s caller content).0 }
 
--- the call in these bytes of a record, none where no connection of the number is live
+-- the call in these bytes of a record, none if no connection of the number is live
 abbrev pub call_in : State → ℕ → List ℕ → Option Connection → List Exchange
 call_in s id record_bytes None = []
 call_in s id record_bytes (Some c) = exchange_in s (Tcp id c.who) (data_of record_bytes) ∷ []
 
--- the call that ended, where the bytes since the last record are a whole record
+-- the call that ended, if the bytes since the last record are a whole record
 abbrev pub calls_ended : State → ℕ → List ℕ → Option ℕ → List Exchange
 calls_ended s id bytes None = []
 calls_ended s id bytes (Some n) = call_in s id bytes (live_connection id s.connections.all)
@@ -85,7 +85,7 @@ abbrev pub left_behind : List ℕ → Option ℕ → List ℕ
 left_behind bytes None = bytes
 left_behind bytes (Some n) = []
 
--- what a connection is told where a forwarded call ended, if that was one of its own
+-- what a connection is told when a forwarded call ended, if that was one of its own
 abbrev pub outcome_of_ended : ℕ → List ℕ → Option Ended → Option Outcome
 outcome_of_ended id message None = None
 outcome_of_ended id message (Some ended) = if is_connection id ended.forward.caller then Some (outcome_at_end message ended) else None
@@ -196,7 +196,7 @@ pub record IsLiveSession (id : ℕ) (s : State) (c : Connection) (t : Session) :
   pub answered : AreAnswered (is_awaiting c.phase) t.calls
   -- and the bytes given, and then those that are still owed, are the marked replies, joined.
   pub replies : t.given ++ owed_in c.phase ≡ replies_to t.calls
-  -- Where none are owed and none is awaited, a piece is taken whole, or up to a record's end.
+  -- If none are owed and none is awaited, a piece is taken whole, or up to a record's end.
   pub takes : owed_in c.phase ≡ [] → is_awaiting c.phase ≡ false → (now : ℕ) (piece : List ℕ)
       → IsWholeOrEnds t.unfinished piece (taken_by id (Bytes now id piece) (step s (Bytes now id piece)).0)
 
@@ -209,7 +209,7 @@ pub record IsWholeSession (id : ℕ) (s : State) (t : Session) : Type 0 where
   -- The bytes given are a front of the marked replies, joined.
   pub front : IsFront t.given (replies_to t.calls)
   pub live : (c : Connection) → IsLive s id c → IsLiveSession id s c t
-  -- Bytes are taken only where nothing is owed or awaited.
+  -- Bytes are taken only if nothing is owed or awaited.
   pub in_turn : (event : Event) → taken_by id event (step s event).0 ≢ [] → AllGiven t
 
 -- for each connection, in each run

@@ -17,14 +17,14 @@ pub record Setting : Type 0 where
 -- ---- connections
 
 -- A reply that is being given: its bytes with the headers of its fragments (RFC 5531 section 11), how many of them
--- were given, and where it is a streamed list, how many changes were accepted before it began.
+-- were given, and, if it is a streamed list, how many changes were accepted before it began.
 pub record Owed : Type 0 where
   pub marked : List ℕ
   pub given : ℕ
   pub stamp : Option ℕ
 
 -- the state of a connection: `Reading` has the bytes that came since the last record's end, `Awaiting` waits for the
--- end of a forwarded call, and `Lost` is given up and to be closed
+-- end of a forwarded call, and `Lost` is given up and must be closed
 pub data Phase : Type 0 where
   Idle : Phase
   Reading : List ℕ → Phase

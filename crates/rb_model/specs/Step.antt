@@ -57,7 +57,7 @@ serve s caller content = serve_message s caller (message_of content) (arguments_
 
 -- ---- connections
 
--- A call on the connections at a moment: where it is refused the state stays, its clock too.
+-- A call on the connections at a moment: if it is refused, the state stays, its clock too.
 -- REFUSED-1
 abbrev pub unless_refused : {A : Type 0} → ℕ → State → Result A CoreFault × Connections → Result A CoreFault × State
 unless_refused now s (Err fault, connections) = (Err fault, s)
@@ -96,7 +96,7 @@ abbrev pub pending_on : Option Connection → Result (List ℕ) CoreFault
 pending_on None = Err Gone
 pending_on (Some c) = Ok (pending_in c.phase)
 
--- what is pending on the live connection of the number, `Gone` where there is none
+-- what is pending on the live connection of the number, `Gone` if there is none
 abbrev pub pending_at : ℕ → Connections → Result (List ℕ) CoreFault
 pending_at id c = pending_on (live_connection id c.all)
 
@@ -119,7 +119,7 @@ is_too_much n (Ok bytes) = nat_lt (length bytes) n
 unfoldable pub open_connection : State → ℕ → Who → Result ℕ CoreFault × State
 open_connection s now who = unless_refused now s (open_in_table s.setting.limits.conns who (max s.clock now) s.connections)
 
--- where a connection is closed, the call that was forwarded for it ends
+-- when a connection is closed, the call that was forwarded for it ends
 -- END-4
 abbrev pub dropped_with : State → ℕ → Result (Unit {0}) CoreFault × Connections → Result (Unit {0}) CoreFault × State
 dropped_with s id (Err fault, connections) = (Err fault, s)
@@ -136,13 +136,13 @@ next_lost s = next_lost_in_table s.connections
 
 -- ---- datagrams
 
--- the last reply over UDP is replaced by this one, or by nothing where there is none
+-- the last reply over UDP is replaced by this one, or by nothing if there is none
 -- DATAGRAM-2
 abbrev pub with_reply : Outcome × State → Outcome × State
 with_reply (given, s) = (given, record s { reply = reply_in given })
 
--- The most bytes of the reply to a datagram of this many: to a stranger at most twice as many, where replies over UDP are held
--- to that.
+-- The most bytes of the reply to a datagram of this many: to a stranger at most twice as many, if replies over UDP are
+-- held to that.
 -- REFLECT-1
 unfoldable pub longest_to : Terms → Who → ℕ → ℕ
 longest_to terms who count =
@@ -227,7 +227,7 @@ show_outcome (outcomes.Reply reply stamp, s) = (Replied reply, s)
 show_outcome (outcomes.Forwarded, s) = (Forwarded, s)
 show_outcome (outcomes.Silent, s) = (Silent, s)
 
--- the output where a forwarded call ended; `reply` is the last reply over UDP
+-- the output when a forwarded call ended; `reply` is the last reply over UDP
 abbrev pub show_told : List ℕ → Told → Output
 show_told reply (TcpReady id) = Ready id
 show_told reply (ends.Datagram call who) = RepliedTo who reply

@@ -50,8 +50,8 @@ total_out events outputs = total_of bytes_reported events outputs
 
 -- ---- steps
 
--- what one event may take besides its bytes: 64 steps for each connection, row, key of the statistics and forwarded call
--- that there may be, and 4,096
+-- what one event may take apart from its bytes: 64 steps for each connection, row, key of the statistics and forwarded
+-- call that there may be, and 4,096
 abbrev pub event_allowance : Limits → ℕ
 event_allowance limits = 64 * (limits.conns + limits.rows + most_keys + limits.forwards) + 4096
 
@@ -74,7 +74,7 @@ EventsArePaidAhead =
     ≤ 2 * args_waiting s.connections.all + 16 * (bytes_in event (step s event).0 + bytes_reported event (step s event).0)
     + event_allowance s.setting.limits
 
--- So a run costs no more than its bound, where of the buffers only the arguments that wait count.
+-- So a run costs no more than its bound, in which, of the buffers, only the arguments that wait count.
 abbrev pub WholeRunsAreBounded : Type 0
 WholeRunsAreBounded =
     (s : State) → IsReached s → are_good s.setting.limits s.setting.listener ≡ true → (events : List Event)

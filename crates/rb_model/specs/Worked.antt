@@ -20,7 +20,7 @@ who_at peer = record { source = Inet peer; asked = V4 (0 ∷ 0 ∷ 0 ∷ 0 ∷ [
 abbrev pub loopback : Who
 loopback = who_at (record { host = V4 (127 ∷ 0 ∷ 0 ∷ 1 ∷ []); port = 900 })
 
--- port 111 over IPv4, where 192.0.2.1 is told, without a local socket
+-- port 111 over IPv4, for which 192.0.2.1 is told, without a local socket
 abbrev pub listener : Listener
 listener = record {
   announced = record { inet = Some (192 ∷ 0 ∷ 2 ∷ 1 ∷ []); inet6 = None };
@@ -45,7 +45,7 @@ SetThenAskThenSetAgain =
     ∷ Replied (words (5 ∷ 1 ∷ 0 ∷ 0 ∷ 0 ∷ 0 ∷ 0 ∷ []))
     ∷ []
 
--- The greatest version on the protocol, where the version that is asked for is not there.
+-- The greatest version on the protocol, if the version that is asked for is not there.
 abbrev pub GreatestVersionElse : Type 0
 GreatestVersionElse =
     run fresh

@@ -36,7 +36,7 @@ KnownCallersSetAsTheyAre =
     (Datagram 0 (known_as (Local (Uid 5))) (call_by_sys 1 2 1 0 ++ words (200001 ∷ 1 ∷ 6 ∷ 2049 ∷ [])) ∷ [])
     ≡ Added (record { prog = 200001; vers = 1; netid = netids.Tcp; owner = Uid 5; addr = codes "0.0.0.0.8.1" }) ∷ []
 
--- a SET from 127.0.0.1 is FALSE where the caller is a stranger
+-- a SET from 127.0.0.1 is FALSE if the caller is a stranger
 abbrev pub StrangersAreRefused : Type 0
 StrangersAreRefused =
     run fresh (Datagram 0 (known_as Stranger) (call2 3 1 (200001 ∷ 1 ∷ 6 ∷ 2049 ∷ [])) ∷ [])
@@ -62,7 +62,7 @@ getaddr = call_by_none 2 100000 3 3 ++ words (200001 ∷ 1 ∷ 0 ∷ 0 ∷ 0 ∷
 abbrev pub told : ℕ → List ℕ → List ℕ
 told count text = success_reply 2 (count ∷ []) ++ text
 
--- of a row of 0.0.0.0 a caller is told the host that it asked, or the announced one where that is not known
+-- of a row of 0.0.0.0 a caller is told the host that it asked, or the announced one if that is not known
 abbrev pub AskedHostIsTold : Type 0
 AskedHostIsTold =
     run fresh
@@ -71,7 +71,7 @@ AskedHostIsTold =
 
 -- ---- IPv6
 
--- port 111 over IPv4 and IPv6, where no host is told, and a local socket
+-- port 111 over IPv4 and IPv6, for which no host is told, and a local socket
 abbrev pub everywhere : Listener
 everywhere = record {
   announced = record { inet = Some (replicate 4 0); inet6 = Some (replicate 16 0) };

@@ -64,7 +64,8 @@ ForwardedCallsComeFirst =
     ≡ Replied (success_reply 3 (1 ∷ [])) ∷ Opened 1 ∷ Forwarded
     ∷ Nothing ∷ RepliedTo loopback (words (15 ∷ 1 ∷ 0 ∷ 0 ∷ 0 ∷ 5 ∷ [])) ∷ ConnectionLost 1 ∷ Nothing ∷ []
 
--- the next deadline where nothing has one, of a connection that is Idle and of one that reads a record, and of a forwarded call
+-- the next deadline if nothing has one, of a connection that is Idle and of one that reads a record, and of a forwarded
+-- call
 abbrev pub NextOfEach : Type 0
 NextOfEach =
     (next_deadline fresh ≡ None)

@@ -71,7 +71,7 @@ ForwardUntilDeadline =
     ≡ was_set ∷ Forwarded ∷ UnsentIs (Some question) ∷ Ignored ∷ Done ∷ Ignored ∷ Ignored ∷ Ignored
     ∷ RepliedTo loopback (reply_with_status 15 5 []) ∷ Nothing ∷ UnsentIs None ∷ []
 
--- what a caller is told where its target says this one millisecond before the deadline
+-- what a caller is told if its target says this one millisecond before the deadline
 abbrev pub outputs_when_said : List ℕ → List ℕ → List Output
 outputs_when_said call message = run fresh (set_event ∷ Datagram 1000 loopback call ∷ Sent 1 ∷ Forward 5999 target message ∷ [])
 

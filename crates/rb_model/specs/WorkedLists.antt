@@ -30,7 +30,7 @@ was_false = Replied (success_reply 1 (0 ∷ []))
 abbrev pub dump : ℕ → Event
 dump id = Bytes 0 id (in_one (call2 1 4 []))
 
--- the reply to it, where these programs were SET after the six own rows
+-- the reply to it, if these programs were SET after the six own rows
 abbrev pub dump_reply : List ℕ → List ℕ
 dump_reply progs =
     success_reply 1 [] ++ own 4 6 ++ own 3 6 ++ own 2 6 ++ own 4 17 ++ own 3 17 ++ own 2 17

@@ -1,5 +1,5 @@
--- Worked examples: what strangers are told and counted for, and for whom and to what other calls are made, where the
--- terms of the listener hold them back.
+-- Worked examples: what strangers are told and counted for, and for whom and to what other calls are made, if the terms
+-- of the listener hold them back.
 use Rattle.std.specs.Prelude.{◌≡◌, ℕ, false, true, List, [], ◌∷◌, ◌++◌, map, replicate, codes}
 use Rattle.rb_xdr.specs.Xdr.{words}
 use Rattle.rb_address.specs.declared.host.Host.TheVariants.{V4}
@@ -95,7 +95,7 @@ MountdIsNotAsked =
     run (held ForLocal) (Datagram 0 loopback (call2 1 1 (100005 ∷ 1 ∷ 17 ∷ 2049 ∷ [])) ∷ of_mountd 1 ∷ of_mountd 0 ∷ [])
     ≡ was_set ∷ Replied (reply_with_status 15 1 []) ∷ Forwarded ∷ []
 
--- what a stranger is told at the end of its call of 56 bytes, where other calls are made for all and this one has so
+-- what a stranger is told at the end of its call of 56 bytes, if other calls are made for all and this one has this
 -- many bytes of results
 abbrev pub ends_with : ℕ → List Output
 ends_with count =

@@ -2,7 +2,7 @@
 use crate::types::CoreFault;
 use rb_address::{Peer, Who};
 
-/// An event of a run: one call on a core, and where that makes a reply over UDP, the look at this reply. Moments are
+/// An event of a run: one call on a core and, if that makes a reply over UDP, the look at this reply. Moments are
 /// milliseconds since the start of 1970.
 #[derive(Debug, Drop)]
 pub enum Event<B = Vec<u8>> {
@@ -56,7 +56,7 @@ pub enum Output<B = Vec<u8>> {
     Took(usize),
     /// The number of bytes that were taken; the connection is Lost now, since its record is no call.
     TookAndLost(usize),
-    /// The rest of the current fragment, at most 1,028 bytes; none where no reply is owed.
+    /// The rest of the current fragment, at most 1,028 bytes; none if no reply is owed.
     Pending(B),
     /// The event was accepted, and has no other result.
     Done,

@@ -1,4 +1,4 @@
-//! What the portmapper is to do, in definitions over plain data: what a message says and is answered with, what the
+//! What the portmapper must do, in definitions over plain data: what a message says and is answered with, what the
 //! daemon knows between two events, what each event does to that, what it costs, and what is promised of all runs.
 //!
 //! No definition speaks of memory but those of `Served`. rb_laws proves that the promises hold.

@@ -39,12 +39,12 @@ pub struct Taken {
     pub lost: bool,
 }
 
-/// What came of bytes that arrived on a connection, where a reply may be given at once.
+/// What came of bytes that arrived on a connection, when a reply may be given at once.
 #[derive(Clone, Copy, Debug, PartialEq, Eq)]
 pub struct Exchanged {
     /// How far they were taken.
     pub taken: Taken,
-    /// How many bytes of the reply were given, its header among them; 0 where it was not given at once.
+    /// How many bytes of the reply were given, its header among them; 0 if it was not given at once.
     pub given: usize,
     /// Where the connection stands then.
     pub standing: Standing,
@@ -53,7 +53,7 @@ pub struct Exchanged {
 /// What was given of a reply into a room.
 #[derive(Clone, Copy, Debug, PartialEq, Eq)]
 pub struct Given {
-    /// How many bytes, headers among them; 0 where no fragment fits, or none is owed.
+    /// How many bytes, headers among them; 0 if no fragment fits, or none is owed.
     pub count: usize,
     /// Where the connection stands then.
     pub standing: Standing,
@@ -73,7 +73,7 @@ pub enum Standing {
     /// Its call is forwarded, and waits to be sent: `unsent` of the core lends it. That is told once, after the bytes that
     /// brought the call; later it is `Awaiting`.
     Sends,
-    /// It is given up and to be closed, or is closed.
+    /// It is given up and must be closed, or is closed.
     Lost,
 }
 
@@ -95,7 +95,7 @@ pub enum Expired {
     Nothing,
     /// A forwarded call, at its deadline, 5,000 ms after it came. Its caller gets this.
     Ended(Told),
-    /// The connection of this number, at its deadline: it is Lost now, and is to be closed.
+    /// The connection of this number, at its deadline: it is Lost now, and must be closed.
     ConnectionLost(u64),
 }
 

@@ -13,7 +13,7 @@ is_numeral text = not (length text == 0) && list_all is_digit text
 abbrev pub is_between : ℕ → ℕ → ℕ → Bool
 is_between least most n = nat_le least n && nat_le n most
 
--- the number that the digits are, where it is between the bounds
+-- the number that the digits are, if it is between the bounds
 -- DIGITS-1
 abbrev pub number_in : ℕ → ℕ → List ℕ → Option ℕ
 number_in least most text =

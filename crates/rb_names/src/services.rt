@@ -121,7 +121,7 @@ fn push_line(alloc: Global, line: &[u8], services: &mut Vec<Service>) -> Result<
 }
 
 /// Reads the names of programs in a text, in their order. A line of more than 1,024 bytes has none, a line whose second
-/// word is no number of 32 bits has none, and a text of more than 65,536 bytes has none. `AllocError` where an
+/// word is no number of 32 bits has none, and a text of more than 65,536 bytes has none. `AllocError` if an
 /// allocation is refused.
 pub fn read_services(alloc: Global, text: &[u8]) -> Result<Vec<Service>, AllocError>
     ensures { IfOk result (λ services. named_numbers services.items ≡ services_in text.now) }
@@ -137,7 +137,7 @@ pub fn read_services(alloc: Global, text: &[u8]) -> Result<Vec<Service>, AllocEr
     Ok(services)
 }
 
-/// Returns the number of the program of this name, and of several lines with the name that of the first; `None` where
+/// Returns the number of the program of this name, and of several lines with the name that of the first; `None` if
 /// no line has it.
 pub fn number_of(services: &[Service], name: &[u8]) -> Option<u32>
     ensures { result ≡ number_of services.now name.now }
@@ -151,7 +151,7 @@ pub fn number_of(services: &[Service], name: &[u8]) -> Option<u32>
     }
 }
 
-/// Returns the first name of the program of this number; `None` where it has no name.
+/// Returns the first name of the program of this number; `None` if it has no name.
 pub fn name_of<'a>(services: &'a [Service], number: u32) -> Option<&'a [u8]>
     ensures { option_map (λ name. name.now) result ≡ name_of services.now number }
 {

@@ -80,7 +80,7 @@ keeps_same : (held : Option (List ℕ)) → Keeps held held
 keeps_same None = tt
 keeps_same (Some bytes) = refl
 
--- nothing was written where no text was read
+-- nothing was written if no text was read
 pub cut_input : (left : Option (List ℕ)) (ask : Ask) (form : Form) (held : Option (List ℕ)) (fault : InfoFault) → (fault ≡ Memory) ⊎ (fault ≡ Read) → IfSome left (λ input. IsToldOr (tell_text ask form input) held held (Err fault))
 cut_input None ask form held fault is = tt
 cut_input (Some input) ask form held fault (inl e) = told_cut (tell_text ask form input) held fault e

@@ -17,6 +17,6 @@ AskedUpToAnAnswer =
     (gives : IpAddr → Result Shown Fault) (before after : List IpAddr) (address : IpAddr) → NoneAnswers gives before → is_unanswered (gives address) ≡ false
     → asked_of gives (before ++ address ∷ after) ≡ before ++ address ∷ []
 
--- where none answers all are asked
+-- if none answers, all are asked
 abbrev pub AllAreAsked : Type 0
 AllAreAsked = (gives : IpAddr → Result Shown Fault) (addresses : List IpAddr) → NoneAnswers gives addresses → asked_of gives addresses ≡ addresses

@@ -14,7 +14,7 @@ use Rattle.rb_plans.specs.declared.ending.Notices.{Notices}
 use Rattle.rb_plans.specs.declared.fault.Fault.{Fault}
 use Rattle.rb_plans.specs.declared.fault.Fault.TheVariants.{Info, NoConnection, NoSocket, NoReply, NoHost, NoAddress, TooManyRoutes}
 
--- the family of the addresses that are asked where a program is; none where each is
+-- the family of the addresses that are asked where a program is; none if every address is asked
 -- ADDRESS-1
 abbrev pub family_of : Way → Option Family
 family_of (ways.Getaddr netid) = family_of_netid netid
@@ -22,7 +22,7 @@ family_of (ways.Getport transport) = None
 family_of (ways.Port transport port) = None
 family_of (ways.Address netid address) = None
 
--- an address is asked where those of a family are, or each is
+-- an address is asked if those of its family are, or if every address is
 -- ADDRESS-1
 abbrev pub is_asked : Option Family → IpAddr → Bool
 is_asked (Some Inet) ip = is_ipv4 ip
@@ -57,12 +57,12 @@ is_unanswered (Err NoSocket) = true
 is_unanswered (Err NoReply) = true
 is_unanswered answer = false
 
--- The addresses of a host that are asked, where each gives this: all up to the first that answers.
+-- The addresses of a host that are asked, if each gives this: all up to the first that answers.
 abbrev pub asked_of : (IpAddr → Result Shown Fault) → List IpAddr → List IpAddr
 asked_of gives [] = []
 asked_of gives (address ∷ more) = address ∷ (if is_unanswered (gives address) then asked_of gives more else [])
 
--- somebody answered; where memory was refused that is not known
+-- somebody answered; if memory was refused, that is not known
 -- ADDRESS-4
 abbrev pub has_answered : Result Shown Fault → Bool
 has_answered (Err NoConnection) = false
@@ -74,7 +74,7 @@ has_answered (Err TooManyRoutes) = false
 has_answered (Err (Info Memory)) = false
 has_answered answer = true
 
--- the address, where it is one of several and somebody answered there
+-- the address, if it is one of several and somebody answered there
 -- ADDRESS-4
 abbrev pub answered_at : IpAddr → ℕ → Result Shown Fault → Option IpAddr
 answered_at address count answer = if nat_lt 1 count && has_answered answer then Some address else None

@@ -39,7 +39,7 @@ abbrev pub family_text : Family → List ℕ
 family_text Inet = codes "IPv4"
 family_text Inet6 = codes "IPv6"
 
--- the first line; where versions had their own lines there is none
+-- the first line; if versions had their own lines, there is none
 -- COURSE-11
 abbrev pub fault_line : Fault → List ℕ
 fault_line (Info fault) = own_line (info_text fault)
@@ -162,7 +162,7 @@ abbrev pub answer_lines : Result Shown Fault → List ℕ
 answer_lines (Ok shown) = no_row_line shown
 answer_lines (Err fault) = fault_lines fault
 
--- the address that answered, where the host has several
+-- the address that answered, if the host has several
 abbrev pub answered_line : Option IpAddr → List ℕ
 answered_line (Some address) = codes "rpcinfo: " ++ (ip_text address ++ codes " answered\n")
 answered_line None = []
@@ -174,7 +174,7 @@ old_line is_old = if is_old then codes "rpcinfo: asked by version 2\n" else []
 abbrev pub notice_lines : Notices → List ℕ
 notice_lines notices = answered_line notices.answered ++ old_line notices.is_old
 
--- where it was written whole, it is this
+-- if it was written whole, it is this
 abbrev pub SaysWhere : {E : Type 0} → (E → Option (List ℕ)) → E → E → Bool → List ℕ → Type 0
 SaysWhere contents faults faults' is_told text = is_told ≡ true → Appends (contents faults) (contents faults') text
 

@@ -78,7 +78,7 @@ abbrev pub IsToldOr : Told Shown → Option (List ℕ) → Option (List ℕ) →
 IsToldOr told old new (Ok shown) = IsTold told old new (Ok shown)
 IsToldOr told old new (Err fault) = IsTold told old new (Err fault) ⊎ FailsUnread old new fault
 
--- Where the text that the input has is known, what its reply tells is written, or the input failed.
+-- If the text that the input has is known, what its reply tells is written, or the input failed.
 abbrev pub ShowsIn : {I O : Type 0} → (I → Option (List ℕ)) → (O → Option (List ℕ)) → Ask → Form → I → O → O → Result Shown InfoFault → Type 0
 ShowsIn remaining contents ask form input output output' result =
     IfSome (remaining input) (λ text. IsToldOr (tell_text ask form text) (contents output) (contents output') result)

@@ -44,7 +44,7 @@ form_by plan layout services = layout_form layout services
 abbrev pub form_of : Request → Bor (List Service) → Form
 form_of request services = form_by request.plan request.layout services
 
--- The network of `--broadcast` is the IPv4 address that its text writes, where it is given.
+-- The network of `--broadcast` is the IPv4 address that its text writes, if it is given.
 abbrev pub IsNetworkOf : Option (Bor (List ℕ)) → Option Ipv4Addr → Type 0
 IsNetworkOf None network = network ≡ None
 IsNetworkOf (Some text) None = ⊥

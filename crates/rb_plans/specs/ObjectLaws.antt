@@ -1,4 +1,4 @@
--- What is asked where the words want objects, and what is written of a reply on standard input.
+-- What is asked if the words ask for objects, and what is written of a reply on standard input.
 use Rattle.std.specs.Prelude.{◌≡◌, ◌≢◌, ℕ, true, List, Option, Some, Result, Ok, Err}
 use Rattle.std.specs.Borrow.{Bor}
 use Rattle.rb_rpc.specs.declared.reply.ReplyStatus.{ReplyStatus}
@@ -33,7 +33,7 @@ pub record AsksForObjects (plan : Plan) : Type 0 where
 abbrev pub ObjectsAreAskedFor : Type 0
 ObjectsAreAskedFor = (shape : Shape) (request : Request) (services : Bor (List Service)) → request_of shape ≡ Ok request → form_of request services ≡ Json → AsksForObjects request.plan
 
--- Where version 2 is asked in its place, objects are shown too.
+-- If version 2 is asked in its place, objects are shown too.
 abbrev pub VersionTwoHasObjects : Type 0
 VersionTwoHasObjects = (question old : Question) (status : ReplyStatus) → has_objects question ≡ true → fallback question status ≡ Some old → has_objects old ≡ true
 

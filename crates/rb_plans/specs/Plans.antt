@@ -62,7 +62,7 @@ is_of_here (Info Write) = true
 is_of_here TooManyRoutes = true
 is_of_here fault = false
 
--- where the course goes on, or ends by this fault
+-- the step by which the course goes on, or else this fault, by which it ends
 abbrev pub step_or : Fault → Option Step → Result Step Fault
 step_or fault (Some step) = Ok step
 step_or fault None = Err fault

@@ -28,7 +28,7 @@ IsToldAs told old new (Err (NotAvailable prog vers why)) = ⊥
 IsToldAs told old new (Err (NoProgram prog why)) = ⊥
 IsToldAs told old new (Err SomeLack) = ⊥
 
--- where the text that the input has is known, what its reply tells is written
+-- if the text that the input has is known, what its reply tells is written
 abbrev pub ShowsAs : {I O : Type 0} → (I → Option (List ℕ)) → (O → Option (List ℕ)) → Ask → Form → I → O → O → Result Shown Fault → Type 0
 ShowsAs remaining contents ask form input output output' answer =
     IfSome (remaining input) (λ text. IsToldAs (tell_text ask form text) (contents output) (contents output') answer)

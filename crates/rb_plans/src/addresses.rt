@@ -10,7 +10,7 @@ use rb_show::{InfoFault, Shown};
 use rb_words::Way;
 use std::net::{IpAddr, SocketAddr};
 
-/// The family of the addresses that are asked where a program is; none where each is.
+/// The family of the addresses that are asked where a program is; none if every address is asked.
 pub fn family_of(way: Way) -> Option<Family>
     ensures { result ≡ family_of way }
 {
@@ -20,7 +20,7 @@ pub fn family_of(way: Way) -> Option<Family>
     }
 }
 
-/// Whether an address is asked where those of a family are, or each is.
+/// Whether an address is asked: if those of its family are, or if every address is.
 pub fn is_asked(family: Option<Family>, address: SocketAddr) -> bool
     ensures { result ≡ is_asked family (socket_ip address) }
 {
@@ -79,7 +79,7 @@ pub fn is_unanswered(answer: Result<Shown, Fault>) -> bool
     }
 }
 
-/// Whether somebody answered. Where memory was refused that is not known.
+/// Whether somebody answered. If memory was refused, that is not known.
 fn has_answered(answer: Result<Shown, Fault>) -> bool
     ensures { result ≡ has_answered answer }
 {
@@ -112,7 +112,7 @@ fn has_answered(answer: Result<Shown, Fault>) -> bool
     }
 }
 
-/// The address, where it is one of several and somebody answered there.
+/// The address, if it is one of several and somebody answered there.
 fn answered_at(address: IpAddr, count: usize, answer: Result<Shown, Fault>) -> Option<IpAddr>
     ensures { result ≡ answered_at address count answer }
 {

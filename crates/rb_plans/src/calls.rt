@@ -14,7 +14,7 @@ fn unmade(_fault: InfoFault) -> Fault
     Fault::Info(InfoFault::Memory)
 }
 
-/// Returns the call that asks, as a datagram has it. The only fault is `Memory`, where an allocation is refused.
+/// Returns the call that asks, as a datagram has it. The only fault is `Memory`, when an allocation is refused.
 pub fn call_of(alloc: Global, ask: &Ask, xid: u32) -> Result<Vec<u8>, Fault>
     ensures call { IfOk result (λ call. call.items ≡ call_of ask.now xid) }
     ensures faults { IfErr result IsWantOfMemory }

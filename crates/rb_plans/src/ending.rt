@@ -29,7 +29,7 @@ pub struct Ending {
 /// What is said beside an answer.
 #[derive(Clone, Copy, Debug, PartialEq, Eq)]
 pub struct Notices {
-    /// The address that answered, where the host has several.
+    /// The address that answered, if the host has several.
     pub answered: Option<IpAddr>,
     /// A question of version 3 was asked again by version 2.
     pub is_old: bool,
@@ -177,7 +177,7 @@ fn status_in(fault: Fault) -> Option<ReplyStatus>
     }
 }
 
-/// Writes what a fault's refusal says, where it tells of one.
+/// Writes what a fault's refusal says, if it tells of one.
 #[tactic(auto, using(crate::proofs::Written::nothing))]
 fn write_detail<E: Write>(fault: Fault, faults: &mut E) -> io::Result<()>
     ensures { Prints E.contents faults.old faults.new (detail_line fault) result }
@@ -282,7 +282,7 @@ fn end_answer<E: Write>(answer: Result<Shown, Fault>, faults: &mut E) -> Ending
     }
 }
 
-/// Names the address that answered, where the host has several.
+/// Names the address that answered, if the host has several.
 #[tactic(auto, using(crate::proofs::Written::nothing))]
 fn write_answered<E: Write>(answered: Option<IpAddr>, faults: &mut E) -> io::Result<()>
     ensures said { Prints E.contents faults.old faults.new (answered_line answered) result }
@@ -328,7 +328,7 @@ fn is_noticed<E: Write>(notices: Notices, faults: &mut E) -> bool
     write_notices(notices, faults).is_ok()
 }
 
-/// An ending of which all was told where what was to be noticed was.
+/// The same ending, of which all was told only if what there was to notice was told too.
 fn behind(ending: Ending, is_noticed: bool) -> Ending
     ensures status { result.status ≡ ending.status }
     ensures noticed { result.is_told ≡ true → is_noticed ≡ true }

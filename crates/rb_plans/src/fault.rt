@@ -18,7 +18,7 @@ pub enum Fault {
     NoHost,
     /// The host has addresses, and none of this family.
     NoAddress(Family),
-    /// A program and a version, and how its call was refused, where it was called.
+    /// A program and a version, and how its call was refused, if it was called.
     NotAvailable(u32, u32, Option<ReplyStatus>),
     /// A program of which no version is known, in the same way.
     NoProgram(u32, Option<ReplyStatus>),

@@ -76,7 +76,7 @@ fn read_shape<E: Write>(shape: &Shape<'_, '_, '_>, faults: &mut E) -> Result<Req
     }
 }
 
-/// The address of `--broadcast`, where it is given.
+/// The address of `--broadcast`, if it is given.
 fn read_network<E: Write>(
     shape: &Shape<'_, '_, '_>,
     faults: &mut E,
@@ -131,7 +131,7 @@ fn names_host(plan: Plan) -> bool
     }
 }
 
-/// The first word, which names the host that is asked: it may be empty only where none is.
+/// The first word, which names the host that is asked: it may be empty only if none is.
 fn read_host<'a, E: Write>(
     shape: &Shape<'_, 'a, '_>,
     plan: Plan,

@@ -4,7 +4,7 @@ ghost use Rattle.rb_plans.specs.CourseLaws.{SeveralStay, FaultsAreLast, EndsAreL
 ghost use Rattle.rb_plans.specs.InputLaws.{HexTextsGiveBytes, OnlyHexTextsDo, OthersAreUnreadable, DigitsGiveTheirBytes, LongTextsAreNotRead, TheRestIsRead};
 ghost use Rattle.rb_plans.specs.ObjectLaws.{ObjectsAreAskedFor, VersionTwoHasObjects, TextsAreShownAsObjects};
 
-/// A text gives bytes exactly where it is an even number of hexadecimal digits with white space anywhere, and bytes'
+/// A text gives bytes exactly if it is an even number of hexadecimal digits with white space anywhere, and bytes'
 /// own digits give them; any other text is unreadable. One of more than 67,108,864 bytes is not read at all.
 pub fn texts_are_hexadecimal()
     ensures accepted { HexTextsGiveBytes }
@@ -15,7 +15,7 @@ pub fn texts_are_hexadecimal()
     ensures short { TheRestIsRead }
 {}
 
-/// The addresses of a host are asked in their order up to the first that answers, and all where none does.
+/// The addresses of a host are asked in their order up to the first that answers, and all if none does.
 pub fn addresses_are_asked_in_order()
     ensures first { AskedUpToAnAnswer }
     ensures none { AllAreAsked }
@@ -30,7 +30,7 @@ pub fn versions_are_asked_once()
     ensures ends { EndsAreLast }
 {}
 
-/// Words that want objects ask only for what is shown as objects, in version 2 too where it is asked in place of
+/// Words that want objects ask only for what is shown as objects, in version 2 too if it is asked in place of
 /// another. Of a reply on standard input nothing but whole lines of such objects is written, unless the output fails.
 pub fn objects_are_shown()
     ensures asked { ObjectsAreAskedFor }

@@ -108,7 +108,7 @@ pub fn follow(course: &Course, stage: Stage, reply: Result<Shown, Fault>) -> Res
     }
 }
 
-/// The end of a program's course. Where it isn't over there are more versions than are called.
+/// The end of a program's course. If it isn't over, there are more versions than are called.
 pub fn course_end(prog: u32, xid: u32, stage: Stage) -> Result<Shown, Fault>
     ensures { result ≡ course_end prog xid stage }
 {

@@ -26,7 +26,7 @@ pub const WAITS: Waits = Waits {
     broadcast: 5_000,
 };
 
-/// How long may be waited now, at most `most`, where so much of `whole` has passed. Once it is over, nothing may.
+/// How long may still be waited, at most `most`, if this much of `whole` has passed; `None` once all of it has.
 pub fn wait_left(most: u64, whole: u64, passed: u64) -> Option<u64>
     ensures { result ≡ wait_left most whole passed }
 {

@@ -124,7 +124,7 @@ somebody places newcomer now s is =
           (subst (GoesBefore (candidate_of places now j other)) of.2 before);
     })
 
--- where all were looked at
+-- if all were looked at
 pub at_end : (f : ℕ → Option Candidate) (n count : ℕ) (best is : Option Candidate) → count ≤ n → n ≤ count → best ≡ is → IsFirstOf f n best → IsFirstOf f count is
 at_end f n count best is low high e first =
     subst (IsFirstOf f count) e (subst (λ m. IsFirstOf f m best) (omega (arith, low, high)) first)

@@ -34,12 +34,12 @@ has_host wanted hosts = list_any (λ host. is_same host wanted) hosts
 abbrev pub has_every_host : List Host → Bool
 has_every_host hosts = list_any is_any6 hosts
 
--- 0.0.0.0 is not bound by itself where :: is, which has it
+-- 0.0.0.0 is not bound by itself if :: is bound, which includes it
 -- BIND-1
 abbrev pub is_bound : List Host → Host → Bool
 is_bound hosts host = not (has_every_host hosts && is_same_host host (V4 every_inet))
 
--- ::1 is bound besides, where that is wanted, it is none of them, and :: is none
+-- ::1 is bound as well, if that is asked for, it is none of them, and :: is none
 -- BIND-2
 abbrev pub binds_loopback6 : List Host → Bool → Bool
 binds_loopback6 hosts wanted = wanted && not (has_every_host hosts) && not (has_host (V6 loopback6) hosts)
@@ -56,17 +56,17 @@ first_inet6 [] = None
 first_inet6 (V4 octets ∷ rest) = first_inet6 rest
 first_inet6 (V6 octets ∷ rest) = Some octets
 
--- what a family has, or else this, where that is wanted
+-- what a family has, or else this, if that is needed
 abbrev pub or_else : Option (List ℕ) → Bool → List ℕ → Option (List ℕ)
 or_else (Some first) wanted octets = Some first
 or_else None true octets = Some octets
 or_else None false octets = None
 
--- the first host of IPv4, or 0.0.0.0 where :: is bound
+-- the first host of IPv4, or 0.0.0.0 if :: is bound
 abbrev pub served_inet : List Host → Option (List ℕ)
 served_inet hosts = or_else (first_inet hosts) (has_every_host hosts) every_inet
 
--- the first host of IPv6, or ::1 where that is wanted
+-- the first host of IPv6, or ::1 if that is asked for
 abbrev pub served_inet6 : List Host → Bool → Option (List ℕ)
 served_inet6 hosts wanted = or_else (first_inet6 hosts) wanted loopback6
 

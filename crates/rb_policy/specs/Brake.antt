@@ -80,7 +80,7 @@ host_counted Stranger Local = None
 host_counted Claims source = None
 host_counted (Trusts.Local owner) source = None
 
--- a stranger's is served where it is admitted, and each other one
+-- a stranger's is served if it is admitted, and each other one always
 abbrev pub passes_by : Rate → List Datagram → ℕ → Option Host → Bool
 passes_by rate served now None = true
 passes_by rate served now (Some host) = admits rate served now host
@@ -125,7 +125,7 @@ abbrev pub has_room_for : BrakeTables → ℕ → ℕ → ℕ → RecentMoments 
 has_room_for brake network host now other =
     has_room (slice_index_or brake.networks network other) now && has_room (slice_index_or brake.hosts host other) now
 
--- The brake has what it wants to know of these, and they are all that were served.
+-- The brake has what it needs to know of these, and they are all that were served.
 pub record StandsForServed (brake : BrakeTables) (served : List Datagram) : Type 0 where
   pub networks : IsTable network_place brake.rate.network brake.networks served
   pub hosts : IsTable host_place brake.rate.host brake.hosts served

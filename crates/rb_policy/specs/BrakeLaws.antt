@@ -47,7 +47,7 @@ WereServed rate served now host =
     (rate.network ≤ served_within network_place (network_place host) now served)
     ⊎ (rate.host ≤ served_within host_place (host_place host) now served)
 
--- One is dropped only where this many were.
+-- One is dropped only if this many were served.
 -- BRAKE-2
 abbrev pub NeverHeldBack : Type 0
 NeverHeldBack =

@@ -22,7 +22,7 @@ first_of None other = other
 first_of (Some first) None = Some first
 first_of (Some first) (Some other) = if is_lt (by_precedence other first) then Some other else Some first
 
--- Of the first n, it is the one that no other goes before; none where there is none.
+-- Of the first n, it is the one that no other goes before; none if there is none.
 abbrev pub IsFirstOf : (ℕ → Option Candidate) → ℕ → Option Candidate → Type 0
 IsFirstOf f n None = (k : ℕ) → k < n → f k ≡ None
 IsFirstOf f n (Some s) =

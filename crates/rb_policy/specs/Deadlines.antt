@@ -2,7 +2,7 @@
 use Rattle.std.specs.Prelude.{ℕ, ◌+◌, nat_lt, nat_le, Bool, not, ◌&&◌, ◌||◌, if◌then◌else◌}
 
 -- whether a turn may have left unread what came before its moment: it looked for events after it read that, or did not;
--- its look showed so many sockets of so many that it can show; and something is left for the next turn, or is not
+-- its look showed this many sockets of that many that it can show; and something is left for the next turn, or is not
 -- DUE-2
 abbrev pub is_behind : Bool → ℕ → ℕ → Bool → Bool
 is_behind fresh shown most left = not fresh || nat_le most shown || left
@@ -11,7 +11,7 @@ is_behind fresh shown most left = not fresh || nat_le most shown || left
 abbrev pub most_put_off : ℕ
 most_put_off = 64
 
--- whether a turn puts off what is due, where so many in a row before it did
+-- whether a turn puts off what is due, if this many in a row before it did
 -- DUE-3
 abbrev pub puts_off : ℕ → Bool → Bool → Bool
 puts_off turns due behind = due && behind && nat_lt turns most_put_off

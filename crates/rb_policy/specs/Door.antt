@@ -47,7 +47,7 @@ standing_outside Lost is_owed = if is_owed then Owing else Lost
 abbrev pub owed_for : ℕ
 owed_for = 30000
 
--- the moment from which it is given up where its socket has taken nothing since another one
+-- the moment from which it is given up if its socket has taken nothing since another one
 -- STUCK-1
 abbrev pub stuck_at : ℕ → ℕ
 stuck_at since = later since owed_for
@@ -119,7 +119,7 @@ by_precedence =
 abbrev pub GoesBefore : Candidate → Candidate → Type 0
 GoesBefore a b = by_precedence a b ≡ Less
 
--- The holder of a place may be given up for a newcomer: any, where the newcomer may hold one place more, and else one
+-- The holder of a place may be given up for a newcomer: any, if the newcomer may hold one place more, and else one
 -- of its own host.
 -- DOOR-4
 pub record MayBeGivenUp (places : Places) (newcomer : Origin) (place : ℕ) (holder : Holder) : Type 0 where
@@ -135,8 +135,8 @@ pub record IsGivenUp (places : Places) (newcomer : Origin) (now : ℕ) (place : 
 
 -- ---- what is done with a newcomer
 
--- It takes the first place that is free. Where none is, it takes that of the one that is given up for it. It is
--- closed where there are no places at all.
+-- It takes the first place that is free. If none is, it takes that of the one that is given up for it. It is
+-- closed if there are no places at all.
 -- DOOR-1
 abbrev pub IsAdmitted : Places → Origin → ℕ → Admission → Type 0
 IsAdmitted places newcomer now (Take place) = position is_free places ≡ Some place

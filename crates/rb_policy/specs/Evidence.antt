@@ -9,12 +9,12 @@ use Rattle.rb_evidence.specs.Table.{uid_of, uid_of_mapped}
 use Rattle.rb_policy.specs.declared.evidence.Evidence.{Evidence}
 use Rattle.rb_policy.specs.declared.evidence.Evidence.TheVariants.{Found, NotFound, Unread}
 
--- of peers of this host alone, where what callers claim is not believed
+-- of peers of this host alone, if what callers claim is not believed
 -- TABLES-1
 abbrev pub is_shown : Bool → Peer → Bool
 is_shown claims peer = not claims && is_loopback peer.host
 
--- the table of IPv4 has peers of IPv4 alone; that of IPv6 is looked at where the first shows nothing
+-- the table of IPv4 has peers of IPv4 alone; that of IPv6 is looked at if the first shows nothing
 -- TABLES-2
 abbrev pub looks_in : Family → Family → Evidence → Bool
 looks_in Inet Inet NotFound = true
@@ -35,7 +35,7 @@ abbrev pub evidence_in : Option ℕ → Evidence
 evidence_in (Some uid) = Found uid
 evidence_in None = NotFound
 
--- by the text of a table, where it was read
+-- by the text of a table, if it was read
 -- TABLES-2
 abbrev pub evidence_of : Family → Option (List ℕ) → Peer → Peer → Evidence
 evidence_of table (Some text) theirs ours = evidence_in (uid_in table text theirs ours)
@@ -47,7 +47,7 @@ evidence_of table None theirs ours = Unread
 abbrev pub between_readings : ℕ
 between_readings = 20
 
--- the moment from which they may be read, where they were last read at another
+-- the moment from which they may be read, by the moment of the last reading, if there was one
 -- TABLES-4
 abbrev pub next_reading : Option ℕ → ℕ
 next_reading (Some last) = later last between_readings
@@ -61,7 +61,7 @@ may_read now last = nat_le (next_reading last) now
 abbrev pub longest_table : ℕ
 longest_table = 1048576
 
--- the first bytes of the room, where they are no more than a table may have
+-- the first bytes of the room, if they are no more than a table may have
 -- TABLES-3
 abbrev pub whole_text : List ℕ → ℕ → Option (List ℕ)
 whole_text room count = if nat_le count longest_table then Some (take count room) else None

@@ -15,7 +15,7 @@ is_trusted own owner = owner == 0 || owner == own
 abbrev pub others_may_write : ℕ → Bool
 others_may_write mode = not (bit_and mode 0o022 == 0)
 
--- a plain file is read where its owner is trusted and nobody else may write to it
+-- a plain file is read if its owner is trusted and nobody else may write to it
 -- FILE-2
 abbrev pub action_on_file : ℕ → Writers → KeepAction
 action_on_file own file =

@@ -28,7 +28,7 @@ state_by_connect _ = None
 
 -- ---- what is done about it
 
--- a file is removed where it is a socket that nobody listens on any more, and in no other case
+-- a file is removed if it is a socket that nobody listens on any more, and in no other case
 -- LOCAL-1
 abbrev pub file_action : FileState → FileAction
 file_action Absent = Bind

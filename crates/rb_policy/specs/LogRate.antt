@@ -45,7 +45,7 @@ tells rate now = if second_of now == rate.second then 0 else rate.left_out
 abbrev pub rate_told : LogRate → ℕ → LogRate
 rate_told rate now = if second_of now == rate.second then rate else record rate { left_out = 0 }
 
--- the moment from which they are told, where some were left out: the end of their second, or the greatest one
+-- the moment from which they are told, if some were left out: the end of their second, or the greatest one
 -- LOG-1
 abbrev pub next_line : LogRate → Option ℕ
 next_line rate =

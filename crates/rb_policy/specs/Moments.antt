@@ -5,7 +5,7 @@ use Rattle.std.specs.Prelude.{ℕ, ◌+◌, ◌-◌, ◌^◌, min, max, Bool, tr
 abbrev pub retry_after : ℕ
 retry_after = 100
 
--- The moment after another one: so much later as the monotonic clock went on, or the greatest one. Where the wall clock
+-- The moment after another one: as much later as the monotonic clock went on, or the greatest one. If the wall clock
 -- may be followed, and is later than that, its moment.
 -- MOMENT-1 MOMENT-2
 abbrev pub next_moment : ℕ → ℕ → ℕ → ℕ → Bool → ℕ

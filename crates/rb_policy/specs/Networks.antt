@@ -11,7 +11,7 @@ use Rattle.rb_address.specs.Networks.{has}
 abbrev pub is_in_one : Host → List Network → Bool
 is_in_one host networks = list_any (λ network. has network host) networks
 
--- everybody, where no networks are given; else hosts of this machine, and those in one of them
+-- everybody, if no networks are given; else hosts of this machine, and those in one of them
 -- FROM-1
 abbrev pub may_ask : List Network → Host → Bool
 may_ask networks host = length networks == 0 || is_loopback host || is_in_one host networks

@@ -54,7 +54,7 @@ after_receive PeerFailed = GoOn
 after_receive NoRoom = GoOn
 after_receive Failed = GoOn
 
--- what an error of Linux means that has no kind of its own in std: EMFILE, ENFILE and ENOBUFS are want of room, and
+-- what an error of Linux means that has no kind of its own in std: EMFILE, ENFILE and ENOBUFS mean lack of room, and
 -- ENONET, EPROTO, ENOPROTOOPT and EHOSTDOWN are told by accept(2) of one connection
 abbrev pub outcome_of_number : Option ℤ → SocketResult
 outcome_of_number (Some (pos n)) =

@@ -32,7 +32,7 @@ trust_by OpenSocket = Local Unknown
 trust_by (Tcp peer evidence) = trust_from peer (owner_shown evidence)
 trust_by (Udp peer) = trust_from peer Unknown
 
--- where claims are believed, each caller has its own
+-- each caller's own claims, if claims are believed
 -- TRUST-9
 abbrev pub trust_of : Bool → Entrance → Trust
 trust_of true entrance = Claims
@@ -45,7 +45,7 @@ lets_in_root_alone mode = bit_and mode 18 == 0
 
 -- ---- what follows
 
--- Where the kernel's tables are not looked at, nothing depends on what they have.
+-- If the kernel's tables are not looked at, nothing depends on what they have.
 -- TABLES-1
 abbrev pub OthersNeedNoTable : Type 0
 OthersNeedNoTable =

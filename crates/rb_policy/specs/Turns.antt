@@ -20,35 +20,35 @@ enough_written = 65536
 abbrev pub last_round : ℕ
 last_round = 8
 
--- when a socket is served again on which all receives or accepts of a turn were made, where some of them got something
+-- when a socket is served again on which all receives or accepts of a turn were made, by whether some got something
 -- TURN-1
 abbrev pub after_all_calls : Bool → Again
 after_all_calls true = AtOnce
 after_all_calls false = AfterWait
 
--- how long it is from a moment until something is due, if it is: nothing where that has come
+-- how long it is from a moment until something is due, if it is: 0 if that has come
 abbrev pub time_until : ℕ → Option ℕ → Option ℕ
 time_until now None = None
 time_until now (Some due) = Some (due - now)
 
--- the wait of a turn, where something is left or is not: until something is due, and no longer than it may; none has no end
+-- the wait of a turn: 0 if something is left, else until something is due, and no longer than it may; None has no end
 -- WAIT-2
 abbrev pub wait_of : Bool → ℕ → Option ℕ → Option ℕ → Option ℕ
 wait_of true now due longest = Some 0
 wait_of false now due longest = sooner_of (time_until now due) longest
 
--- how many connections a turn accepts, where so many of all places are free as its accepting begins
+-- how many connections a turn accepts, if this many of all places are free when it begins to accept
 -- ACCEPT-3
 abbrev pub accept_count : ℕ → ℕ → ℕ
 accept_count free all = if free == 0 then min (max (all / 2) 1) socket_calls else min free socket_calls
 
--- how many places there are, of so many that are asked for, where of so many descriptors so many are others': one more
--- is kept for who comes where all places are taken
+-- how many places there are, of this many that are asked for, if of this many descriptors that many are others': one
+-- more is kept for whoever comes when all places are taken
 -- PLACES-1
 abbrev pub place_count : ℕ → ℕ → ℕ → ℕ
 place_count asked descriptors others = max (min asked (descriptors - others - 1)) 1
 
--- whether a connection is left for the next turn, for which so many socket calls were made, and so many bytes written
+-- whether a connection is left for the next turn, after this many socket calls for it, and this many bytes written
 -- TURN-2
 abbrev pub is_cut_off : ℕ → ℕ → Bool
 is_cut_off calls written = nat_le socket_calls calls || nat_le enough_written written

@@ -8,7 +8,7 @@ pub record Ways : Type 0 where
   pub most : ℕ
   pub all : List Way
 
--- one more, where there is room
+-- one more, if there is room
 abbrev pub noted : Ways → ℕ → ℕ → Ways
 noted ways number socket =
     if nat_lt (length ways.all) ways.most then record { most = ways.most; all = ways.all ++ record { number = number; socket = socket } ∷ [] }

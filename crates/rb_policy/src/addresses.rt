@@ -40,14 +40,14 @@ pub fn has_every_host(hosts: &[Host]) -> bool
     hosts.iter().any(|host| is_any6(*host))
 }
 
-/// Whether one of these hosts is bound by itself: 0.0.0.0 is not where :: is one of them.
+/// Whether one of these hosts is bound by itself: 0.0.0.0 is not if :: is one of them.
 pub fn is_bound(hosts: &[Host], host: Host) -> bool
     ensures { result ≡ is_bound hosts.now host }
 {
     !(has_every_host(hosts) && host == Host::V4(ANY))
 }
 
-/// Whether ::1 is bound beside these hosts, where that is wanted: not where it is one of them, or :: is.
+/// Whether ::1 is bound as well as these hosts, if that is asked for: not if it is one of them, or :: is.
 pub fn binds_loopback6(hosts: &[Host], is_wanted: bool) -> bool
     ensures { result ≡ binds_loopback6 hosts.now is_wanted }
 {
@@ -78,7 +78,7 @@ fn first_inet6(hosts: &[Host]) -> Option<[u8; 16]>
     }
 }
 
-/// The first of these hosts that is of IPv4, or 0.0.0.0 where :: is one of them; none where IPv4 is not served.
+/// The first of these hosts that is of IPv4, or 0.0.0.0 if :: is one of them; none if IPv4 is not served.
 fn served_inet(hosts: &[Host]) -> Option<[u8; 4]>
     ensures { result ≡ served_inet hosts.now }
 {
@@ -89,7 +89,7 @@ fn served_inet(hosts: &[Host]) -> Option<[u8; 4]>
     }
 }
 
-/// The first of these hosts that is of IPv6, or ::1 where that is wanted besides; none where IPv6 is not served.
+/// The first of these hosts that is of IPv6, or ::1 if that is also asked for; none if IPv6 is not served.
 fn served_inet6(hosts: &[Host], is_loopback6: bool) -> Option<[u8; 16]>
     ensures { result ≡ served_inet6 hosts.now is_loopback6 }
 {
@@ -100,8 +100,8 @@ fn served_inet6(hosts: &[Host], is_loopback6: bool) -> Option<[u8; 16]>
     }
 }
 
-/// The host of IPv4 that is announced where none was asked: the one that is given, or the first that is listened on; none
-/// where IPv4 is not served.
+/// The host of IPv4 that is announced if none was asked: the one that is given, or the first that is listened on; none
+/// if IPv4 is not served.
 pub fn announced_inet(given: Option<[u8; 4]>, hosts: &[Host]) -> Option<[u8; 4]>
     ensures { result ≡ announced_inet given hosts.now }
 {
@@ -111,7 +111,7 @@ pub fn announced_inet(given: Option<[u8; 4]>, hosts: &[Host]) -> Option<[u8; 4]>
     }
 }
 
-/// The same of IPv6, where ::1 may be listened on besides.
+/// The same of IPv6, for which ::1 may be listened on as well.
 pub fn announced_inet6(
     given: Option<[u8; 16]>,
     hosts: &[Host],

@@ -20,7 +20,7 @@ pub struct Rate {
 
 /// What drops datagrams that come too often. Networks and hosts are told apart by their places in tables of 1,024 each,
 /// so those that share a place share what is served of it. `new` takes all of its memory: 8,192 bytes for each datagram
-/// of the rate, and about 130,000 bytes besides.
+/// of the rate, and about 130,000 bytes as well.
 #[derive(Drop)]
 pub struct Brake {
     rate: Rate,
@@ -44,7 +44,7 @@ impl Model for Brake {
 }
 
 impl Brake {
-    /// Nothing was served. An error where an allocation is refused.
+    /// Nothing was served. An error if an allocation is refused.
     pub fn new(alloc: Global, rate: Rate) -> Result<Brake, AllocError>
         ensures rate { IfOk result (λ brake. brake.rate ≡ rate) }
         ensures stands { IfOk result (λ brake. StandsForServed brake []) }
@@ -77,8 +77,8 @@ impl Brake {
         true
     }
 
-    /// Whether a datagram of this caller is served that came at this moment, in milliseconds: of a stranger where it is
-    /// admitted, and of anyone else.
+    /// Whether a datagram of this caller is served that came at this moment, in milliseconds: of a stranger if it is
+    /// admitted, and of anyone else always.
     pub fn passes(&mut self, now: u64, who: &Who) -> bool
         ensures rate { self.new.rate ≡ self.old.rate }
         ensures passes { ShowsServed

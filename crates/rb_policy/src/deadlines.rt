@@ -2,13 +2,13 @@
 ghost use Rattle.std.specs.Prelude.{◌≡◌};
 ghost use Rattle.rb_policy.specs.Deadlines.{is_behind, puts_off};
 
-/// This many turns in a row put off what is due, at most. This many show and serve each socket that there may be, also
-/// where each of 256 connections is owed bytes.
+/// This many turns in a row put off what is due, at most. This many show and serve each socket that there may be, even
+/// if each of 256 connections is owed bytes.
 pub const MOST_PUT_OFF: u32 = 64;
 
-/// Whether a turn may have left unread what came before its moment: where it is not fresh, which is one that looked
-/// for events after it read its moment; where its look showed this many sockets and can show no more than the most; or
-/// where something is left for the next turn.
+/// Whether a turn may have left unread what came before its moment: if it is not fresh (a fresh one looked for events
+/// after it read its moment); if its look showed as many sockets as it can show; or if something is left for the next
+/// turn.
 pub fn is_behind(is_fresh: bool, shown: usize, most: usize, is_something_left: bool) -> bool
     ensures { result ≡ is_behind is_fresh shown most is_something_left }
 {
@@ -33,7 +33,7 @@ impl Deadlines {
         Deadlines { put_off: 0 }
     }
 
-    /// Whether what is due ends in this turn, where something is. A turn that is behind puts it off, and the next one
+    /// Whether what is due ends in this turn, if something is. A turn that is behind puts it off, and the next one
     /// does not wait: what is put off has come.
     pub fn ask(&mut self, is_due: bool, is_behind: bool) -> bool
         ensures ends { result ≡ ends self.old.put_off is_due is_behind }
@@ -48,7 +48,7 @@ impl Deadlines {
     }
 }
 
-/// Whether a turn puts off what is due, where this many in a row before it did.
+/// Whether a turn puts off what is due, if this many in a row before it did.
 fn puts_off(turns: u32, is_due: bool, is_behind: bool) -> bool
     ensures { result ≡ puts_off turns is_due is_behind }
 {

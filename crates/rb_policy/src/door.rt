@@ -1,4 +1,4 @@
-//! Who gets a place for a connection, and who is given up for it where all are taken.
+//! Who gets a place for a connection, and who is given up for it if all are taken.
 ghost use Rattle.std.specs.Prelude.{◌≡◌, ◌<◌, length, position, IfNone, IfSome};
 ghost use Rattle.rb_policy.specs.Door.{is_free, count_held_by, is_held_by, share, may_hold_more, is_within_share, IsGivenUp, IsAdmitted, origin_of, rank, standing_outside, stuck_at};
 ghost use Rattle.rb_policy.specs.Candidates.{candidate_at, first_of, NobodyMayBeGivenUp};

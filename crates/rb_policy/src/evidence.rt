@@ -23,7 +23,7 @@ pub enum Evidence {
     Unread,
 }
 
-/// Whether the tables are to show whose a connection from this peer is: where what callers claim is not believed, of
+/// Whether the tables should show whose a connection from this peer is: if what callers claim is not believed, of
 /// peers of this host alone.
 pub fn is_shown(are_claims_believed: bool, peer: Peer) -> bool
     ensures { result ≡ is_shown are_claims_believed peer }
@@ -43,7 +43,7 @@ pub fn looks_in(table: Family, peer: Family, known: Evidence) -> bool
     }
 }
 
-/// What the table of a family, where it was read, shows of the connection from a peer of this host to us.
+/// What the table of a family, if it was read, shows of the connection from a peer of this host to us.
 pub fn evidence_of(table: Family, text: Option<&[u8]>, theirs: &Peer, ours: &Peer) -> Evidence
     ensures { result ≡ evidence_of table (option_map (λ t. t.now) text.entry) theirs.now ours.now }
 {
@@ -73,7 +73,7 @@ fn uid_in(table: Family, text: &[u8], theirs: &Peer, ours: &Peer) -> Option<u32>
     }
 }
 
-/// The moment from which the tables may be read, where they were read at another, if they were. In milliseconds.
+/// The moment from which the tables may be read, by that of their last reading, if there was one. In milliseconds.
 #[tactic(auto, unfolding(rb_forward::specs::Forwards::later))]
 pub fn next_reading(last: Option<u64>) -> u64
     ensures { result ≡ next_reading last }
@@ -91,7 +91,7 @@ pub fn may_read(now: u64, last: Option<u64>) -> bool
     now >= next_reading(last)
 }
 
-/// The text of a table of which this many bytes were read into the room, where these are all of it.
+/// The text of a table of which this many bytes were read into the room, if these are all of it.
 pub fn whole_text(room: &[u8], count: usize) -> Option<&[u8]>
     requires { count ≤ length room.now }
     ensures { option_map (λ t. t.now) result ≡ whole_text room.now count }

@@ -7,14 +7,14 @@ ghost use Rattle.rb_policy.specs.LogLaws.{FewOfASecond, NoneIsLost, TheyAreToldT
 ghost use Rattle.rb_policy.specs.Networks.{WhoMayAsk, AskersOfOneNetwork};
 ghost use Rattle.rb_policy.specs.WaysBack.{EndsGoBack, OthersStay};
 
-/// Where a connection is given up for a client that comes, it is one and no other, and the client's host holds no
+/// If a connection is given up for a client that comes, it is one and no other, and the client's host holds no
 /// more than its share then, or no more than before, unless it is this host.
 pub fn door_laws()
     ensures one { OneIsGivenUp }
     ensures shares { SharesAreKept }
 {}
 
-/// Everybody may ask where no networks are given, else this machine and those in one of them, and no others; and worked
+/// Everybody may ask if no networks are given, else this machine and those in one of them, and no others; and worked
 /// examples.
 pub fn network_laws()
     ensures who { WhoMayAsk }
@@ -33,9 +33,9 @@ pub fn trust_laws()
     ensures tables { OthersNeedNoTable }
 {}
 
-/// In no second are more datagrams served of one network, or of one host, than the rate has. One is dropped only where so
-/// many were served within the second before it, of the place of its network or of its host, and neither has two places.
-/// The networks are those of 24 bits of IPv4, and of 56 of IPv6. Over UDP strangers count, and nobody else.
+/// In no second are more datagrams served of one network, or of one host, than the rate has. One is dropped only if
+/// that many were served within the second before it, of the place of its network or of its host, and neither has two
+/// places. The networks are those of 24 bits of IPv4, and of 56 of IPv6. Over UDP strangers count, and nobody else.
 pub fn brake_laws()
     ensures more { NeverMore }
     ensures back { NeverHeldBack }

@@ -31,7 +31,7 @@ pub fn is_nothing_there(error: &io::Error) -> bool
 }
 
 /// What is said of a socket at the path by the error of a try to connect to it: that it refuses, or that another program
-/// listens on it and has no room for one more. None where the error says neither.
+/// listens on it and has no room for one more. None if the error says neither.
 pub fn state_by_connect(error: &io::Error) -> Option<FileState>
     ensures { result ≡ state_by_connect (error_kind error.now) }
 {

@@ -86,7 +86,7 @@ impl LogRate {
     }
 
     /// The moment from which `take_left_out` tells how many lines were left out, in milliseconds: the end of their
-    /// second. None where none were.
+    /// second. None if none were.
     pub fn next_line(&self) -> Option<u64>
         ensures { result ≡ next_line self.now }
     {

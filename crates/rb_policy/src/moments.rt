@@ -35,7 +35,7 @@ impl Moments {
         self.last
     }
 
-    /// The moment of a turn. Where nothing waits for a deadline, it is the wall clock's if that is later: so a clock
+    /// The moment of a turn. When nothing waits for a deadline, it is the wall clock's if that is later: so a clock
     /// that is set forward ends nobody's connection, and one that is set back stops no deadline. It is never before the
     /// last one.
     pub fn next(&mut self, wall: u64, monotonic: u64, follows_wall: bool) -> u64
@@ -57,7 +57,7 @@ impl Moments {
     }
 
     /// How long a turn goes on to wait, in milliseconds, whose wait, of this many or without an end, showed nothing and is
-    /// over: where it was no longer than that by the monotonic clock, a signal ended it. No longer than `RETRY`: then
+    /// over: if it was no longer than that by the monotonic clock, a signal ended it. No longer than `RETRY`: then
     /// the next turn waits.
     pub fn rest_of_wait(&self, wait: Option<u64>, monotonic: u64) -> u64
         ensures { result ≡ rest_of_wait self.now.monotonic wait monotonic }

@@ -4,7 +4,7 @@ ghost use Rattle.rb_policy.specs.Networks.{may_ask, is_in_one, asker};
 
 use rb_address::{Host, Network, Peer};
 
-/// Whether a host may ask, where these networks are served. With none given every host may. Hosts of this machine
+/// Whether a host may ask, if these networks are served. With none given, every host may. Hosts of this machine
 /// always may.
 pub fn may_ask(networks: &[Network], host: Host) -> bool
     ensures { result ≡ may_ask networks.now host }
@@ -18,7 +18,7 @@ fn is_in_one(networks: &[Network], host: Host) -> bool
     networks.iter().any(|network| network.has(host))
 }
 
-/// The peer, where there is one and it may ask.
+/// The peer, if there is one and it may ask.
 pub fn asker(networks: &[Network], peer: Option<Peer>) -> Option<Peer>
     ensures { result ≡ asker networks.now peer }
 {

@@ -6,15 +6,15 @@ ghost use Rattle.rb_policy.specs.Peers.{somebody, is_nobody, is_no_host, host_fo
 use rb_address::{Host, Peer};
 use std::net::{IpAddr, Ipv4Addr, Ipv6Addr, SocketAddr};
 
-/// The peer that something came from, where that is somebody.
+/// The peer that something came from, if that is somebody.
 pub fn somebody(peer: Peer) -> Option<Peer>
     ensures { result ≡ somebody peer }
 {
     if is_nobody(peer) { None } else { Some(peer) }
 }
 
-/// Nobody is at a host that is none, and a datagram from port 0 wants no reply (RFC 768). The system hands such
-/// datagrams in, where they were sent to all hosts.
+/// Nobody is at a host that is none, and a datagram from port 0 asks for no reply (RFC 768). The system hands such
+/// datagrams in if they were sent to all hosts.
 fn is_nobody(peer: Peer) -> bool
     ensures { result ≡ is_nobody peer }
 {

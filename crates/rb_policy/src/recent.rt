@@ -46,7 +46,7 @@ fn memory_for(alloc: Global, most: usize) -> Result<VecDeque<u64>, AllocError>
 }
 
 impl Recent {
-    /// Nothing was served. An error where the allocation is refused.
+    /// Nothing was served. An error if the allocation is refused.
     fn new(alloc: Global, most: usize) -> Result<Recent, AllocError>
         ensures { IfOk result (λ r. r ≡ record { most = most; moments = [] }) }
     {
@@ -56,7 +56,7 @@ impl Recent {
         })
     }
 
-    /// Whether fewer than the most were served within a second before this moment, where none was served after it.
+    /// Whether fewer than the most were served within a second before this moment, if none was served after it.
     fn has_room(&self, now: u64) -> bool
         ensures { result ≡ has_room self.now now }
     {
@@ -105,7 +105,7 @@ impl Table {
     ghost use Rattle.rb_policy.specs.declared.recent.TheConstants.{PLACES};
     ghost use Rattle.rb_policy.specs.Recents.{NotesAt, RecentMoments, has_room, nothing_of};
 
-    /// Nothing was served of any place, of each of which at most `most` count. An error where an allocation is refused.
+    /// Nothing was served of any place, of each of which at most `most` count. An error if an allocation is refused.
     pub(crate) fn new(alloc: Global, most: usize) -> Result<Table, AllocError>
         ensures { IfOk result (λ table. table ≡ replicate PLACES (nothing_of most)) }
     {

@@ -29,8 +29,8 @@ pub enum Again {
     AfterWait,
 }
 
-/// When a socket is served again on which all receives or accepts of a turn were made: where none of them got a datagram
-/// or a connection, its fault may last, and is not to keep turns from waiting.
+/// When a socket is served again on which all receives or accepts of a turn were made: if none of them got a datagram
+/// or a connection, its fault may last, and must not keep turns from waiting.
 pub fn after_all_calls(got_some: bool) -> Again
     ensures { result ≡ after_all_calls got_some }
 {
@@ -41,9 +41,9 @@ pub fn after_all_calls(got_some: bool) -> Again
     }
 }
 
-/// How long a turn waits, in milliseconds; `None` is without an end. It does not wait where something is left. Else
+/// How long a turn waits, in milliseconds; `None` is without an end. It does not wait if something is left. Else
 /// it waits from `now`, the moment of the last turn, until `due`, the moment of the next thing that is due, and for
-/// `longest` at most, where there are such.
+/// `longest` at most, if there are such.
 pub fn wait_of(
     is_something_left: bool,
     now: u64,
@@ -61,7 +61,7 @@ pub fn wait_of(
     }
 }
 
-/// Whether a read that got this many bytes is followed by another: where it filled its room, or the peer may have ended
+/// Whether a read that got this many bytes is followed by another: if it filled its room, or the peer may have ended
 /// what it sends, since no other event tells of that end. Else an event shows what arrives next.
 pub fn reads_on(count: usize, room: usize, may_end: bool) -> bool
     ensures { result ≡ (count == room || may_end) }
@@ -69,10 +69,10 @@ pub fn reads_on(count: usize, room: usize, may_end: bool) -> bool
     count == room || may_end
 }
 
-/// How many connections a turn accepts, on all listeners together, where this many of all places are free as its
-/// accepting begins: as many as are free, since the next turn may first free some that are taken now. Where none is
-/// free, half of all places, and at least one: so who takes one is served before others of this kind push it out. At
-/// most as many as socket calls of a turn.
+/// How many connections a turn accepts, on all listeners together, if this many of all places are free when it
+/// begins to accept: as many as are free, since the next turn may first free some that are taken now. If none is free,
+/// half of all places, and at least one: so whoever takes one is served before others of this kind push it out. At most
+/// as many as socket calls of a turn.
 pub fn accept_count(free: usize, all: usize) -> usize
     ensures { result ≡ accept_count free all }
 {
@@ -80,9 +80,9 @@ pub fn accept_count(free: usize, all: usize) -> usize
     most.min(SOCKET_CALLS)
 }
 
-/// How many places there are for connections, where this many are asked for, and of this many descriptors that the process may
-/// have this many are others': one is kept for who comes where all places are taken, before another one is given up. At
-/// least one.
+/// How many places there are for connections, if this many are asked for, and of this many descriptors that the process
+/// may have that many are others': one is kept for whoever comes when all places are taken, before another one is given
+/// up. At least one.
 pub fn place_count(asked: usize, descriptors: u64, others: u64) -> usize
     ensures { result ≡ place_count asked descriptors others }
 {

@@ -34,7 +34,7 @@ impl WaysBack {
     ghost use Rattle.std.specs.Prelude.{◌≡◌, [], IfOk};
     ghost use Rattle.rb_policy.specs.WaysBack.{noted, socket_of, without};
 
-    /// No call, and room for this many. An error where the allocation is refused.
+    /// No call, and room for this many. An error if the allocation is refused.
     pub fn new(alloc: Global, most: usize) -> Result<WaysBack, AllocError>
         ensures { IfOk result (λ w. w ≡ record { most = most; all = [] }) }
     {
@@ -43,7 +43,7 @@ impl WaysBack {
         })
     }
 
-    /// The call of this number came on the socket of this number, and was forwarded. Nothing is noted where there is
+    /// The call of this number came on the socket of this number, and was forwarded. Nothing is noted if there is
     /// no room.
     pub fn note(&mut self, number: u64, socket: usize)
         ensures { self.new ≡ noted self.old number socket }
@@ -53,7 +53,7 @@ impl WaysBack {
         }
     }
 
-    /// The call of this number has ended: the number of the socket on which it came, where that is noted. It is noted
+    /// The call of this number has ended: the number of the socket on which it came, if that is noted. It is noted
     /// no longer.
     pub fn take(&mut self, number: u64) -> Option<usize>
         ensures told { result ≡ socket_of number self.old.all }

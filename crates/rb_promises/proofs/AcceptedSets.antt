@@ -1,4 +1,4 @@
--- SET is answered TRUE exactly where the row that it asks for is accepted.
+-- SET is answered TRUE exactly if the row that it asks for is accepted.
 use Rattle.std.proofs.Common.{◌≡◌, ◌≢◌, ℕ, ◌-◌, ◌/◌, ◌^◌, ◌<◌, ◌≤◌, ◌==◌, nat_le, Bool, true, false, cond, inl, inr, List, length, Option, Some, None, option_map, refl, sym, ap, subst, ◌∙◌, arith}
 use Rattle.std.specs.List.{list_any}
 use Rattle.std.proofs.lemmas.Bool.{and_parts, not-true, eqb-true, eqb-false, ne_eqb, lt-ltb, ltb-true, le-leb, leb-true, true≢false, false≢true}

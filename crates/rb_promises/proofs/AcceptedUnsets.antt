@@ -1,4 +1,4 @@
--- UNSET is answered TRUE exactly where it covers a live row.
+-- UNSET is answered TRUE exactly if its caller is of this machine, it covers a live row and a number is left.
 use Rattle.std.proofs.Common.{◌≡◌, ◌↔◌, ℕ, ◌-◌, ◌^◌, ◌==◌, Bool, true, false, not, cond, inl, inr, List, [], ◌∷◌, length, Option, Some, None, option_map, refl, sym, ap, ◌∙◌, arith}
 use Rattle.std.specs.Prelude.{filter}
 use Rattle.std.proofs.lemmas.Bool.{and_parts, not-true, or_cases, or_left, or_right, eqb-true, eq-eqb, eqb-false, ne_eqb, lt-ltb, ltb-true, true≢false, false≢true}

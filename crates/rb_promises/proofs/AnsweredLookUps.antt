@@ -56,7 +56,7 @@ module _ (context : Context) (head : CallHead) (r : Rpcb) (l : Ledger) (h : HasH
     leaves = record { own = refl; changes = refl; forwards = refl };
   }
 
-  -- an empty text is told exactly where nothing is found
+  -- an empty text is told exactly if nothing is found
   empty_exactly : (found : Option Row) → ((row : Row) → found ≡ Some row → Contains (rows_in l) row) → AreAtAddresses (rows_in l)
       → ((told_of found).0 ≡ told_text []) ↔ (found ≡ None)
   empty_exactly None live at = (λ _. refl, λ _. refl)

@@ -25,7 +25,7 @@ use Rattle.rb_promises.proofs.RefusalCases.{none-there}
 
 -- ---- a connection that stays
 
--- it has the number that it had, and the same at its other end; and as a whole it is as it was where it was Lost
+-- it has the number that it had, and the same at its other end; and as a whole it is as it was, if it was Lost
 pub record IsAsBefore (old new : Connection) : Type 0 where
   pub number : new.number ≡ old.number
   pub who : new.who ≡ old.who

@@ -1,4 +1,4 @@
--- Calls are forwarded exactly where a row is found to which they may go, and there is room.
+-- Calls are forwarded exactly if a row is found to which they may go, and there is room.
 use Rattle.std.proofs.Common.{◌≡◌, ◌≢◌, ◌↔◌, ℕ, ◌-◌, ◌^◌, ◌==◌, Bool, true, false, cond, ◌⊎◌, inl, inr, List, length, Option, Some, None, option_and_then, refl, sym, ap, subst, ◌∙◌}
 use Rattle.std.proofs.lemmas.Bool.{and_parts, eqb-false, ne_eqb, lt-ltb, ltb-true, le-leb, leb-true, false≢true}
 use Rattle.std.proofs.lemmas.Option.{none-some}
@@ -49,7 +49,7 @@ module _ (context : Context) (remote : RemoteCall) where
   address_at found = if_may_go context remote (cond (remote.prog == rpcb_prog) None (option_and_then address_of_row found))
 
   module _ (row : Row) where
-    -- the row's address, where the call may go there
+    -- the row's address, if the call may go there
     may_be : (foreign : remote.prog ≢ 100000) (o : Option Uaddr) → address_of_row row ≡ o → (u : Uaddr) → if_may_go context remote o ≡ Some u → CanGo context remote row
     may_be foreign None is u e = absurd (none-some u e)
     may_be foreign (Some at) is u e = by_test (may_go context remote (peer_of_address at).host) refl e

@@ -76,7 +76,7 @@ module _ (prog vers : ℕ) (netid : Netid) (rows : List Row) where
   exactly_live row _ (ThatRow one h) e = subst (Contains rows) (same_Some one row e) h.on.live
   exactly_live row _ (NoRow none) e = absurd (none-some row e)
 
-  -- nothing is found exactly where there is none
+  -- nothing is found exactly if there is none
   pub found_none : (o : Option Row) → IsFound prog vers netid rows o → (o ≡ None) ↔ NoneIsOn prog netid rows
   found_none _ (ThatVersion one h) = (λ e. absurd (none-some one (sym e)), λ none. absurd (none one h.on))
   found_none _ (GreatestVersion one none on greatest) = (λ e. absurd (none-some one (sym e)), λ nothing. absurd (nothing one on))

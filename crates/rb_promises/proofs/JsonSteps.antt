@@ -3,7 +3,7 @@ use Rattle.std.proofs.Common.{ℕ, zero, suc, Bool, true, false, List, [], ◌�
 use Rattle.std.specs.Prelude.{codes, nat_le, ◌==◌, ◌&&◌, ◌||◌, if◌then◌else◌}
 use Rattle.rb_show.specs.JsonGrammar.{is_white, is_digit, is_escape, is_hex_digit}
 
--- What is to come. A value and a name may be the first in their brackets, where these may end too. A text is a name or
+-- What comes next. A value and a name may be the first in their brackets, where these may end too. A text is a name or
 -- a value, and has come so far.
 pub data Mode : Type 0 where
   Value : Bool → Mode
@@ -23,7 +23,7 @@ pub data Mode : Type 0 where
   Sign : Mode
   Exponent : Mode
 
--- The brackets that are open, of an object where true, and the names of the outermost object.
+-- The brackets that are open, of an object if true, and the names of the outermost object.
 pub data State : Type 0 where
   Refused : State
   At : Mode → List Bool → List (List ℕ) → State

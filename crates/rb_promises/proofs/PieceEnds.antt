@@ -84,7 +84,7 @@ same_one : (c d : Connection) → ◌≡◌ {A = Option Connection} (Some c) (So
 same_one c d e = cc
 
 module _ (id : ℕ) (s : State) (t : Session) (h : Holds id s.connections t) (c : Connection) (there : IsLive s id c) where
-  -- it takes bytes where it owes none and waits for none
+  -- it takes bytes if it owes none and waits for none
   takes-bytes : owed_in c.phase ≡ [] → is_awaiting c.phase ≡ false → fed_in c.phase ≡ None → ⊥
   unfolding live_connection is_live
   takes-bytes none waits feeds = by_value c.phase (and_parts (eqb c.number id) (not (is_lost c.phase)) (find-holds (is_live id) s.connections.all c there)).1 (sound-live id s t h c there) none waits feeds

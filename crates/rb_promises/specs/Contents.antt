@@ -9,12 +9,12 @@ pub record Counts (bytes : List ℕ) (count : ℕ) (rest : List ℕ) : Type 0 wh
   pub fits : count < 2 ^ 32
   pub text : bytes ≡ number count ++ rest
 
--- This many residual bytes, 0 to 3, make the total of so much content a multiple of four.
+-- This many residual bytes, 0 to 3, make the total with this much content a multiple of four.
 pub record Completes (count residual : ℕ) : Type 0 where
   pub few : residual < 4
   pub whole : (count + residual) % 4 ≡ 0
 
--- There are too few bytes for the count; or for the content, where it is within the limit, and its residual bytes.
+-- There are too few bytes for the count; or for the content, if it is within the limit, and its residual bytes.
 pub data IsShort (limit : ℕ) (bytes : List ℕ) : Type 0 where
   ShortCount : length bytes < 4 → IsShort limit bytes
   ShortContent : (count residual : ℕ) (rest : List ℕ) → Counts bytes count rest → count ≤ limit

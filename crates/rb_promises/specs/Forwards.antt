@@ -39,8 +39,8 @@ GoesBy (sources.Inet peer) netid =
     ((family_of peer.host ≡ Inet) × (netid ≡ Udp)) ⊎ ((family_of peer.host ≡ Inet6) × (netid ≡ Udp6))
 GoesBy sources.Local netid = netid ≡ Udp
 
--- An IPv6 host that begins with ::ffff stands for the IPv4 host behind (RFC 4291 section 2.5.5.2), and every other for
--- itself.
+-- An IPv6 host that begins with ::ffff stands for the IPv4 host after that (RFC 4291 section 2.5.5.2), and every other
+-- for itself.
 pub data StandsForHost (octets : List ℕ) (host : Host) : Type 0 where
   ForV4 : (rest : List ℕ) → octets ≡ mapped_front ++ rest → host ≡ V4 rest → StandsForHost octets host
   ForItself : ((rest : List ℕ) → octets ≢ mapped_front ++ rest) → host ≡ V6 octets → StandsForHost octets host
@@ -70,7 +70,7 @@ pub record IsHarmless (context : Context) (remote : RemoteCall) (host : Host) : 
   pub of_here : IsOfHere context host
   pub by_host : ¬ (GoesByHost remote.prog remote.proc)
 
--- As the daemon's terms say: anywhere; for all, where it is harmless; or for those alone that are no strangers.
+-- As the daemon's terms say: anywhere; or where it is harmless, for all, or for those alone that are no strangers.
 pub data MayGo (context : Context) (remote : RemoteCall) (host : Host) : Type 0 where
   GoesAnywhere : context.terms.forwarding ≡ Anywhere → MayGo context remote host
   GoesForAll : context.terms.forwarding ≡ ForAll → IsHarmless context remote host → MayGo context remote host
@@ -84,7 +84,7 @@ pub record CanGo (context : Context) (remote : RemoteCall) (row : Row) : Type 0 
   pub is_at : IsAt row host
   pub may : MayGo context remote host
 
--- nothing goes where there is no row
+-- nothing goes if there is no row
 abbrev pub GoesTo : Context → RemoteCall → Option Row → Type 0
 GoesTo context remote None = ⊥
 GoesTo context remote (Some row) = CanGo context remote row
@@ -105,8 +105,8 @@ module _ (context : Context) (head : CallHead) (kind : Kind) (remote : RemoteCal
   abbrev forward_answer : Answer × Ledger
   forward_answer = answer_to context head (requests.Forward kind remote) arguments l
 
-  -- Forwarded exactly where a row of just the program and version is found on the netid, it may go there, and there is room
-  -- for it; without such a row its program is unavailable, and without room there is an error of the system.
+  -- Forwarded exactly if a row of just the program and version is found on the netid, it may go there, and there is
+  -- room for it; without such a row its program is unavailable, and without room there is an error of the system.
   pub record AnswersForward : Type 0 where
     pub netid : Netid
     pub goes_by : GoesBy (who_of context.caller).source netid

@@ -69,7 +69,7 @@ IsAny row = ⊤
 
 -- ---- GETADDRLIST
 
--- An IPv4 address is listed as a look-up tells it. An IPv6 address is printed anew only where another host stands in for
+-- An IPv4 address is listed as a look-up tells it. An IPv6 address is printed anew only if another host stands in for
 -- ::, and every other text is listed as it was set.
 pub data ListsAddress (context : Context) (row : Row) (text : List ℕ) : Type 0 where
   ListsV4 : IsOverIpv4 row.netid → TellsV4 context row.addr text → ListsAddress context row text

@@ -52,7 +52,7 @@ pub record ShowsLive (form : Form) (rows : List Row) : Type 0 where
   pub dumps : ShowsDump form rows
   pub mappings : ShowsMappings form rows
 
--- In each state that a run of bytes reaches at good limits, all live rows are shown of these lists, in their order, where
+-- In each state that a run of bytes reaches at good limits, all live rows are shown of these lists, in their order, if
 -- the listener's own rows fit the item of DUMP.
 abbrev pub LiveRowsAreShown : Type 0
 LiveRowsAreShown =

@@ -27,7 +27,7 @@ IsAnnounced announced (V4 octets) = announced.inet ≡ Some octets
 IsAnnounced announced (V6 octets) = announced.inet6 ≡ Some octets
 
 -- A caller is of this machine over the local socket, at a host of the loopback, at the announced host of its family, or
--- where its owner is known. Nothing else makes it so, and nothing makes a stranger so.
+-- if its owner is known. Nothing else makes it so, and nothing makes a stranger so.
 pub data IsLocal (announced : Announced) (who : Who) : Type 0 where
   OverTheSocket : who.trust ≡ trusts.Claims → who.source ≡ sources.Local → IsLocal announced who
   AtTheLoopback : (peer : Peer) → who.trust ≡ trusts.Claims → who.source ≡ sources.Inet peer → IsLoopback peer.host
@@ -40,7 +40,7 @@ pub data IsLocal (announced : Announced) (who : Who) : Type 0 where
 abbrev pub IsUnknown : Trust → Type 0
 IsUnknown trust = (owner : Owner) → trust ≢ trusts.Local owner
 
--- A caller registers as the owner that the system tells, which may be `unknown`; where it tells none, as the uid of
+-- A caller registers as the owner that the system tells, which may be `unknown`; if it tells none, as the uid of
 -- AUTH_SYS, and without one as `unknown`.
 pub data RegistersAs (trust : Trust) (cred : Credential) (owner : Owner) : Type 0 where
   AsItself : trust ≡ trusts.Local owner → RegistersAs trust cred owner

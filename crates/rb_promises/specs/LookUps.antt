@@ -55,7 +55,7 @@ NoneIsOf prog vers netid rows = (row : Row) → IsOf prog vers netid rows row �
 abbrev pub IsGreatest : ℕ → Netid → List Row → Row → Type 0
 IsGreatest prog netid rows row = (other : Row) → IsOn prog netid rows other → other.vers ≤ row.vers
 
--- A row of just the version that was asked for; where there is none, of the greatest one of the program on the netid.
+-- A row of just the version that was asked for; if there is none, of the greatest one of the program on the netid.
 pub data IsFound (prog vers : ℕ) (netid : Netid) (rows : List Row) : Option Row → Type 0 where
   ThatVersion : (row : Row) → IsOf prog vers netid rows row → IsFound prog vers netid rows (Some row)
   GreatestVersion : (row : Row) → NoneIsOf prog vers netid rows → IsOn prog netid rows row
@@ -86,8 +86,8 @@ CameBy (callers.Udp who longest) netid = IsOver who.source Udp Udp6 netid
 abbrev pub AsksForNone : (List ℕ → Host) → List ℕ → Host → Type 0
 AsksForNone of every asked = (host : List ℕ) → asked ≡ of host → host ≡ every
 
--- The host of a family that a caller is told in place of every host: the one that it asked, where that is one of the
--- family; else the announced one; and every host where none is announced.
+-- The host of a family that a caller is told in place of every host: the one that it asked, if that is one of the
+-- family and does not stand for every host; else the announced one; and every host if none is announced.
 pub data StandsIn (of : List ℕ → Host) (every : List ℕ) (announced : Option (List ℕ)) (asked : Host) (host : List ℕ)
     : Type 0 where
   TheAsked : asked ≡ of host → host ≢ every → StandsIn of every announced asked host
@@ -147,17 +147,17 @@ pub data TellsRow (context : Context) (row : Row) (text : List ℕ) : Type 0 whe
   AsV6 : IsOverIpv6 row.netid → TellsV6 context row.addr text → TellsRow context row text
   AsItStands : SpellsNone row.netid row.addr → text ≡ row.addr → TellsRow context row text
 
--- empty where there is no row
+-- empty if there is no row
 abbrev pub TellsText : Context → Option Row → List ℕ → Type 0
 TellsText context None text = text ≡ []
 TellsText context (Some row) text = TellsRow context row text
 
--- the row's port, or 0 where its address is none of IPv4
+-- the row's port, or 0 if its address is none of IPv4
 pub data HasPort (row : Row) (port : ℕ) : Type 0 where
   Spelled : (host : List ℕ) → SpellsV4 host port row.addr → HasPort row port
   Without : SpellsNone Tcp row.addr → port ≡ 0 → HasPort row port
 
--- 0 where there is no row
+-- 0 if there is no row
 abbrev pub TellsPort : Option Row → ℕ → Type 0
 TellsPort None port = port ≡ 0
 TellsPort (Some row) port = HasPort row port
@@ -197,7 +197,7 @@ pub record TellsAddress (context : Context) (Finds : Option Row → Type 0) (l :
   pub tells : TellsText context found text
   pub leaves : LeavesRows l answered.1
 
--- Where every live row is at an address that may be set, the text is empty exactly where none is found.
+-- If every live row is at an address that may be set, the text is empty exactly if none is found.
 abbrev pub IsEmptyExactly : Type 0 → Ledger → Answer × Ledger → Type 0
 IsEmptyExactly NoneIsThere l answered = AreAtAddresses (rows_in l) → (answered.0 ≡ told_text []) ↔ NoneIsThere
 
@@ -246,7 +246,7 @@ module _ (context : Context) (head : CallHead) (m : Mapping) (arguments : List �
   abbrev getport_answer : Answer × Ledger
   getport_answer = answer_to context head (requests.Mapping mappings.Getport m) arguments l
 
-  -- Where the protocol is neither TCP nor UDP, 0 is told and nothing is changed.
+  -- If the protocol is neither TCP nor UDP, 0 is told and nothing is changed.
   pub record AnswersGetport : Type 0 where
     pub on : (netid : Netid) → IsByProtocol m.prot netid → TellsPortOn m netid l getport_answer
     pub other : ((netid : Netid) → IsByProtocol m.prot netid → ⊥) → getport_answer ≡ (told_number 0, l)

@@ -27,7 +27,7 @@ taken_of s id now piece = taken_by id (Bytes now id piece) (step s (Bytes now id
 abbrev pub StopsAtRecord : List ℕ → List ℕ → List ℕ → Type 0
 StopsAtRecord unfinished piece taken = IsWhole unfinished piece taken ⊎ EndsRecord unfinished taken
 
--- In each run: where nothing is owed or awaited on a live connection, a piece is taken so.
+-- In each run: if nothing is owed or awaited on a live connection, a piece is taken so.
 abbrev pub PiecesEndAtRecords : Type 0
 PiecesEndAtRecords =
     (limits : Limits) (listener : Listener) (first_xid opened : ℕ) (events : List Event)

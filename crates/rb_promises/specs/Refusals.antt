@@ -14,14 +14,14 @@ use Rattle.rb_model.specs.Step.Output.{Refused, TooMuch}
 
 -- ---- openings
 
--- a connection is to be opened, and there are as many as there may be, Lost ones among them
+-- a connection should be opened, and there are as many as there may be, Lost ones among them
 pub record IsFull (s : State) (event : Event) : Type 0 where
   pub now : ℕ
   pub who : Who
   pub opens : event ≡ Open now who
   pub full : s.setting.limits.conns ≤ length s.connections.all
 
--- a connection is to be opened, for which there is room, and no number is left
+-- a connection should be opened, for which there is room, and no number is left
 pub record IsSpent (s : State) (event : Event) : Type 0 where
   pub now : ℕ
   pub who : Who

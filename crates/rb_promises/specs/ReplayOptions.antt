@@ -20,7 +20,7 @@ pub record IsBeginning (texts : ReplayTexts) (beginning : Beginning) : Type 0 wh
   pub forward_for : texts.forward_for.now ≡ whom_text beginning.listener.terms.forwarding
   pub steps : beginning.steps ≡ texts.steps
 
--- A replay has a beginning exactly where each value spells its part of it, and else one of them can't be read.
+-- A replay has a beginning exactly if each value spells its part of it, and else one of them can't be read.
 abbrev pub BeginningsAreSpelled : Type 0
 BeginningsAreSpelled =
     (texts : ReplayTexts) (beginning : Beginning) → (beginning_of texts ≡ Ok beginning) ↔ IsBeginning texts beginning

@@ -28,7 +28,7 @@ use Rattle.rb_show.specs.Replies.{tell_reply}
 abbrev pub listing_reply : ℕ → List ℕ → List ℕ → List ℕ
 listing_reply xid bytes rest = reply_head xid Success ++ (bytes ++ rest)
 
--- Where a question is replied to with these bytes as results, these lines are told, and how many rows there are; whatever
+-- If a question is replied to with these bytes as results, these lines are told, and how many rows there are; whatever
 -- stands after the reply is left.
 abbrev pub ShowsLines : Form → Question → List ℕ → ℕ → List (List ℕ) → Type 0
 ShowsLines form question bytes count lines =

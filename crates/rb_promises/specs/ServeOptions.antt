@@ -64,7 +64,7 @@ pub record IsServe (open_files : ℕ) (texts : ServeTexts) (serve : Serve) : Typ
   pub keep_check : serve.keep_check ≡ texts.keep_check
   pub turns : SpellsLong serve.turns texts.turns.now
 
--- `serve` is asked for this exactly where each value spells its part of it, and else one of them can't be read.
+-- `serve` is asked for this exactly if each value spells its part of it, and else one of them can't be read.
 abbrev pub ServicesAreSpelled : Type 0
 ServicesAreSpelled =
     (open_files : ℕ) (texts : ServeTexts) (serve : Serve)

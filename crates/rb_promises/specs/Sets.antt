@@ -117,7 +117,7 @@ module _ (context : Context) (head : CallHead) (request : Request) (arguments : 
   abbrev answered : Answer × Ledger
   answered = answer_to context head request arguments l
 
-  -- TRUE exactly where an accepted row is asked for, which is then added; else FALSE, and the ledger stays as it was.
+  -- TRUE exactly if an accepted row is asked for, which is then added; else FALSE, and the ledger stays as it was.
   pub record AnswersSet : Type 0 where
     pub one_of : (answered.0 ≡ told true) ⊎ (answered.0 ≡ told false)
     pub exactly : (answered.0 ≡ told true) ↔ SetsARow context head request l

@@ -33,7 +33,7 @@ abbrev pub IsWrittenOf : Uaddr → List ℕ → Type 0
 IsWrittenOf (V4 host port) form = IsWritten 2 port (host ++ replicate 8 0) form
 IsWrittenOf (V6 host port) form = IsWritten 10 port (replicate 4 0 ++ host ++ replicate 4 0) form
 
--- The address that the text spells is written; where it spells none, nothing is.
+-- The address that the text spells is written; if it spells none, nothing is.
 pub data TurnsText (text form : List ℕ) : Type 0 where
   AsSpelled : (u : Uaddr) → Spells u text → IsWrittenOf u form → TurnsText text form
   AsNone : ((u : Uaddr) → ¬ (Spells u text)) → form ≡ [] → TurnsText text form
@@ -45,7 +45,7 @@ abbrev pub Prints : Uaddr → List ℕ → Type 0
 Prints (V4 host port) text = SpellsV4 host port text
 Prints (V6 host port) text = PrintsV6 host port text
 
--- The address whose transport form the bytes are is printed; where they are of none, the text is empty.
+-- The address whose transport form the bytes are is printed; if they are of none, the text is empty.
 pub data TurnsBytes (form text : List ℕ) : Type 0 where
   AsForm : (u : Uaddr) → IsTransportOf u form → Prints u text → TurnsBytes form text
   AsNoForm : ((u : Uaddr) → ¬ (IsTransportOf u form)) → text ≡ [] → TurnsBytes form text

@@ -23,7 +23,7 @@ use Rattle.rb_promises.specs.Sets.{told}
 
 -- ---- which rows are covered
 
--- the netid of this name, and every netid where the name is empty
+-- the netid of this name, and every netid if the name is empty
 abbrev pub IsMeant : List ℕ → Netid → Type 0
 IsMeant name netid = (name ≡ []) ⊎ (name ≡ netid_text netid)
 
@@ -87,7 +87,8 @@ module _ (context : Context) (head : CallHead) (request : Request) (arguments : 
   abbrev answered : Answer × Ledger
   answered = answer_to context head request arguments l
 
-  -- TRUE exactly where a live row is covered, and then these are removed; else FALSE, and the ledger stays as it was.
+  -- TRUE exactly if its caller is of this machine, a live row is covered and a number is left; then, if the daemon's
+  -- own rows are the portmapper's, the covered rows are removed. Else FALSE, and the ledger stays as it was.
   pub record AnswersUnset : Type 0 where
     pub one_of : (answered.0 ≡ told true) ⊎ (answered.0 ≡ told false)
     pub exactly : (answered.0 ≡ told true) ↔ RemovesARow context head request l

@@ -190,7 +190,7 @@ IsLine shape (Broadcast program version) = IsBroadcast shape program version
 
 -- ---- the options of each form
 
--- The port is 111 where it isn't given.
+-- The port is 111 if it isn't given.
 abbrev pub IsPort : ℕ → Option (Bor (List ℕ)) → Type 0
 IsPort port None = port ≡ 111
 IsPort port (Some text) = SpellsPort port text.now
@@ -219,6 +219,6 @@ pub record IsForm (shape : Shape) (request : Request) : Type 0 where
 
 -- ---- the law
 
--- Words ask for something exactly where they are of its form, so they ask for one thing, or can't be read.
+-- Words ask for something exactly if they are of its form, so they ask for one thing, or can't be read.
 abbrev pub WordsAreOfTheForms : Type 0
 WordsAreOfTheForms = (shape : Shape) (request : Request) → (request_of shape ≡ Ok request) ↔ IsForm shape request

@@ -34,7 +34,7 @@ who_at trust host = record {
 abbrev pub loopback : List ℕ
 loopback = 127 ∷ 0 ∷ 0 ∷ 1 ∷ []
 
--- a datagram from 127.0.0.1, where there may be twenty rows
+-- a datagram from 127.0.0.1, when there may be twenty rows
 abbrev pub here : Context
 here = record {
   announced = announced;

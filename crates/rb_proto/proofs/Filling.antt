@@ -48,7 +48,7 @@ pub record Filling (kept : Registry) (old now : ListReply) (most base : ℕ) (be
   pub rises : first.steps ≤ meter.steps
   pub steps : meter.steps + 2 * slots_left kept now.cursor + left kept now.stamp now.cursor ≤ first.steps + 3 * length (slots_of kept) + length out.bytes + 3
 
--- ---- how many slots and rows are to come
+-- ---- how many slots and rows are still to come
 
 module _ {T : Type 0} where
   behind_fits : (entries : List (ℕ × T)) (key : ℕ) → length (behind entries key) ≤ length entries

@@ -99,7 +99,7 @@ module _ (f : Row → List ℕ) (kept : Registry) (stamp : ℕ) where
 
 -- ---- the walk for the room
 
--- the rows that the cursor has passed fit, with so much room left behind them, and are paid for
+-- the rows that the cursor has passed fit, with this much room left after them, and are paid for
 pub record Measuring (f : Row → List ℕ) (kept : Registry) (stamp : ℕ) (cursor : Option ℕ) (room behind : ℕ) (first meter : Meter) : Type 0 where
   pub place : StandsIn kept stamp cursor
   pub fits : behind + length (passed_bytes f kept stamp cursor) ≡ room

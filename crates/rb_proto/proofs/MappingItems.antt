@@ -17,7 +17,7 @@ mapping_item_length m =
     let fourth = length-append (number m.prot) (number m.port) in
     omega (arith, first, second, third, fourth, length-boolean true, length-number m.prog, length-number m.vers, length-number m.prot, length-number m.port)
 
--- the room that is left behind bytes of a known length
+-- the room that is left after bytes of a known length
 pub leaves_by_length : (bytes : List ℕ) (n room : ℕ) (result : Option ℕ) → length bytes ≡ n → SomeIff result (n ≤ room) (room - n) → Leaves bytes room result
 leaves_by_length bytes n room None is refused = omega (arith, is, refused)
 leaves_by_length bytes n room (Some left) is (fits, left_is) = omega (arith, is, fits, left_is)

@@ -13,7 +13,7 @@ use Rattle.rb_proto.specs.ListParts.{Fills}
 take_enough : (n : ℕ) (xs : List ℕ) → length xs ≤ n → take n xs ≡ xs
 take_enough n xs fits = sym (append-nil (take n xs)) ∙ ap (λ (ys : List ℕ). take n xs ++ ys) (sym (drop_of_length-le xs fits)) ∙ take-append-drop n xs
 
--- Of a list a front is shown, or all where that ends so early: a part of it begins after `given` and has `most` at most.
+-- Of a list a front is shown, or all if it ends that early: a part of it begins after `given` and has `most` at most.
 module _ (all shown : List ℕ) (given most end : ℕ) (front : shown ≡ take (length shown) all) (whole : length shown ≤ given + most → shown ≡ all) (end_is : end ≡ min (length shown) (given + most)) where
   cases : (given + most < length shown) ⊎ (length shown ≤ given + most)
   cases = cases_lt (given + most) (length shown)

@@ -55,7 +55,7 @@ comes_from_here context = may_register context.announced (who_of context.caller)
 abbrev pub owner_in : Context → CallHead → Owner
 owner_in context head = owner_of (who_of context.caller).trust head.cred
 
--- the change and the note of it after the others, where it is accepted, and whether it is
+-- the change and the note of it after the others, if it is accepted, and whether it is
 abbrev pub change_if : Bool → Change → Note → Ledger → Bool × Ledger
 change_if accepted change note l = (
   accepted,
@@ -111,7 +111,7 @@ set_row context head (Some row) l = change_if (accepts_row context l row) (Added
 
 -- ---- room for a row
 
--- the row that a call of this head asks to SET, where it does
+-- the row that a call of this head asks to SET, if it does
 abbrev pub row_asked : Context → CallHead → Request → Option Row
 row_asked context head (requests.Mapping mappings.Set m) = row_of_mapping (owner_in context head) m
 row_asked context head (requests.Rpcb rpcbs.Set r) = row_of_rpcb (owner_in context head) r
@@ -129,7 +129,7 @@ adds context rows count (Some row) = accepts context rows count row
 unfoldable pub adds_row : Context → Call → List Row → ℕ → Bool
 adds_row context call rows count = adds context rows count (row_to_set context call)
 
--- a SET that is accepted wants room for its row
+-- a SET that is accepted needs room for its row
 -- ROOM-1
 abbrev pub wants_room : Context → Call → Ledger → Bool
 wants_room context call l = adds_row context call (rows_in l) (length l.changes)
@@ -145,7 +145,7 @@ accepts_removal context l removal = comes_from_here context && removes_some (row
 abbrev pub removal_of : Context → CallHead → ℕ → ℕ → Which → Change
 removal_of context head prog vers which = Removed prog vers which (owner_in context head)
 
--- An UNSET of a version of a program on these netids, if they are known: TRUE where some row is removed, and the UNSET
+-- An UNSET of a version of a program on these netids, if they are known: TRUE if some row is removed, and the UNSET
 -- noted, else FALSE.
 -- UNSET-4 COUNT-1
 unfoldable pub unset_rows : Context → CallHead → ℕ → ℕ → Option Which → Ledger → Bool × Ledger
@@ -164,8 +164,8 @@ shown_address hosts row = option_map (merged_address hosts) (address_in row.neti
 abbrev pub is_replaced : Hosts → List ℕ → Bool
 is_replaced hosts own = bytes_eq own any_host6 && not (bytes_eq hosts.inet6 any_host6)
 
--- An IPv4 address is told so, and an IPv6 address where its :: is replaced. Any other IPv6 address and the name of a
--- local socket stay as they were set.
+-- An IPv4 address is told in this way, and an IPv6 address if its :: is replaced. Any other IPv6 address and the name
+-- of a local socket stay as they were set.
 abbrev pub told_text : Hosts → Row → Option Uaddr → List ℕ
 told_text hosts row (Some (V4 own port)) = text_of (merged_address hosts (V4 own port))
 told_text hosts row (Some (V6 own port)) = if is_replaced hosts own then text_of (V6 hosts.inet6 port) else row.addr
@@ -175,12 +175,12 @@ told_text hosts row None = row.addr
 unfoldable pub shown_text : Hosts → Row → List ℕ
 shown_text hosts row = told_text hosts row (address_in row.netid row.addr)
 
--- 0 where there is no port
+-- 0 if there is no port
 -- DUMP-3
 unfoldable pub shown_port : Row → ℕ
 shown_port row = option_map_or port_of (address_in row.netid row.addr) 0
 
--- 0 where there is no row
+-- 0 if there is no row
 abbrev pub port_found : Option Row → ℕ
 port_found found = option_map_or shown_port found 0
 
@@ -189,11 +189,11 @@ port_found found = option_map_or shown_port found 0
 abbrev pub addr_told : Hosts → Row → List ℕ
 addr_told hosts row = option_map_or text_of (shown_address hosts row) row.addr
 
--- empty where there is no row
+-- empty if there is no row
 abbrev pub addr_found : Hosts → Option Row → List ℕ
 addr_found hosts found = option_map_or (addr_told hosts) found []
 
--- a look-up of the target, in a call of this head, is noted with whether it found a row, where it counts
+-- a look-up of the target, in a call of this head, is noted with whether it found a row, if it counts
 -- COUNT-3
 abbrev pub with_lookup : Context → CallHead → Target → Option Row → Ledger → Ledger
 with_lookup context head target found l =
@@ -208,7 +208,7 @@ port_on context head m None l = (0, l)
 port_on context head m (Some transport) l =
     port_told context head (record { prog = m.prog; vers = m.vers; netid = netid_of transport }) (find_row m.prog m.vers (netid_of transport) (rows_in l)) l
 
--- PMAPPROC_GETPORT: by the transport of prot; port is ignored. Where prot is of none, nothing is looked up.
+-- PMAPPROC_GETPORT: by the transport of prot; port is ignored. If prot is of none, nothing is looked up.
 -- GETPORT-1 COUNT-3
 unfoldable pub getport : Context → CallHead → Mapping → Ledger → ℕ × Ledger
 getport context head m l = port_on context head m (transport_of_protocol m.prot) l
@@ -243,12 +243,12 @@ getversaddr context head r l = text_found context head r (find_exact r.prog r.ve
 unfoldable pub seconds : ℕ → ℕ
 seconds clock = min (clock / 1000) (2 ^ 32 - 1)
 
--- empty where the text is no address
+-- empty if the text is no address
 -- UADDR2TADDR-1
 unfoldable pub taddr_of : List ℕ → Netbuf
 taddr_of text = let buf = option_map_or transport_of (parse text) [] in record { maxlen = length buf; buf = buf }
 
--- empty where the form is none of an address; its maxlen is ignored
+-- empty if the form is none of an address; its maxlen is ignored
 -- UADDR2TADDR-1
 unfoldable pub uaddr_of : Netbuf → List ℕ
 uaddr_of netbuf = option_map_or text_of (from_transport netbuf.buf) []
@@ -276,9 +276,9 @@ answer_void context voids.Dump = results.Rows Rpcbs
 answer_void context voids.Gettime = results.Value (values.Number (seconds context.clock))
 answer_void context voids.Getstat = results.Statistics
 
--- What a call of this head is answered that asks for this, and what it leaves behind. SET, UNSET, the look-ups and calls
--- that can't be forwarded note what they did. A call that is forwarded has its args in the bytes of the arguments, which
--- count for nothing else.
+-- What a call of this head that asks for this is answered, and what it leaves behind. SET, UNSET, the look-ups and
+-- calls that can't be forwarded note what they did. A call that is forwarded has its args in the bytes of the
+-- arguments, which count for nothing else.
 -- UNSET-5 GETSTAT-1
 abbrev pub answer_to : Context → CallHead → Request → List ℕ → Ledger → Answer × Ledger
 answer_to context head (requests.Void procedure) arguments l = (answers.Results (answer_void context procedure), l)

@@ -39,7 +39,7 @@ abbrev pub Becomes : (Ledger → Ledger) → Books → Books → Type 0
 Becomes change old new = (l : Ledger) → StandsForLedger old l → StandsForLedger new (change l)
 
 -- An act on a ledger that gives something. From each ledger that the books stood for, it gives this result; they stand
--- for the ledger after it, and the registry is as it was where the changes are.
+-- for the ledger after it, and the registry is as it was if the changes are.
 pub record ActsAs {A : Type 0} (act : Ledger → A × Ledger) (old new : Books) (result : A) : Type 0 where
   pub gives : (l : Ledger) → StandsForLedger old l → result ≡ (act l).0
   pub stands : (l : Ledger) → StandsForLedger old l → StandsForLedger new (act l).1
@@ -49,12 +49,12 @@ pub record ActsAs {A : Type 0} (act : Ledger → A × Ledger) (old new : Books) 
 abbrev pub BooksShow : {A : Type 0} → (Ledger → A) → Books → A → Type 0
 BooksShow show books result = (l : Ledger) → StandsForLedger books l → result ≡ show l
 
--- The history that the statistics stand for has the note after it, where it counts, and else stays.
+-- The history that the statistics stand for has the note after it, if it counts, and else stays.
 abbrev pub HasNotedWhere : Bool → Note → Stats → Stats → Type 0
 HasNotedWhere counts note old new =
     (notes : List Note) → StandsForHistory old notes → StandsForHistory new (if counts then notes ++ note ∷ [] else notes)
 
--- Of each ledger that the books stand for, the result is Ok exactly where this holds of it.
+-- For each ledger that the books stand for, the result is Ok if and only if this holds of it.
 abbrev pub IsOkWhere : {A E : Type 0} → (Ledger → Bool) → Books → Result A E → Type 0
 IsOkWhere holds books result = (l : Ledger) → StandsForLedger books l → IsOk result ↔ IsTrue (holds l)
 
@@ -97,11 +97,11 @@ wants_room_in context call kept = adds_row context call (rows_of kept) kept.stam
 abbrev pub HasPlaceLeft : Registry → Type 0
 HasPlaceLeft kept = length (rows_of kept) + retained_count kept < kept.limit
 
--- where the row is accepted, there is room for it
+-- if the row is accepted, there is room for it
 abbrev pub HasRoomFor : Context → Option Row → Registry → Type 0
 HasRoomFor context row kept = adds context (rows_of kept) kept.stamp row ≡ true → HasPlaceLeft kept
 
--- where the call wants room, there is room
+-- if the call needs room, there is room
 abbrev pub HasRowRoom : Context → Call → Registry → Type 0
 HasRowRoom context call kept = wants_room_in context call kept ≡ true → HasPlaceLeft kept
 
@@ -111,11 +111,11 @@ HasRowRoom context call kept = wants_room_in context call kept ≡ true → HasP
 abbrev pub note_asked : ForwardNote → Bool → Note
 note_asked asked passed = outcome_note asked.kind asked.caller asked.prog asked.vers asked.proc passed
 
--- That a forwarded call ended so is noted, where it counts.
+-- That a forwarded call ended in this way is noted, if it counts.
 abbrev pub NotesForward : ForwardNote → Bool → Stats → Stats → Type 0
 NotesForward asked passed old new = HasNotedWhere (counts_forward asked.caller passed) (note_asked asked passed) old new
 
--- A look-up of a call with this head is noted, where it counts, with whether it found a row.
+-- A look-up of a call with this head is noted, if it counts, with whether it found a row.
 abbrev pub NotesLookUp : Context → CallHead → Target → Option (Bor Row) → Stats → Stats → Type 0
 NotesLookUp context head target found old new =
     HasNotedWhere (counts_look_up (who_of context.caller) target.vers (option_copied found))
@@ -133,10 +133,10 @@ abbrev pub ForwardsAs : Context → ℕ → Kind → RemoteCall → List ℕ →
 ForwardsAs context xid kind remote arguments old new result =
     ActsAs (forward_call context xid kind remote arguments) old new result
 
--- what a datagram does, where the books number the entries
+-- what a datagram does, with the entries numbered as in the books
 abbrev pub reply_to : Books → ℕ → Peer → List ℕ → Ledger → Option Ended × Ledger
 reply_to books clock from bytes = target_replied books.forwards.first_xid clock from bytes
 
--- the call that must be sent next, where the books number the entries
+-- the call that must be sent next, with the entries numbered as in the books
 abbrev pub unsent_of : Books → Ledger → Option Unsent
 unsent_of books l = unsent books.forwards.first_xid l.forwards

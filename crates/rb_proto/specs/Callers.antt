@@ -41,13 +41,13 @@ own_pair netid addr = own_row netid addr 4 ∷ own_row netid addr 3 ∷ []
 abbrev pub own_three : Netid → List ℕ → List Row
 own_three netid addr = own_row netid addr 4 ∷ own_row netid addr 3 ∷ own_row netid addr 2 ∷ []
 
--- at every host of IPv6, where it is served
+-- at every host of IPv6, if it is served
 abbrev pub own_inet6 : ℕ → Option (List ℕ) → List Row
 own_inet6 port None = []
 own_inet6 port (Some announced) =
     own_pair netids.Tcp6 (text_of (V6 any_host6 port)) ++ own_pair netids.Udp6 (text_of (V6 any_host6 port))
 
--- at every host of IPv4, where it is served
+-- at every host of IPv4, if it is served
 abbrev pub own_inet : ℕ → Option (List ℕ) → List Row
 own_inet port None = []
 own_inet port (Some announced) =
@@ -59,7 +59,7 @@ inet6_rows listener = own_inet6 listener.port listener.announced.inet6
 abbrev pub inet_rows : Listener → List Row
 inet_rows listener = own_inet listener.port listener.announced.inet
 
--- at the path of the local socket, where there is one
+-- at the path of the local socket, if there is one
 abbrev pub own_local : Option (List ℕ) → List Row
 own_local None = []
 own_local (Some path) = own_pair netids.Local path
@@ -147,14 +147,14 @@ share_in context = share_by (who_of context.caller).trust context.limit
 
 -- ---- the hosts that it is told
 
--- where none is announced, every host stays as it is
+-- if none is announced, every host stays as it is
 abbrev pub announced_hosts : Announced → Hosts
 announced_hosts announced = record {
   inet = option_map_or (λ host. host) announced.inet any_host;
   inet6 = option_map_or (λ host. host) announced.inet6 any_host6;
 }
 
--- In place of every host of a family a caller is told the host that it asked, where that is one of the family; else
+-- In place of every host of a family a caller is told the host that it asked, if that is one of the family; else
 -- the announced one.
 -- TOLD-1
 unfoldable pub hosts_told : Announced → Host → Hosts

@@ -50,7 +50,7 @@ pub record AsksRegistered (context : Context) (rows : List Row) (remote : Remote
   pub proc : forward.proc ≡ remote.proc
   pub caller : forward.caller ≡ context.caller
 
--- Where a call is forwarded, it goes to a row that is live as it comes, and nothing is left of it but the entry.
+-- If a call is forwarded, it goes to a row that is live when it comes, and nothing is left of it but the entry.
 pub record IsForwarded (context : Context) (xid : ℕ) (kind : Kind) (remote : RemoteCall) (arguments : List ℕ) (l : Ledger) : Type 0 where
   pub forward : Forward
   pub asks : AsksRegistered context (rows_in l) remote forward
@@ -72,12 +72,12 @@ is_outcome _ = false
 abbrev pub asked_so_far : Ledger → ℕ
 asked_so_far l = count_by is_outcome l.history + length l.forwards.all
 
--- 1 where this is the answer to a stranger's call that is not forwarded: it does not count
+-- 1 if this is the answer to a stranger's call that is not forwarded: it does not count
 abbrev pub uncounted_at_once : Context → Answer → ℕ
 uncounted_at_once context answers.Forwarded = 0
 uncounted_at_once context given = if counts_forward context.caller false then 0 else 1
 
--- 1 where the entry that ended, if one did, was of a stranger's call and did not pass
+-- 1 if the entry that ended, if one did, was of a stranger's call and did not pass
 abbrev pub uncounted_at_end : Option Ended → ℕ
 uncounted_at_end None = 0
 uncounted_at_end (Some ended) = if counts_end ended then 0 else 1
@@ -86,8 +86,8 @@ uncounted_at_end (Some ended) = if counts_end ended then 0 else 1
 abbrev pub CountsOn : {A : Type 0} → (A → ℕ) → ℕ → A × Ledger → Type 0
 CountsOn uncounted before after = asked_so_far after.1 + uncounted after.0 ≡ before
 
--- One more call counts where it comes, whether it is refused or waits, and none where one is sent or ends; but a
--- stranger's does not count where it is refused, and no longer where it ends and did not pass.
+-- One more call counts when it comes, whether it is refused or waits, and none when one is sent or ends; but a
+-- stranger's does not count if it is refused, and no longer counts if it ends and did not pass.
 pub record IsNotedOnce (l : Ledger) : Type 0 where
   pub comes : (context : Context) (xid : ℕ) (kind : Kind) (remote : RemoteCall) (arguments : List ℕ) → CountsOn (uncounted_at_once context) (asked_so_far l + 1) (forward_call context xid kind remote arguments l)
   pub is_sent : (number : ℕ) → asked_so_far (call_sent number l) ≡ asked_so_far l
@@ -95,7 +95,7 @@ pub record IsNotedOnce (l : Ledger) : Type 0 where
   pub falls_due : (clock : ℕ) → CountsOn uncounted_at_end (asked_so_far l) (fell_due clock l)
   pub is_dropped : (id : ℕ) → CountsOn uncounted_at_end (asked_so_far l) (caller_dropped id l)
 
--- Each call that asks for another is noted once, at its outcome; a stranger's only where it passed.
+-- Each call that asks for another is noted once, at its outcome; a stranger's only if it passed.
 -- COUNT-5
 abbrev pub ForwardsAreNotedOnce : Type 0
 ForwardsAreNotedOnce = (l : Ledger) → IsNotedOnce l

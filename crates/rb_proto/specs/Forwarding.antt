@@ -117,7 +117,7 @@ refusal Callit3 status = answers.Silent
 refusal Bcast status = answers.Silent
 refusal Indirect status = answers.Refused status
 
--- what is refused at once is noted as a failure, where it counts
+-- what is refused at once is noted as a failure, if it counts
 abbrev pub refuse : Context → Kind → RemoteCall → ReplyStatus → Ledger → Answer × Ledger
 refuse context kind remote status l =
     (refusal kind status, note_where (counts_forward context.caller false) (outcome_note kind context.caller remote.prog remote.vers remote.proc false) l)
@@ -131,7 +131,7 @@ forward_to context xid kind remote args (Some registered) l =
     then (answers.Forwarded, record l { forwards = with_next_entry context.clock (forward_of context xid kind remote registered) args l.forwards })
     else refuse context kind remote replies.SystemErr l
 
--- the address, where the call that is asked for may go to its host
+-- the address, if the call that is asked for may go to its host
 abbrev pub if_may_go : Context → RemoteCall → Option Uaddr → Option Uaddr
 if_may_go context remote None = None
 if_may_go context remote (Some registered) =
@@ -164,7 +164,7 @@ end_note ended =
 abbrev pub counts_end : Ended → Bool
 counts_end ended = counts_forward ended.forward.caller (is_pass ended.outcome)
 
--- where it counts
+-- if it counts
 abbrev pub end_notes : Option Ended → List Note
 end_notes None = []
 end_notes (Some ended) = notes_where (counts_end ended) (end_note ended)

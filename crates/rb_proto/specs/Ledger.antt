@@ -39,11 +39,11 @@ version_of vers = if vers == 2 then Two else if vers == 3 then Three else Four
 abbrev pub with_note : Note → Ledger → Ledger
 with_note note l = record l { history = l.history ++ note ∷ [] }
 
--- a note after the others, where it counts
+-- a note after the others, if it counts
 abbrev pub note_where : Bool → Note → Ledger → Ledger
 note_where counts note l = record l { history = if counts then l.history ++ note ∷ [] else l.history }
 
--- the note, where it counts
+-- the note, if it counts
 abbrev pub notes_where : Bool → Note → List Note
 notes_where true note = note ∷ []
 notes_where false note = []

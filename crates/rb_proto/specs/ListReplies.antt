@@ -14,8 +14,8 @@ use Rattle.rb_proto.specs.Results.{rows_bytes}
 abbrev pub longest_row : ℕ
 longest_row = max_number + max_rpcb
 
--- A part of a list has the data of a fragment. It is made in so much room: what was given of a row before it, the part,
--- and the rest of a row after it.
+-- A part of a list has the data of a fragment. It is made in this much room: what was given of a row before it, the
+-- part, and the rest of a row after it.
 abbrev pub part_room : ℕ
 part_room = fragment_size + 2 * longest_row
 

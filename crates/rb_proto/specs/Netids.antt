@@ -10,7 +10,7 @@ use Rattle.rb_registry.specs.declared.row.Which.{Which}
 use Rattle.rb_registry.specs.declared.row.Which.TheVariants.{All, One}
 use Rattle.rb_address.specs.Netids.{netid_named, protocol_of}
 
--- the netids that UNSET means: every one where the name is empty
+-- the netids that UNSET means: every one if the name is empty
 -- UNSET-4
 unfoldable pub which_of : List ℕ → Option Which
 which_of [] = Some All

@@ -50,7 +50,7 @@ removal_cost kept (Some which) = unset_cost kept which
 abbrev pub forwarding_cost : Books → ℕ → ℕ
 forwarding_cost books args = looks books.registry.limit + 3 + note_cost + forward_cost args
 
--- what a SET or an UNSET costs its caller: where that may not register, it is refused before anything is looked up
+-- what a SET or an UNSET costs its caller: if that may not register, it is refused before anything is looked up
 -- REGISTER-3
 abbrev pub registering_cost : Bool → ℕ → ℕ
 registering_cost may cost = if may then cost else 0
@@ -78,7 +78,7 @@ cost_of context books call args = request_cost (comes_from_here context) books c
 abbrev pub PaysForCall : Context → Books → Call → List ℕ → Meter → Meter → Type 0
 PaysForCall context books call arguments before now = PaysAtMost before now (cost_of context books call (length arguments))
 
--- A SET or an UNSET in this context pays that at most, and nothing where its caller may not register.
+-- A SET or an UNSET in this context pays that at most, and nothing if its caller may not register.
 abbrev pub PaysToRegister : Context → ℕ → Meter → Meter → Type 0
 PaysToRegister context most before now = PaysAtMost before now (registering_cost (comes_from_here context) most)
 

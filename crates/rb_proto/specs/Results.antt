@@ -80,7 +80,7 @@ pub record Shown : Type 0 where
 abbrev pub shown_of : Ledger → Shown
 shown_of l = record { rows = rows_in l; statistics = statistics l.history }
 
--- where this is remembered
+-- if this is remembered
 unfoldable pub result_bytes : Shown → Results → List ℕ
 result_bytes shown (results.Value value) = value_bytes value
 result_bytes shown (results.Rows list) = list_bytes shown.rows list

@@ -59,13 +59,13 @@ abbrev pub is_exact : ℕ → Option Row → Bool
 is_exact vers None = false
 is_exact vers (Some row) = row.vers == vers
 
--- A look-up that found this counts. A stranger's counts only where what it names is registered, so that strangers bring
+-- A look-up that found this counts. A stranger's counts only if what it names is registered, so that strangers bring
 -- no other keys into the statistics.
 -- COUNT-2
 abbrev pub counts_look_up : Who → ℕ → Option Row → Bool
 counts_look_up who vers found = not (is_stranger who) || is_exact vers found
 
--- A forwarded call counts that passed, or not. A stranger's counts only where it did.
+-- A forwarded call counts, whether it passed or not. A stranger's counts only if it did.
 -- COUNT-2
 abbrev pub counts_forward : Caller → Bool → Bool
 counts_forward caller passed = not (is_stranger (who_of caller)) || passed

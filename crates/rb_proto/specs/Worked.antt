@@ -216,7 +216,7 @@ set_udp = call_as 500 4 1 (0x30d41 ∷ 1 ∷ 3 ∷ 0x75647000 ∷ text_8_1 ++ 0 
 abbrev pub merged_8_1 : List ℕ
 merged_8_1 = 0xd ∷ 0x3139322e ∷ 0x302e322e ∷ 0x312e382e ∷ 0x31000000 ∷ []
 
--- GETADDR goes by the transport of the call, and gives the greatest version where GETVERSADDR gives none
+-- GETADDR goes by the transport of the call, and gives the greatest version when GETVERSADDR gives none
 abbrev pub GetaddrByTransport : Type 0
 GetaddrByTransport =
     results_of (

@@ -43,7 +43,7 @@ abbrev pub answer_of : ℕ → Message → Ledger → Result Request ArgumentFau
 answer_of places m l (Ok request) = Some (answer (record (context_of 300 m) { forwards = places }) (call_of m request) m.args l)
 answer_of places m l (Err fault) = None
 
--- what a call is answered where this many calls may be forwarded at a time, and what it leaves
+-- what a call is answered if this many calls may be forwarded at a time, and what it leaves
 abbrev pub answer_to : ℕ → Message → Ledger → Option (Answer × Ledger)
 answer_to places m l = answer_of places m l (read_request m.vers m.proc m.args)
 
@@ -65,7 +65,7 @@ indirect_failed prog vers = Forwarded versions.Four (record { prog = prog; vers 
 abbrev pub callit_failed : ℕ → ℕ → Note
 callit_failed prog vers = Forwarded versions.Two (record { prog = prog; vers = vers; netid = netids.Udp }) 0 false false
 
--- where this many calls may be forwarded, the INDIRECT is refused so, and the CALLIT is silent
+-- if this many calls may be forwarded, the INDIRECT is refused in this way, and the CALLIT is silent
 abbrev pub IsRefused : ℕ → ℕ → ℕ → Answer → Ledger → Type 0
 IsRefused places prog vers refused l =
     (answer_to places (indirect prog vers) l ≡ Some (refused, with_note (indirect_failed prog vers) l))

@@ -1,4 +1,4 @@
--- Worked examples: SETs that want room, and what is yet to be given of a list.
+-- Worked examples: SETs that need room, and what is yet to be given of a list.
 use Rattle.std.specs.Prelude.{◌≡◌, ℕ, Bool, true, false, List, [], ◌∷◌, ◌++◌, drop, map, Some, None, Result, Ok, Err}
 use Rattle.rb_registry.specs.declared.row.Row.{Row}
 use Rattle.rb_registry.specs.Rows.Change.{Added}
@@ -25,7 +25,7 @@ abbrev pub request_wants : Message → Ledger → Result Request ArgumentFault �
 request_wants m l (Ok request) = wants_room (context_of 8 m) (call_of m request) l
 request_wants m l (Err fault) = false
 
--- whether a call wants room, where there are eight rows at most
+-- whether a call needs room, if there are eight rows at most
 abbrev pub wants : Message → Ledger → Bool
 wants m l = request_wants m l (read_request m.vers m.proc m.args)
 
@@ -36,7 +36,7 @@ set_at port prog = call 2 1 (prog ∷ 1 ∷ 6 ∷ port ∷ [])
 abbrev pub set : ℕ → Message
 set prog = set_at 2049 prog
 
--- the row is new and the caller is here; an UNSET, a DUMP, a SET at no port and one from elsewhere want none
+-- the row is new and the caller is here; an UNSET, a DUMP, a SET at no port and one from elsewhere need none
 abbrev pub SetsWantRoom : Type 0
 SetsWantRoom =
     map (λ m. wants m (with_rows []))
@@ -44,7 +44,7 @@ SetsWantRoom =
     ∷ record (set 200001) { caller = from (198 ∷ 51 ∷ 100 ∷ 7 ∷ []) } ∷ [])
     ≡ true ∷ false ∷ false ∷ false ∷ false ∷ []
 
--- a SET of a live row wants none, nor does one where eight rows are live
+-- a SET of a live row needs none, nor does one if eight rows are live
 abbrev pub FullTableWantsNone : Type 0
 FullTableWantsNone =
     (map (λ m. wants m (with_rows (first ∷ []))) (set 200001 ∷ set 200002 ∷ []) ≡ false ∷ true ∷ [])

@@ -72,8 +72,8 @@ impl Books {
     ghost use Rattle.rb_proto.specs.Ledger.{Ledger, StandsForLedger, fresh_ledger, with_call_noted};
 
     /// Books with the listener's own rows alone, for at most `limit` rows and at most `forwards` forwarded calls at a
-    /// time, the first with the xid `first_xid`. `BadLimits` where there are more own rows than `limit`, else `NoMemory`
-    /// where an allocation is refused.
+    /// time, the first with the xid `first_xid`. `BadLimits` if there are more own rows than `limit`, else `NoMemory`
+    /// if an allocation is refused.
     pub fn new(
         alloc: Global,
         limit: usize,
@@ -143,8 +143,8 @@ impl Books {
         }
     }
 
-    /// Drops the retained rows that no list needs which began after `oldest` changes or later; all of them where it
-    /// is `None`.
+    /// Drops the retained rows that are needed by no list which began after `oldest` changes or later; all of them if
+    /// it is `None`.
     pub fn trim(&mut self, oldest: Option<u64>, meter: &mut Meter)
         requires { AreTied meter.old.tie self.old }
         ensures stands { Becomes (λ l. l) self.old self.new }
@@ -162,7 +162,7 @@ impl Books {
         self.registry.trim(oldest, meter);
     }
 
-    /// The unsent forwarded call of least number, whether or not its deadline has come, or `None` where all were
+    /// The unsent forwarded call of least number, whether or not its deadline has come, or `None` if all were
     /// sent. It has at most 8,840 bytes.
     pub fn unsent(&self, meter: &mut Meter) -> Option<Unsent<'_>>
         requires { AreTied meter.old.tie self.now }
@@ -174,7 +174,7 @@ impl Books {
     }
 
     /// Notes that the forwarded call of this number was sent: from now on a reply counts, and its bytes are held no longer.
-    /// `Gone` where there is no such call, or it was sent before: then nothing changes.
+    /// `Gone` if there is no such call, or it was sent before: then nothing changes.
     #[tactic(auto, unfolding(crate::specs::Forwarding::call_sent))]
     pub fn sent(&mut self, id: FwdId, meter: &mut Meter) -> Result<(), Gone>
         requires { AreTied meter.old.tie self.old }
@@ -189,8 +189,8 @@ impl Books {
         self.forwards.sent(id, meter)
     }
 
-    /// Takes a datagram that came from the peer `from` at the moment `clock`, in milliseconds. Where it is a reply to
-    /// forwarded calls, that of least number ends, and its outcome is noted. Any other datagram changes nothing, and
+    /// Takes a datagram that came from the peer `from` at the moment `clock`, in milliseconds. If it is a reply to
+    /// forwarded calls, the one of least number ends, and its outcome is noted. Any other datagram changes nothing, and
     /// the answer is `None`.
     #[tactic(auto, unfolding(crate::specs::Forwarding::target_replied))]
     pub fn reply(
@@ -216,7 +216,7 @@ impl Books {
     }
 
     /// The forwarded call of least number whose deadline has come at the moment `clock`, in milliseconds, ends, as
-    /// `Failed`, and that is noted. Where there is none, nothing changes, and the answer is `None`.
+    /// `Failed`, and that is noted. If there is none, nothing changes, and the answer is `None`.
     #[tactic(auto, unfolding(crate::specs::Forwarding::fell_due))]
     pub fn due(&mut self, clock: u64, meter: &mut Meter) -> Option<Ended>
         requires { AreTied meter.old.tie self.old }

@@ -52,7 +52,7 @@ struct ForwardNote {
     proc: u32,
 }
 
-/// Notes a forwarded call at its outcome, where that counts.
+/// Notes a forwarded call at its outcome, if that counts.
 #[tactic(auto, unfolding(crate::specs::Forwarding::outcome_note))]
 fn note_outcome(stats: &mut Stats, asked: ForwardNote, passed: bool, meter: &mut Meter)
     requires { meter.old.tie ≡ stats.old.tie }
@@ -80,7 +80,7 @@ fn note_outcome(stats: &mut Stats, asked: ForwardNote, passed: bool, meter: &mut
     );
 }
 
-/// Notes how an entry ended, where that counts.
+/// Notes how an entry ended, if that counts.
 #[tactic(auto, unfolding(crate::specs::Forwarding::end_note))]
 pub(crate) fn note_end(stats: &mut Stats, ended: &Ended, meter: &mut Meter)
     requires { meter.old.tie ≡ stats.old.tie }
@@ -125,7 +125,7 @@ fn address_of_row(row: &Row) -> Option<Uaddr>
     address_in(row.netid, &row.addr)
 }
 
-/// Where the program's exact version is, for this caller, where the call may be made. The portmapper itself is not called.
+/// Where the program's exact version is, for this caller, if the call may be made. The portmapper itself is not called.
 #[tactic(auto, unfolding(crate::specs::Forwarding::address_to_forward))]
 fn address_asked(
     registry: &Registry,
@@ -214,7 +214,7 @@ pub fn refusal(kind: Kind, status: ReplyStatus) -> Answer
     }
 }
 
-/// Refuses to forward a call, and notes that as a failure, where it counts.
+/// Refuses to forward a call, and notes that as a failure, if it counts.
 fn refuse(
     books: &mut Books,
     context: &Context,
@@ -243,7 +243,7 @@ fn refuse(
     refusal(kind, status)
 }
 
-/// CALLIT, BCAST and INDIRECT, of this xid: the call that is asked for is to be forwarded, or is refused.
+/// CALLIT, BCAST and INDIRECT, of this xid: the call that is asked for will be forwarded, or is refused.
 #[tactic(auto, unfolding(crate::specs::Forwarding::forward_call))]
 pub(crate) fn forward_call(
     books: &mut Books,

@@ -2,12 +2,13 @@
 ghost use Rattle.rb_proto.specs.ForwardLaws.{ForwardsGoToRows, ForwardsAreNotedOnce};
 ghost use Rattle.rb_proto.specs.ListParts.{ListRepliesGoOn};
 
-/// Where a call is forwarded, it goes to a live row on udp of exactly its program and version, and never to the portmapper.
+/// If a call is forwarded, it goes to a live row on udp of exactly its program and version, and never to the
+/// portmapper.
 pub fn forwards_go_to_rows()
     ensures { ForwardsGoToRows }
 {}
 
-/// Each call that asks for another is noted once, at its outcome: where it is refused, or where its entry ends.
+/// Each call that asks for another is noted once, at its outcome: when it is refused, or when its entry ends.
 pub fn forwards_are_noted_once()
     ensures { ForwardsAreNotedOnce }
 {}

@@ -9,12 +9,13 @@ use rb_address::{Host, Netid, Owner};
 use rb_registry::{MOST_OWN_ROWS, RPCB_PROG, Row};
 use rb_uaddr::{AddressText, Hosts, Uaddr};
 
-/// Which families are served, and the host of each that is told to who asked no host of it: 0.0.0.0 or :: where none is.
+/// Which families are served, and the host of each that is told to a caller who asked no host of it: 0.0.0.0 or :: if
+/// there is none.
 #[derive(Clone, Copy, PartialEq, Eq, Debug)]
 pub struct Announced {
-    /// The IPv4 host, its most significant byte first; `None` where IPv4 is not served.
+    /// The IPv4 host, its most significant byte first; `None` if IPv4 is not served.
     pub inet: Option<[u8; 4]>,
-    /// The IPv6 host, its most significant byte first; `None` where IPv6 is not served.
+    /// The IPv6 host, its most significant byte first; `None` if IPv6 is not served.
     pub inet6: Option<[u8; 16]>,
 }
 
@@ -53,7 +54,7 @@ pub struct Listener {
     pub announced: Announced,
     /// The port of its sockets of TCP and UDP.
     pub port: u16,
-    /// The path of its local socket, where it has one.
+    /// The path of its local socket, if it has one.
     pub local: Option<AddressText>,
     /// On which terms callers are served.
     pub terms: Terms,
@@ -111,7 +112,7 @@ fn push_three(rows: &mut ArrayVec<Row, MOST_OWN_ROWS>, netid: Netid, addr: &Addr
     rows.push(own_row(netid, addr, 2));
 }
 
-/// The rows over IPv6, where it is served.
+/// The rows over IPv6, if it is served.
 fn push_inet6(rows: &mut ArrayVec<Row, MOST_OWN_ROWS>, listener: &Listener)
     requires { length rows.old.items ≡ 0 }
     ensures { rows.new.items ≡ inet6_rows listener.now }
@@ -123,7 +124,7 @@ fn push_inet6(rows: &mut ArrayVec<Row, MOST_OWN_ROWS>, listener: &Listener)
     }
 }
 
-/// The rows over IPv4, where it is served.
+/// The rows over IPv4, if it is served.
 fn push_inet(rows: &mut ArrayVec<Row, MOST_OWN_ROWS>, listener: &Listener)
     requires { length rows.old.items ≤ 4 }
     ensures { rows.new.items ≡ rows.old.items ++ inet_rows listener.now }
@@ -135,7 +136,7 @@ fn push_inet(rows: &mut ArrayVec<Row, MOST_OWN_ROWS>, listener: &Listener)
     }
 }
 
-/// The rows of the local socket, where there is one.
+/// The rows of the local socket, if there is one.
 fn push_local(rows: &mut ArrayVec<Row, MOST_OWN_ROWS>, listener: &Listener)
     requires { length rows.old.items ≤ 10 }
     ensures { rows.new.items ≡ rows.old.items ++ own_local listener.now.local }
@@ -193,7 +194,7 @@ impl Announced {
             }
     }
 
-    /// The announced host of each family, every host where none is.
+    /// The announced host of each family, or every host if none is.
     fn hosts(&self) -> Hosts
         ensures { result ≡ announced_hosts self.now }
     {
@@ -203,7 +204,7 @@ impl Announced {
         }
     }
 
-    /// What a caller is told in place of every host of a family: the host that it asked, where that is one of the family;
+    /// What a caller is told in place of every host of a family: the host that it asked, if that is one of the family;
     /// else the announced one.
     #[tactic(auto, unfolding(crate::specs::Callers::hosts_told))]
     pub(crate) fn hosts_told(&self, asked: Host) -> Hosts

@@ -61,7 +61,7 @@ fn text_of(address: Uaddr) -> Text<MAX_KEPT>
     Text::new(address.text().as_slice())
 }
 
-/// The port of the row's address, 0 where it has none.
+/// The port of the row's address, or 0 if it has none.
 #[tactic(auto, unfolding(crate::specs::Answers::shown_port))]
 pub(crate) fn shown_port(row: &Row) -> u32
     ensures { result ≡ shown_port row.now }
@@ -69,7 +69,7 @@ pub(crate) fn shown_port(row: &Row) -> u32
     address_in(row.netid, &row.addr).map_or(0, |address| u32::from(address.port()))
 }
 
-/// The port of a row that was looked up, 0 where there is none.
+/// The port of a row that was looked up, or 0 if there is none.
 fn port_found(found: Option<&Row>) -> u32
     ensures { result ≡ port_found (option_copied found.entry) }
 {
@@ -89,7 +89,7 @@ fn addr_told(hosts: &Hosts, row: &Row) -> Text<MAX_KEPT>
     }
 }
 
-/// The address of a row that was looked up, the empty text where there is none.
+/// The address of a row that was looked up, or the empty text if there is none.
 fn addr_found(hosts: &Hosts, found: Option<&Row>) -> Text<MAX_KEPT>
     ensures { result ≡ addr_found hosts.now (option_copied found.entry) }
 {
@@ -110,7 +110,7 @@ fn target_of(context: &Context, rpcb: &LentRpcb) -> Target
     }
 }
 
-/// Notes a look-up, in a call of this head, with whether it found a row, where that counts.
+/// Notes a look-up, in a call of this head, with whether it found a row, if that counts.
 fn note_lookup(
     stats: &mut Stats,
     context: &Context,
@@ -215,7 +215,7 @@ pub(crate) fn getversaddr(
     addr
 }
 
-/// RPCBPROC_GETTIME (RFC 1833 section 2.2.1): whole seconds since the start of 1970, 2^32 - 1 where they are more.
+/// RPCBPROC_GETTIME (RFC 1833 section 2.2.1): whole seconds since the start of 1970, or 2^32 - 1 if they are more.
 #[tactic(auto, unfolding(crate::specs::Answers::seconds))]
 pub(crate) fn gettime(clock: u64) -> u32
     ensures { result ≡ seconds clock }
@@ -223,7 +223,7 @@ pub(crate) fn gettime(clock: u64) -> u32
     (clock / 1000).min(u64::from(u32::MAX)) as u32
 }
 
-/// RPCBPROC_UADDR2TADDR (RFC 1833 section 2.2.1): an empty buf where the text is no address.
+/// RPCBPROC_UADDR2TADDR (RFC 1833 section 2.2.1): an empty buf if the text is no address.
 #[tactic(auto, unfolding(crate::specs::Answers::taddr_of))]
 pub(crate) fn uaddr2taddr(text: &LentText<128>) -> AddressBuf
     ensures { result ≡ taddr_of text.now }
@@ -234,7 +234,7 @@ pub(crate) fn uaddr2taddr(text: &LentText<128>) -> AddressBuf
     }
 }
 
-/// RPCBPROC_TADDR2UADDR (RFC 1833 section 2.2.1): the empty text where the buf is no address.
+/// RPCBPROC_TADDR2UADDR (RFC 1833 section 2.2.1): the empty text if the buf is no address.
 #[tactic(auto, unfolding(crate::specs::Answers::uaddr_of))]
 pub(crate) fn taddr2uaddr(netbuf: &LentNetbuf) -> Text<MAX_KEPT>
     ensures { result ≡ uaddr_of netbuf.now }

@@ -6,7 +6,7 @@ use rb_address::{Netid, Transport};
 use rb_registry::Which;
 use rb_uaddr::{AddressText, Uaddr};
 
-/// The netids that an UNSET of this name means: all where it is empty.
+/// The netids that an UNSET of this name means: all if it is empty.
 #[tactic(auto, unfolding(crate::specs::Netids::which_of))]
 pub(crate) fn which_of(text: &[u8]) -> Option<Which>
     ensures { result ≡ which_of text.now }

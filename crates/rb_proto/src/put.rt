@@ -106,7 +106,7 @@ fn put_statistics(
 
 /// Puts the results of a procedure after what the buffer has, its head: rows and statistics are those of the books.
 ///
-/// `Full`, and nothing is written, where the buffer would then have more than `limit` bytes. A list walks the rows
+/// `Full`, and nothing is written, if the buffer would then have more than `limit` bytes. A list walks the rows
 /// twice: to count its bytes, and to write them.
 #[tactic(auto, using(crate::proofs::Shown::shown_where_standing), unfolding(crate::specs::Results::result_bytes))]
 pub fn put_results(
@@ -136,7 +136,7 @@ pub fn put_results(
 /// Puts what the caller of a forwarded call is told when it passed: where the call went, and its results, of which there
 /// are at most 8,800 bytes (RFC 1833 section 2.1, rpcb_rmtcallres, and section 3.1, call_result).
 ///
-/// They are refused where the buffer would then have more than `limit` bytes, and nothing is put.
+/// They are refused, and nothing is put, if the buffer would then have more than `limit` bytes.
 #[tactic(auto, unfolding(crate::specs::Forwarding::forwarded_bytes, rb_forward::specs::Forwards::longest_results))]
 pub fn put_forwarded(
     forward: &Forward,

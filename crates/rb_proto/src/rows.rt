@@ -1,4 +1,4 @@
-//! Rows as a list shows them: the room that they want, and their bytes.
+//! Rows as a list shows them: the room that they need, and their bytes.
 ghost use Rattle.std.specs.Prelude.{◌≡◌, ◌+◌, ◌*◌, ◌≤◌, length};
 ghost use Rattle.rb_xdr.specs.Xdr.{IsContent};
 ghost use Rattle.rb_xdr.specs.Meter.{Pays, PaysAtMost};
@@ -35,7 +35,7 @@ fn is_shown(list: Listing, row: &Row) -> bool
     }
 }
 
-/// The room that is left of so much after what a row adds to a list, if that fits.
+/// The room that is left of this much after what a row adds to a list, if that fits.
 #[tactic(auto, unfolding(crate::specs::Results::row_bytes))]
 fn room_after_row(list: Listing, row: &Row, room: usize) -> Option<usize>
     ensures { Leaves (row_bytes list row.now) room result }
@@ -166,7 +166,7 @@ fn write_entry(hosts: &Hosts, row: &Row, out: &mut Kept, meter: &mut Meter)
     entry.write(out, meter);
 }
 
-/// Writes what a row adds to a list: TRUE and the item, or nothing where the list doesn't show the row. It is short, and
+/// Writes what a row adds to a list: TRUE and the item, or nothing if the list doesn't show the row. It is short, and
 /// the buffer has room for it if it is.
 #[tactic(auto, unfolding(crate::specs::Results::row_bytes))]
 pub(crate) fn write_row(list: Listing, row: &Row, out: &mut Kept, meter: &mut Meter)
@@ -188,8 +188,8 @@ pub(crate) fn write_row(list: Listing, row: &Row, out: &mut Kept, meter: &mut Me
     }
 }
 
-/// The room that is left of so much after all rows that a list shows, as they were after this many changes, and its end,
-/// if they fit.
+/// The room that is left of this much after all rows that a list shows, as they were after this many changes, and its
+/// end, if they fit.
 pub(crate) fn room_after_rows(
     list: Listing,
     registry: &Registry,

@@ -68,7 +68,7 @@ pub(crate) fn may_go(context: &Context, remote: &RemoteCall, host: Host) -> bool
     }
 }
 
-/// Whether a look-up of the version that found this row counts in the statistics: a stranger's only where the row is of
+/// Whether a look-up of the version that found this row counts in the statistics: a stranger's only if the row is of
 /// exactly that version.
 pub(crate) fn counts_look_up(context: &Context, vers: u32, found: Option<&Row>) -> bool
     ensures { result
@@ -83,7 +83,7 @@ pub(crate) fn counts_look_up(context: &Context, vers: u32, found: Option<&Row>) 
     }
 }
 
-/// Whether a forwarded call that passed, or not, counts in the statistics: a stranger's only where it did.
+/// Whether a forwarded call that passed, or did not, counts in the statistics: a stranger's only if it did.
 pub(crate) fn counts_forward(caller: &Caller, passed: bool) -> bool
     ensures { result ≡ counts_forward caller.now passed }
 {

@@ -52,7 +52,7 @@ pub fn worked_netids()
     ensures ipv6_transport_form { Ipv6TransportForm }
 {}
 
-/// And of SETs that want room, and of lists in parts.
+/// And of SETs that need room, and of lists in parts.
 pub fn worked_lists()
     ensures sets_want_room { SetsWantRoom }
     ensures full_table_wants_none { FullTableWantsNone }

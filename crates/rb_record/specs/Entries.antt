@@ -79,12 +79,12 @@ abbrev pub local_text : Option (List ℕ) → List ℕ
 local_text None = []
 local_text (Some path) = codes " --local '" ++ (path ++ codes "'")
 
--- whether long replies go to strangers over UDP, where none do
+-- whether long replies go to strangers over UDP, shown if none do
 abbrev pub lists_text : Bool → List ℕ
 lists_text true = []
 lists_text false = codes " --udp-lists local"
 
--- for whom calls are forwarded, where that is not for everybody to anywhere
+-- for whom calls are forwarded, shown if that is not for everybody to anywhere
 abbrev pub forwarding_text : Forwarding → List ℕ
 forwarding_text Anywhere = []
 forwarding_text ForAll = codes " --forward-for all"

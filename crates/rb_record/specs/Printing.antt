@@ -70,6 +70,6 @@ output_text (RepliedTo who bytes) = source_line (codes "datagram ") who.source b
 abbrev pub output_line : {B : Type 0} → (B → List ℕ) → output_type.Output B → List ℕ
 output_line bytes_of output = output_text (plain_output bytes_of output)
 
--- Where what a writer holds is known, it has grown by this text and by nothing else.
+-- If what a writer holds is known, it has grown by this text and by nothing else.
 abbrev pub Writes : {T : Type 0} → (T → Option (List ℕ)) → T → T → List ℕ → Type 0
 Writes contents old new text = Appends (contents old) (contents new) text

@@ -18,7 +18,7 @@ use Rattle.rb_registry.proofs.Tables.{live_has_none}
 pub count_cons : {T : Type 0} (p : T → Bool) (x : T) (xs : List T) (b : Bool) → p x ≡ b → count_by p (x ∷ xs) ≡ cond b 1 0 + count_by p xs
 count_cons {T} p x xs b is = rw (← is) (sum_by-cons (λ (x : T). cond (p x) 1 0) x xs)
 
--- some pass where the count is not 0
+-- some pass if and only if the count is not 0
 any_counted : {T : Type 0} (p : T → Bool) (xs : List T) → list_any p xs ≡ not (eqb (count_by p xs) 0)
 any_counted p [] = refl
 any_counted {T} p (x ∷ xs) = by_test (p x) refl (any_counted p xs)
@@ -104,7 +104,7 @@ removals-without (e ∷ rest) key slot h dead = by_test (eqb e.0 key) refl (λ f
         rw t (one_more e.1.removed (removals rest) (rw same dead))
     by_test false t further = rw t (both_more e.1.removed (removals (without rest key)) (removals rest) (further (rw t at h)))
 
--- where no row is retained, it drops none
+-- if no row is retained, it drops none
 pub none_dropped : (oldest : Option ℕ) (entries : List (ℕ × Slot)) → length (removals entries) ≡ 0 → entries_left oldest entries ≡ entries
 unfolding is_dropped
 none_dropped oldest [] h = refl

@@ -59,7 +59,7 @@ and_false false = refl
 
 -- ---- one slot
 
--- where it doesn't go, it stays
+-- if it doesn't go, it stays
 pub stays_where : (on : Netid → Bool) (stamp : ℕ) (change : Change) (slot : Slot) → goes_where on change slot ≡ false → mark_where on stamp change slot ≡ slot
 stays_where on stamp change slot stays = rw stays refl
 
@@ -232,7 +232,7 @@ module _ (stamp prog vers : ℕ) (which : Which) (owner : Owner) (netid : Netid)
   other_stays slot differ =
       rw (conjunction (not (eqb slot.row.prog rpcb_prog)) (eqb slot.row.prog prog) (eqb slot.row.vers vers) (is_among slot.row.netid which) (may_remove owner slot.row.owner) (is_netid slot.row.netid netid) differ) (and_false (is_none slot.removed))
 
-  -- nor any where the netid isn't among those that are named
+  -- nor does any if the netid isn't among those that are named
   not_among : is_among netid which ≡ false → (slot : Slot) → goes_where here gone slot ≡ false
   unfolding covers
   not_among none slot = by_test (is_netid slot.row.netid netid) refl
@@ -296,7 +296,7 @@ module _ (stamp prog vers : ℕ) (which : Which) (owner : Owner) (netid : Netid)
         by_tests true s false t keys is further = later (rank_stays e ranked.0 t) keys.1 (rw t at is) further
         by_tests false s c t keys is further = later (stays_where here stamp gone e.1 (dead_where here gone e.1 s)) keys is further
 
-    -- the row of that rank is on the netid, so it goes where it is covered
+    -- the row of that rank is on the netid, so it goes if it is covered
     pub mark_covered_here : (slot : Slot) → slot.row.vers < 2 ^ 32 → is_none slot.removed ≡ true → rank_of slot.row ≡ rank prog netid vers → covers slot.row gone ≡ true
         → mark_where here stamp gone slot ≡ record slot { removed = Some (stamp + 1) }
     mark_covered_here slot ranked live rank_is covered = rw (live, covered, on_netid slot ranked rank_is) refl
@@ -355,7 +355,7 @@ all_named (One Tcp6) = refl
 all_named (One Udp6) = refl
 all_named (One Local) = refl
 
--- one netid more costs as much as one removal, where it is named
+-- one netid more costs as much as one removal, if it is named
 pub one_more_cost : (which : Which) (place few many : ℕ) → place < length netids → few ≤ many
     → count_by (λ n. is_among n which) (take place netids) * removal_cost many + cond (is_among (get_or netids place Tcp) which) (removal_cost few) 0
     ≤ count_by (λ n. is_among n which) (take (place + 1) netids) * removal_cost many

@@ -62,7 +62,7 @@ same_netid Local Tcp6 = refl
 same_netid Local Udp6 = refl
 same_netid Local Local = refl
 
--- three numbers are two by two the same where the sums are
+-- three numbers are two by two the same if and only if the sums are
 same_sums : (p q m n v w : ℕ) → m < 8 → n < 8 → v < 2 ^ 32 → w < 2 ^ 32 → ((eqb p q && eqb m n) && eqb v w) ≡ eqb ((p * 8 + m) * 2 ^ 32 + v) ((q * 8 + n) * 2 ^ 32 + w)
 same_sums p q m n v w a b c d = by_test (eqb ((p * 8 + m) * 2 ^ 32 + v) ((q * 8 + n) * 2 ^ 32 + w)) refl
   where
@@ -87,7 +87,7 @@ same_sums p q m n v w a b c d = by_test (eqb ((p * 8 + m) * 2 ^ 32 + v) ((q * 8 
         rw (eq-eqb p q p_same, eq-eqb m n m_same, eq-eqb v w v_same) refl
     by_test false differ = by_parts (eqb p q) (eqb m n) (eqb v w) refl refl refl differ
 
--- a row is of a program's version on a netid exactly where it has that rank
+-- a row is of a program's version on a netid if and only if it has that rank
 pub same_rank : (prog vers : ℕ) (netid : Netid) (row : Row) → row.vers < 2 ^ 32 → vers < 2 ^ 32 → is_row prog vers netid row ≡ eqb (rank_of row) (rank prog netid vers)
 unfolding is_row is_on rank
 same_rank prog vers netid row a b =
@@ -193,7 +193,7 @@ module _ (n prog : ℕ) (netid : Netid) (entries : List (ℕ × Slot)) (distinct
   pub has_value : (number key : ℕ) → value_at index number ≡ Some key → is_some (value_at entries key) ≡ true
   has_value number key is = valued entries number key (sym (indexed.same number) ∙ is)
 
-  -- the rank of the greatest version is in the index where that of any version is
+  -- the rank of the greatest version is in the index if that of any version is
   greatest_in : (vers : ℕ) → vers < 2 ^ 32 → is_some (value_at index (rank prog netid vers)) ≡ true
       → (vers ≤ greatest (versions prog netid (live_at n entries))) × (is_some (value_at index (rank prog netid (greatest (versions prog netid (live_at n entries))))) ≡ true)
   greatest_in vers small there =
@@ -219,7 +219,7 @@ module _ (n prog : ℕ) (netid : Netid) (entries : List (ℕ × Slot)) (distinct
       upto_last : (k : ℕ) → value_at index (rank prog netid g) ≡ Some k → (e : ℕ × ℕ) × (last_upto (rank prog netid (2 ^ 32 - 1)) index ≡ Some e) × (rank prog netid g ≤ e.0)
       upto_last k is = last_greatest (rank prog netid (2 ^ 32 - 1)) (rank prog netid g) k 0 index rising is (rank_upto prog netid g (2 ^ 32 - 1) (omega (arith, g_small)))
 
-      -- where none is on the netid, there is no greatest version
+      -- if none is on the netid, there is no greatest version
       none_there : ((e : ℕ × ℕ) → last_upto (rank prog netid (2 ^ 32 - 1)) index ≡ Some e → rank prog netid 0 ≤ e.0 → ⊥) → None ≡ find_exact prog g netid (live_at n entries)
       none_there none = ap (row_under entries) (by_value (value_at index (rank prog netid g)) refl) ∙ exact_under g g_small
         where
@@ -354,7 +354,7 @@ IsIndexed-left oldest entries index indexed = record {
             elim (removed_by (Some r) oldest) as (λ b. ranks (cond (not b) (e ∷ left) left) ≡ ranks rest)
             [ true ↦ further | false ↦ rw is further ]
 
--- a row of the key is there where its rank is in the index
+-- a row of the key is there if and only if its rank is in the index
 pub any_indexed : (n : ℕ) (row : Row) (entries : List (ℕ × Slot)) (index : List (ℕ × ℕ)) (found : Bool) → IsIndexed entries index → AreStamped n entries → row.vers < 2 ^ 32
     → found ≡ is_some (value_at index (rank_of row)) → found ≡ list_any (is_of_key row) (live_at n entries)
 any_indexed n row entries index found indexed stamped small is =

@@ -16,7 +16,7 @@ use Rattle.rb_registry.proofs.Tables.{set_before, marked_table_before, trimmed_t
 
 -- ---- any call
 
--- where the tables from the new floor on are the same, cursors go on
+-- if the tables from the new floor on are the same, cursors go on
 goes_on : (old new : Registry) → ((n : ℕ) → new.floor ≤ n → n ≤ old.stamp → table_of new n ≡ table_of old n) → old.stamp ≤ new.stamp → GoesOn old new
 goes_on old new same later = record {
   rows = λ stamp f m. ap (λ (es : List (ℕ × Row)). values_of es) (same stamp f m);
@@ -87,7 +87,7 @@ unfolding removes_some
 removal_made kept change removed left is_any =
     rw (left, ← any_goes kept.stamp change kept.entries, ← is_any) (and_true removed)
 
--- where nothing is covered, the table stays as it is
+-- if nothing is covered, the table stays as it is
 pub unchanged : (stamp : ℕ) (change : Change) (old new : Pool Slot) → new ≡ record { entries = entries_with_marks stamp change old.entries; cap = old.cap; memory = old.memory; tie = old.tie }
     → list_any (goes stamp change) (values_of old.entries) ≡ false → new ≡ old
 unchanged stamp change old new is_marked none_goes = is_marked ∙ rw (none_marked stamp change old.entries none_goes) refl

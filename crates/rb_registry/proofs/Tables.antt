@@ -26,7 +26,7 @@ pub at_once : (added : ℕ) (row : Row) → is_live_at added (slot_of added row)
 unfolding is_live_at
 at_once added row = grind (arith, nat_tests)
 
--- at the last change and later, a slot is live where it has no removal
+-- after the last change, a slot is live exactly if it was then
 stays_past : (stamp n : ℕ) (removed : Option ℕ) → IfSome removed (λ r. r ≤ stamp) → stamp ≤ n → stays_at n removed ≡ stays_at stamp removed
 stays_past stamp n None h le = refl
 stays_past stamp n (Some r) h le = grind (arith, nat_tests, h, le)
@@ -232,7 +232,7 @@ distinct_at n (e ∷ rest) d =
     elim (is_live_at n e.1) as (λ b. HasDistinctKeys (cond b ((e.0, e.1.row) ∷ table_at n rest) (table_at n rest)))
     [ true ↦ (missing_at n e.0 rest d.0, distinct_at n rest d.1) | false ↦ distinct_at n rest d.1 ]
 
--- where a key is in the table at a moment, what was after it then is what is after it now and was live then
+-- a key that is in no entry is counted to by none
 no_count : {T : Type 0} (entries : List (ℕ × T)) (key : ℕ) → value_at entries key ≡ None → count_to entries key ≡ None
 no_count [] key h = refl
 no_count {T} (e ∷ rest) key h = by_test (eqb e.0 key) refl (no_count rest key)
@@ -288,7 +288,7 @@ AreStamped-own key row (e ∷ rest) few h = (h.0, AreStamped-own key row rest fe
 
 -- ---- live and retained rows
 
--- at the last change a slot is live where it has no removal
+-- at the last change a slot is live if and only if it has no removal
 pub live_has_none : (stamp : ℕ) (slot : Slot) → IsStamped stamp slot → is_live_at stamp slot ≡ is_none slot.removed
 unfolding is_live_at
 live_has_none stamp slot h =
@@ -334,7 +334,7 @@ removals_within (e ∷ rest) = by_removed e.1.removed (removals_within rest)
     by_removed None further = omega (arith, further)
     by_removed (Some r) further = omega (arith, further)
 
--- some live row is covered where some slot goes
+-- some live row is covered if and only if some slot goes
 pub any_goes : (stamp : ℕ) (change : Change) (entries : List (ℕ × Slot)) → list_any (goes stamp change) (values_of entries) ≡ list_any (λ row. covers row change) (values_of (table_at stamp entries))
 any_goes stamp change [] = refl
 any_goes stamp change (e ∷ rest) = by_test (is_live_at stamp e.1) (any_goes stamp change rest)
@@ -344,7 +344,7 @@ any_goes stamp change (e ∷ rest) = by_test (is_live_at stamp e.1) (any_goes st
     by_test true further = rw further refl
     by_test false further = further
 
--- where none goes, none is marked
+-- if none goes, none is marked
 pub none_marked : (stamp : ℕ) (change : Change) (entries : List (ℕ × Slot)) → list_any (goes stamp change) (values_of entries) ≡ false → entries_with_marks stamp change entries ≡ entries
 none_marked stamp change [] h = refl
 none_marked stamp change (e ∷ rest) h =

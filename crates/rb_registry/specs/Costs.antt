@@ -26,7 +26,7 @@ count_named (One only) = 1
 abbrev pub unset_cost : Registry → Which → ℕ
 unset_cost kept which = count_named which * set_cost kept
 
--- ---- of a removal, where the index has this many numbers
+-- ---- of a removal, if the index has this many numbers
 
 -- of the row on one netid: two searches, what moves, and 1 for the table
 abbrev pub removal_cost : ℕ → ℕ

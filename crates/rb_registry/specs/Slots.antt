@@ -21,7 +21,7 @@ is_live_at n slot = nat_le slot.added n && stays_at n slot.removed
 abbrev pub slot_of : ℕ → Row → Slot
 slot_of added row = record { row = row; added = added; removed = None }
 
--- removed by that change or one before it, or by any where none is named
+-- removed by that change or one before it, or by any if none is named
 abbrev pub removed_by : Option ℕ → Option ℕ → Bool
 removed_by None oldest = false
 removed_by (Some removed) None = true
@@ -33,7 +33,7 @@ is_dropped oldest slot = removed_by slot.removed oldest
 
 -- ---- those of a list of changes
 
--- the number of the first of these changes that covers the row, where this many came before them
+-- the number of the first of these changes that covers the row, if this many came before them
 abbrev pub removal_of : ℕ → Row → List Change → Option ℕ
 removal_of count row [] = None
 removal_of count row (change ∷ later) =

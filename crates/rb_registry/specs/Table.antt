@@ -33,7 +33,7 @@ abbrev pub AreStamped : ℕ → List (ℕ × Slot) → Type 0
 AreStamped stamp [] = Unit {0}
 AreStamped stamp (e ∷ rest) = IsStamped stamp e.1 × AreStamped stamp rest
 
--- What is true of a registry between two calls, where it counts this many bytes as held, and this many rows as retained.
+-- What is true of a registry between two calls, if it counts this many bytes as held, and this many rows as retained.
 pub record IsTable (stamp floor limit held retained : ℕ) (entries : List (ℕ × Slot)) (tie : ℕ) (index : Ordered) : Type 0 where
   pub distinct : HasDistinctKeys entries
   pub stamped : AreStamped stamp entries
@@ -56,7 +56,7 @@ IsFoundAmong entries find found = (stamp : ℕ) → AreStamped stamp entries →
 abbrev pub goes : ℕ → Change → Slot → Bool
 goes stamp change slot = is_live_at stamp slot && covers slot.row change
 
--- a slot after the next change, which removes its row where it covers it
+-- a slot after the next change, which removes its row if that is live and it covers it
 abbrev pub with_mark : ℕ → Change → Slot → Slot
 with_mark stamp change slot = if goes stamp change slot then record slot { removed = Some (stamp + 1) } else slot
 
@@ -93,7 +93,7 @@ abbrev pub lesser_of : Option ℕ → ℕ → ℕ
 lesser_of None number = number
 lesser_of (Some least) number = min least number
 
--- the least of these numbers, 0 where there is none
+-- the least of these numbers, or 0 if there is none
 abbrev pub least_of : List ℕ → ℕ
 least_of numbers = unwrap_or (fold (λ least number. Some (lesser_of least number)) None numbers) 0
 
@@ -102,7 +102,7 @@ pub record IsLeast (numbers : List ℕ) (least : ℕ) : Type 0 where
   pub one : (numbers ≡ [] → ⊥) → Contains numbers least
   pub all : All (λ number. least ≤ number) numbers
 
--- of changes that removed rows, those after that one, none where none is named
+-- of changes that removed rows, those after that one, or none if none is named
 -- RETAIN-1 RETAIN-3
 abbrev pub later_than : Option ℕ → List ℕ → List ℕ
 later_than oldest numbers = filter (λ number. not (removed_by (Some number) oldest)) numbers
@@ -115,7 +115,7 @@ abbrev pub takes : Registry → Row → Bool
 takes kept row =
     has_place kept.limit (rows_of kept) kept.stamp row && nat_lt (length (rows_of kept) + retained_count kept) kept.limit
 
--- the stamp that a trim names, where None or one to come counts as the present one
+-- the stamp that a trim names, for which None or one still to come counts as the present one
 -- RETAIN-2
 abbrev pub stamp_named : Registry → Option ℕ → ℕ
 stamp_named kept oldest = min (unwrap_or oldest kept.stamp) kept.stamp
@@ -124,7 +124,7 @@ stamp_named kept oldest = min (unwrap_or oldest kept.stamp) kept.stamp
 abbrev pub floor_raised : Registry → Option ℕ → ℕ
 floor_raised kept oldest = max kept.floor (stamp_named kept oldest)
 
--- Whatever changes a registry stood for, it now stands for those and, where it was accepted, for this one.
+-- Whatever changes a registry stood for, it now stands for those and, if it was accepted, for this one.
 abbrev pub StandsForMore : Registry → Registry → Bool → Change → Type 0
 StandsForMore old new accepted change = (own : List Row) (changes : List Change) → StandsForChanges old own changes
     → StandsForChanges new own (if accepted then changes ++ change ∷ [] else changes)

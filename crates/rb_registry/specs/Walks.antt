@@ -21,7 +21,7 @@ pub record Gives (kept : Registry) (stamp : ℕ) (cursor next : Option ℕ) (row
   pub place : StandsIn kept stamp next
   pub passed : PassesOne kept stamp cursor next
 
--- A walk goes on from each of its steps while the floor isn't above its stamp, and ends where there is no row.
+-- A walk goes on from each of its steps while the floor isn't above its stamp, and ends when there is no row.
 abbrev pub IsWalk : ℕ → Registry → Option ℕ → List WalkStep → Type 0
 IsWalk stamp kept cursor [] = IsAtEnd kept stamp cursor
 IsWalk stamp kept cursor (Given next row ∷ later) = Gives kept stamp cursor next row × IsWalk stamp kept next later

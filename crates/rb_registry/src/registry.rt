@@ -99,7 +99,7 @@ impl Registry {
     /// A registry of these rows, with room for `cap` rows in all, for calls that this meter counts.
     ///
     /// The own rows are of the portmapper's program, so nobody removes them, and no two are of one version and netid.
-    /// `BadLimits` where they are more than `cap`, else `NoMemory` where the memory for `cap` rows is refused. It costs
+    /// `BadLimits` if they are more than `cap`, else `NoMemory` if the memory for `cap` rows is refused. It costs
     /// at most 18 steps for each own row.
     pub fn new(
         alloc: Global,
@@ -194,7 +194,7 @@ impl Registry {
     }
 
     /// Removes the rows of the program's version on these netids that a caller of this owner may
-    /// remove (RFC 1833 section 2.2.1, RPCBPROC_UNSET), and answers whether there was one. Where
+    /// remove (RFC 1833 section 2.2.1, RPCBPROC_UNSET), and answers whether there was one. If
     /// 2^64 - 1 changes were accepted, none is removed. Removed rows are retained until `trim` drops them. It costs as
     /// much as a SET for each netid that is named.
     pub fn unset(
@@ -241,7 +241,7 @@ impl Registry {
     }
 
     /// The live row of exactly this version, else that of the greatest version that the program has on the netid, or
-    /// `None` where it has none there (RFC 1833 sections 2.2.1, RPCBPROC_GETADDR, and 3.2, PMAPPROC_GETPORT). It costs two
+    /// `None` if it has none there (RFC 1833 sections 2.2.1, RPCBPROC_GETADDR, and 3.2, PMAPPROC_GETPORT). It costs two
     /// searches in the index at most, and 1.
     pub fn find(&self, prog: u32, vers: u32, netid: Netid, meter: &mut Meter) -> Option<&Row>
         requires { meter.old.tie ≡ self.now.tie }
@@ -251,7 +251,7 @@ impl Registry {
         find_row(&self.slots, &self.index, prog, vers, netid, meter)
     }
 
-    /// The live row of exactly this version of the program on the netid, or `None` where there is none (RFC 1833
+    /// The live row of exactly this version of the program on the netid, or `None` if there is none (RFC 1833
     /// section 2.2.2, RPCBPROC_GETVERSADDR). It costs a search in the index, and 1.
     pub fn find_exact(&self, prog: u32, vers: u32, netid: Netid, meter: &mut Meter) -> Option<&Row>
         requires { meter.old.tie ≡ self.now.tie }
@@ -289,8 +289,8 @@ impl Registry {
         self.changes
     }
 
-    /// How many removed rows are retained, and the number of the earliest change that removed one of them, or 0 where
-    /// there is none. It costs at most 2 steps for each row and 1, and nothing where no row is retained.
+    /// How many removed rows are retained, and the number of the earliest change that removed one of them, or 0 if
+    /// there is none. It costs at most 2 steps for each row and 1, and nothing if no row is retained.
     pub fn retained_since(&self, meter: &mut Meter) -> (usize, u64)
         requires { meter.old.tie ≡ self.now.tie }
         ensures count { result.0 ≡ retained_count self.now }
@@ -305,9 +305,9 @@ impl Registry {
     }
 
     /// Drops the retained rows that were removed by the change of number `oldest` or an earlier one; all of them
-    /// where it is `None`. It costs at most 3 steps for each row and 1, and nothing where no row is retained.
+    /// if it is `None`. It costs at most 3 steps for each row and 1, and nothing if no row is retained.
     ///
-    /// The floor is the least stamp for which rows can be listed. It rises to `oldest`, or to the present stamp where
+    /// The floor is the least stamp for which rows can be listed. It rises to `oldest`, or to the present stamp if
     /// that is less or `oldest` is `None`, and never falls.
     pub fn trim(&mut self, oldest: Option<u64>, meter: &mut Meter)
         requires { meter.old.tie ≡ self.old.tie }

@@ -49,7 +49,7 @@ impl Slot {
     }
 
     /// Whether `trim` drops the row: it was removed by the change of number `oldest` or an earlier one, or by any
-    /// where `oldest` is `None`.
+    /// if `oldest` is `None`.
     #[tactic(auto, unfolding(crate::specs::Slots::is_dropped))]
     pub(crate) fn is_dropped(&self, oldest: Option<u64>) -> bool
         ensures { result ≡ is_dropped oldest self.now }

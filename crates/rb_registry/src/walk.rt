@@ -179,8 +179,8 @@ pub(crate) struct Dropped {
     pub(crate) bytes: u64,
 }
 
-/// Drops the rows that were removed by the change of number `oldest` or an earlier one, or all removed rows where it
-/// is `None`. `retained` is how many removed rows there are; where it is 0, no row is looked at.
+/// Drops the rows that were removed by the change of number `oldest` or an earlier one, or all removed rows if it
+/// is `None`. `retained` is how many removed rows there are; if it is 0, no row is looked at.
 pub(crate) fn drop_retained(
     slots: &mut Pool<Slot>,
     retained: usize,
@@ -217,7 +217,7 @@ pub(crate) fn drop_retained(
     Dropped { rows, bytes }
 }
 
-/// The least change that removed a row which is still there, 0 where there is none.
+/// The least change that removed a row which is still there, or 0 if there is none.
 pub(crate) fn least_removal(slots: &Pool<Slot>, meter: &mut Meter) -> u64
     requires tie { meter.old.tie ≡ slots.now.tie }
     ensures least { result ≡ least_of (removals slots.now.entries) }

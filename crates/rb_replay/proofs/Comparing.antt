@@ -50,7 +50,7 @@ first_other text outputs n i number next line at is agree other = record {
   differ = λ front. other (subst (λ (xs : List (List ℕ)). IsFrontOf (xs ++ output_line_in line) (output_lines outputs)) agree front);
 }
 
--- where no output is left
+-- if no output is left
 pub none_left : (all : List (List ℕ)) (next : ℕ) (line : List ℕ) → length all ≤ next → IsFrontOf (take next all ++ line ∷ []) all → ⊥
 none_left all next line le front =
     let same : all ≡ (take next all ++ line ∷ []) ++ front.0 = front.1 in
@@ -59,7 +59,7 @@ none_left all next line le front =
     append_cancel_left all [] (line ∷ front.0) (append-nil all ∙ same ∙ ap (λ (xs : List (List ℕ)). (xs ++ line ∷ []) ++ front.0) whole ∙ append_assoc all (line ∷ []) front.0) in
     absurd cc
 
--- where the next output is another
+-- if the next output is another
 pub other_next : (all : List (List ℕ)) (next : ℕ) (line there : List ℕ) → next < length all → there ≡ get_or all next there → (there ≡ line → ⊥) → IsFrontOf (take next all ++ line ∷ []) all → ⊥
 other_next all next line there lt is other front =
     let rest : drop next all ≡ line ∷ front.0 =
@@ -67,7 +67,7 @@ other_next all next line there lt is other front =
     let first : there ∷ drop (next + 1) all ≡ line ∷ front.0 = ap (λ (t : List ℕ). t ∷ drop (next + 1) all) is ∙ sym (drop_more all next there lt) ∙ rest in
     other (ap (λ (xs : List (List ℕ)). get_or xs 0 line) first)
 
--- where it is the same, the line goes on to it
+-- if it is the same, the line goes on to it
 pub same_next : (all : List (List ℕ)) (next : ℕ) (line : List ℕ) → next < length all → line ≡ get_or all next line → take (next + 1) all ≡ take next all ++ line ∷ []
 same_next all next line lt is = take_more all next line lt ∙ ap (λ (t : List ℕ). take next all ++ t ∷ []) (sym is)
 
@@ -83,7 +83,7 @@ whole_where_read beginning input text P is h = elim (cases_lt longest_input (len
 
 -- ---- a text whose last line is cut off
 
--- a line feed, another byte and the start of the text, seen from behind
+-- a line feed, another byte and the start of the text, seen from the end
 pub at_feed : (text : List ℕ) (n len : ℕ) → len ≡ suc n → slice_index text n ≡ 10 → len ≡ whole_len text len
 unfolding whole_len
 at_feed text n len is feed = rw is (rw feed refl)
@@ -157,7 +157,7 @@ agrees_with text outputs true a = (([], sym (append-nil (output_lines_in text) �
 pub lacking_with : (text : List ℕ) (outputs : List Output) (n : ℕ) → IsLacking text outputs n → AgreesWith text true (n - 1) outputs
 lacking_with text outputs n l = (l.agree, omega (arith, l.number), omega (arith, l.some))
 
--- a text that ends in a line feed is a line and its end exactly where what stands before is the line
+-- a text that ends in a line feed is a line and its end exactly if what stands before is the line
 pub ended_is : (text line : List ℕ) (front : Bor (List ℕ)) (same : Bool) → (pointwise nat_eq (drop (length text - length (codes "\n")) text) (codes "\n") ≡ true) × (front.now ≡ take (length text - length (codes "\n")) text) × (length front.now + length (codes "\n") ≡ length text) → Decides same (front.now ≡ line) → Decides same (text ≡ line ++ codes "\n")
 ended_is text line front same is decides =
     let whole : text ≡ front.now ++ codes "\n" = strip_suffix_is Decides-eqb text (codes "\n") (Some front) is in
@@ -186,7 +186,7 @@ pub same_output : (outputs : List OwnedOutput) (next : ℕ) (line said : List �
 same_output outputs next line said there is lt at same =
     rw (← is) (same_next (output_lines (outputs_of outputs)) next said (omega (arith, printed_length outputs, lt)) (rw (← same) (printed_at outputs next there at)))
 
--- where the lines of this many outputs were found, and no more lines are there
+-- if the lines of this many outputs were found, and no more lines are there
 pub all_found : (text : List ℕ) (outputs : List OwnedOutput) (n next : ℕ) → length (lines_of text) ≤ n → flat_map output_line_in (take n (lines_of text)) ≡ take next (output_lines (outputs_of outputs)) → output_lines_in text ≡ take next (output_lines (outputs_of outputs))
 unfolding output_lines_in
 all_found text outputs n next le agree = ap (flat_map output_line_in) (sym (take_all n (lines_of text) le)) ∙ agree

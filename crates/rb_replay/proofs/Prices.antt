@@ -34,7 +34,7 @@ sizes_held old new s t h k same = record {
   change = omega (arith, looks_held old s h, rows_held old s h);
 }
 
--- where the rows stay
+-- if the rows stay
 pub sizes_stay : (held : CoreView) (s : State) → StandsFor held s → AreWithin (sizes_of held held) (sizes_in s)
 sizes_stay held s h = sizes_held held held s s h h refl
 

@@ -58,7 +58,7 @@ run-length : (s : State) (events : List Event) → length (run s events) ≡ len
 run-length s [] = refl
 run-length s (x ∷ xs) = ap (λ (n : ℕ). suc n) (run-length (step s x).1 xs)
 
--- where the first i events have happened, theirs are the outputs that were appended
+-- if the first i events have happened, theirs are the outputs that were appended
 pub answered_are : (s : State) (events : List OwnedEvent) (i : ℕ) → i ≤ length events → (before now : List OwnedOutput) (core : CoreView)
     → Happened s (take i (events_of events)) (outputs_of before) (outputs_of now) core → answered_events events before now ≡ take i (events_of events)
 answered_are s events i within before now core h =
@@ -68,7 +68,7 @@ answered_are s events i within before now core h =
     run-length s (take i (events_of events)) ∙ length-take i (events_of events) ∙ omega (arith, within, length-map events event_of) in
     ap (λ (n : ℕ). take n (events_of events)) (omega (arith, all, ran, length-map now output_of, length-map before output_of))
 
--- where all of them have happened, all outputs were appended
+-- if all of them have happened, all outputs were appended
 pub all_answered : (s : State) (events : List OwnedEvent) (before now : List OwnedOutput) (core : CoreView)
     → Happened s (events_of events) (outputs_of before) (outputs_of now) core → answered_events events before now ≡ events_of events
 all_answered s events before now core h =

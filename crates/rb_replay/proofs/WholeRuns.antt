@@ -53,7 +53,7 @@ paid_within_whole core s events a b h reached good pays =
 
 -- ---- what is told of a run
 
--- the buffers are empty where no connection is there
+-- the buffers are empty if no connection is there
 pub no_buffer_bytes : (core : CoreView) (s : State) → StandsFor core s → s.connections.all ≡ [] → buffer_bytes core ≡ 0
 no_buffer_bytes core s h none = by_slots (values_of core.connections.slots) s.connections.all h.connections.all none
   where

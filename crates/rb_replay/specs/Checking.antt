@@ -54,7 +54,7 @@ pub record Agrees (text : List ℕ) (outputs : List Output) : Type 0 where
   pub same : output_lines_in text ≡ output_lines outputs
   pub some : 0 < length outputs
 
--- The text has output lines, this many. They are those of the outputs, or where its last line was cut off, those of the
+-- The text has output lines, this many. They are those of the outputs, or, if its last line was cut off, those of the
 -- first outputs.
 -- CHECK-3
 abbrev pub AgreesWith : List ℕ → Bool → ℕ → List Output → Type 0
@@ -85,13 +85,13 @@ whole_lines text = if nat_lt longest_input (length text) then text else take (wh
 abbrev pub is_cut : List ℕ → Bool
 is_cut text = nat_lt (length (whole_lines text)) (length text)
 
--- what is checked of the bytes that a reader has left, where they are known
+-- what is checked of the bytes that a reader has left, if they are known
 abbrev pub whole_input : {R : Type 0} → (R → Option (List ℕ)) → R → Option (List ℕ)
 whole_input remaining reader = option_map whole_lines (remaining reader)
 
 -- ---- the command
 
--- the line that says that this many agree, and where it is so, that the input is cut off
+-- the line that says that this many agree, and, if it is so, that the input is cut off
 -- CHECK-3
 abbrev pub agreement : Agreement → List ℕ
 agreement a =
@@ -107,7 +107,7 @@ OfRun beginning Holds (Err fault) = ⊥
 abbrev pub HasAgreed : Beginning → Agreement → List ℕ → Type 0
 HasAgreed beginning a input = OfRun beginning (AgreesWith (whole_lines input) a.is_cut a.count) (read (whole_lines input))
 
--- Where the bytes that a reader has left are known, so they agree, and it is said whether they are cut off.
+-- If the bytes that a reader has left are known, they agree in this way, and it is said whether they are cut off.
 abbrev pub IsAgreed : {R : Type 0} → Beginning → (R → Option (List ℕ)) → R → Agreement → Type 0
 IsAgreed beginning remaining reader a =
     IfSome (remaining reader) (λ input. (a.is_cut ≡ is_cut input) × HasAgreed beginning a input)
@@ -143,7 +143,7 @@ IsWrongInput beginning input ReadFailed = Unit {0}
 IsWrongInput beginning input WriteFailed = Unit {0}
 IsWrongInput beginning input fault = IsWrongWith beginning input fault
 
--- Where the bytes that a reader has left are known, the fault is what is wrong with them.
+-- If the bytes that a reader has left are known, the fault is what is wrong with them.
 abbrev pub IsWhy : {R : Type 0} → Beginning → (R → Option (List ℕ)) → R → Fault → Type 0
 IsWhy beginning remaining reader fault =
     IfSome (remaining reader) (λ input. IsWrongInput beginning input fault)
@@ -168,7 +168,7 @@ output_line_of (Some text) = (text.now ++ codes "\n") ∷ []
 abbrev pub lines_of_outputs : List OwnedOutput → List (List ℕ)
 lines_of_outputs outputs = output_lines (outputs_of outputs)
 
--- what is said once all output lines of a text agreed: they are `found`, where the run has `count` outputs
+-- what is said once all output lines of a text agreed: there are `found` of them, and the run has `count` outputs
 abbrev pub IsEnd : ℕ → ℕ → Fault → Type 0
 IsEnd found count NoOutputs = found ≡ 0
 IsEnd found count (Lacks n) = (n ≡ found + 1) × (found < count) × (0 < found)

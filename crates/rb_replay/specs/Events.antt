@@ -18,6 +18,6 @@ pub record HasHappened (event : Event) (old new : Metered) (given : OwnedOutput)
   pub step : (s : State) → StandsFor old.core s → Happens s event given new.core
   pub cost : (s : State) → StandsFor old.core s → PaysAtMost old.meter new.meter (event_cost s event)
 
--- Where there is a result, the event has happened and gave it.
+-- If there is a result, the event has happened and gave it.
 abbrev pub MayHappen : Event → Metered → Metered → Result OwnedOutput NoMemory → Type 0
 MayHappen event old new result = IfOk result (λ given. HasHappened event old new given)

@@ -58,7 +58,7 @@ IsCoreFault beginning BadLimits = IsTrue (not (are_good beginning.limits beginni
 IsCoreFault beginning NoMemory = IsTrue (are_good beginning.limits beginning.listener)
 IsCoreFault beginning other = ⊥
 
--- How a replay of a text that reads as this may fail: by what is wrong with the text, and where nothing is, by limits
+-- How a replay of a text that reads as this may fail: by what is wrong with the text, and if nothing is, by limits
 -- out of their ranges, by want of memory or by the writer.
 -- REPLAY-2
 abbrev pub IsReplayFault : Beginning → Fault → Result (List Event) ReadFault → Type 0
@@ -78,7 +78,7 @@ abbrev pub BufWrites : {W A : Type 0} → (W → Option (List ℕ)) → BufWrite
     → List ℕ → Type 0
 BufWrites contents old new text = Writes (writer_contents contents) old new text
 
--- how many steps the run of these events may take, or 2^128 - 1 where they are more
+-- how many steps the run of these events may take, or 2^128 - 1 if they are more
 -- STEPS-6
 abbrev pub bound_of : Beginning → List Event → ℕ
 bound_of beginning events = bound_shown beginning.limits events (run (first_state beginning) events)
@@ -122,8 +122,8 @@ pub record AreCounted (beginning : Beginning) (taken : ℕ) (old now : Meter) : 
   pub begins : BeginsFrom beginning old begun
   pub rise : taken ≡ count_shown now - count_shown begun
 
--- The printed outputs of the run of these events were written, and where it is asked for, how many steps the meter counted of
--- the run, which are no more than they may be; and nothing else.
+-- The printed outputs of the run of these events were written, and, if it is asked for, how many steps the meter
+-- counted of the run, which are no more than they may be; and nothing else.
 -- REPLAY-3
 abbrev pub PrintsRun : {W A : Type 0} → Beginning → Meter → Meter → (W → Option (List ℕ))
     → BufWriter W A → BufWriter W A → Result (List Event) ReadFault → Type 0
@@ -132,12 +132,12 @@ PrintsRun beginning before now contents old new (Ok events) =
     × BufWrites contents old new (report_of (run (first_state beginning) events) ++ steps_line_if beginning.steps taken (bound_of beginning events))
 PrintsRun beginning before now contents old new (Err fault) = ⊥
 
--- Where the bytes that a reader has left are known, this holds of what they read as.
+-- If the bytes that a reader has left are known, this holds of what they read as.
 abbrev pub Reads : {R : Type 0} → (R → Option (List ℕ)) → R
     → (Result (List Event) ReadFault → Type 0) → Type 0
 Reads remaining reader Holds = IfSome (remaining reader) (λ input. Holds (read input))
 
--- Where they are known, what `PrintsRun` says of what they read as was written.
+-- If they are known, what `PrintsRun` says of what they read as was written.
 abbrev pub Replays : {R W A : Type 0} → Beginning → Meter → Meter → (R → Option (List ℕ)) → R
     → (W → Option (List ℕ)) → BufWriter W A → BufWriter W A → Type 0
 Replays beginning before now remaining reader contents old new =

@@ -58,7 +58,7 @@ fn is_printed_as(output: &Output, line: &[u8], shown: &mut Vec<u8>) -> Result<bo
     }
 }
 
-/// Compares the line of this number with the next output, where it is an output line.
+/// Compares the line of this number with the next output, if it is an output line.
 fn compare_line(
     outputs: &[Output],
     next: &mut usize,
@@ -84,7 +84,7 @@ fn compare_line(
     Ok(())
 }
 
-/// What is said once all output lines of a text agreed: they are `found`, where the run has `count` outputs.
+/// What is said once all output lines of a text agreed: there are `found` of them, and the run has `count` outputs.
 fn end_of(found: usize, count: usize) -> Result<(), Fault>
     ensures ok { OnOk result ((count ≤ found) × (0 < found)) }
     ensures err { IfErr result (IsEnd found count) }
@@ -114,9 +114,9 @@ fn compare(alloc: Global, text: &[u8], outputs: &[Output]) -> Result<(), Fault>
 }
 
 /// Runs the events of a text, and compares what they give with the output lines of the text. The answer is how many
-/// outputs there are, all of which agree. `NoOutputs` where the text has no output lines, `Differs` with the number
+/// outputs there are, all of which agree. `NoOutputs` if the text has no output lines, `Differs` with the number
 /// of the first line that says another output than the run gives there, and `Lacks` with the number of the first
-/// output for which the text has no line, each counted from 1; `Lines` and `BadLimits` as where it is replayed.
+/// output for which the text has no line, each counted from 1; `Lines` and `BadLimits` as when it is replayed.
 pub fn check_text(alloc: Global, beginning: &Beginning, text: &[u8]) -> Result<usize, Fault>
     ensures ok { IfOk result
         (λ n. OfRun beginning.now (AgreesWith text.now false n) (read text.now)) }
@@ -126,7 +126,7 @@ pub fn check_text(alloc: Global, beginning: &Beginning, text: &[u8]) -> Result<u
     check_lines(alloc, beginning, text, false)
 }
 
-/// Checks a text, of which a last line was cut off or was not: where it was, outputs may have no lines.
+/// Checks a text, of which a last line was cut off or was not: if it was, outputs may have no lines.
 fn check_lines(
     alloc: Global,
     beginning: &Beginning,

@@ -1,4 +1,4 @@
-//! Single events: a call on a core, with the look at its reply where there is one.
+//! Single events: a call on a core, with the look at its reply if there is one.
 ghost use Rattle.std.specs.Prelude.{◌≡◌, ◌≤◌, ◌+◌, [], length, vec_capacity, OnErr};
 ghost use Rattle.rb_model.specs.Calls.{longest_reply};
 ghost use Rattle.rb_model.specs.Step.{show_taken, show_told, pending, is_too_much};
@@ -168,7 +168,7 @@ fn sent(core: &mut Metered, number: u64) -> Output
     }
 }
 
-/// The output of an event that ended a forwarded call, with the reply over UDP where there is one.
+/// The output of an event that ended a forwarded call, with the reply over UDP if there is one.
 #[tactic(auto, unfolding(rb_model::specs::Calls::longest_reply))]
 fn show_told(core: &mut Metered, told: Told, mut reply: Vec<u8>) -> Output
     requires short { length core.old.core.reply ≤ longest_reply }
@@ -232,7 +232,7 @@ fn zero_stats(core: &mut Metered) -> Output
     Output::Done
 }
 
-/// Does one event; `NoMemory`, and nothing is done, where the allocation for its output is refused.
+/// Does one event; `NoMemory`, and nothing is done, if the allocation for its output is refused.
 pub(crate) fn happen(alloc: Global, core: &mut Metered, event: &Event) -> Result<Output, NoMemory>
     ensures ok { MayHappen (event_of event.now) core.old core.new result }
     ensures err { OnErr result (core.new ≡ core.old) }

@@ -9,7 +9,7 @@ use rb_model::{Event, Output};
 use rb_xdr::NoMemory;
 use std::alloc::Global;
 
-/// Does the events, one after another, and appends the output of each. `NoMemory` where an allocation for an output
+/// Does the events, one after another, and appends the output of each. `NoMemory` if an allocation for an output
 /// is refused: then those events were done whose outputs were appended, and no other.
 pub fn replay(
     alloc: Global,

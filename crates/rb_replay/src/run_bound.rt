@@ -42,7 +42,7 @@ fn bytes_reported(event: &Event, output: &Output) -> u64
     }
 }
 
-/// How many steps one event may take at these limits, besides those for its bytes.
+/// How many steps one event may take at these limits, apart from those for its bytes.
 fn event_allowance(limits: &Limits) -> u128
     ensures { result ≡ event_allowance limits.now }
 {
@@ -55,9 +55,9 @@ fn event_allowance(limits: &Limits) -> u128
     64 * places + 4096
 }
 
-/// The most steps that a run takes at these limits, where these events had these outputs and the connections' buffers were
-/// empty as it began: 16 for each byte that was taken or given, and for each event 64 for each connection, row, key of the
-/// statistics and forwarded call that there may be, and 4,096. Where that is more than 2^128 - 1, it is 2^128 - 1.
+/// The most steps that a run takes at these limits, if these events had these outputs and the connections' buffers were
+/// empty as it began: 16 for each byte that was taken or given, and for each event 64 for each connection, row, key of
+/// the statistics and forwarded call that there may be, and 4,096. If that is more than 2^128 - 1, it is 2^128 - 1.
 pub fn whole_bound(limits: &Limits, events: &[Event], outputs: &[Output]) -> u128
     ensures { result
         ≡ bound_shown limits.now (events_of events.now) (outputs_of outputs.now) }

@@ -138,7 +138,7 @@ pub(crate) fn run_from(
     Ok(ran)
 }
 
-/// Writes what a run is printed as, to the last byte, and its steps where that is asked for.
+/// Writes what a run is printed as, to the last byte, and its steps if that is asked for.
 fn put_ran<W: Write + Drop>(
     ran: &Ran,
     shows_steps: bool,
@@ -210,7 +210,7 @@ fn replay_all<R: Read, W: Write + Drop>(
 /// lines, and nothing was run or written, whatever the limits are. 1 says that the limits are out of their ranges, or
 /// that reading, writing or memory failed. What is wrong is written to `faults`; at 0 nothing is.
 ///
-/// The meter counts the steps of the run, from where it stands; where the run fails, it may count none of them.
+/// The meter counts the steps of the run, from where it stands; if the run fails, it may count none of them.
 pub fn run_replay<R: Read, W: Write + Drop, E: Write>(
     alloc: Global,
     beginning: &Beginning,

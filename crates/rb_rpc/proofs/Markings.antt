@@ -41,7 +41,7 @@ record_step k f rest small =
     by_tests (is_cut bytes) (is_last bytes) f.last None (Some (fragment_end bytes)) (option_map (λ n. fragment_end bytes + n) (record_of k (drop (fragment_end bytes) bytes))) uncut last_is
     ∙ rw (end_is, drop_at (marking f) rest (length (marking f)) refl) refl
 
--- the fuel is enough where it is at least the number of fragments
+-- the fuel is enough if it is at least the number of fragments
 record_walk : (k : ℕ) (fragments : List Fragment) (rest : List ℕ) → is_empty fragments ≡ false → AreFragments fragments → length fragments ≤ k
     → record_of k (markings fragments ++ rest) ≡ Some (length (markings fragments))
 record_walk k [] rest some are enough = absurd cc
@@ -247,7 +247,7 @@ first_is_least bytes are n = (
 no_some : (n : ℕ) → Some n ≡ None → ⊥
 no_some n e = cc
 
--- where the first record isn't there, none is
+-- if the first record isn't there, none is
 pub has_none : (bytes : List ℕ) → first_record bytes ≡ None → HasNoRecord bytes
 has_none bytes e n content within is = no_some n (sym (whole_again n bytes content within is) ∙ e)
 

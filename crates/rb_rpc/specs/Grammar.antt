@@ -121,7 +121,7 @@ pub record HasAuths (xid flavor : ℕ) (body bytes : List ℕ) : Type 0 where
   pub verifier_fits : IsAuth verifier_flavor verifier_body
   pub words : BeginsWithWords xid (auth flavor body ++ (auth verifier_flavor verifier_body ++ rest)) bytes
 
--- these, where the flavor is neither AUTH_NONE nor AUTH_SYS
+-- these, with a flavor that is neither AUTH_NONE nor AUTH_SYS
 -- CRED-3
 pub record HasOtherFlavor (xid : ℕ) (bytes : List ℕ) : Type 0 where
   pub flavor : ℕ
@@ -129,7 +129,7 @@ pub record HasOtherFlavor (xid : ℕ) (bytes : List ℕ) : Type 0 where
   pub auths : HasAuths xid flavor body bytes
   pub other : 1 < flavor
 
--- these, where the flavor is AUTH_SYS, and the body begins with no fields of AUTH_SYS
+-- these, with the flavor AUTH_SYS, and a body that begins with no fields of AUTH_SYS
 -- CRED-4
 pub record HasUnreadableBody (xid : ℕ) (bytes : List ℕ) : Type 0 where
   pub body : List ℕ
@@ -174,7 +174,7 @@ IsReplyStatus ProcUnavail = ⊤
 IsReplyStatus GarbageArgs = ⊤
 IsReplyStatus SystemErr = ⊤
 
--- The bytes begin with a reply that says this, with any verifier where it has one, and it ends at the place.
+-- The bytes begin with a reply that says this, with any verifier if it has one, and it ends at the place.
 -- REPLY-2
 pub record BeginsWithReply (xid : ℕ) (status : ReplyStatus) (place : ℕ) (bytes : List ℕ) : Type 0 where
   pub flavor : ℕ

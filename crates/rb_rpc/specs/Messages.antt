@@ -46,7 +46,7 @@ body_of_sys = do
   gids ← read_array max_gids
   give (record { stamp = stamp; machine = machine; uid = uid; gid = gid; gids = gids })
 
--- the uid that a body says, where it can be read; what follows its fields counts for nothing
+-- the uid that a body says, if it can be read; what follows its fields counts for nothing
 abbrev pub uid_of : Reading SysBody → Option ℕ
 uid_of (Ok read) = Some read.0.uid
 uid_of (Err fault) = None

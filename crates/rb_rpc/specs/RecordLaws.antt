@@ -10,7 +10,7 @@ abbrev pub is_empty : {A : Type 0} → List A → Bool
 is_empty [] = true
 is_empty (x ∷ xs) = false
 
--- a fragment has the flag exactly where none follows it
+-- a fragment has the flag exactly if none follows it
 abbrev pub AreFragments : List Fragment → Type 0
 AreFragments [] = ⊤
 AreFragments (f ∷ more) = (length f.content < 2 ^ 31) × (f.last ≡ is_empty more) × AreFragments more
@@ -60,7 +60,7 @@ NoRecordBeginsAnother = (bytes more one other : List ℕ) → IsMarked bytes one
 abbrev pub RecordsStay : Type 0
 RecordsStay = (bytes more : List ℕ) (n : ℕ) → first_record bytes ≡ Some n → first_record (bytes ++ more) ≡ Some n
 
--- Where none ends in the bytes, the first of more bytes is longer than they are.
+-- If none ends in the bytes, the first of more bytes is longer than they are.
 abbrev pub RecordsEndLater : Type 0
 RecordsEndLater = (bytes more : List ℕ) (n : ℕ) → first_record bytes ≡ None → first_record (bytes ++ more) ≡ Some n → length bytes < n
 

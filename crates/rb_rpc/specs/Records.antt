@@ -49,7 +49,7 @@ record_of (suc k) bytes =
 unfoldable pub first_record : List ℕ → Option ℕ
 first_record bytes = record_of (length bytes) bytes
 
--- the data of the first record, where that is one fragment and whole
+-- the data of the first record, if that is one fragment and whole
 -- RECORD-5
 abbrev pub one_fragment : List ℕ → Option (List ℕ)
 one_fragment bytes =

@@ -14,7 +14,7 @@ accepted_reply xid verifier stat = number xid ++ number 1 ++ number 0 ++ verifie
 abbrev pub rejected_reply : ℕ → ℕ → List ℕ
 rejected_reply xid stat = number xid ++ number 1 ++ number 1 ++ number stat
 
--- with this verifier, where the reply has one
+-- with this verifier, if the reply has one
 abbrev pub reply_with : List ℕ → ℕ → ReplyStatus → List ℕ
 reply_with verifier xid Success = accepted_reply xid verifier 0
 reply_with verifier xid ProgUnavail = accepted_reply xid verifier 1

@@ -55,7 +55,7 @@ credential_body bytes = take (body_length credential_at bytes) (drop (body_at cr
 unfoldable pub sys_uid : List ℕ → Option ℕ
 sys_uid bytes = uid_of (body_of_sys (credential_body bytes))
 
--- AUTH_NONE, or AUTH_SYS where it could be read
+-- AUTH_NONE, or AUTH_SYS if it could be read
 abbrev pub caller_of : Option ℕ → Credential
 caller_of (Some uid) = credentials.Sys uid
 caller_of None = credentials.None

@@ -65,7 +65,7 @@ impl AuthStat {
         self as u32
     }
 
-    /// The one of this number on the wire, or `None` where there is none.
+    /// The one of this number on the wire, or `None` if there is none.
     #[tactic(auto, unfolding(crate::specs::Messages::auth_stat_of))]
     pub fn from_number(number: u32) -> Option<AuthStat>
         ensures { result ≡ auth_stat_of number }

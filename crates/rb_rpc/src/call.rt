@@ -108,7 +108,7 @@ fn head_with(bytes: &[u8], cred: Credential) -> CallHead
 /// or has a residual byte that is not zero; the same of the verifier; a flavor that is not taken; an AUTH_SYS that
 /// cannot be read.
 ///
-/// It is inlined, so that its words stay where they are wanted.
+/// It is inlined, so that its words stay where they are needed.
 #[tactic(auto, unfolding(crate::specs::Verdict::verdict, crate::specs::Verdict::credential_end, crate::specs::Verdict::verifier_end))]
 #[inline(always)]
 pub fn read_call(bytes: &[u8]) -> Verdict
@@ -151,7 +151,7 @@ pub fn read_call(bytes: &[u8]) -> Verdict
 
 /// Writes the head of a call at the end of a buffer: 40 bytes with AUTH_NONE; 60 with AUTH_SYS, whose stamp is 0, its
 /// name empty, its gid 0 and its gids none. The verifier is AUTH_NONE, empty. `Full`, with the buffer as it was,
-/// where the head does not fit. It costs 1 step and one for each byte, and 1 step where it is refused.
+/// if the head does not fit. It costs 1 step and one for each byte, and 1 step if it is refused.
 #[tactic(auto, unfolding(crate::specs::CallBytes::call_bytes, rb_xdr::specs::Xdr::number, rb_xdr::specs::Xdr::opaque))]
 pub fn put_call(head: &CallHead, out: &mut Kept, meter: &mut Meter) -> Result<(), Full>
     requires { meter.old.tie ≡ out.old.tie }

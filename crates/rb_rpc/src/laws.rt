@@ -3,7 +3,7 @@ ghost use Rattle.rb_rpc.specs.RecordLaws.{FirstRecordIsLeast, NoneWhereNoFrontIs
 ghost use Rattle.rb_rpc.specs.Streams.{NoRecordEnded};
 ghost use Rattle.rb_rpc.specs.Grammar.{VerdictIsOfTheGrammar, MismatchesAreOfTheGrammar, AuthErrorsAreOfTheGrammar, TheRestIsNoCall, RepliesAreOfTheGrammar, WrittenRepliesAreRead, WrittenCallsAreRead};
 
-/// The first record of bytes is their shortest prefix that is a marked record; there is none where no prefix is one.
+/// The first record of bytes is their shortest prefix that is a marked record; there is none if no prefix is one.
 pub fn first_record_is_least()
     ensures least { FirstRecordIsLeast }
     ensures none { NoneWhereNoFrontIsOne }
@@ -42,21 +42,21 @@ pub fn replies_are_marked()
     ensures { RepliesAreMarked }
 {}
 
-/// The verdict is a call exactly where the bytes begin with one.
+/// The verdict is a call exactly if the bytes begin with one.
 pub fn verdict_is_of_the_grammar()
     ensures { VerdictIsOfTheGrammar }
 {}
 
-/// A message is refused exactly where it begins with what the refusal says: another version of RPC;
+/// A message is refused exactly if it begins with what the refusal says: another version of RPC;
 /// an over-long credential, or one of AUTH_SYS that can't be read; an over-long verifier; another
-/// flavor. It is no call exactly where it begins with none of these and with no call.
+/// flavor. It is no call exactly if it begins with none of these and with no call.
 pub fn refusals_are_of_the_grammar()
     ensures mismatch { MismatchesAreOfTheGrammar }
     ensures auth_error { AuthErrorsAreOfTheGrammar }
     ensures no_call { TheRestIsNoCall }
 {}
 
-/// A reply is read exactly where the bytes begin with one.
+/// A reply is read exactly if the bytes begin with one.
 pub fn replies_are_of_the_grammar()
     ensures { RepliesAreOfTheGrammar }
 {}

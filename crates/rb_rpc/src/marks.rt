@@ -119,7 +119,7 @@ impl Marks {
     }
 
     /// Takes from the front of the piece what is data of the current fragment: the rest of the fragment, or the whole
-    /// piece. Returns how many bytes that were, and whether the record ends with them. 0 where the next byte belongs
+    /// piece. Returns how many bytes those were, and whether the record ends with them. 0 if the next byte belongs
     /// to a header.
     pub fn feed_data(&mut self, piece: &[u8]) -> (usize, bool)
         ensures count { result.0 ≡ min (length piece.now) (data_left self.old.place) }
@@ -140,8 +140,8 @@ impl Marks {
     }
 }
 
-/// The data of the record at the front of the bytes, where it is a single fragment and whole (RFC 5531 section 11),
-/// as most calls are. `None` where the first fragment is cut short, or is not the last of its record.
+/// The data of the record at the front of the bytes, if it is a single fragment and whole (RFC 5531 section 11),
+/// as most calls are. `None` if the first fragment is cut short, or is not the last of its record.
 pub fn one_fragment(bytes: &[u8]) -> Option<&[u8]>
     ensures exact { option_map (λ lent. lent.now) result ≡ one_fragment bytes.now }
     ensures content { IfSome result (λ lent. BeginsWithRecord lent.now bytes.now) }

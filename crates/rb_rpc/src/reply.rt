@@ -51,7 +51,7 @@ pub struct BadReply;
 /// Where the verifier of an accepted reply begins, after three words.
 const VERIFIER: usize = 12;
 
-/// How many bytes an accepted reply has up to its accept_stat, where its verifier is the null one.
+/// How many bytes an accepted reply has up to its accept_stat, if its verifier is the null one.
 const ACCEPTED_HEAD: usize = 24;
 
 const REPLY: u32 = 1;
@@ -113,7 +113,7 @@ fn put_accepted(xid: u32, stat: u32, out: &mut Kept, meter: &mut Meter) -> Resul
 }
 
 /// Writes the head of a reply at the end of a buffer (RFC 5531 section 9); the verifier of an accepted one is
-/// AUTH_NONE, empty. It costs 1 step and one for each byte. `Full`, with the buffer as it was, where it does not fit:
+/// AUTH_NONE, empty. It costs 1 step and one for each byte. `Full`, with the buffer as it was, if it does not fit:
 /// 1 step.
 #[tactic(auto, unfolding(crate::specs::Replies::reply_head, rb_xdr::specs::Xdr::number, rb_xdr::specs::Xdr::opaque))]
 pub fn put_reply(head: &ReplyHead, out: &mut Kept, meter: &mut Meter) -> Result<(), Full>
@@ -237,7 +237,7 @@ fn read_denied(bytes: &[u8]) -> Result<(ReplyHead, usize), BadReply>
 }
 
 /// Reads the head of a reply from the front of the bytes (RFC 5531 section 9), and says where its results begin, or
-/// where it ends. A verifier may have any flavor and at most 400 bytes. `BadReply` where no front of the bytes is the
+/// where it ends. A verifier may have any flavor and at most 400 bytes. `BadReply` if no front of the bytes is the
 /// head of a reply.
 #[tactic(auto, unfolding(crate::specs::ReadReplies::read_reply))]
 pub fn read_reply(bytes: &[u8]) -> Result<(ReplyHead, usize), BadReply>

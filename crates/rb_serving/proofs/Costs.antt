@@ -29,7 +29,7 @@ use Rattle.rb_model.specs.declared.message.Message.TheVariants as says
 use Rattle.rb_model.specs.Costs.{walked, change_cost}
 use Rattle.rb_serving.specs.Costs.{row_count_of, PaysForResults, PaysToServe}
 
--- as little where it is walked only if the other is
+-- at most as much, if it is walked only when the other is
 pub walked_if : (a b : Bool) (size : ℕ) → (IsTrue a → IsTrue b) → walked a size ≤ walked b size
 walked_if true true size only = omega arith
 walked_if true false size only = let clash : false ≡ true = only refl in absurd cc
@@ -53,7 +53,7 @@ module _ (kept : Registry) where
   removal_few None = omega arith
   removal_few (Some which) = unset_few which
 
--- changes count where rows are asked for
+-- changes count if rows are asked for
 pub request_few : (may : Bool) (books : Books) (request : Request) (args : ℕ) → request_cost may books request args
     ≤ 5 * walked (walks_rows may request) (change_cost (looks books.registry.limit) (row_count_of books)) + 2 * looks books.registry.limit + 3 + note_cost + forward_cost args
 request_few may books request args = by_request request
@@ -78,7 +78,7 @@ request_few may books request args = by_request request
 
 -- ---- what is put
 
--- rows count where they are among the results
+-- rows count if they are among the results
 pub results_few : (books : Books) (given : Results) (old new : Kept)
     → results_cost books given old new ≤ 4 * walked (are_rows given) (row_count_of books) + 3 + statistics_cost + put_cost old new
 results_few books (results.Value value) old new = omega arith
@@ -108,7 +108,7 @@ asked_paid context call old mid new given args out m0 m1 m2 same lists answered 
 
 -- ---- a row to set
 
--- a row is added where rows are asked for, by a caller that may register
+-- a row is added only if rows are asked for, by a caller that may register
 pub adding_asks : (context : Context) (call : Call) (rows : List Row) (count : ℕ) → adds_row context call rows count ≡ true → walks_rows (comes_from_here context) call.request ≡ true
 unfolding adds_row row_to_set
 adding_asks context call rows count is = by_request call.request is

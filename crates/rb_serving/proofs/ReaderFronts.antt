@@ -27,7 +27,7 @@ pub number_of_front : (p n : ℕ) (xs : List ℕ) → p + 4 ≤ n → number_at 
 unfolding number_at
 number_of_front p n xs le = ap (λ (ys : List ℕ). from_be_bytes w32 ys) (part_of_front p 4 n xs le)
 
--- a front is shorter than this many bytes where they all are
+-- a front is shorter than this many bytes if the whole is
 pub short_front : (k n : ℕ) (xs : List ℕ) → k ≤ n → ltb (length (take n xs)) k ≡ ltb (length xs) k
 short_front k n xs le =
     elim (cases_lt (length xs) n) [

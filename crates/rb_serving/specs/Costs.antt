@@ -49,7 +49,7 @@ abbrev pub is_listed : Served → Bool
 is_listed (Answered given) = false
 is_listed (Listed xid listing) = true
 
--- rows are shown where they are to be listed
+-- rows are shown if they must be listed
 abbrev pub ListsAnswer : Answer → Served → Type 0
 ListsAnswer answer served = IsTrue (is_listed served) → IsTrue (shows_rows answer)
 

@@ -18,7 +18,7 @@ use Rattle.rb_model.specs.Calls.{kept_of, message_with, message_of, outcome}
 
 -- ---- what is called
 
--- what a call says by what was read of its arguments, None where they are unreadable
+-- what a call says by what was read of its arguments, None if they are unreadable
 abbrev pub asked_of : CallHead → Option Request → Message
 asked_of head (Some request) = says.Asked (record { head = head; request = request })
 asked_of head None = says.Garbage head

@@ -91,7 +91,7 @@ pub record CanServe (tie : ℕ) (context : Context) (books : Books) : Type 0 whe
   pub forwards : books.forwards.cap ≡ context.forwards
   pub caller : IsNew context.caller (slots_of books.forwards)
 
--- where the message is a SET that is accepted, its row has a place beside the live and the retained rows
+-- if the message is a SET that is accepted, its row has a place beside the live and the retained rows
 abbrev pub HasRoom : Context → Message → Books → Type 0
 HasRoom context (says.Asked call) books = HasRowRoom context call books.registry
 HasRoom context says.NoCall books = ⊤
@@ -114,7 +114,7 @@ pub record LeavesBooks (context : Context) (old new : Books) (served : Served) (
   pub waiting : OnlyCallerWaits context.caller old new
   pub frame : SameFrame old new
 
--- the list that is streamed to a caller, where results are one
+-- the list that is streamed to a caller, if the results are one
 abbrev pub list_streamed : Caller → Results → Option Listing
 list_streamed (Udp who longest) given = None
 list_streamed (Tcp id who) (results.Rows listing) = Some listing

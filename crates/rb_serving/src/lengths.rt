@@ -11,7 +11,7 @@ use rb_rpc::Caller;
 /// The length of a reply without results, in bytes, which each call may be answered with (RFC 5531 section 9).
 const SHORTEST_REPLY: usize = 24;
 
-/// The most bytes of the reply to a datagram of this many: to a stranger at most twice as many, where replies over UDP are
+/// The most bytes of the reply to a datagram of this many: to a stranger at most twice as many, if replies over UDP are
 /// held to that, so that no more is sent to a host whose address was forged. Else 9,000.
 #[tactic(auto, unfolding(rb_model::specs::Step::longest_to, rb_model::specs::Calls::longest_reply))]
 pub fn longest_to(terms: &Terms, who: &Who, count: usize) -> usize

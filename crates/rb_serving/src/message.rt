@@ -58,7 +58,7 @@ impl Called<'_> {
     }
 }
 
-/// The procedure that is called, by its program, version and number; where there is none, what the message says
+/// The procedure that is called, by its program, version and number; if there is none, what the message says
 /// instead: that it is no call, or is refused.
 #[tactic(auto, unfolding(rb_model::specs::Calls::call_of), using(crate::proofs::Procedures::calls, crate::proofs::Procedures::unavailable))]
 pub fn procedure_of(verdict: &Verdict) -> Result<Called<'_>, Message<'static>>
@@ -84,7 +84,7 @@ pub fn procedure_of(verdict: &Verdict) -> Result<Called<'_>, Message<'static>>
     }
 }
 
-/// The bytes after the head of a call; `verdict` is that on `bytes`, and where it is not `Call` there are none.
+/// The bytes after the head of a call; `verdict` is that on `bytes`, and if it is not `Call` there are none.
 #[tactic(auto, unfolding(rb_feed::specs::Feeds::arguments_of))]
 pub fn arguments_behind(verdict: Verdict, bytes: &[u8]) -> &[u8]
     requires verdict { verdict ≡ verdict_of bytes.now }

@@ -68,7 +68,7 @@ fn put_system_err(xid: u32, out: &mut Kept, meter: &mut Meter)
     put_head(out, ReplyHead { xid, status }, meter);
 }
 
-/// Writes a whole reply to the caller into an empty buffer, or SYSTEM_ERR where it would be too long for it.
+/// Writes a whole reply to the caller into an empty buffer, or SYSTEM_ERR if it would be too long for it.
 #[tactic(auto, using(rb_model::proofs::ReplyHeads::some_fitting, crate::proofs::Costs::results_few), unfolding(rb_model::specs::Calls::fitting_reply, rb_model::specs::Calls::longest_reply))]
 fn put_reply_with(
     results: &Results,
@@ -94,7 +94,7 @@ fn put_reply_with(
     }
 }
 
-/// The list that is streamed, where the results are rows and the caller is on a connection; else None, and they are
+/// The list that is streamed, if the results are rows and the caller is on a connection; else None, and they are
 /// written as a whole.
 fn list_in(results: &Results, caller: Caller) -> Option<Listing>
     ensures { result ≡ list_streamed caller results.now }
@@ -210,7 +210,7 @@ pub fn serve_null(books: &mut Books, head: &CallHead, out: &mut Kept, meter: &mu
     Served::Answered(Response::Reply)
 }
 
-/// Writes the results that a target gave into an empty buffer, or SYSTEM_ERR where the reply would be too long for its
+/// Writes the results that a target gave into an empty buffer, or SYSTEM_ERR if the reply would be too long for its
 /// caller.
 #[tactic(auto, using(rb_model::proofs::ReplyHeads::some_fitting), unfolding(rb_model::specs::Calls::fitting_reply, rb_model::specs::Calls::longest_reply, rb_rpc::specs::Forwarded::longest_forwarded, rb_forward::specs::Forwards::longest_results))]
 fn put_passed(forward: &Forward, results: &[u8], out: &mut Kept, meter: &mut Meter)
@@ -227,7 +227,7 @@ fn put_passed(forward: &Forward, results: &[u8], out: &mut Kept, meter: &mut Met
     }
 }
 
-/// Writes the reply to the caller of a forwarded call that failed into an empty buffer; nothing where it gets none.
+/// Writes the reply to the caller of a forwarded call that failed into an empty buffer; nothing if it gets none.
 #[tactic(auto, unfolding(rb_model::specs::Calls::longest_reply))]
 fn put_failed(forward: &Forward, status: ReplyStatus, out: &mut Kept, meter: &mut Meter) -> Response
     requires out { IsEmptyReply meter.old.tie out.old }
@@ -247,7 +247,7 @@ fn put_failed(forward: &Forward, status: ReplyStatus, out: &mut Kept, meter: &mu
     }
 }
 
-/// Writes the reply to the caller of a forwarded call that ended into an empty buffer; nothing where it gets none.
+/// Writes the reply to the caller of a forwarded call that ended into an empty buffer; nothing if it gets none.
 /// `message` is the datagram that ended it.
 pub fn put_end(ended: &Ended, message: &[u8], out: &mut Kept, meter: &mut Meter) -> Response
     requires within { PassesWithin ended.now.outcome (length message.now) }

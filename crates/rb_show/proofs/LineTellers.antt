@@ -210,7 +210,7 @@ module _ (IsLine : List ℕ → Type 0) where
   good_lines Is (Done lines x left) good = good.0
   good_lines Is (Stop lines fault) good = good
 
-  -- where the results of a question tell such lines, whole replies do
+  -- if the results of a question tell such lines, whole replies do
   reply_lines : (ask : Ask) (xid : ℕ) (bytes : List ℕ) → IsGood anything (tell_results Json ask.question) → AreBytes bytes → AllByRecursion IsLine (told_lines (tell_bytes ask Json xid bytes))
   reply_lines ask xid bytes results are = good_lines anything (tell_bytes ask Json xid bytes) (tells_reply ask xid results (end_of (of_stream bytes)) (data_of (front_of bytes)) (front_bytes bytes are))
 

@@ -34,7 +34,7 @@ abbrev pub AreDigits : List ℕ → Type 0
 AreDigits [] = ⊥
 AreDigits (b ∷ more) = list_all is_digit (b ∷ more) ≡ true
 
--- digits, of which the first is 0 only where it is the one digit
+-- digits, of which the first is 0 only if it is the only digit
 abbrev pub IsInteger : List ℕ → Type 0
 IsInteger [] = ⊥
 IsInteger (b ∷ more) = AreDigits (b ∷ more) × (b ≡ 48 → more ≡ [])

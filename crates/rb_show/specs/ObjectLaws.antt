@@ -51,9 +51,9 @@ pub record WritesObjects (old new : Option (List ℕ)) : Type 0 where
   pub are : AllByRecursion IsObjectLine lines
   pub written : Appends old new (lines_text lines)
 
--- What is written of a reply, where its bytes are known as `IsShown` wants, is whole lines of objects unless the writer
--- failed: also where the reply ends too early, can't be read or is a refusal, where its list is too long, and where the
--- source fails or memory is short.
+-- What is written of a reply, if its bytes are known as `IsShown` requires, is whole lines of objects unless the writer
+-- failed: also if the reply ends too early, can't be read or is a refusal, if its list is too long, and if the source
+-- fails or memory is short.
 abbrev pub OnlyObjectsAreWritten : Type 0
 OnlyObjectsAreWritten =
     (ask : Ask) (xid : ℕ) (bytes : List ℕ) (left : Supply) (at : Record) (old new : Option (List ℕ)) (result : Result Shown InfoFault)

@@ -141,7 +141,7 @@ tell_bytes ask form xid bytes = tell_reply ask form xid (end_of (of_stream bytes
 abbrev pub tell_datagram : Ask → Form → ℕ → List ℕ → Told Shown
 tell_datagram ask form xid bytes = tell_reply ask form xid (end_of (of_datagram bytes)) (front_of bytes)
 
--- Where the bytes that the source has are known, what is written, and what is left unread, is what the reply tells that
+-- If the bytes that the source has are known, what is written, and what is left unread, is what the reply tells that
 -- they begin with.
 abbrev pub IsShown : {B W : Type 0} → Ask → Form → ℕ → Result Shown InfoFault → (B → Supply) → B → B → (W → Option (List ℕ)) → W → W → Type 0
 IsShown ask form xid result left source source' contents writer writer' =

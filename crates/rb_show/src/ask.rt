@@ -150,7 +150,7 @@ fn put_rpcb(
     rpcb.put(out, meter)
 }
 
-/// Puts the arguments of a question, where there is room.
+/// Puts the arguments of a question, if there is room.
 fn put_arguments(question: Question, out: &mut Kept, meter: &mut Meter) -> Result<(), Full>
     requires { meter.old.tie ≡ out.old.tie }
     ensures ok { OnOk result (Adds (arguments_of question) out.old out.new) }
@@ -183,7 +183,7 @@ fn put_arguments(question: Question, out: &mut Kept, meter: &mut Meter) -> Resul
     }
 }
 
-/// Puts a call, where there is room.
+/// Puts a call, if there is room.
 #[tactic(auto, unfolding(crate::specs::Asks::call_of))]
 fn put_ask(ask: &Ask, xid: u32, out: &mut Kept, meter: &mut Meter) -> Result<(), Full>
     requires { meter.old.tie ≡ out.old.tie }
@@ -211,8 +211,8 @@ fn call_in_memory(alloc: Global, ask: &Ask, xid: u32, meter: &mut Meter) -> Resu
     Ok(call)
 }
 
-/// Writes the call that asks, as a datagram has it, and nothing else. The only faults are `Memory` where an allocation is
-/// refused, and `Write` where the writer fails.
+/// Writes the call that asks, as a datagram has it, and nothing else. The only faults are `Memory` if an allocation is
+/// refused, and `Write` if the writer fails.
 pub fn write_call<W: Write>(
     alloc: Global,
     ask: &Ask,

@@ -14,7 +14,7 @@ pub trait AsRow {
     /// The row that it stands for.
     ghost stands_for: { Self → Rpcb };
 
-    /// Makes the row that it stands for. `AllocError` where an allocation is refused.
+    /// Makes the row that it stands for. `AllocError` if an allocation is refused.
     fn as_row(&self, alloc: Global) -> Result<Rpcb, AllocError>
         ensures { IfOk result (λ row. row ≡ stands_for self.now) };
 }

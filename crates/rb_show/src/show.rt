@@ -329,13 +329,13 @@ fn show_record<B: ByteSource, W: Write>(
 ///
 /// Of the record as much is read as the results need, and no byte after them.
 ///
-/// - `Unreadable` where the data is no reply to this call, whatever may follow it.
-/// - `CutOff` where the source or its record ends before the results do.
-/// - `TooLong` where the results go on after the first 16,777,216 bytes, of which the record is longer.
-/// - `Refused` where the reply is another than SUCCESS.
+/// - `Unreadable` if the data is no reply to this call, whatever may follow it.
+/// - `CutOff` if the source or its record ends before the results do.
+/// - `TooLong` if the results go on after the first 16,777,216 bytes of a record that is longer.
+/// - `Refused` if the reply is any other than SUCCESS.
 /// - `TooMany` at the 4,097th row of a list.
-/// - `Read` where the source fails, which `HeldBytes` never does.
-/// - `Write` where the writer fails, and `Memory` where an allocation is refused.
+/// - `Read` if the source fails, which `HeldBytes` never does.
+/// - `Write` if the writer fails, and `Memory` if an allocation is refused.
 ///
 /// Before each of them but `Write` whole lines were written.
 pub fn show_reply<B: ByteSource, W: Write>(

@@ -49,7 +49,7 @@ fn rows_of<T: AsRow>(alloc: Global, items: &[T]) -> Result<Vec<Row>, AllocError>
     Ok(rows)
 }
 
-/// Adds a row's program, where it is not there yet.
+/// Adds a row's program, if it is not there yet.
 fn add_program(row: &Row, programs: &mut Vec<u32>) -> Result<(), AllocError>
     ensures { OnOk result (programs.new.items ≡ add_program programs.old.items (shown_row row.now)) }
 {
@@ -70,7 +70,7 @@ fn programs_of(alloc: Global, rows: &[Row]) -> Result<Vec<u32>, AllocError>
     Ok(programs)
 }
 
-/// Adds the version of a row of this program in front, where it is not there yet.
+/// Adds the version of a row of this program in front, if it is not there yet.
 fn add_version(row: &Row, prog: u32, versions: &mut Vec<u32>) -> Result<(), AllocError>
     ensures { OnOk result (AddsVersion prog (shown_row row.now) versions.old.items versions.new.items) }
 {
@@ -97,7 +97,7 @@ fn has_text(texts: &[&str], text: &str) -> bool
     texts.iter().any(|one| *one == text)
 }
 
-/// Adds the netid of a row of this program in front, where it is not there yet.
+/// Adds the netid of a row of this program in front, if it is not there yet.
 fn add_netid<'a>(row: &'a Row, prog: u32, seen: &mut Vec<&'a str>) -> Result<(), AllocError>
     ensures { OnOk result (AddsNetid prog (shown_row row.now) seen.old.items seen.new.items) }
 {

@@ -43,7 +43,7 @@ impl CallSocket {
         })
     }
 
-    /// A datagram, how long it is, and from whom, if that may call where these networks are served.
+    /// A datagram, how long it is, and from whom, if that caller may call when these networks are served.
     pub fn receive(&self, networks: &[Network], room: &mut [u8]) -> io::Result<(usize, Option<Who>)>
         ensures { IfOk result (λ r. r.0 ≤ length room.new) }
     {
@@ -94,7 +94,7 @@ impl CallSockets {
         self.ways_back.note(number, socket);
     }
 
-    /// Sends the reply to the forwarded call of this number, on the socket on which that came. Where none is noted,
+    /// Sends the reply to the forwarded call of this number, on the socket on which that came. If none is noted,
     /// nothing is sent.
     pub fn reply_to_forwarded(&mut self, number: u64, reply: &[u8], to: Who) {
         let Some(socket) = self.ways_back.take(number) else {
@@ -162,7 +162,7 @@ impl ForwardSocket {
 pub struct ForwardSockets {
     /// For targets of IPv4.
     pub inet: Watched<ForwardSocket>,
-    /// For targets of IPv6, where IPv6 is served.
+    /// For targets of IPv6, if IPv6 is served.
     pub inet6: Option<Watched<ForwardSocket>>,
 }
 

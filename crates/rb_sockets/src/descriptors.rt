@@ -3,7 +3,7 @@ use libc::RLIMIT_NOFILE;
 use libc::types::rlimit;
 
 /// The limit of open files of this process (getrlimit(2)): its descriptors are numbers below that. The greatest number
-/// where the system does not tell.
+/// if the system does not tell.
 pub fn open_files() -> u64 {
     let mut limit = rlimit {
         rlim_cur: u64::MAX,
@@ -21,7 +21,7 @@ pub fn open_files() -> u64 {
 pub struct Shortage {
     /// The limit of open files.
     pub limit: u64,
-    /// What it is to be for all of the places.
+    /// What it must be for all of the places.
     pub needed: u64,
     /// How many places are asked for.
     pub asked: usize,

@@ -19,7 +19,7 @@ pub struct Ends {
 }
 
 impl Ends {
-    /// Who that is, where what callers claim is believed or is not, and by what the kernel's tables show.
+    /// Who that is, by whether what callers claim is believed, and by what the kernel's tables show.
     pub fn who(self, are_claims_believed: bool, evidence: Evidence) -> Who {
         Who {
             source: Source::Inet(self.theirs),
@@ -71,7 +71,7 @@ impl Listener {
         }
     }
 
-    /// A connection, and whose it is where these networks are served. One that is nobody's is to be closed.
+    /// A connection, and whose it is when these networks are served. One that is nobody's must be closed.
     pub fn accept(&self, networks: &[Network]) -> io::Result<(Stream, Option<Visitor>)> {
         match self {
             Listener::Tcp(listener, are_claims_believed) => {

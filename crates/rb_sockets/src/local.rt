@@ -16,9 +16,9 @@ use std::os::unix::fs::{FileTypeExt, PermissionsExt};
 use std::os::unix::net::{SocketAddr, SocketAddrExt};
 use std::{fs, io};
 
-/// Listens on the local socket, in a file of its mode, and says where its callers come in. A socket that nobody listens on
-/// any more is removed first. It is root's where its mode lets in root alone, and the one with which the system made the
-/// file did too: else somebody may have come in before its mode was set.
+/// Listens on the local socket, in a file of its mode, and says where its callers come in. A socket that nobody listens
+/// on any more is removed first. It is root's if its mode lets in root alone, and the one with which the system made
+/// the file did too: otherwise somebody may have come in before its mode was set.
 pub fn listen<R: Files + Net>(
     rt: &R,
     local: &LocalSocket<'_>,
@@ -75,8 +75,8 @@ fn in_the_way(state: FileState) -> io::Error {
 /// The abstract name that newer clients try before the file. Nobody's mode keeps it, so nobody is answered there.
 const ABSTRACT_NAME: &[u8; 17] = b"/run/rpcbind.sock";
 
-/// Holds the abstract name, so that no other program answers there in place of this one: whoever tries it is refused, and
-/// goes on to the file. None where another program has it.
+/// Holds the abstract name, so that no other program answers there in place of this one: whoever tries it is refused,
+/// and goes on to the file. None if another program has it.
 pub fn hold_abstract_name<R: Files + Net>(rt: &R) -> Option<UnixStream> {
     let address = SocketAddr::from_abstract_name(ABSTRACT_NAME).ok()?;
     let listener = UnixListener::bind_addr(rt, &address).ok()?;

@@ -14,7 +14,7 @@ use rb_uaddr::{AddressText, MAX_KEPT};
 pub struct LocalSocket<'a> {
     /// At most 107 bytes.
     pub path: &'a str,
-    /// The mode of its file: whoever may write to it may connect. Where that is root and its owner alone, and was so from
+    /// The mode of its file: whoever may write to it may connect. If that is root and its owner alone, and was so from
     /// the start, callers are root.
     pub mode: u32,
 }
@@ -69,7 +69,7 @@ impl Settings<'_> {
     ghost use Rattle.std.specs.Prelude.{◌≡◌};
     ghost use Rattle.rb_sockets.specs.Settings.{announced_by, listener_of};
 
-    /// Which families are served, and the host of each that is told where none was asked.
+    /// Which families are served, and the host of each that is told if none was asked.
     pub fn announced(&self) -> Announced
         ensures { result ≡ announced_by self.now }
     {

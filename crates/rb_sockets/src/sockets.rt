@@ -60,12 +60,12 @@ pub struct Sockets {
     pub networks: Vec<Network>,
     /// Whether callers are believed what they claim.
     pub are_claims_believed: bool,
-    /// The abstract name of the local socket, where it is held.
+    /// The abstract name of the local socket, if it is held.
     abstract_name: Option<UnixStream>,
 }
 
 impl Sockets {
-    /// Binds sockets to all that the settings name, or tells the first step that failed: `Memory` where an allocation is
+    /// Binds sockets to all that the settings name, or tells the first step that failed: `Memory` if an allocation is
     /// refused, else `Socket`. The local socket comes last: a second daemon ends at a port that is in use, and leaves
     /// the file alone.
     pub fn bind<R: Files + Net>(
@@ -129,7 +129,7 @@ impl Sockets {
 
     /// Writes to as much of the stack as a turn needs, so that its memory is the process's from here on: an array
     /// there is handed to a receive. What is received before a call was forwarded is no reply to one. The array goes
-    /// when this returns, so it is not to be inlined.
+    /// when this returns, so it must not be inlined.
     #[inline(never)]
     pub fn write_stack(&self) {
         let _ = self.forwards.inet.socket.receive(&mut [0; STACK]);
@@ -171,7 +171,7 @@ impl Sockets {
         }
     }
 
-    /// Notes what an event with this token shows, where that is a socket of these.
+    /// Notes what an event with this token shows, if that is one of these sockets.
     pub fn note_ready(&mut self, token: Token) {
         match Sockets::shown_by(token) {
             Shown::Connection(_) => {}
@@ -204,17 +204,17 @@ impl Sockets {
         }
     }
 
-    /// Whether one of them where datagrams come in is to be served at once.
+    /// Whether one of them on which datagrams come in must be served at once.
     pub fn are_datagrams_left(&self) -> bool {
         self.forwards.is_left() || self.calls.is_left()
     }
 
-    /// Whether one of them is to be served at once.
+    /// Whether one of them must be served at once.
     pub fn is_something_left(&self) -> bool {
         self.are_datagrams_left() || self.listeners.iter().any(|listener| listener.is_left())
     }
 
-    /// Whether one of them is to be served after a wait though no event shows it.
+    /// Whether one of them must be served after a wait though no event shows it.
     pub fn is_tried_again(&self) -> bool {
         let mut listeners = self.listeners.iter();
         self.forwards.is_tried_again()
@@ -295,7 +295,7 @@ impl Inet {
     }
 }
 
-/// What binding 0.0.0.0 beside :: gave: where the system says that it is in use, :: has it already, as it does unless the
+/// What binding 0.0.0.0 beside :: gave: if the system says that it is in use, :: has it already, as it does unless the
 /// system keeps both apart (bindv6only of ipv6(7)).
 fn unless_in_use(bound: Result<(), BindFault>) -> Result<(), BindFault> {
     match bound {

@@ -17,7 +17,7 @@ pub enum Stream {
 }
 
 impl Stream {
-    /// Each write goes out at once (TCP_NODELAY): where replies take two writes, the second may not wait until the
+    /// Each write goes out at once (TCP_NODELAY): if replies take two writes, the second must not wait until the
     /// first is acknowledged. On the local socket it does so by itself.
     pub fn send_at_once(&self) -> io::Result<()> {
         match self {
@@ -26,7 +26,7 @@ impl Stream {
         }
     }
 
-    /// Our own end of a connection over TCP: the host that was asked, and its port. Where the system does not tell, and on
+    /// Our own end of a connection over TCP: the host that was asked, and its port. If the system does not tell, and on
     /// the local socket, 0.0.0.0 and port 0.
     pub(crate) fn own_end(&self) -> Peer {
         let nowhere = Peer::new(Host::V4(ANY), 0);

@@ -15,8 +15,8 @@ pub struct Table {
 }
 
 impl Table {
-    /// Room for the longest table that is read, and a byte more, where any is read. Each byte is written, so that its
-    /// memory is the process's from here on. An error where the allocation is refused.
+    /// Room for the longest table that is read, and a byte more, if any is read. Each byte is written, so that its
+    /// memory is the process's from here on. An error if the allocation is refused.
     pub fn new(alloc: Global, is_read: bool) -> Result<Table, AllocError> {
         let size = if is_read { LONGEST_TABLE + 1 } else { 0 };
         let mut room = Vec::with_capacity(alloc, size)?;
@@ -24,8 +24,8 @@ impl Table {
         Ok(Table { room })
     }
 
-    /// The text of the table of a family, as it is now; none where it can't be read, or has more than 1 MiB. Where
-    /// folders of other processes are hidden, /proc/self still has it.
+    /// The text of the table of a family, as it is now; none if it can't be read, or has more than 1 MiB. If folders of
+    /// other processes are hidden, /proc/self still has it.
     pub fn read<R: Files>(&mut self, rt: &R, family: Family) -> Option<&[u8]> {
         let path = match family {
             Family::Inet => "/proc/self/net/tcp",

@@ -44,7 +44,7 @@ impl<S> Watched<S> {
         is_first
     }
 
-    /// Whether the next turn is to serve it without a wait.
+    /// Whether the next turn must serve it without a wait.
     pub fn is_left(&self) -> bool {
         self.again == Again::AtOnce
     }

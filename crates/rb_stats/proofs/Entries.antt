@@ -139,7 +139,7 @@ module _ (c : Count) (old : Pool Item) (t : IsTable old) where
   abbrev all : List Item
   all = values_of old.entries
 
-  -- where one list has room, so has the table
+  -- if one list has room, so has the table
   pub room_left : length (items_in c.key.version (info_of c.key.proc) all) < greatest_list → length old.entries < old.cap
   room_left room = rw t.cap (by_place c.key.version c.key.proc room)
     where

@@ -61,7 +61,7 @@ none_at f v first (suc count) place past =
     let other : eqb place first ≡ false = not_equal place first (omega arith) in
     rw other (ap (λ (ns : List ℕ). f first ∷ ns) (none_at f v (first + 1) count place (omega arith)))
 
--- the call of a procedure is counted at its number, where it has one
+-- the call of a procedure is counted at its number, if it has one
 module _ (f : ℕ → ℕ) (proc : ℕ) where
   abbrev called_once : ℕ → ℕ
   called_once n = cond (eqb proc n) (one_more (f n)) (f n)

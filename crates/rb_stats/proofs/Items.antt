@@ -74,7 +74,7 @@ module _ (c : Count) where
   bumped_items counts [] = refl
   bumped_items counts (key ∷ keys) = ap (λ (item : Item). item ∷ map (item_of (counts ++ c ∷ [])) keys) (item_of-push counts key) ∙ ap (λ (items : List Item). bumped (item_of counts key) ∷ items) (bumped_items counts keys)
 
-  -- where no item is of the key, none changes
+  -- if no item is of the key, none changes
   pub none_bumped : (items : List Item) → list_any (is_item c.key) items ≡ false → map bumped items ≡ items
   none_bumped [] h = refl
   none_bumped (item ∷ items) h =

@@ -112,7 +112,7 @@ module _ (k : Key) where
   abbrev same_key : Key → Bool
   same_key other = is_key other k
 
-  -- the key at the end, where none is it
+  -- the key at the end, if none is the same
   abbrev if_new : Bool → List Key
   if_new any = cond any [] (k ∷ [])
 
@@ -176,7 +176,7 @@ module _ (k : Key) where
         ∙ take_all greatest_list (distinct_keys keys ++ k ∷ []) (omega (arith, whole few, length-append (distinct_keys keys) (k ∷ [])))
         ∙ ap (λ (ks : List Key). ks ++ k ∷ []) (sym all)
 
-    -- and stays out where they are all that there may be
+    -- and stays out if they are all that there may be
     pub first-full : greatest_list ≤ length (take greatest_list (distinct_keys keys)) → take greatest_list (distinct_keys (keys ++ k ∷ [])) ≡ take greatest_list (distinct_keys keys)
     first-full full =
         ap (take greatest_list) (distinct-push keys)

@@ -87,7 +87,7 @@ short_listed : (info : Info) (items : List Item) → list_all (λ (item : Item).
 unfolding linked_list
 short_listed info items fit = omega (arith, length-append (flat_map (behind_true item_spelling) items) (boolean false), length-false, short_items info items fit)
 
--- what stands for an item where there is none
+-- what stands for an item if there is none
 abbrev pub blank : Item
 blank = record { key = record { version = Two; target = record { prog = 0; vers = 0; netid = Tcp }; proc = None }; success = 0; failure = 0; indirect = 0 }
 

@@ -1,4 +1,4 @@
--- The items of each version as they are to be written.
+-- The items of each version as they will be written.
 use Rattle.std.specs.Prelude.{◌≡◌, ℕ, ◌+◌}
 use Rattle.rb_stats.specs.declared.counts.Counts.{Counts}
 use Rattle.rb_stats.specs.declared.stat.Lists.{Lists}

@@ -37,7 +37,7 @@ HasNone key entries = find (λ (e : ℕ × Item). is_item key e.1) entries ≡ N
 abbrev pub Holds : List Item → List Count → Type 0
 Holds items counts = (version : Version) (info : Info) → items_in version info items ≡ items_of (counts_in version info counts)
 
--- whatever counts the old items hold, the new ones hold this count besides
+-- whatever counts the old items hold, the new ones hold this count as well
 abbrev pub HoldsOneMore : Count → List Item → List Item → Type 0
 HoldsOneMore count old new = (counts : List Count) → Holds old counts → Holds new (counts ++ count ∷ [])
 

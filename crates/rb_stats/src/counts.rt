@@ -36,7 +36,7 @@ impl Counts {
         }
     }
 
-    /// Counts a call of the procedure, where there is such a number.
+    /// Counts a call of the procedure, if there is such a number.
     pub(crate) fn count_call(&mut self, proc: u32)
         ensures info { self.new ≡ record self.old { info = with_call proc self.old.info } }
         ensures procedures { HasProcedures self.new }

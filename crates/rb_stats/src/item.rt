@@ -68,7 +68,7 @@ impl Item {
         }
     }
 
-    /// Counts one more of the key, also at its INDIRECT calls where it is one.
+    /// Counts one more of the key, also at its INDIRECT calls if it is one.
     pub(crate) fn count(&mut self, passed: bool, indirect: bool)
         ensures { self.new ≡ item_after passed indirect self.old }
     {
@@ -94,7 +94,7 @@ impl Item {
         }
     }
 
-    /// Writes it as an item of addrinfo, or of rmtinfo where its key has a procedure.
+    /// Writes it as an item of addrinfo, or of rmtinfo if its key has a procedure.
     #[tactic(auto, unfolding(crate::specs::Statistics::item_spelling))]
     pub(crate) fn write(&self, out: &mut Kept, meter: &mut Meter)
         requires tie { meter.old.tie ≡ out.old.tie }

@@ -61,7 +61,7 @@ impl Stats {
     ghost use Rattle.rb_stats.specs.Stats.{StandsForHistory, SameFrame, key_count, most_keys};
     ghost use Rattle.rb_stats.specs.Counting.{HasNoted, SpellsHistory, spelling, put_cost, calls_at};
 
-    /// Nothing was called. `NoMemory` where the memory for the 192 keys is refused. It costs nothing.
+    /// Nothing was called. `NoMemory` if the memory for the 192 keys is refused. It costs nothing.
     pub fn new(alloc: Global, meter: &mut Meter) -> Result<Stats, NoMemory>
         ensures made { IfOk result (λ made. StandsForHistory made []) }
         ensures tie { IfOk result (λ made. made.tie ≡ meter.old.tie) }
@@ -177,7 +177,7 @@ impl Stats {
     /// Puts the statistics of versions 2, 3 and 4 after what the buffer has (RFC 1833 section
     /// 2.2.2, RPCBPROC_GETSTAT).
     ///
-    /// `Full`, with the buffer as it was, where it would then have more than `limit` bytes. It costs at most 6 steps
+    /// `Full`, with the buffer as it was, if it would then have more than `limit` bytes. It costs at most 6 steps
     /// for each key, the number of bytes put, and 4.
     pub fn put(&self, limit: usize, out: &mut Kept, meter: &mut Meter) -> Result<(), Full>
         requires tie { meter.old.tie ≡ self.now.tie }

@@ -17,7 +17,7 @@ use std::marker::Model;
 /// Two lists of each of three versions.
 const GREATEST_TABLE: usize = 192;
 
-/// The place of the key's item, or, where there is none, how many items its list has.
+/// The place of the key's item, or, if there is none, how many items its list has.
 #[tactic(auto, unfolding(crate::specs::Table::items_in))]
 fn place_of(items: &Pool<Item>, key: Key, meter: &mut Meter) -> Result<usize, usize>
     requires tie { meter.old.tie ≡ items.now.tie }
@@ -174,7 +174,7 @@ impl Items {
         lists_of(&self.items, version, meter)
     }
 
-    /// Counts one more of the key: at its item, or at a new one where its list has room for it.
+    /// Counts one more of the key: at its item, or at a new one if its list has room for it.
     pub(crate) fn count(&mut self, key: Key, passed: bool, indirect: bool, meter: &mut Meter)
         requires { meter.old.tie ≡ self.old.tie }
         ensures holds { HoldsOneMore (count_with key passed indirect) self.old.all self.new.all }

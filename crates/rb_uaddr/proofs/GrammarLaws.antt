@@ -175,7 +175,7 @@ printed_is_spelled (V6 host port) (host_fits, port_fits) = record {
 pub printed_is_read : PrintedIsRead
 printed_is_read u fits = spelled_reads (text_of u) u (printed_is_spelled u fits)
 
--- the same, where the bytes are read one by one
+-- the same, with the bytes read one by one
 pub dotted_is_read : (host bytes : List ℕ) (port : ℕ) → length host ≡ 4 → ((i : ℕ) → get_or host i 0 < 256) → port < 2 ^ 16 → bytes ≡ port_bytes port
     → parse (join_with_byte dot (map decimal (get_or host 0 0 ∷ get_or host 1 0 ∷ get_or host 2 0 ∷ get_or host 3 0 ∷ get_or bytes 0 0 ∷ get_or bytes 1 0 ∷ []))) ≡ Some (V4 host port)
 unfolding text_of port_bytes

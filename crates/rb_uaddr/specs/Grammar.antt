@@ -118,7 +118,7 @@ abbrev pub Spells : Uaddr → List ℕ → Type 0
 Spells (V4 host port) text = SpellsV4 host port text
 Spells (V6 host port) text = SpellsV6 host port text
 
--- A text is read as an address exactly where it spells it.
+-- A text is read as an address exactly if it spells it.
 abbrev pub ReadIsSpelled : Type 0
 ReadIsSpelled = (text : List ℕ) (u : Uaddr) → (parse text ≡ Some u) ↔ Spells u text
 
@@ -173,7 +173,7 @@ abbrev pub IsTransportOf : Uaddr → List ℕ → Type 0
 IsTransportOf (V4 host port) form = IsTransportV4 host port form
 IsTransportOf (V6 host port) form = IsTransportV6 host port form
 
--- Bytes are read as an address exactly where they are a transport form of it.
+-- Bytes are read as an address exactly if they are a transport form of it.
 abbrev pub TransportIsExact : Type 0
 TransportIsExact = (form : List ℕ) (u : Uaddr) → (from_transport form ≡ Some u) ↔ IsTransportOf u form
 

@@ -69,7 +69,7 @@ impl Uaddr {
 }
 
 impl Hosts {
-    /// `own`, or the IPv4 host where `own` is 0.0.0.0.
+    /// `own`, or the IPv4 host if `own` is 0.0.0.0.
     #[tactic(auto, unfolding(crate::specs::Uaddr::merged_host))]
     pub fn merge_inet(&self, own: [u8; 4]) -> [u8; 4]
         ensures { result ≡ merged_host self.now.inet own }
@@ -77,7 +77,7 @@ impl Hosts {
         if own == ANY_HOST { self.inet } else { own }
     }
 
-    /// `own`, or the IPv6 host where `own` is ::.
+    /// `own`, or the IPv6 host if `own` is ::.
     #[tactic(auto, unfolding(crate::specs::Uaddr::merged_host6))]
     pub fn merge_inet6(&self, own: [u8; 16]) -> [u8; 16]
         ensures { result ≡ merged_host6 self.now.inet6 own }

@@ -1,4 +1,4 @@
--- Words that can't be read: what stands there, and what is wanted.
+-- Words that can't be read: what stands there, and what is expected.
 use Rattle.std.specs.Prelude.{ℕ, List, [], ◌++◌, codes, Option, Some, None, slice_get, Result, OnOk}
 use Rattle.std.specs.Borrow.{Bor}
 use Rattle.std.specs.Io.KnownBytes.{Appends}
@@ -67,12 +67,12 @@ wanted_text wants.OneLayout = codes "one of --names and --json at most is wanted
 wanted_text wants.Objects = codes "--json goes with -p, -l, -m, or with no flag and no -T"
 wanted_text wants.List = codes "--names goes with -p, -s, -l, or with no flag and no -T"
 
--- the word, where one is there
+-- the word, if one is there
 abbrev pub word_part : Shape → Spot → List ℕ
 word_part shape spots.End = []
 word_part shape at = codes "'" ++ (spot_text shape at ++ codes "': ")
 
--- where the writer does not fail, this is what was written
+-- if the writer does not fail, this is what was written
 abbrev pub Prints : {W A E : Type 0} → (W → Option (List ℕ)) → W → W → List ℕ → Result A E → Type 0
 Prints contents writer writer' text result = OnOk result (Appends (contents writer) (contents writer') text)
 

@@ -264,7 +264,7 @@ is_here _ = false
 
 -- ---- layouts
 
--- what is wanted where a layout stands in a form that has it not
+-- what is expected if a layout stands in a form that does not have it
 abbrev pub wanted_with : Layout → Expected
 wanted_with layouts.Names = wants.List
 wanted_with layouts.Json = wants.Objects
@@ -292,7 +292,7 @@ layout_of (layout ∷ second ∷ layouts) plan = refusal_at (spots.Layout second
 
 -- ---- all of it
 
--- the portmapper's port where none is given is 111
+-- the portmapper's port is 111 if none is given
 -- WORDS-4 WORDS-8 WORDS-9
 abbrev pub request_of : Shape → Result Request Refusal
 request_of shape = do

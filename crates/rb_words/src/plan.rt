@@ -56,7 +56,7 @@ pub enum Plan {
     Broadcast(u32, u32),
 }
 
-/// How a list is written, where it is not in columns alone.
+/// How a list is written, if it is not in columns alone.
 #[derive(Clone, Copy, Debug, PartialEq, Eq)]
 pub enum Layout {
     /// With the names of programs.
@@ -68,7 +68,7 @@ pub enum Layout {
 /// The words of a command line, read.
 #[derive(Clone, Copy, Debug, PartialEq, Eq)]
 pub struct Request {
-    /// The portmapper's port, 111 where none is given.
+    /// The portmapper's port, 111 if none is given.
     pub port: u16,
     /// The user id of the AUTH_SYS credential of each call; AUTH_NONE without one.
     pub uid: Option<u32>,

@@ -136,7 +136,7 @@ fn show_plan(listing: Listing, words: &[&str]) -> Result<Plan, Refusal>
     }
 }
 
-/// HOST PROGRAM VERSION, where HOST may be standard input.
+/// HOST PROGRAM VERSION, in which HOST may be standard input.
 fn entries_plan(shape: &Shape<'_, '_, '_>) -> Result<Plan, Refusal>
     ensures { result ≡ entries_plan shape.now }
 {
@@ -147,7 +147,7 @@ fn entries_plan(shape: &Shape<'_, '_, '_>) -> Result<Plan, Refusal>
     Ok(Plan::Entries(source, prog, vers))
 }
 
-/// PROGRAM, and VERSION where it is there, from this place on.
+/// PROGRAM, and VERSION if it is there, from this place on.
 fn ping_plan(way: Way, shape: &Shape<'_, '_, '_>, i: usize) -> Result<Plan, Refusal>
     requires { i < 2 }
     ensures { result ≡ ping_plan way shape.now i }
@@ -161,7 +161,7 @@ fn ping_plan(way: Way, shape: &Shape<'_, '_, '_>, i: usize) -> Result<Plan, Refu
     Ok(Plan::Ping(way, prog, Some(vers)))
 }
 
-/// HOST PROGRAM, and VERSION where it is there.
+/// HOST PROGRAM, and VERSION if it is there.
 fn ping_plan_at_host(way: Way, shape: &Shape<'_, '_, '_>) -> Result<Plan, Refusal>
     ensures { result ≡ ping_plan_at_host way shape.now }
 {
@@ -205,7 +205,7 @@ fn option_address(text: Option<&str>) -> Result<Option<Uaddr>, Refusal>
     }
 }
 
-/// The number of a port, where it is given.
+/// The number of a port, if it is given.
 fn option_port(text: Option<&str>, at: Spot) -> Result<Option<u16>, Refusal>
     ensures { result ≡ option_number text.entry at Expected.Port 1 65535 }
 {
@@ -350,7 +350,7 @@ fn is_here(plan: Plan) -> bool
     }
 }
 
-/// What is wanted where a layout stands in a form that has it not.
+/// What is expected if a layout stands in a form that does not have it.
 fn wanted_with(layout: Layout) -> Expected
     ensures { result ≡ wanted_with layout }
 {
@@ -396,7 +396,7 @@ fn layout_of(layouts: &[Layout], plan: Plan) -> Result<Option<Layout>, Refusal>
     }
 }
 
-/// Returns what the words ask for, or the first of them that can't be read and what is wanted there.
+/// Returns what the words ask for, or the first of them that can't be read and what is expected there.
 ///
 /// A number has decimal digits alone: no sign, and no other text. Ports are 1 to 65535, other numbers 0 to 4294967295.
 /// A program is a number, or a name of `services`. The order in which words are looked at is that of `request_of`.

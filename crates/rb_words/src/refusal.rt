@@ -34,7 +34,7 @@ pub enum Spot {
     End,
 }
 
-/// What is wanted in place of what can't be read.
+/// What is expected in place of what can't be read.
 #[derive(Clone, Copy, Debug, PartialEq, Eq)]
 pub enum Expected {
     /// One flag at most.
@@ -77,12 +77,12 @@ pub enum Expected {
     Objects,
 }
 
-/// Why words can't be read: what stands where, and what is wanted there.
+/// Why words can't be read: what stands where, and what is expected there.
 #[derive(Clone, Copy, Debug, PartialEq, Eq)]
 pub struct Refusal {
     /// The place of what can't be read.
     pub at: Spot,
-    /// What is wanted there.
+    /// What is expected there.
     pub wanted: Expected,
 }
 
@@ -132,7 +132,7 @@ fn spot_text<'a>(shape: &Shape<'_, 'a, '_>, at: Spot) -> &'a str
     }
 }
 
-/// What is wanted, in words.
+/// What is expected, in words.
 fn wanted_text(wanted: Expected) -> &'static str
     ensures { result.now ≡ wanted_text wanted }
 {
@@ -159,7 +159,7 @@ fn wanted_text(wanted: Expected) -> &'static str
     }
 }
 
-/// The line that names the word, where there is one, and what is wanted.
+/// The line that names the word, if there is one, and what is expected.
 fn write_named<W: Write>(
     shape: &Shape<'_, '_, '_>,
     refusal: Refusal,
@@ -177,7 +177,7 @@ fn write_named<W: Write>(
     }
 }
 
-/// Writes two lines: that the words can't be read, and which of them and what is wanted there. An error where the writer
+/// Writes two lines: that the words can't be read, and which of them and what is expected there. An error if the writer
 /// fails; how much went out is then not known.
 pub fn write_refusal<W: Write>(
     shape: &Shape<'_, '_, '_>,

@@ -44,7 +44,7 @@ optional_form {A} reads f has bytes = by_flag (read_bool bytes)
     by_flag (Ok (false, n)) = refl
     by_flag (Err fault) = refl
 
--- where a reading failed, the fault is the first of its form
+-- if a reading failed, the fault is the first of its form
 pub first_fault : {A : Type 0} (form : Form) (reads : Reader A) → HasForm form reads → (bytes : List ℕ) (r : Reading A) → r ≡ reads bytes → IfErr r (FirstFault form bytes)
 first_fault form reads has bytes (Ok x) e = tt
 first_fault form reads has bytes (Err fault) e = sym (has bytes) ∙ ap extent (sym e)

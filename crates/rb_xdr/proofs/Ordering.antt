@@ -105,7 +105,7 @@ last_below : (number low : ℕ) (es : List (ℕ × ℕ)) → IsRisingFrom low es
 last_below number low [] rising below = refl
 last_below number low (e ∷ rest) rising below = let here : low ≤ e.0 = rising.0 in grind (arith, nat_tests)
 
--- the key of the last number, where that is this one
+-- the key of the last number, if that is this one
 abbrev pub key_if : ℕ → Option (ℕ × ℕ) → Option ℕ
 key_if number None = None
 key_if number (Some e) = cond (eqb e.0 number) (Some e.1) None
@@ -246,7 +246,7 @@ distinct_rising low (e ∷ rest) rising = (missing_below e.0 (e.0 + 1) rest risi
 -- ---- a search by halves
 
 module _ (number : ℕ) (es : List (ℕ × ℕ)) (base size : ℕ) (look : ℕ × ℕ) where
-  -- what is left of the places, where the look at the middle gave this
+  -- what is left of the places, if the look at the middle gave this
   pub record Halved (next : ℕ) : Type 0 where
     pub within : next + (size - size / 2) ≤ length es
     pub low : next ≤ count_upto number es

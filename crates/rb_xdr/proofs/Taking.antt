@@ -12,7 +12,7 @@ pub what_is_read : {T : Type 0} (is_value : T → Type 0) (spelling : T → List
 what_is_read is_value spelling reads exact bytes are (Ok x) e = (exact bytes are x.0 x.1).0 (sym e)
 what_is_read is_value spelling reads exact bytes are (Err fault) e = tt
 
--- where a reading failed, no front spells a value
+-- if a reading failed, no front spells a value
 pub none_is_spelled : {T : Type 0} (is_value : T → Type 0) (spelling : T → List ℕ) (reads : Reader T) → ReadsExactly is_value spelling reads
     → (bytes : List ℕ) → AreBytes bytes → (r : Reading T) → r ≡ reads bytes → OnErr r ((x : T) (n : ℕ) → ¬ BeginsWith is_value spelling bytes (x, n))
 none_is_spelled {T} is_value spelling reads exact bytes are (Ok x) e = tt

@@ -24,7 +24,7 @@ module _ {T : Type 0} where
   passed entries None = []
   passed entries (Some key) = up_to entries key
 
-  -- two keys differ where one has a value and the other none
+  -- two keys differ if one has a value and the other none
   pub apart : (entries : List (ℕ × T)) (a b : ℕ) (v : T) → value_at entries a ≡ None → value_at entries b ≡ Some v → eqb a b ≡ false
   apart entries a b v no_value some_value =
       by_test (λ t. t ≡ false) (eqb a b)
@@ -89,7 +89,7 @@ module _ {T : Type 0} where
             count = rw (other, f, s.count) refl;
           }
 
-  -- where a key comes next, it has an entry, and the walk goes on after it
+  -- if a key comes next, it has an entry, and the walk goes on after it
   pub step : (entries : List (ℕ × T)) (place : Option ℕ) (key : ℕ) → HasDistinctKeys entries → first_key (to_come entries place) ≡ Some key → Steps entries place key
   step entries None key d h = step_first entries key h
   step entries (Some a) key d h = step_behind entries a key d h

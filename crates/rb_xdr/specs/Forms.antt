@@ -3,7 +3,7 @@ use Rattle.std.specs.Prelude.{◌≡◌, ℕ, if◌then◌else◌, List, Ok, Err
 use Rattle.rb_xdr.specs.Xdr.{XdrFault, Reading, Reader, ◌>>=◌, give, read_number, read_bool, read_opaque}
 
 -- A number is four bytes, and so is a bool. Opaque data and strings have a limit. A struct is one field and then the
--- others. Optional data is a bool, and the item where it is TRUE.
+-- others. Optional data is a bool, and the item if it is TRUE.
 pub data Form : Type 0 where
   Number : Form
   Flag : Form

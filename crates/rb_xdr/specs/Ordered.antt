@@ -53,7 +53,7 @@ looks count = halvings count count
 abbrev pub LooksAreFew : Type 0
 LooksAreFew = (count power : ℕ) → count ≤ 2 ^ power → looks count ≤ power + 1
 
--- how many move where a number is put in its place or taken from it, and 1 for itself
+-- how many move when a number is put in its place or taken from it, and 1 for itself
 -- SEARCH-1
 abbrev pub moves : ℕ → List (ℕ × ℕ) → ℕ
 moves number entries = length entries - count_upto number entries + 1
@@ -62,6 +62,6 @@ moves number entries = length entries - count_upto number entries + 1
 abbrev pub insert_cost : ℕ → List (ℕ × ℕ) → ℕ
 insert_cost number entries = looks (length entries) + moves number entries
 
--- a search and, where the number was there, what moves
+-- a search and, if the number was there, what moves
 abbrev pub remove_cost : ℕ → List (ℕ × ℕ) → Bool → ℕ
 remove_cost number entries there = looks (length entries) + (if there then moves number entries else 0)

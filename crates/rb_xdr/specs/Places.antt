@@ -8,7 +8,7 @@ module _ {T : Type 0} where
   behind [] key = []
   behind (e ∷ rest) key = if e.0 == key then rest else behind rest key
 
-  -- the number of entries up to that of a key, where it is there
+  -- the number of entries up to that of a key, if it is there
   abbrev pub count_to : List (ℕ × T) → ℕ → Option ℕ
   count_to [] key = None
   count_to (e ∷ rest) key = if e.0 == key then Some 1 else option_map (λ n. n + 1) (count_to rest key)
@@ -18,7 +18,7 @@ module _ {T : Type 0} where
   to_come entries None = entries
   to_come entries (Some key) = behind entries key
 
-  -- and how many are before it, where that key is there
+  -- and how many are before it, if that key is there
   abbrev pub count_passed : List (ℕ × T) → Option ℕ → Option ℕ
   count_passed entries None = Some 0
   count_passed entries (Some key) = count_to entries key
@@ -28,7 +28,7 @@ abbrev pub IsNextEntry : {T : Type 0} → List (ℕ × T) → Option ℕ → Opt
 IsNextEntry entries place None = to_come entries place ≡ []
 IsNextEntry entries place (Some next) = to_come entries place ≡ (next.0, next.1.now) ∷ to_come entries (Some next.0)
 
--- what a look after a place costs: 1 step, and 1 more where an entry is found
+-- what a look after a place costs: 1 step, and 1 more if an entry is found
 abbrev pub look_cost : {A : Type 0} → Option A → ℕ
 look_cost None = 1
 look_cost (Some _) = 2

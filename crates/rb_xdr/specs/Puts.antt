@@ -10,11 +10,11 @@ Appends bytes old new = new ≡ record old { bytes = old.bytes ++ bytes }
 abbrev pub HasRoom : List ℕ → Kept → Type 0
 HasRoom bytes kept = length kept.bytes + length bytes ≤ kept.cap
 
--- the room that is left of so much after the bytes, None where they don't fit
+-- the room that is left of this much after the bytes, None if they don't fit
 abbrev pub Leaves : List ℕ → ℕ → Option ℕ → Type 0
 Leaves bytes room result = MatchOption result (room < length bytes) (λ left. left + length bytes ≡ room)
 
--- The bytes are put where the buffer then has at most `limit` bytes. Else they are refused, and it stays as it was.
+-- The bytes are put if the buffer then has at most `limit` bytes. Else they are refused, and it stays as it was.
 -- XDR-5 PUT-1
 pub record Puts {A E : Type 0} (bytes : List ℕ) (limit : ℕ) (old new : Kept) (result : Result A E) : Type 0 where
   pub room : IsOk result ↔ (length old.bytes + length bytes ≤ limit)

@@ -12,7 +12,8 @@ IsTestOf {F} {T} calls test p = (value : T) (answer : Bool) → FnReturnsAt call
 abbrev pub key_of : {T : Type 0} → (T → Bool) → List (ℕ × T) → Option ℕ
 key_of p entries = option_map (λ e. e.0) (find (λ e. p e.1) entries)
 
--- what a search costs that ends at this key, or finds none: 2 steps for each entry up to there, and 1 where there is no more
+-- what a search costs that ends at this key, or finds none: 2 steps for each entry up to there, and 1 if there is no
+-- more
 abbrev pub search_cost : {T : Type 0} → List (ℕ × T) → Option ℕ → ℕ
 search_cost entries None = 2 * length entries + 1
 search_cost entries (Some key) = 2 * (length entries - length (behind entries key))

@@ -97,7 +97,7 @@ read_bool = do
   n ← read_number
   if n == 0 then give false else if n == 1 then give true else refuse BadBool
 
--- so much content and its residual zeros
+-- this much content and its residual zeros
 unfoldable pub read_content : ℕ → Reader (List ℕ)
 read_content count bytes =
     if nat_lt (length bytes) (count + residue count) then Err Short

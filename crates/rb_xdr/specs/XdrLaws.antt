@@ -41,7 +41,7 @@ IsSound {A} is_value spelling reads = (bytes : List ℕ) (x : A) (n : ℕ) → A
 abbrev pub IsComplete : {A : Type 0} → (A → Type 0) → (A → List ℕ) → Reader A → Type 0
 IsComplete {A} is_value spelling reads = (x : A) (rest : List ℕ) → is_value x → reads (spelling x ++ rest) ≡ Ok (x, length (spelling x))
 
--- A value and n are read exactly where the first n bytes spell the value.
+-- A value and n are read exactly if the first n bytes spell the value.
 abbrev pub ReadsExactly : {A : Type 0} → (A → Type 0) → (A → List ℕ) → Reader A → Type 0
 ReadsExactly {A} is_value spelling reads =
     (bytes : List ℕ) → AreBytes bytes → (x : A) (n : ℕ)

@@ -51,7 +51,7 @@ fn zeros(alloc: Global, len: usize) -> Result<Vec<u8>, NoMemory>
 }
 
 impl Kept {
-    /// An empty buffer for at most `cap` bytes, whose calls this meter counts, or `NoMemory` where the allocation is
+    /// An empty buffer for at most `cap` bytes, whose calls this meter counts, or `NoMemory` if the allocation is
     /// refused. It costs nothing.
     pub fn new(alloc: Global, cap: usize, meter: &mut Meter) -> Result<Kept, NoMemory>
         ensures empty { IfOk result (λ k. k.bytes ≡ []) }
@@ -66,7 +66,7 @@ impl Kept {
         })
     }
 
-    /// Adds a byte at the end, or nothing: `Full` where there are `cap` bytes. It costs 1 step in both cases.
+    /// Adds a byte at the end, or nothing: `Full` if there are `cap` bytes. It costs 1 step in both cases.
     pub fn push(&mut self, byte: u8, meter: &mut Meter) -> Result<(), Full>
         requires { meter.old.tie ≡ self.old.tie }
         ensures puts { Puts (byte ∷ []) self.old.cap self.old self.new result }
@@ -81,7 +81,7 @@ impl Kept {
         Ok(())
     }
 
-    /// Adds these bytes at the end, or none of them: `Full` where they do not fit. It costs a step for each byte, in
+    /// Adds these bytes at the end, or none of them: `Full` if they do not fit. It costs a step for each byte, in
     /// both cases.
     pub fn extend(&mut self, bytes: &[u8], meter: &mut Meter) -> Result<(), Full>
         requires { meter.old.tie ≡ self.old.tie }

@@ -16,7 +16,7 @@ pub fn spelling_laws<T: Xdr>()
     T::laws();
 }
 
-/// Numbers, ints, bools and opaque data are read exactly where they are spelled, so nothing but a value's one
+/// Numbers, ints, bools and opaque data are read exactly if they are spelled, so nothing but a value's one
 /// spelling is read as it. No spelling begins another, and none is longer than the greatest of its type.
 pub fn types_are_read_exactly()
     ensures number { NumberIsType }

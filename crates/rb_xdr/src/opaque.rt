@@ -25,8 +25,8 @@ pub fn residue(count: usize) -> usize
     (4 - count % 4) % 4
 }
 
-/// Writes the residual bytes after so much content: each number of them by itself, as a copy of a length that is known.
-/// Their steps are for the caller to pay.
+/// Writes the residual bytes after this much content: each number of them by itself, as a copy of a length that is
+/// known. Their steps are for the caller to pay.
 #[tactic(auto, using(crate::proofs::XdrSets::lengths))]
 fn append_residue(count: usize, out: &mut Kept)
     requires room { HasRoom (replicate (residue count) 0) out.old }
@@ -47,7 +47,7 @@ pub fn are_zero(bytes: &[u8]) -> bool
     bytes.iter().all(|byte| *byte == 0)
 }
 
-// So much content and its residual bytes.
+// This much content and its residual bytes.
 #[tactic(auto, unfolding(crate::specs::Xdr::read_content))]
 fn take_content(bytes: &[u8], count: usize) -> Result<(&[u8], usize), XdrFault>
     requires { count < 2 ^ 32 }

@@ -14,7 +14,7 @@ use std::snapshot::Snapshot;
 /// A table of at most `cap` numbers in rising order, each with a key. `new` takes and writes all of its memory, and no
 /// later call changes how much it has.
 ///
-/// Each call wants the meter that the table was made with, and searches by halves, a step for each look: of these there
+/// Each call needs the meter that the table was made with, and searches by halves, a step for each look: of these there
 /// are at most k + 1 among at most 2^k numbers.
 #[derive(Drop)]
 pub struct Ordered {
@@ -51,7 +51,7 @@ fn written(alloc: Global, cap: usize) -> Result<Vec<(u128, usize)>, NoMemory>
 }
 
 impl Ordered {
-    /// An empty table for at most `cap` numbers, whose calls this meter counts, or `NoMemory` where the allocation is
+    /// An empty table for at most `cap` numbers, whose calls this meter counts, or `NoMemory` if the allocation is
     /// refused. It costs nothing.
     pub fn new(alloc: Global, cap: usize, meter: &mut Meter) -> Result<Ordered, NoMemory>
         ensures empty { IfOk result (λ o. o.entries ≡ []) }
@@ -93,7 +93,7 @@ impl Ordered {
         }
     }
 
-    /// The greatest number that is at most this one, with its key, or `None` where each is greater. A search.
+    /// The greatest number that is at most this one, with its key, or `None` if each is greater. A search.
     pub fn last_upto(&self, number: u128, meter: &mut Meter) -> Option<(u128, usize)>
         requires { meter.old.tie ≡ self.now.tie }
         ensures last { result ≡ last_upto number self.now.entries }
@@ -108,7 +108,7 @@ impl Ordered {
         Some(entries[place - 1])
     }
 
-    /// The key of this number, or `None` where it isn't there. A search.
+    /// The key of this number, or `None` if it isn't there. A search.
     pub fn find(&self, number: u128, meter: &mut Meter) -> Option<usize>
         requires { meter.old.tie ≡ self.now.tie }
         ensures key { result ≡ value_at self.now.entries number }
@@ -121,7 +121,7 @@ impl Ordered {
         }
     }
 
-    /// Adds a number that isn't there, with its key, or `Full` where there are `cap` numbers. It costs a search, a step
+    /// Adds a number that isn't there, with its key, or `Full` if there are `cap` numbers. It costs a search, a step
     /// for each greater number, and 1, in both cases.
     pub fn insert(&mut self, number: u128, key: usize, meter: &mut Meter) -> Result<(), Full>
         requires tie { meter.old.tie ≡ self.old.tie }
@@ -143,7 +143,7 @@ impl Ordered {
         Ok(())
     }
 
-    /// Removes a number and returns its key, or `None` where it isn't there. It costs a search and, where it is there, a
+    /// Removes a number and returns its key, or `None` if it isn't there. It costs a search and, if it is there, a
     /// step for each greater number and 1.
     pub fn remove(&mut self, number: u128, meter: &mut Meter) -> Option<usize>
         requires { meter.old.tie ≡ self.old.tie }

@@ -20,7 +20,7 @@ use std::snapshot::Snapshot;
 /// A table of at most `cap` values, each under a key of its own, in order of insertion. `new` or `written` takes all
 /// of its memory, and no later call changes how much it has. What the values themselves own is not counted in it.
 ///
-/// Each call costs 1 step, but for `entry_after` and `find_key`, and wants the meter that the table was made with.
+/// Each call costs 1 step, but for `entry_after` and `find_key`, and needs the meter that the table was made with.
 #[derive(Drop)]
 pub struct Pool<T> {
     values: Slab<T>,
@@ -51,7 +51,7 @@ impl<T> Model for Pool<T> {
 impl<T> Pool<T> {
     ghost use Rattle.rb_xdr.specs.PoolLends.{lends_entry, lends_value};
 
-    /// An empty table for at most `cap` values, whose calls this meter counts, or `NoMemory` where an allocation is
+    /// An empty table for at most `cap` values, whose calls this meter counts, or `NoMemory` if an allocation is
     /// refused. It costs nothing.
     pub fn new(alloc: Global, cap: usize, meter: &mut Meter) -> Result<Pool<T>, NoMemory>
     where
@@ -65,7 +65,7 @@ impl<T> Pool<T> {
     }
 
     /// As `new`, but each place is written once, with a value that `blank` makes and that is removed again, so that
-    /// all pages of the memory are resident from the start. `NoMemory` where an allocation or `blank` is refused
+    /// all pages of the memory are resident from the start. `NoMemory` if an allocation or `blank` is refused
     /// memory.
     pub fn written<F: Fn() -> Result<T, NoMemory>>(
         alloc: Global,
@@ -89,7 +89,7 @@ impl<T> Pool<T> {
         Pool::around(alloc, values, cap, meter)
     }
 
-    // The empty table whose values this slab is to hold.
+    // The empty table whose values this slab will hold.
     fn around(
         alloc: Global,
         values: Slab<T>,
@@ -114,8 +114,8 @@ impl<T> Pool<T> {
         })
     }
 
-    /// Adds a value at the end of the order and returns its key, which was free. `Full`, with the value, where there
-    /// are `cap` values. It costs 1 step in both cases.
+    /// Adds a value at the end of the order and returns its key, which was free. `Full`, with the value, if there are
+    /// `cap` values. It costs 1 step in both cases.
     pub fn insert(&mut self, value: T, meter: &mut Meter) -> Result<usize, Full<T>>
         requires { meter.old.tie ≡ self.old.tie }
         ensures room { IsOk result ↔ (length self.old.entries < self.old.cap) }
@@ -151,7 +151,7 @@ impl<T> Pool<T> {
         key
     }
 
-    /// The value under `key`, or `None` where there is none, in 1 step.
+    /// The value under `key`, or `None` if there is none, in 1 step.
     pub fn get(&self, key: usize, meter: &mut Meter) -> Option<&T>
         requires { meter.old.tie ≡ self.now.tie }
         ensures value { option_copied result ≡ value_at self.now.entries key }
@@ -161,7 +161,7 @@ impl<T> Pool<T> {
         self.values.get(key)
     }
 
-    /// The value under `key`, for writing, or `None` where there is none, in 1 step.
+    /// The value under `key`, for writing, or `None` if there is none, in 1 step.
     pub fn get_mut(&mut self, key: usize, meter: &mut Meter) -> Option<&mut T>
         requires { meter.old.tie ≡ self.old.tie }
         ensures* writes_back { sem 𝓛 (lends_entry T.row self.entry key result) }
@@ -197,7 +197,7 @@ impl<T> Pool<T> {
         &self.values[key]
     }
 
-    /// Removes the value under `key` and returns it, or `None` where there is none, in 1 step. The other keys stay in
+    /// Removes the value under `key` and returns it, or `None` if there is none, in 1 step. The other keys stay in
     /// their order.
     pub fn remove(&mut self, key: usize, meter: &mut Meter) -> Option<T>
         requires { meter.old.tie ≡ self.old.tie }
@@ -211,7 +211,7 @@ impl<T> Pool<T> {
         Some(value)
     }
 
-    /// The key that was inserted first, of those that are there, or `None` where the table is empty, in 1 step.
+    /// The key that was inserted first, of those that are there, or `None` if the table is empty, in 1 step.
     pub fn first(&self, meter: &mut Meter) -> Option<usize>
         requires { meter.old.tie ≡ self.now.tie }
         ensures key { result ≡ first_key self.now.entries }
@@ -222,8 +222,8 @@ impl<T> Pool<T> {
         self.keys.first()
     }
 
-    /// The key and the value that follow the key `place` in order of insertion, or the first where `place` is `None`:
-    /// 2 steps. `None` where there is no more, or no value under `place`: 1 step.
+    /// The key and the value that follow the key `place` in order of insertion, or the first if `place` is `None`:
+    /// 2 steps. `None` if there is no more, or no value under `place`: 1 step.
     pub fn entry_after(&self, place: Option<usize>, meter: &mut Meter) -> Option<(usize, &T)>
         requires { meter.old.tie ≡ self.now.tie }
         ensures next { IsNextEntry self.now.entries place result }
@@ -260,7 +260,7 @@ impl<T> Pool<T> {
     }
 
     /// The key of the first value, in the order of insertion, that passes the test. It costs 2 steps for
-    /// each value that is looked at, and 1 where there is no more.
+    /// each value that is looked at, and 1 if there is no more.
     pub fn find_key<F: Fn(&T) -> bool>(&self, test: F, meter: &mut Meter) -> Option<usize>
         requires tie { meter.old.tie ≡ self.now.tie }
         requires callable { F.IsAlwaysCallable test }

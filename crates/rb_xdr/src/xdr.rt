@@ -43,7 +43,7 @@ pub trait Xdr: Drop {
         ensures bounded { IsBounded is_value spelling max_spelling }
         ensures faults { HasForm form reads };
 
-    /// How many of `room` bytes are left behind the value's spelling, or `None` where it has more than `room` bytes.
+    /// How many of `room` bytes are left after the value's spelling, or `None` if it has more than `room` bytes.
     fn room_after(&self, room: usize) -> Option<usize>
         ensures { Leaves (spelling self.now) room result };
 
@@ -63,7 +63,7 @@ pub trait Xdr: Drop {
     /// Reads a value from the front of the bytes, and says how many of them spell it. Bytes after
     /// them count for nothing.
     ///
-    /// It fails exactly where no front of the bytes is a spelling, with the first fault of the form.
+    /// It fails exactly if no front of the bytes is a spelling, with the first fault of the form.
     final fn take(bytes: &[u8]) -> Result<(Self, usize), XdrFault>
         ensures found { IfOk result (BeginsWith is_value spelling bytes.now) }
         ensures only { IsOnlyRead is_value spelling bytes.now result }
@@ -76,7 +76,7 @@ pub trait Xdr: Drop {
     }
 
     /// Writes the spelling at the end of a buffer: 1 step, and one for each byte. `Full`, with the buffer as it was,
-    /// where it does not fit: 1 step.
+    /// if it does not fit: 1 step.
     final fn put(&self, out: &mut Kept, meter: &mut Meter) -> Result<(), Full>
         requires { meter.old.tie ≡ out.old.tie }
         ensures puts { Puts (spelling self.now) out.old.cap out.old out.new result }

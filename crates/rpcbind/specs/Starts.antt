@@ -14,7 +14,7 @@ abbrev pub host_line : ℕ → Host → List ℕ
 host_line port host =
     codes "rpcbind: listening on " ++ bare_host_text host ++ codes " port " ++ decimal port ++ codes "\n"
 
--- of ::1, if that is bound besides
+-- of ::1, if that is bound as well
 abbrev pub loopback6_line : Bool → ℕ → List ℕ
 loopback6_line true port = codes "rpcbind: listening on ::1 port " ++ decimal port ++ codes "\n"
 loopback6_line false port = []

@@ -36,7 +36,7 @@ impl Display for KeepReadFault {
     }
 }
 
-/// The rows of the file at the path; none where nothing is there.
+/// The rows of the file at the path; none if nothing is there.
 fn rows_at<R: Files>(rt: &R, alloc: Global, path: &str) -> Result<Vec<Row>, KeepReadFault> {
     match read_kept(rt, alloc, path, longest_input()) {
         Ok(Some(text)) => read_rows(alloc, &text).map_err(KeepReadFault::Text),
@@ -45,9 +45,9 @@ fn rows_at<R: Files>(rt: &R, alloc: Global, path: &str) -> Result<Vec<Row>, Keep
     }
 }
 
-/// The rows that were kept, in their order: none where none are to be kept, or nothing is at the path. Those of this
-/// machine at whose port nobody answers are left out and said, if that is asked for. Where the rows can't be
-/// read, or memory is refused, it is said why, and the error is the exit status.
+/// The rows that were kept, in their order: none if none should be kept, or if nothing is at the path. Those of this
+/// machine at whose port nobody answers are left out and said, if that is asked for. If the rows can't be read, or
+/// memory is refused, it is said why, and the error is the exit status.
 pub fn read_keep<R, E>(rt: &R, serve: &Serve<'_>, faults: &mut E) -> Result<Vec<Row>, u8>
 where
     R: Files + Net + Clock + AllocGlobal,
@@ -131,7 +131,7 @@ pub fn say_left_out<E: Write>(
     }
 }
 
-/// Says why the rows could not be written, where that failed.
+/// Says why the rows could not be written, if that failed.
 pub fn say_keep_fault<E: Write>(settings: &Settings<'_>, fault: Option<io::Error>, faults: &mut E) {
     if let (Some(path), Some(error)) = (settings.keep, fault) {
         let _ = writeln!(

@@ -54,7 +54,7 @@ fn check(rt: &HostRuntime, beginning: &Beginning) -> u8
     .status
 }
 
-/// What the words of the command line ask for. Where nothing needs to be run, the exit status.
+/// What the words of the command line ask for. If nothing needs to be run, the exit status.
 fn read_command<'a>(rt: &HostRuntime, words: &'a [String]) -> Result<Words<'a>, u8>
     ensures { IfErr result (λ status. status ≤ 2) }
 {

@@ -12,11 +12,11 @@ use std::net::Net;
 use std::rt::Clock;
 use std::sync::Wait;
 
-/// The longest wait of a turn, in milliseconds, where a number of turns is asked for.
+/// The longest wait of a turn, in milliseconds, if a number of turns is asked for.
 const WAIT: u64 = 100;
 
-/// Serves, and says on standard output where it listens. The answer is the exit status: 0 after the last turn, and 1
-/// where the limits are out of their ranges, the rows that were kept can't be read, or memory, a socket, standard
+/// Serves, and says on standard output where it listens. The answer is the exit status: 0 after the last turn, and 1 if
+/// the limits are out of their ranges, the rows that were kept can't be read, or memory, a socket, standard
 /// output or the file of the record failed. The error message goes to `faults`, after a line that says what failed.
 pub fn run_service<R, E>(rt: &R, serve: &Serve<'_>, faults: &mut E) -> u8
 where
@@ -75,8 +75,9 @@ where
     }
 }
 
-/// A turn, which waits this many milliseconds at most, what was recorded of it, the lines of the log, and one for each listener that failed the first time and
-/// for the rows that could not be written. Where standard error takes no lines they are lost.
+/// Takes a turn, which waits this many milliseconds at most, and writes what was recorded of it, the lines of the log,
+/// and one for each listener that failed the first time and for the rows that could not be written. If standard error
+/// takes no lines, they are lost.
 fn take_turn<R: Clock + Files, F: Write + Drop, E: Write>(
     rt: &R,
     daemon: &mut Daemon<'_, R>,

@@ -5,8 +5,8 @@ use rb_sockets::{LocalSocket, Settings, Shortage};
 use std::fmt;
 use std::fmt::{Display, Formatter};
 
-/// Where the daemon of these settings listens: a line for each address, one for ::1 if that is bound besides, and one for
-/// the local socket.
+/// Where the daemon of these settings listens: a line for each address, one for ::1 if that is bound as well, and one
+/// for the local socket.
 #[derive(Clone, Copy)]
 pub(crate) struct ListeningText<'a>(pub(crate) &'a Settings<'a>);
 
@@ -17,7 +17,7 @@ struct HostLines<'a> {
     port: u16,
 }
 
-/// The line of ::1, if that is bound besides.
+/// The line of ::1, if that is bound as well.
 #[derive(Clone, Copy)]
 struct Loopback6Line {
     is_bound: bool,

@@ -12,8 +12,8 @@ use std::fmt::{Display, Formatter};
 use std::io::Write;
 use std::{fmt, io};
 
-/// Says on standard output where the daemon listens, and before that on `faults` where clients over UDP will be told no
-/// address, and where there is a shortage of descriptors. Where standard output failed it is said, and the error
+/// Says on standard output where the daemon listens, and before that on `faults` if clients over UDP will be told no
+/// address, and if there is a shortage of descriptors. If standard output failed, it is said, and the error
 /// is the exit status.
 pub fn say_start<R: Print, E: Write>(
     rt: &R,
@@ -43,14 +43,14 @@ fn say_announced<E: Write>(settings: &Settings<'_>, faults: &mut E) {
     }
 }
 
-/// How many connections there may be, where they are fewer than were asked for.
+/// How many connections there may be, if they are fewer than were asked for.
 fn say_shortage<E: Write>(shortage: Option<Shortage>, faults: &mut E) {
     if let Some(shortage) = shortage {
         let _ = writeln!(faults, "{}", ShortageLine(shortage));
     }
 }
 
-/// Ends by a fault of the daemon: its lines are written, where they can be. Of a socket, the step that failed comes
+/// Ends by a fault of the daemon: its lines are written, if they can be. Of a socket, the step that failed comes
 /// first.
 pub fn explain_fault<E: Write>(
     fault: &DaemonFault,

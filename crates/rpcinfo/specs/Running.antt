@@ -25,7 +25,7 @@ OfSource None Holds = ⊤
 abbrev pub OfInput : Plan → (Question → Type 0) → Type 0
 OfInput plan Holds = OfSource (plan_question plan) Holds
 
--- Where the words name standard input and its text is known, the answer is what the reply in it tells. Of an answer
+-- If the words name standard input and its text is known, the answer is what the reply in it tells. Of an answer
 -- over sockets nothing is said.
 -- INPUT-1
 abbrev pub Answers : {I O : Type 0} → (I → Option (List ℕ)) → (O → Option (List ℕ)) → Invocation → I → O → O → Result Shown Fault → Type 0

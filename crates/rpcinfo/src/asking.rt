@@ -1,5 +1,5 @@
-//! Questions over sockets. No contract can say what they are answered with: what is asked, where, and what follows of an
-//! answer is decided in `rb_course` and `rb_plans`.
+//! Questions over sockets. No contract can say what they are answered with: what is asked, where, and what follows from
+//! an answer is decided in `rb_course` and `rb_plans`.
 ghost use Rattle.std.specs.Prelude.{◌≡◌};
 ghost use Rattle.rpcinfo.specs.Running.{no_notices};
 
@@ -31,7 +31,7 @@ enum Errand<'a> {
 }
 
 impl Errand<'_> {
-    /// The family of the addresses at which it is asked; none where each is.
+    /// The family of the addresses at which it is asked; none if it is asked at each.
     fn family(&self) -> Option<Family> {
         match self {
             Errand::Question(_) => None,
@@ -57,7 +57,7 @@ pub fn silently(answer: Result<Shown, Fault>) -> Answered
     (answer, notices)
 }
 
-/// Asks a portmapper, and where it has version 2 alone by that.
+/// Asks a portmapper, by version 2 if it has that alone.
 fn ask_portmapper<N: Net + Clock, O: Write>(
     alloc: Global,
     net: &N,
@@ -93,8 +93,8 @@ fn ask_portmapper<N: Net + Clock, O: Write>(
     (answer, true)
 }
 
-/// Asks the portmapper of this machine: over the socket that the words name, or without one, and where nobody is at the one
-/// path at which rpcbinds listen, at 127.0.0.1.
+/// Asks the portmapper of this machine: over the socket that the words name; at 127.0.0.1 if they name none, or if
+/// nobody is at the one path at which rpcbinds listen.
 pub fn ask_here<N: Net + Clock, O: Write>(
     alloc: Global,
     net: &N,
@@ -155,7 +155,7 @@ fn ask_at<N: Net + Clock, O: Write>(
     }
 }
 
-/// Calls procedure 0 of a program on a host, in the version that is named or in each that it has. It is noted where the
+/// Calls procedure 0 of a program on a host, in the version that is named or in each that it has. It is noted if the
 /// portmapper was asked by version 2 in place of 3.
 fn run_course<N: Net + Clock, O: Write>(
     alloc: Global,

@@ -13,7 +13,7 @@ use std::time::{Duration, Instant};
 /// The most datagrams that are looked at.
 const MOST_DATAGRAMS: u32 = 4096;
 
-/// A socket from which the call went to the hosts of these networks; `None` where it went to none.
+/// A socket from which the call went to the hosts of these networks; `None` if it went to none.
 fn call_all<N: Net>(net: &N, networks: &[[u8; 4]], port: u16, call: &[u8]) -> Option<UdpSocket> {
     let any = SocketAddr::new(IpAddr::V4(Ipv4Addr::UNSPECIFIED), 0);
     let socket = UdpSocket::bind(net, any).ok()?;
@@ -48,7 +48,7 @@ fn next_answer<C: Clock>(
     Err(io::Error::from(ErrorKind::TimedOut))
 }
 
-/// The port at which a datagram says that the program answered; none where it is no such answer.
+/// The port at which a datagram says that the program answered; none if it is no such answer.
 fn port_in(
     alloc: Global,
     words: &Invocation<'_, '_>,

@@ -223,7 +223,7 @@ fn layouts_of(alloc: Global, matches: &ArgMatches<'_>) -> Result<Vec<Layout>, Al
     Ok(layouts)
 }
 
-/// What the words ask for, where programs may be given by these names. Faults are written, and then the `Err` says how
+/// What the words ask for; programs may be given by these names. Faults are written, and then the `Err` says how
 /// the command ended.
 pub fn read_matches<'a, 'n, E: Write>(
     alloc: Global,

@@ -5,7 +5,7 @@ use std::fs;
 use std::io::{ErrorKind, Read};
 use std::rt::Files;
 
-/// The first bytes of a file, at most `most`. There are none where the file can't be read.
+/// The first bytes of a file, at most `most`. There are none if the file can't be read.
 pub fn text_of<F: Files>(
     alloc: Global,
     files: &F,

@@ -26,7 +26,7 @@ fn words_of(rt: &HostRuntime) -> io::Result<Vec<String>> {
     Ok(words)
 }
 
-/// The words of the command line, where each is text. A fault is written to `faults`, and the error is the exit status.
+/// The words of the command line, if each is text. A fault is written to `faults`, and the error is the exit status.
 fn command_words<E: Write>(rt: &HostRuntime, faults: &mut E) -> Result<Vec<String>, u8>
     ensures { IfErr result (λ status. status ≤ 2) }
 {

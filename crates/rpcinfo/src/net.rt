@@ -59,7 +59,7 @@ fn open<'a, N: Net + Clock>(
     }
 }
 
-/// Writes a call. Where it isn't taken, there is no reply to it.
+/// Writes a call. If it isn't taken, there is no reply to it.
 fn send<S: Write>(call: &[u8], stream: &mut S) -> Result<(), Fault> {
     match stream.write_all(call) {
         Ok(()) => Ok(()),

@@ -19,7 +19,7 @@ fn one(alloc: Global, network: Ipv4Addr) -> Result<Vec<[u8; 4]>, Fault> {
     }
 }
 
-/// The broadcast addresses of the networks of this machine; 255.255.255.255 alone where none is known. Of
+/// The broadcast addresses of the networks of this machine; 255.255.255.255 alone if none is known. Of
 /// routes that are read in part none is asked.
 fn networks_here<F: Files>(alloc: Global, files: &F) -> Result<Vec<[u8; 4]>, Fault> {
     let routes = text_of(alloc, files, ROUTES, LONGEST_ROUTES as u64 + 1).map_err(Fault::Info)?;

@@ -54,7 +54,7 @@ fn carry_course<N: Net + Clock + Files, O: Write>(
     }
 }
 
-/// Does what the words say, and says what is wrong: the answer, with how the command ends by it. Where the words name
+/// Does what the words say, and says what is wrong: the answer, with how the command ends by it. If the words name
 /// standard input, the answer is what the reply in its text tells.
 fn run_words<N: Net + Clock + Files, I: Read, O: Write, E: Write>(
     alloc: Global,

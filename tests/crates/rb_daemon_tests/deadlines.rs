@@ -16,7 +16,7 @@ const READING: u64 = 30_000;
 /// Until the reply to a forwarded call, in milliseconds.
 const FORWARDED: u64 = 5_000;
 
-/// The daemon closes the connection when so much time is over, and not a millisecond before.
+/// The daemon closes the connection when this much time is over, and not a millisecond before.
 fn is_closed_after(client: &mut Client, host: &mut Host<'_>, clock: &Stopped, millis: u64) -> bool {
     let before = client.got().len();
     clock.advance(millis.saturating_sub(1));
@@ -26,7 +26,7 @@ fn is_closed_after(client: &mut Client, host: &mut Host<'_>, clock: &Stopped, mi
     stays && client.is_closed() && client.got().len() == before && host.is_well()
 }
 
-/// Where no other connection may be open, the next one is served.
+/// If no other connection may be open, the next one is served.
 fn closes_idle(rt: &HostRuntime, host: &mut Host<'_>, clock: &Stopped) -> Option<bool> {
     let mut client = Client::new(rt)?;
     let is_open = client.receive_nothing(host);
@@ -146,7 +146,7 @@ fn indirect_ends_at_its_deadline(rt: HostRuntime) -> Result<(), Fail> {
 }
 
 /// The wall clock is set forward by a day, and the connection stays; then it is set back by two, and the deadline
-/// comes when so much time has passed.
+/// comes when its time has passed.
 fn keeps_time(rt: &HostRuntime, host: &mut Host<'_>, clock: &Stopped) -> Option<bool> {
     let mut client = Client::new(rt)?;
     let is_open = client.receive_nothing(host);

@@ -1,4 +1,4 @@
-//! Who is given up where all places are taken and another client comes: two connections may be open.
+//! Who is given up if all places are taken and another client comes: two connections may be open.
 use crate::client::{Caller, Client};
 use crate::forwards::{TWO_CALLS, sets_target};
 use crate::leaving::dumps;
@@ -317,7 +317,7 @@ fn log_tells_who_is_given_up(rt: HostRuntime) -> Result<(), Fail> {
     Ok(())
 }
 
-/// A client asks for more lists than its socket takes, and reads none for so long.
+/// A client asks for more lists than its socket takes, and reads none of them until its time is over.
 fn gives_up_who_never_reads(
     rt: &HostRuntime,
     host: &mut Host<'_>,

@@ -62,7 +62,7 @@ fn clients_that_leave_in_a_record(rt: HostRuntime) -> Result<(), Fail> {
     Ok(())
 }
 
-/// A reset there: the system sends one where a socket is closed with bytes that were not read, as the reply to the
+/// A reset there: the system sends one if a socket is closed with bytes that were not read, as the reply to the
 /// first call.
 fn is_reset_in_a_record(rt: &HostRuntime, host: &mut Host<'_>) -> Option<bool> {
     let mut calls = null_record(rt.alloc(), 3).ok()?;
@@ -83,7 +83,7 @@ fn clients_that_leave_in_a_record_by_a_reset(rt: HostRuntime) -> Result<(), Fail
     Ok(())
 }
 
-/// A client asks for lists, and goes away after a turn: by a close where it read all that came, by a reset where it
+/// A client asks for lists, and goes away after a turn: by a close if it read all that came, by a reset if it
 /// read none.
 fn leaves_in_a_reply(
     rt: &HostRuntime,
@@ -149,7 +149,7 @@ fn clients_that_leave_but_read(rt: HostRuntime) -> Result<(), Fail> {
     Ok(())
 }
 
-/// Ten clients come and are gone before a turn, where two connections may be open; one that stays is served.
+/// Two connections may be open, and ten clients come and are gone before a turn; one that stays is served.
 #[test]
 fn gone_clients_take_no_places(rt: HostRuntime) -> Result<(), Fail> {
     let clock = Stopped::new(&rt);

@@ -1,4 +1,4 @@
-//! The listeners besides those of IPv4 addresses: [::1], and the local socket with its file.
+//! The listeners apart from those of IPv4 addresses: [::1], and the local socket with its file.
 use crate::client::{Caller, Client};
 use crate::datagrams::answers;
 use crate::messages::{bytes_of, null_record, null_reply_record};
@@ -73,7 +73,7 @@ fn loopback6_serves(rt: HostRuntime) -> Result<(), Fail> {
     Ok(())
 }
 
-/// Each of three connections is on another listener. Where two may be open, the first is given up for the third.
+/// Each of three connections is on another listener. If two may be open, the first is given up for the third.
 fn shares_places(rt: &HostRuntime, host: &mut Host<'_>) -> Option<bool> {
     let mut first = Client::new(rt)?;
     host.turn();
@@ -141,7 +141,8 @@ fn queue_of_the_second_address_is_served(rt: HostRuntime) -> Result<(), Fail> {
 /// Of three listeners each is the first to accept in one of three turns, and who was accepted is served in the next turn.
 const TURNS: u32 = 5;
 
-/// Beside a queue over TCP, where one connection changes hands in a turn, who comes on the local socket is served soon.
+/// Beside a queue over TCP, in which one connection changes hands in a turn, who comes on the local socket is
+/// served soon.
 fn serves_beside_a_queue(rt: &HostRuntime, host: &mut Host<'_>) -> Option<bool> {
     let clients = in_the_queue(rt, address())?;
     host.turn();
@@ -175,7 +176,7 @@ fn stale_file_is_replaced(rt: HostRuntime) -> Result<(), Fail> {
     Ok(())
 }
 
-/// Whether a daemon with these settings does not start, since the local socket is not to be had.
+/// Whether a daemon with these settings does not start, since the local socket can't be had.
 fn is_kept_out(clock: &Stopped, settings: &Settings<'_>) -> bool {
     match Host::with(clock, settings) {
         Err(DaemonFault::Socket(fault)) => fault.step == Step::BindLocal,

@@ -13,7 +13,7 @@ const READERS: usize = 12;
 /// This many lists for each are more than a few turns give.
 const LISTS: u32 = 24;
 
-/// Where 8 of 12 are served in a turn, none is passed over in two turns in a row.
+/// If 8 of 12 are served in a turn, none is passed over in two turns in a row.
 const MOST_MISSED: u32 = 1;
 
 /// A reader, how many bytes it got, and how many turns in a row gave it nothing.

@@ -135,7 +135,7 @@ pub(crate) fn plain(hosts: &[Address], conns: usize) -> Settings<'static> {
     }
 }
 
-/// A daemon that listens on [::1] and on the local socket besides.
+/// A daemon that also listens on [::1] and on the local socket.
 pub(crate) fn everywhere(hosts: &[Address], conns: usize) -> Settings<'static> {
     Settings {
         loopback6: true,

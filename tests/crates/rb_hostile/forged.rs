@@ -21,7 +21,7 @@ const XID: u32 = 1000;
 /// An INDIRECT of version 4 to procedure 0 of that program, without arguments.
 const INDIRECT: [u32; 14] = [15, 0, 2, 100_000, 4, 10, 0, 0, 0, 0, 200_001, 1, 0, 0];
 
-/// The reply to it where the target answers: the address 192.0.2.1.8.1, and no results.
+/// The reply to it if the target answers: the address 192.0.2.1.8.1, and no results.
 const PASSED: [u32; 12] = [
     15, 1, 0, 0, 0, 0, 13, 0x3139322e, 0x302e322e, 0x312e382e, 0x31000000, 0,
 ];

@@ -1,6 +1,6 @@
-//! Memory that is refused: each call that takes some answers want of it, and what was done stands. As the gate runs them
-//! nothing is refused, and the calls succeed. `tests/run-tests.sh rb_hostile -- --fail-alloc N` refuses the allocation
-//! of number N in each test, and then these fail only where an answer is wrong.
+//! Memory that is refused: each call that takes some reports the lack of it, and what was done stands. As the gate runs
+//! them nothing is refused, and the calls succeed. `tests/run-tests.sh rb_hostile -- --fail-alloc N` refuses the
+//! allocation of number N in each test, and then these fail only if an answer is wrong.
 
 use crate::cores::{bytes_of, core_of, loopback, set_call};
 use rb_address::{Host, Peer};
@@ -47,7 +47,7 @@ fn are_all(outputs: &[Output]) -> bool {
         && matches!(rest, Output::Pending(rest) if rest.is_empty())
 }
 
-/// Runs the events, and after want of memory those that are left.
+/// Runs the events, and after lack of memory those that are left.
 fn run_on(alloc: Global, core: &mut Metered, events: &[Event]) -> Result<Vec<Output>, NoMemory> {
     let mut outputs = Vec::new(alloc);
     if replay(alloc, core, events, &mut outputs).is_err() {
@@ -57,7 +57,7 @@ fn run_on(alloc: Global, core: &mut Metered, events: &[Event]) -> Result<Vec<Out
     Ok(outputs)
 }
 
-/// The outputs are those of the whole run, where memory was wanted too.
+/// The outputs are those of the whole run, also if memory was lacking.
 fn run_is_whole(rt: &impl Abort, alloc: Global, core: &mut Metered, events: &[Event]) {
     let outputs = run_on(alloc, core, events);
     assert!(rt; outputs.is_ok_and(|outputs| are_all(&outputs)));

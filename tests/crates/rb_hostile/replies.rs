@@ -42,7 +42,8 @@ fn reply(alloc: Global) -> Result<Vec<u8>, AllocError> {
     Ok(bytes)
 }
 
-/// What is shown where this many bytes come: no line before the head is whole, then the heading, and a line for each whole row.
+/// What is shown if this many bytes come: no line before the head is whole, then the heading, and a line for each whole
+/// row.
 fn shown_of(len: usize) -> &'static [u8] {
     let lines = if len < 28 { 0 } else { 1 + (len - 28) / 20 };
     TABLE.get(..lines.saturating_mul(30)).unwrap_or(TABLE)

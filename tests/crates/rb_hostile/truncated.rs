@@ -86,7 +86,7 @@ fn header_of(data: &[u8]) -> [u8; 4] {
     (1 << 31 | u32::try_from(data.len()).unwrap_or(0)).to_be_bytes()
 }
 
-/// The datagram gets this reply, or is no call where that is empty.
+/// The datagram gets this reply, or is no call if that is empty.
 fn datagram_is_told(core: &mut Metered, data: &[u8], reply: &[u8]) -> bool {
     let outcome = core.datagram(0, loopback(), data);
     if reply.is_empty() {
@@ -106,7 +106,7 @@ fn record_closes(core: &mut Metered, id: u64, data: &[u8]) -> Result<bool, CoreF
     Ok(record.lost)
 }
 
-/// The record gets this one for its reply, or closes its connection where that is empty.
+/// The record gets this one for its reply, or closes its connection if that is empty.
 fn record_is_told(core: &mut Metered, data: &[u8], reply: &[u8]) -> Result<bool, CoreFault> {
     let id = core.open(0, loopback())?;
     let closes = record_closes(core, id, data)?;
@@ -119,8 +119,8 @@ fn record_is_told(core: &mut Metered, data: &[u8], reply: &[u8]) -> Result<bool,
     Ok(is_told)
 }
 
-/// Each front of the call is no call where it is shorter than the head, and else gets this record for its reply, or as
-/// a datagram what follows the record's header.
+/// Each front of the call is no call if it is shorter than the head, and otherwise gets this record for its reply, or
+/// as a datagram what follows the record's header.
 fn fronts_are_told(
     core: &mut Metered,
     call: &[u8],

@@ -98,7 +98,7 @@ impl<'r, 'f> Client<'r, 'f> {
         self.shown.as_slice() == text
     }
 
-    /// What these bytes of a reply tell; none where more of it is to come.
+    /// What these bytes of a reply tell; none if more of it must still come.
     fn show(&mut self, ask: &Ask, xid: u32, got: &[u8]) -> Option<Result<Shown, InfoFault>> {
         let mut lines = Vec::new(self.rt.alloc());
         let mut source = HeldBytes::new(got);
@@ -224,7 +224,7 @@ impl Caller {
         Some(Caller { socket })
     }
 
-    /// Of IPv4, on any port where this is 0.
+    /// Of IPv4, on any port if this is 0.
     pub fn new(rt: &HostRuntime, port: u16) -> Option<Caller> {
         Caller::at(rt, SocketAddr::from((Ipv4Addr::LOCALHOST, port)))
     }

@@ -1,8 +1,8 @@
 use rb_course::read_networks;
 use std::test::Fail;
 
-/// What Linux listed where a machine had 10.1.4.9/22 and 172.16.5.130/26, with routes to one host, through gateways, and to
-/// nowhere. Of its addresses it said `brd 10.1.7.255` and `brd 172.16.5.191`.
+/// What Linux listed on a machine that had 10.1.4.9/22 and 172.16.5.130/26, with routes to one host, through gateways,
+/// and to nowhere. Of its addresses it said `brd 10.1.7.255` and `brd 172.16.5.191`.
 const ROUTES: &[u8] =
     b"Iface\tDestination\tGateway \tFlags\tRefCnt\tUse\tMetric\tMask\t\tMTU\tWindow\tIRTT        \n\
 v0\t00000000\t0104010A\t0003\t0\t0\t0\t00000000\t0\t0\t0        \n\

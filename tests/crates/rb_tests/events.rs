@@ -244,7 +244,7 @@ fn gives_at_once(
     core.exchange(0, 1, record, room) == Ok(exchanged)
 }
 
-// Where there is room for the longest fragment the reply is given at once, and is pending no more.
+// If there is room for the longest fragment, the reply is given at once, and is pending no more.
 fn gives_with_room(core: &mut Metered, record: &[u8]) -> bool {
     let mut room = [0; 1028];
     gives_at_once(core, record, &mut room, 28, Standing::Idle)
@@ -252,7 +252,7 @@ fn gives_with_room(core: &mut Metered, record: &[u8]) -> bool {
         && core.pending(1) == Ok(&[])
 }
 
-// Where there is a byte less the reply is pending.
+// If there is a byte less, the reply is pending.
 fn waits_without_room(core: &mut Metered, record: &[u8]) -> bool {
     let mut room = [0; 1027];
     gives_at_once(core, record, &mut room, 0, Standing::Owing)
@@ -332,7 +332,7 @@ fn bytes_leave(
         && core.next_deadline() == deadline
 }
 
-// The same where this many bytes were given.
+// The same if this many bytes were given.
 fn giving_leaves(
     core: &mut Metered,
     now: u64,

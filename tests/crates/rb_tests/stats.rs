@@ -37,7 +37,7 @@ fn note_all(stats: &mut Stats, meter: &mut Meter) {
     stats.note_remote(Version::Four, TARGET, 0, false, true, meter);
 }
 
-// They are held, and put where there is room for all of them.
+// They are held, and put if there is room for all of them.
 fn notes_are_put(rt: &impl Abort, stats: &Stats, out: &mut Kept, meter: &mut Meter) {
     assert_eq!(rt; stats.held(), 96);
     assert!(rt; stats.put(267, out, meter).is_err());

@@ -4,7 +4,7 @@ use Rattle.rb_record.specs.Tapes.{Tape, Records}
 use Rattle.rb_record.proofs.Tapes.{records_more}
 use Rattle.rb_daemon.proofs.showing.record_exchange.Goals as goal
 
--- what is recorded of bytes that were given after the bytes that came, where some were
+-- what is recorded of bytes that were given after the bytes that came, if some were
 given_behind : (first given : List ℕ) (entries : List (List ℕ)) (old mid new : Tape) → eqb (length given) 0 ≡ false → Records (first ∷ []) old mid → Records entries mid new → Records (first ∷ cond (eqb (length given) 0) [] entries) old new
 given_behind first given entries old mid new some one two =
     subst (λ (more : List (List ℕ)). Records (first ∷ more) old new) (sym (cond-false _ _ _ some)) (records_more (first ∷ []) entries old mid new one two)

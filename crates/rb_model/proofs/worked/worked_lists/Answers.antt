@@ -1,4 +1,4 @@
--- Long lists compute at once, where a search would count their steps.
+-- Long lists compute at once, whereas a search would count their steps.
 use Rattle.std.proofs.Common.{refl}
 use Rattle.rb_model.proofs.OnLiterals.{rb_model_on_literals}
 use Rattle.rb_model.proofs.worked.worked_lists.Goals as goal

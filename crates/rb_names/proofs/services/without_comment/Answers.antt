@@ -13,7 +13,7 @@ returns-in-Some c =
     let found = position_from_yields_List is_hash _ _ c.position.result c.position.ensures.ran (YieldsList-from_slice c.args.line.now c.iter.ensures.rest) (λ x b q k. search rules) in
     grind (arith, found)
 
--- where nothing passes, all stands before the first that does
+-- if nothing passes, all stands before the first that does
 whole : (test : ℕ → Bool) (xs : List ℕ) → None ≡ (if nat_lt (position_or_len test xs) (length xs) then Some (position_or_len test xs) else None) → xs ≡ before_first test xs
 whole test xs none =
     elim (cases_lt (position_or_len test xs) (length xs)) [

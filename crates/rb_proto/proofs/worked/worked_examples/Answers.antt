@@ -1,4 +1,4 @@
--- Long lists compute at once, where a search would count their steps.
+-- Long lists compute at once, whereas a search would count their steps.
 use Rattle.std.proofs.Common.{refl}
 use Rattle.rb_proto.proofs.OnLiterals.{rb_proto_on_literals}
 use Rattle.rb_proto.proofs.worked.worked_examples.Goals as goal

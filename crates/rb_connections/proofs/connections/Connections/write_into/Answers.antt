@@ -97,7 +97,7 @@ returns-clause-cost c =
     subst (λ t. PaysToWriteInto t registry c.args.id (Ok (record { count = c.write_into-count.result; standing = c.standing-standing.result })) c.args.meter.now c.charge.new.meter) c.self.view_is
     (given_into_pays registry c.args.id (the_view c.self.inside) c.args.meter.now c.charge.new.meter c.write_into-count.result c.standing-standing.result _ c.in-Some.slot.now c.self.invariant.distinct c.in-Some.ensures.found.key c.in-Some.ensures.found.there paid)
 
--- ---- where nothing is given
+-- ---- if nothing is given
 
 pub returns-clause-nothing : goal.returns-clause-nothing
 returns-clause-nothing c = λ none.

@@ -63,7 +63,7 @@ returns-in_err-got-clause-bound c =
 
 -- ---- no record ended
 
--- the buffer has the arguments where none lie in the piece
+-- the buffer has the arguments if none lie in the piece
 in_buffer : (view : CoreView) (id : ℕ) (piece kept : List ℕ) (o : Option (Bor (List ℕ))) → o ≡ None → Shows (StandsForConnections view.books.registry) (arguments_on id view.arguments piece) view.connections (arguments_in o kept)
     → Shows (StandsForConnections view.books.registry) (arguments_on id view.arguments piece) view.connections kept
 in_buffer view id piece kept o none holds = subst (λ (x : Option (Bor (List ℕ))). Shows (StandsForConnections view.books.registry) (arguments_on id view.arguments piece) view.connections (arguments_in x kept)) none holds
