@@ -71,7 +71,7 @@ in_minutes() {
 
 # About how many minutes `make` takes from nothing on this many processors, and `make test`.
 minutes_of_make() {
-    echo $((17 + 80 / $1))
+    echo $((25 + 80 / $1))
 }
 
 minutes_of_test() {
