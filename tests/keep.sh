@@ -426,7 +426,11 @@ run_keep_without_room() {
         judge $? "rows are kept once there is room"
     fi
     kill "$daemon"
-    while kill -0 "$daemon" 2> /dev/null; do sleep 0.05; done
+    # It is no child of this shell: under a process 1 that reaps none it stays for ever.
+    for _ in {1..100}; do
+        kill -0 "$daemon" 2> /dev/null || break
+        sleep 0.05
+    done
 }
 
 # A folder that is not there is made while the daemon runs.
