@@ -65,6 +65,7 @@ given_entries now id bytes = entry_text (Pending id) (IsPending bytes) ∷ entry
 abbrev pub pieces_entries : ℕ → ℕ → List (List ℕ) → List (List ℕ)
 pieces_entries now id pieces = flat_map (given_entries now id) pieces
 
+-- bytes that came with what was taken of them, and if some were given at once, what a look and a giving record
 abbrev pub taken_entries : ℕ → ℕ → List ℕ → Output → List ℕ → List (List ℕ)
 taken_entries now id piece taken given = entry_text (Bytes now id piece) taken ∷ (if length given == 0 then [] else given_entries now id given)
 
@@ -72,6 +73,7 @@ taken_entries now id piece taken given = entry_text (Bytes now id piece) taken �
 abbrev pub taken_output : Result Exchanged CoreFault → Output
 taken_output done = output_or_refusal show_taken (taken_in done)
 
+-- the same by what the core said of the bytes
 abbrev pub exchange_entries : ℕ → ℕ → List ℕ → Result Exchanged CoreFault → List ℕ → List (List ℕ)
 exchange_entries now id piece done given = taken_entries now id piece (taken_output done) given
 

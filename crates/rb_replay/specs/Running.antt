@@ -104,11 +104,11 @@ RunsFrom limits events core result =
 abbrev pub KeepsBound : Ran → Type 0
 KeepsBound ran = ran.steps ≤ ran.bound
 
--- So is it of each state that the core stood for, if that is a new one with these limits.
+-- Its steps are within its bound if the core stood for a new state of these limits.
 abbrev pub KeepsBoundFrom : Limits → CoreView → Result Ran Fault → Type 0
 KeepsBoundFrom limits core result = (s : State) → StandsFor core s → IsFresh limits s → IfOk result KeepsBound
 
--- Its steps are those that the meter counted.
+-- Its steps are those that the meter counted meanwhile.
 abbrev pub CountsSteps : Meter → Meter → Ran → Type 0
 CountsSteps old now ran = ran.steps ≡ count_shown now - count_shown old
 
