@@ -1,6 +1,6 @@
-//! What is wrong with the value of an option, and what is expected there; and values that do not go together.
+//! What is wrong with the value of an option, and what is expected there.
 ghost use Rattle.std.specs.Prelude.{◌≡◌};
-ghost use Rattle.rb_commands.specs.Wanted.{option_name, wanted_text, announced_text, bound_text, served_text, is_the_record};
+ghost use Rattle.rb_commands.specs.Wanted.{option_name, wanted_text, announced_text, bound_text, served_text};
 
 use crate::options::Valued;
 use rb_sockets::MOST;
@@ -17,13 +17,13 @@ const WHOM: &str = "all or local";
 
 /// An option whose value can't be read.
 #[derive(Clone, Copy, Debug, PartialEq, Eq)]
-pub struct BadValue<'a> {
+pub(crate) struct BadValue<'a> {
     /// Its name, without the two dashes.
-    pub option: &'static str,
+    pub(crate) option: &'static str,
     /// Its value.
-    pub value: &'a str,
+    pub(crate) value: &'a str,
     /// What is expected in place of that.
-    pub wanted: &'static str,
+    pub(crate) wanted: &'static str,
 }
 
 impl Display for BadValue<'_> {
@@ -46,7 +46,7 @@ impl Display for BadValue<'_> {
 }
 
 /// The name of an option, without the two dashes.
-pub fn option_name(option: Valued) -> &'static str
+pub(crate) fn option_name(option: Valued) -> &'static str
     ensures { result.now ≡ option_name option }
 {
     match option {
@@ -73,7 +73,7 @@ pub fn option_name(option: Valued) -> &'static str
 
 /// What is expected as its value. That of `--announce` at a place after the first may be the second of its family, and
 /// those of `--bind` and `--from` may be one too many.
-pub fn wanted_text(option: Valued) -> &'static str
+pub(crate) fn wanted_text(option: Valued) -> &'static str
     ensures { result.now ≡ wanted_text option }
 {
     match option {
@@ -121,15 +121,5 @@ fn served_text(place: usize) -> &'static str
         NETWORK
     } else {
         "no more than 16 networks"
-    }
-}
-
-/// Whether the file at this path, in which rows are kept, is that of the record.
-pub fn is_the_record(keep: &str, record_path: Option<&str>) -> bool
-    ensures { result ≡ is_the_record keep.now record_path.entry }
-{
-    match record_path {
-        Some(path) => keep == path,
-        None => false,
     }
 }

@@ -3,16 +3,13 @@
 
 ghost use Rattle.std.specs.Prelude.{◌≤◌, IfErr};
 
-mod arguments;
-mod command;
 mod keep;
 mod record;
 mod service;
 mod start;
 mod telling;
 
-use arguments::{Words, read_words};
-use rb_commands::command_words;
+use rb_commands::{Words, command_words, read_words};
 use rb_lines::{Beginning, Fault, explain};
 use rb_replay::{Meter, run_check, run_replay};
 use service::run_service;

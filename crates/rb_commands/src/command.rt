@@ -1,6 +1,7 @@
 //! The commands of the program and their options, as `--help` shows them.
+use crate::options::Valued;
+use crate::serving::serve_default;
 use clap::{Arg, ArgAction, Command};
-use rb_commands::{Valued, serve_default};
 use std::alloc::{AllocError, Global};
 
 const VERSION: &str = "0.2.0";
@@ -9,7 +10,7 @@ const VERSION: &str = "0.2.0";
 const UDP_LISTS: &str =
     "To whom replies over UDP may have more than twice the bytes of their calls: local, to this machine alone, or all";
 
-/// An option with a value. clap takes each value as a text; rb_commands says what it means.
+/// An option with a value. clap takes each value as a text; what it means is said in options.rt and serving.rt.
 fn option<'a>(alloc: Global, name: &'a str, value: &'a str, help: &'a str) -> Arg<'a> {
     Arg::new(alloc, name)
         .long(name)
@@ -18,7 +19,7 @@ fn option<'a>(alloc: Global, name: &'a str, value: &'a str, help: &'a str) -> Ar
 }
 
 /// The program with its commands.
-pub(crate) fn command<'a>(alloc: Global) -> Result<Command<'a>, AllocError> {
+pub fn command<'a>(alloc: Global) -> Result<Command<'a>, AllocError> {
     Command::new(alloc, "rpcbind")
         .version(VERSION)
         .about("Tells ONC RPC clients at which address a program listens (RFC 1833)")

@@ -1,13 +1,13 @@
 //! The words of the command line: two commands and their options.
-ghost use Rattle.std.specs.Prelude.{◌≤◌, IfErr};
+ghost use Rattle.std.specs.Prelude.{◌≡◌, ◌≤◌, IfErr};
+ghost use Rattle.rb_commands.specs.Wanted.{is_the_record};
 
 use crate::command::command;
+use crate::options::{ReplayTexts, Valued, read_beginning};
+use crate::serving::{Serve, ServeTexts, read_serve};
+use crate::wanted::{BadValue, option_name, wanted_text};
 use clap::error::ErrorKind;
 use clap::{ArgMatches, Error};
-use rb_commands::{
-    BadValue, ReplayTexts, Serve, ServeTexts, Valued, is_the_record, option_name, read_beginning,
-    read_serve, wanted_text,
-};
 use rb_lines::{Beginning, Fault, explain};
 use rb_sockets::open_files;
 use std::alloc::Global;
@@ -16,7 +16,7 @@ use std::io::Write;
 
 /// What a command line asks for.
 #[derive(Drop)]
-pub(crate) enum Words<'a> {
+pub enum Words<'a> {
     /// The daemon.
     Serve(Serve<'a>),
     /// A replay whose outputs are printed.
@@ -28,7 +28,7 @@ pub(crate) enum Words<'a> {
 /// What the words ask for, the program's own name first. If nothing needs to be run, what there is to say was
 /// written, and the exit status is the error: 0 if help or the version went to `output`; 2 if the words can't
 /// be read, and `faults` got the reason; 1 if memory or `output` failed.
-pub(crate) fn read_words<'a, S: AsStr, O: Write, E: Write>(
+pub fn read_words<'a, S: AsStr, O: Write, E: Write>(
     alloc: Global,
     words: &'a [S],
     output: &mut O,
@@ -134,6 +134,16 @@ fn unless_kept_in_the_record<'a>(serve: Serve<'a>) -> Result<Serve<'a>, BadValue
             wanted: "another file than that of --record",
         }),
         _ => Ok(serve),
+    }
+}
+
+/// Whether the file at this path, in which rows are kept, is that of the record.
+fn is_the_record(keep: &str, record_path: Option<&str>) -> bool
+    ensures { result ≡ is_the_record keep.now record_path.entry }
+{
+    match record_path {
+        Some(path) => keep == path,
+        None => false,
     }
 }
 
