@@ -8,14 +8,14 @@ use crate::reading::{cut, ipv4_host, plain_number};
 use rb_uaddr::ipv6_host;
 
 /// The hosts whose first bits are those of one host.
-#[derive(Clone, Copy, Debug, PartialEq, Eq)]
+#[derive(Clone, Copy)]
 pub struct Network {
     host: Host,
     length: u8,
 }
 
 /// Why a host and a length are no network.
-#[derive(Clone, Copy, Debug, PartialEq, Eq)]
+#[derive(Clone, Copy)]
 pub enum NetworkFault {
     /// The length is over the bits of the host: 32, or 128.
     TooLong,

@@ -4,7 +4,7 @@ ghost use Rattle.rb_arguments.specs.Types.{IsEntry, entry_spelling, max_entry, e
 use rb_xdr::{Kept, Meter, Text, Xdr, XdrFault};
 
 /// An address of a program's version, and what is known of its transport.
-#[derive(PartialEq, Eq, Debug, Drop)]
+#[derive(Drop)]
 pub struct Entry {
     /// The universal address, with the listener's host in place of 0.0.0.0.
     pub maddr: Text<128>,

@@ -4,7 +4,7 @@ ghost use Rattle.rb_arguments.specs.Types.{IsNetbuf, netbuf_spelling, max_netbuf
 use rb_xdr::{Kept, Meter, Opaque, Xdr, XdrFault};
 
 /// An address in the form of its transport.
-#[derive(PartialEq, Eq, Debug, Drop)]
+#[derive(PartialEq, Eq, Drop)]
 pub struct Netbuf {
     /// Of a result the length of `buf`. Of an argument it says nothing.
     pub maxlen: u32,

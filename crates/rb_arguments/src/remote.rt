@@ -11,7 +11,7 @@ const CONTENT: usize = 16;
 
 /// rpcb_rmtcallargs of RFC 1833 section 2.1 and call_args of section 3.1: which procedure of which program should be
 /// called, and how many bytes of arguments it must be given, at most 8,800. Those stay where they came.
-#[derive(Clone, Copy, PartialEq, Eq, Debug)]
+#[derive(Clone, Copy)]
 pub struct RemoteCall {
     /// The program's number.
     pub prog: u32,

@@ -5,7 +5,7 @@ use crate::lent::LentRpcb;
 use rb_xdr::{Kept, Meter, Text, Xdr, XdrFault};
 
 /// The universal address at which a version of a program is reached on a netid, and who set it.
-#[derive(PartialEq, Eq, Debug, Drop)]
+#[derive(Drop)]
 pub struct Rpcb {
     /// The program's number.
     pub prog: u32,

@@ -14,7 +14,7 @@ const LONGEST_RECORD: u32 = 16_777_216;
 const LAST: u32 = 1 << 31;
 
 /// A place in a record.
-#[derive(Clone, Copy, Debug, PartialEq, Eq)]
+#[derive(Clone, Copy)]
 pub struct Record {
     /// How many bytes of the fragment's data are still to come.
     left: usize,

@@ -6,7 +6,7 @@ use std::io::Read;
 use thiserror::Error;
 
 /// The error of a source that failed.
-#[derive(Clone, Copy, Debug, Drop, Error, PartialEq, Eq)]
+#[derive(Clone, Copy, Debug, Drop, Error)]
 #[error("read failed")]
 pub struct SourceFailed;
 
@@ -21,7 +21,7 @@ pub trait ByteSource {
 }
 
 /// Bytes that are there. They never fail.
-#[derive(Clone, Copy, Debug)]
+#[derive(Clone, Copy)]
 pub struct HeldBytes<'a> {
     rest: &'a [u8],
 }
@@ -50,7 +50,7 @@ impl ByteSource for HeldBytes<'_> {
 }
 
 /// The bytes of a reader, which may fail at any of them.
-#[derive(Debug, Drop)]
+#[derive(Drop)]
 pub struct ReadBytes<R> {
     reader: R,
 }

@@ -6,7 +6,7 @@ use rb_uaddr::Uaddr;
 use std::net::SocketAddr;
 
 /// The hosts of this machine, beside its loopback.
-#[derive(Clone, Copy, Debug)]
+#[derive(Clone, Copy)]
 pub struct OwnHosts<'a> {
     /// Those that are listened on.
     pub bound: &'a [Host],
@@ -15,7 +15,7 @@ pub struct OwnHosts<'a> {
 }
 
 /// Where a program is asked.
-#[derive(Clone, Copy, Debug)]
+#[derive(Clone, Copy)]
 pub struct Target {
     pub transport: Transport,
     pub address: SocketAddr,

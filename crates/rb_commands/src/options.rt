@@ -22,7 +22,7 @@ const UNANNOUNCED: Announced = Announced {
 };
 
 /// An option that has a value.
-#[derive(Clone, Copy, Debug, PartialEq, Eq)]
+#[derive(Clone, Copy)]
 pub enum Valued {
     /// The value of `--announce` at this place, from 0. None may stand at place 2.
     Announce(usize),
@@ -65,7 +65,7 @@ pub enum Valued {
 }
 
 /// The values of the options of `replay`, as texts.
-#[derive(Clone, Copy, Debug, PartialEq, Eq)]
+#[derive(Clone, Copy)]
 pub struct ReplayTexts<'m, 'a> {
     /// At most one host of each family: an IPv4 address in dotted decimal form without leading zeros, and an IPv6 address
     /// without brackets. A family of which one is given is served.

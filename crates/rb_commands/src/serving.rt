@@ -14,7 +14,7 @@ use rb_proto::Terms;
 use rb_sockets::{Few, LocalSocket, Logged, MOST, Settings};
 
 /// The values of the options of `serve`, as texts.
-#[derive(Clone, Copy, Debug)]
+#[derive(Clone, Copy)]
 pub struct ServeTexts<'m, 'a> {
     /// At most one host of each family: an IPv4 address in dotted decimal form without leading zeros, and an IPv6 address
     /// without brackets.

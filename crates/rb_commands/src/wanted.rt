@@ -16,7 +16,7 @@ const NETWORK: &str = "a network as 192.0.2.0/24, with no bit set behind its len
 const WHOM: &str = "all or local";
 
 /// An option whose value can't be read.
-#[derive(Clone, Copy, Debug, PartialEq, Eq)]
+#[derive(Clone, Copy)]
 pub(crate) struct BadValue<'a> {
     /// Its name, without the two dashes.
     pub(crate) option: &'static str,

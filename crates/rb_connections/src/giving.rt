@@ -21,7 +21,7 @@ use rb_rpc::{FRAGMENT_HEADER, FRAGMENT_SIZE, LONGEST_FRAGMENT, fragment_header};
 use rb_xdr::{Kept, Meter};
 
 /// What of a reply was not yet put in the window.
-#[derive(Clone, Copy, Debug, PartialEq, Eq)]
+#[derive(Clone, Copy)]
 pub enum Rest {
     /// The bytes of the buffer from this place on.
     Held(usize),
@@ -45,7 +45,7 @@ impl Rest {
 }
 
 /// A reply that is given.
-#[derive(Clone, Copy, Debug, PartialEq, Eq)]
+#[derive(Clone, Copy)]
 pub struct Giving {
     /// What is after the fragment that is shown.
     pub rest: Rest,
@@ -116,7 +116,7 @@ fn write_fragment(part: &[u8], last: bool, room: &mut [u8]) -> usize
 }
 
 /// What came of the next fragment of a reply.
-#[derive(Clone, Copy, Debug, PartialEq, Eq)]
+#[derive(Clone, Copy)]
 enum Next {
     /// It was written and is the last one. The number of its bytes.
     Ended(usize),

@@ -7,7 +7,7 @@ use crate::slot::Sought;
 
 /// The key under which a connection was opened or found last, by the last byte of its number. A hint may be wrong: a
 /// look-up tries it, and then walks the table.
-#[derive(Clone, Copy, Debug, PartialEq, Eq)]
+#[derive(Clone, Copy)]
 pub struct Hints {
     keys: [u8; 256],
 }

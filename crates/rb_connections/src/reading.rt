@@ -13,7 +13,7 @@ use rb_rpc::{Marks, Part, Verdict};
 use rb_xdr::{Kept, Meter};
 
 /// A record that is being read. The arguments of its call are not here, but in a buffer.
-#[derive(Clone, Copy, Debug, PartialEq, Eq)]
+#[derive(Clone, Copy)]
 pub struct Reader {
     /// Where its next byte stands: in the header of a fragment, or in its data.
     marks: Marks,
@@ -37,7 +37,7 @@ struct Intake {
 }
 
 /// How far a piece of bytes was taken.
-#[derive(Clone, Copy, Debug, PartialEq, Eq)]
+#[derive(Clone, Copy)]
 pub struct Fed {
     /// How many of its bytes were taken.
     pub count: usize,

@@ -18,7 +18,7 @@ use std::mem;
 pub const CONNECTION_CHARGE: u64 = 128;
 
 /// The state of a connection, as the phase of the model.
-#[derive(Clone, Copy, Debug, PartialEq, Eq)]
+#[derive(Clone, Copy)]
 pub enum Stage {
     /// Between a reply and the next record.
     Idle,
@@ -33,7 +33,7 @@ pub enum Stage {
 }
 
 /// Which connection is looked for.
-#[derive(Clone, Copy, Debug, PartialEq, Eq)]
+#[derive(Clone, Copy)]
 pub enum Sought {
     /// The one of this number, unless it is Lost.
     Live(u64),
@@ -58,7 +58,7 @@ impl Sought {
 }
 
 /// The verdict on a record, and who sent it.
-#[derive(Clone, Copy, Debug, PartialEq, Eq)]
+#[derive(Clone, Copy)]
 pub struct EndedRecord {
     pub who: Who,
     pub verdict: Verdict,
@@ -66,14 +66,14 @@ pub struct EndedRecord {
 
 /// What came of a piece of bytes: how many of them were taken, and the verdict on the record that ended with the last
 /// of them, if one did.
-#[derive(Clone, Copy, Debug, PartialEq, Eq)]
+#[derive(Clone, Copy)]
 pub struct Received {
     pub count: usize,
     pub ended: Option<EndedRecord>,
 }
 
 /// A record that is one fragment and came whole: who sent it, and its data.
-#[derive(Clone, Copy, Debug, PartialEq, Eq)]
+#[derive(Clone, Copy)]
 pub struct WholeRecord<'a> {
     pub who: Who,
     pub content: &'a [u8],

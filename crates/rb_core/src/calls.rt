@@ -27,7 +27,7 @@ use rb_xdr::{Kept, Meter};
 
 /// What came of a piece of bytes. The arguments of the record that ended with it lie in the piece if the record
 /// came whole, and else in the buffer that was handed in for them.
-#[derive(Clone, Copy, Debug, PartialEq, Eq)]
+#[derive(Clone, Copy)]
 pub struct Piece<'a> {
     pub received: Received,
     pub arguments: Option<&'a [u8]>,

@@ -12,7 +12,7 @@ use rb_xdr::Text;
 const LONGEST_NETID: usize = 32;
 
 /// A procedure that changes the registry.
-#[derive(Clone, Copy, Debug, PartialEq, Eq)]
+#[derive(Clone, Copy)]
 pub enum ChangeKind {
     /// SET of any version.
     Set,
@@ -51,7 +51,7 @@ pub struct ChangeAsked {
 }
 
 /// A call that was refused.
-#[derive(Clone, Copy, Debug, PartialEq, Eq)]
+#[derive(Clone, Copy)]
 pub struct RefusedCall {
     /// Who called.
     pub who: Who,

@@ -16,7 +16,7 @@ pub enum Place {
 }
 
 /// A course of questions that ends with calls of procedure 0 of a program.
-#[derive(Clone, Copy, Debug, PartialEq, Eq)]
+#[derive(Clone, Copy)]
 pub struct Course {
     /// How the place of the program is found.
     pub way: Way,
@@ -79,7 +79,7 @@ pub enum Stage {
 }
 
 /// What a question was answered with.
-#[derive(Clone, Copy, Debug, PartialEq, Eq)]
+#[derive(Clone, Copy)]
 pub enum Answer {
     /// The port of GETPORT.
     Port(u32),
@@ -92,7 +92,7 @@ pub enum Answer {
 }
 
 /// What follows of an answer.
-#[derive(Clone, Copy, Debug, PartialEq, Eq)]
+#[derive(Clone, Copy)]
 pub struct Step {
     /// The version that is not available, if it is one of several.
     pub lacks: Option<u32>,

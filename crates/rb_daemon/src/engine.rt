@@ -42,7 +42,7 @@ pub(crate) struct Engine {
 }
 
 /// What is done about a datagram.
-#[derive(Clone, Copy, Debug, PartialEq, Eq)]
+#[derive(Clone, Copy)]
 pub(crate) enum Answer {
     /// Nothing.
     Nothing,
@@ -53,7 +53,7 @@ pub(crate) enum Answer {
 }
 
 /// What was due.
-#[derive(Clone, Copy, Debug, PartialEq, Eq)]
+#[derive(Clone, Copy)]
 pub(crate) enum Due {
     Nothing,
     /// A forwarded call that came over UDP, whose end its caller was told.

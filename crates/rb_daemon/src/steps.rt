@@ -14,7 +14,7 @@ use std::fs::Files;
 const EXCHANGES: usize = 2 * READ_AHEAD + LONG_ROOM;
 
 /// How a connection stands after it was served.
-#[derive(Clone, Copy, Debug, PartialEq, Eq)]
+#[derive(Clone, Copy)]
 pub(crate) enum Progress {
     /// It waits for an event.
     Blocked,

@@ -6,7 +6,7 @@ use rb_rpc::{Verdict, read_call};
 
 /// Reads the head of a call piece by piece (RFC 5531 section 9). It keeps sixteen words on which the verdict depends,
 /// and of credentials and verifiers at most the three bytes of a word whose fourth has not come.
-#[derive(Clone, Copy, PartialEq, Eq, Debug)]
+#[derive(Clone, Copy)]
 pub struct CallFeed {
     /// The number of bytes of the next word that have come; they spell this number as far as they go.
     seen: u8,

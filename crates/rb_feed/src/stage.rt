@@ -11,7 +11,7 @@ use rb_rpc::{
 use rb_xdr::residue;
 
 /// The words of a call that say what is called.
-#[derive(Clone, Copy, PartialEq, Eq, Debug)]
+#[derive(Clone, Copy)]
 pub(crate) struct CallWords {
     pub(crate) xid: u32,
     pub(crate) prog: u32,
@@ -20,7 +20,7 @@ pub(crate) struct CallWords {
 }
 
 /// What a whole credential says. It's judged after the verifier alone.
-#[derive(Clone, Copy, PartialEq, Eq, Debug)]
+#[derive(Clone, Copy)]
 pub(crate) enum Claim {
     /// AUTH_NONE, or an AUTH_SYS that was read.
     Taken { cred: Credential },
@@ -32,7 +32,7 @@ pub(crate) enum Claim {
 
 /// Which word comes next, and what those before it say that matters. Lengths are of bodies, in
 /// bytes without the residual ones.
-#[derive(Clone, Copy, PartialEq, Eq, Debug)]
+#[derive(Clone, Copy)]
 pub(crate) enum Stage {
     Xid,
     MessageType {

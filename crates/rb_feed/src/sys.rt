@@ -6,7 +6,7 @@ use rb_rpc::{MAX_GIDS, MAX_MACHINE};
 use rb_xdr::are_zero;
 
 /// Which field comes next, and what those before it say that matters.
-#[derive(Clone, Copy, PartialEq, Eq, Debug)]
+#[derive(Clone, Copy)]
 pub(crate) enum SysField {
     Stamp,
     /// The length word of machinename.

@@ -11,7 +11,7 @@ use std::{fs, io};
 const NEW: &str = ".new";
 
 /// A file that is replaced as a whole: who opens it finds the old text or the new one, and never a part.
-#[derive(Debug, Drop)]
+#[derive(Drop)]
 pub struct KeptFile {
     path: String,
     beside: String,

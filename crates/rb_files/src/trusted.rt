@@ -15,7 +15,7 @@ use std::{fmt, fs, io};
 const PERMISSIONS: u32 = 0o7777;
 
 /// Why a file is not read.
-#[derive(Debug, Drop)]
+#[derive(Drop)]
 pub enum KeptFileFault {
     /// It is not believed.
     Distrusted(Distrust),

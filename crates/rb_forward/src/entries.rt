@@ -42,7 +42,7 @@ fn layout(slot: &Slot) {
 }
 
 /// Which entry is looked for: the first of these.
-#[derive(Clone, Copy, Debug, PartialEq, Eq)]
+#[derive(Clone, Copy)]
 pub enum Sought {
     /// Those that were not sent.
     AnyUnsent,

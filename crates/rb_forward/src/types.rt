@@ -4,7 +4,7 @@ use rb_rpc::{Caller, Kind, ReplyStatus};
 use thiserror::Error;
 
 /// What is asked of which target, and what its caller is told.
-#[derive(Clone, Copy, PartialEq, Eq, Debug)]
+#[derive(Clone, Copy)]
 pub struct Forward {
     /// Who asked for it, and gets its answer.
     pub caller: Caller,
@@ -76,7 +76,7 @@ pub enum ForwardEnd {
 }
 
 /// The end of a forwarded call.
-#[derive(Clone, Copy, PartialEq, Eq, Debug)]
+#[derive(Clone, Copy)]
 pub struct Ended {
     /// The number of its entry, which `start` gave and `unsent` lent.
     pub id: FwdId,
@@ -87,6 +87,6 @@ pub struct Ended {
 }
 
 /// There is no forwarded call of this number, or it was sent before.
-#[derive(Clone, Copy, PartialEq, Eq, Debug, Error)]
+#[derive(Clone, Copy, Debug, Error)]
 #[error("no such call is there to be sent")]
 pub struct Gone;

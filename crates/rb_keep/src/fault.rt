@@ -2,7 +2,7 @@
 use thiserror::Error;
 
 /// Why a text is no text of kept rows. Lines are numbered from 1, and every line counts.
-#[derive(Clone, Copy, Debug, Drop, Error, PartialEq, Eq)]
+#[derive(Clone, Copy, Debug, Drop, Error)]
 pub enum KeepFault {
     /// The line of this number is no event line.
     #[error("line {0}: bad event")]

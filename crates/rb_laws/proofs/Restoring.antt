@@ -83,6 +83,7 @@ asks-set row is may = (refl, record { fits = rpcb_fits row is may; rest = []; wh
 abbrev call_for : Row → Call
 call_for row = record { head = set_head row; request = requests.Rpcb rpcbs.Set (rpcb_for row) }
 
+-- a call with this head and arguments that SET, procedure 1 of version 4, reads asks for that
 called : (row : Row) (arguments : List ℕ) → request 4 1 arguments ≡ Some (requests.Rpcb rpcbs.Set (rpcb_for row)) → call_of (set_head row) arguments ≡ says.Asked (call_for row)
 unfolding call_of request_of is_served is_known procedure_at
 called row arguments e = rw e refl

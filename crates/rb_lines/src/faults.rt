@@ -11,7 +11,7 @@ use std::io;
 use std::io::Write;
 
 /// Why the program ends before all is done.
-#[derive(Clone, Copy, Debug, PartialEq, Eq)]
+#[derive(Clone, Copy)]
 pub enum Fault {
     /// A word of the command line is no text.
     NotText,
@@ -59,7 +59,7 @@ impl Fault {
 }
 
 /// How a command ended.
-#[derive(Clone, Copy, Debug, PartialEq, Eq)]
+#[derive(Clone, Copy)]
 pub struct Ending {
     /// The exit status: 0, 1 or 2.
     pub status: u8,

@@ -9,7 +9,7 @@ use std::fmt;
 use std::fmt::{Display, Formatter};
 
 /// A limit that is out of its range, with its value.
-#[derive(Clone, Copy, Debug, PartialEq, Eq)]
+#[derive(Clone, Copy)]
 pub enum BadLimit {
     /// Connections: 1 to 256.
     Conns(usize),

@@ -9,7 +9,7 @@ use std::io::Write;
 use thiserror::Error;
 
 /// The writer failed. How much of a line it has is not known.
-#[derive(Clone, Copy, Debug, Drop, Error, PartialEq, Eq)]
+#[derive(Clone, Copy, Debug, Drop, Error)]
 #[error("write failed")]
 pub struct WriteFailed;
 

@@ -15,7 +15,7 @@ use rb_sockets::{Ends, Stream};
 use std::alloc::{AllocError, Global};
 
 /// A turn of the daemon.
-#[derive(Clone, Copy, Debug, PartialEq, Eq)]
+#[derive(Clone, Copy)]
 pub struct Turn {
     /// Its number.
     pub number: u64,
@@ -24,7 +24,7 @@ pub struct Turn {
 }
 
 /// A connection that is not opened before the kernel's tables were looked at.
-#[derive(Clone, Copy, Debug, PartialEq, Eq)]
+#[derive(Clone, Copy)]
 struct Held {
     ends: Ends,
     /// What they show of it so far.

@@ -4,7 +4,7 @@ use rb_address::{Peer, Who};
 
 /// An event of a run: one call on a core and, if that makes a reply over UDP, the look at this reply. Moments are
 /// milliseconds since the start of 1970.
-#[derive(Debug, Drop)]
+#[derive(Drop)]
 pub enum Event<B = Vec<u8>> {
     /// A connection is opened: the moment, and who is at its other end.
     Open(u64, Who),
@@ -44,7 +44,7 @@ pub struct UnsentCall<B = Vec<u8>> {
 }
 
 /// The result of an event.
-#[derive(Debug, Drop)]
+#[derive(Drop)]
 pub enum Output<B = Vec<u8>> {
     /// The number of the new connection.
     Opened(u64),

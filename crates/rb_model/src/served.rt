@@ -18,7 +18,7 @@ pub enum Response {
 }
 
 /// What a connection is settled with once its record was answered, or its forwarded call ended.
-#[derive(Clone, Copy, Debug, PartialEq, Eq)]
+#[derive(Clone, Copy)]
 pub enum Served {
     /// A reply that is written, or none.
     Answered(Response),

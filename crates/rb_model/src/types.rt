@@ -30,7 +30,7 @@ fn layout(limits: &Limits) {
 }
 
 /// How far the bytes that arrived on a connection were taken: at most up to the end of a record (RFC 5531 section 11).
-#[derive(Clone, Copy, Debug, PartialEq, Eq)]
+#[derive(Clone, Copy, PartialEq, Eq)]
 pub struct Taken {
     /// How many bytes, from the first one on.
     pub count: usize,
@@ -40,7 +40,7 @@ pub struct Taken {
 }
 
 /// What came of bytes that arrived on a connection, when a reply may be given at once.
-#[derive(Clone, Copy, Debug, PartialEq, Eq)]
+#[derive(Clone, Copy, PartialEq, Eq)]
 pub struct Exchanged {
     /// How far they were taken.
     pub taken: Taken,
@@ -51,7 +51,7 @@ pub struct Exchanged {
 }
 
 /// What was given of a reply into a room.
-#[derive(Clone, Copy, Debug, PartialEq, Eq)]
+#[derive(Clone, Copy)]
 pub struct Given {
     /// How many bytes, headers among them; 0 if no fragment fits, or none is owed.
     pub count: usize,

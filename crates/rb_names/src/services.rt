@@ -17,7 +17,7 @@ pub const LONGEST_SERVICES: usize = 65_536;
 const LONGEST_LINE: usize = 1_024;
 
 /// A name of a program, with the program's number.
-#[derive(Debug, Drop)]
+#[derive(Drop)]
 pub struct Service {
     /// The name, of any bytes but white space and `#`.
     pub name: Vec<u8>,

@@ -18,7 +18,7 @@ pub const FAILED: u8 = 1;
 pub const UNREADABLE: u8 = 2;
 
 /// How a command ended.
-#[derive(Clone, Copy, Debug, PartialEq, Eq)]
+#[derive(Clone, Copy)]
 pub struct Ending {
     /// The exit status.
     pub status: u8,
@@ -27,7 +27,7 @@ pub struct Ending {
 }
 
 /// What is said beside an answer.
-#[derive(Clone, Copy, Debug, PartialEq, Eq)]
+#[derive(Clone, Copy)]
 pub struct Notices {
     /// The address that answered, if the host has several.
     pub answered: Option<IpAddr>,

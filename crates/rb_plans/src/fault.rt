@@ -4,7 +4,7 @@ use rb_rpc::ReplyStatus;
 use rb_show::InfoFault;
 
 /// Why the command ends with status 1.
-#[derive(Clone, Copy, Debug, Drop, PartialEq, Eq)]
+#[derive(Clone, Copy, Drop)]
 pub enum Fault {
     /// A call was not written, or its reply was not shown to its end.
     Info(InfoFault),

@@ -15,7 +15,7 @@ use std::io::Write;
 use std::net::Ipv4Addr;
 
 /// The words of a command line, read.
-#[derive(Clone, Copy, Debug)]
+#[derive(Clone, Copy)]
 pub struct Invocation<'a, 'n> {
     /// What they ask for.
     pub request: Request,

@@ -10,7 +10,7 @@ use std::alloc::{AllocError, Global};
 use std::marker::Model;
 
 /// How many datagrams are served in a second.
-#[derive(Clone, Copy, Debug, PartialEq, Eq)]
+#[derive(Clone, Copy)]
 pub struct Rate {
     /// Of one network: of an IPv4 /24, or of an IPv6 /56.
     pub network: u32,

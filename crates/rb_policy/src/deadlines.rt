@@ -16,7 +16,7 @@ pub fn is_behind(is_fresh: bool, shown: usize, most: usize, is_something_left: b
 }
 
 /// How long what is due has been put off.
-#[derive(Clone, Copy, Debug, PartialEq, Eq)]
+#[derive(Clone, Copy)]
 pub struct Deadlines {
     /// The number of turns in a row, up to the last one, that put it off.
     put_off: u32,

@@ -39,7 +39,7 @@ fn rank(standing: Standing) -> u8
 }
 
 /// Where a connection came from.
-#[derive(Clone, Copy, Debug, PartialEq, Eq)]
+#[derive(Clone, Copy)]
 pub struct Origin {
     /// The peer's host.
     pub host: Host,
@@ -65,7 +65,7 @@ pub fn origin_of(source: Source) -> Origin
 }
 
 /// What is kept of the connection that holds a place.
-#[derive(Clone, Copy, Debug, PartialEq, Eq)]
+#[derive(Clone, Copy)]
 pub struct Holder {
     /// Where it came from.
     pub origin: Origin,
@@ -86,7 +86,7 @@ pub fn stuck_at(since: u64) -> u64
 }
 
 /// What is done with a newcomer.
-#[derive(Clone, Copy, Debug, PartialEq, Eq)]
+#[derive(Clone, Copy)]
 pub enum Admission {
     /// It takes the place of this number, which is free.
     Take(usize),
@@ -97,7 +97,7 @@ pub enum Admission {
 }
 
 /// A connection that may be given up, as far as that decides who is.
-#[derive(Clone, Copy, Debug, PartialEq, Eq)]
+#[derive(Clone, Copy)]
 struct Candidate {
     is_within_share: bool,
     is_local: bool,

@@ -3,7 +3,7 @@ ghost use Rattle.std.specs.Prelude.{◌≡◌};
 ghost use Rattle.rb_policy.specs.KeepFile.{keep_action, is_trusted, others_may_write, action_on_file};
 
 /// Who may have written a plain file.
-#[derive(Clone, Copy, Debug, PartialEq, Eq)]
+#[derive(Clone, Copy)]
 pub struct Writers {
     /// The user that the file belongs to.
     pub owner: u32,
@@ -12,7 +12,7 @@ pub struct Writers {
 }
 
 /// What is at the path.
-#[derive(Clone, Copy, Debug, PartialEq, Eq)]
+#[derive(Clone, Copy)]
 pub enum KeepState {
     /// Nothing.
     Absent,
@@ -23,7 +23,7 @@ pub enum KeepState {
 }
 
 /// Why a file is not believed.
-#[derive(Clone, Copy, Debug, PartialEq, Eq)]
+#[derive(Clone, Copy)]
 pub enum Distrust {
     /// It is no plain file.
     NoPlainFile,
@@ -34,7 +34,7 @@ pub enum Distrust {
 }
 
 /// What is done about it.
-#[derive(Clone, Copy, Debug, PartialEq, Eq)]
+#[derive(Clone, Copy)]
 pub enum KeepAction {
     /// The daemon begins with no rows.
     Begin,

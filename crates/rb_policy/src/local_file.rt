@@ -8,7 +8,7 @@ use std::io;
 use std::io::ErrorKind;
 
 /// What is at the path.
-#[derive(Clone, Copy, Debug, PartialEq, Eq)]
+#[derive(Clone, Copy)]
 pub enum FileState {
     /// Nothing.
     Absent,
@@ -43,7 +43,7 @@ pub fn state_by_connect(error: &io::Error) -> Option<FileState>
 }
 
 /// What is done about it.
-#[derive(Clone, Copy, Debug, PartialEq, Eq)]
+#[derive(Clone, Copy)]
 pub enum FileAction {
     /// The path is bound.
     Bind,

@@ -14,7 +14,7 @@ pub const MOST_SHOWN: usize = 128;
 pub const LONGEST_LOG_LINE: usize = 320;
 
 /// A kind of lines, of which a log gets this many in a second.
-#[derive(Clone, Copy, Debug, PartialEq, Eq)]
+#[derive(Clone, Copy)]
 pub enum LogKind {
     /// SETs and UNSETs that were accepted.
     Accepted,
@@ -27,7 +27,7 @@ pub enum LogKind {
 }
 
 /// A SET or an UNSET.
-#[derive(Clone, Copy, Debug, PartialEq, Eq)]
+#[derive(Clone, Copy)]
 pub struct ChangeLine<'a> {
     /// Whether it is a SET.
     pub adds: bool,
@@ -48,7 +48,7 @@ pub struct ChangeLine<'a> {
 }
 
 /// A line of a log.
-#[derive(Clone, Copy, Debug, PartialEq, Eq)]
+#[derive(Clone, Copy)]
 pub enum LogLine<'a> {
     /// A SET or an UNSET.
     Change(ChangeLine<'a>),

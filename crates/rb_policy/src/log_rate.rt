@@ -8,7 +8,7 @@ use crate::recent::SECOND;
 pub const LINES: u32 = 20;
 
 /// What is known of the lines of a kind.
-#[derive(Clone, Copy, Debug, PartialEq, Eq)]
+#[derive(Clone, Copy)]
 pub struct LogRate {
     /// The second of the last one that was asked for, since the start of 1970.
     second: u64,

@@ -5,7 +5,7 @@ use crate::turns::RETRY;
 
 /// Moments go by the monotonic clock from the start's wall clock on, so that no step of the wall clock stops or ends
 /// a deadline.
-#[derive(Clone, Copy, Debug, PartialEq, Eq)]
+#[derive(Clone, Copy)]
 pub struct Moments {
     /// The last moment.
     last: u64,

@@ -7,7 +7,7 @@ use std::io;
 use std::io::ErrorKind;
 
 /// What came of a socket call.
-#[derive(Clone, Copy, Debug, PartialEq, Eq)]
+#[derive(Clone, Copy)]
 pub enum SocketResult {
     /// It was done: there is a connection, a datagram, or bytes that were read or written.
     Done,
@@ -26,7 +26,7 @@ pub enum SocketResult {
 }
 
 /// What is done next with a socket.
-#[derive(Clone, Copy, Debug, PartialEq, Eq)]
+#[derive(Clone, Copy)]
 pub enum Next {
     /// It is called again in this turn.
     GoOn,

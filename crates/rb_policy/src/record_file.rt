@@ -3,7 +3,7 @@ ghost use Rattle.std.specs.Prelude.{◌≡◌};
 ghost use Rattle.rb_policy.specs.RecordFile.{record_action};
 
 /// What is at the path.
-#[derive(Clone, Copy, Debug, PartialEq, Eq)]
+#[derive(Clone, Copy)]
 pub enum RecordState {
     /// Nothing.
     Absent,
@@ -14,7 +14,7 @@ pub enum RecordState {
 }
 
 /// What is done about it.
-#[derive(Clone, Copy, Debug, PartialEq, Eq)]
+#[derive(Clone, Copy)]
 pub enum RecordAction {
     /// A new file is made.
     Make,

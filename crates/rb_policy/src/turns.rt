@@ -19,7 +19,7 @@ pub const LAST_ROUND: usize = 8;
 pub const RETRY: u64 = 100;
 
 /// When a socket is served again.
-#[derive(Clone, Copy, Debug, PartialEq, Eq)]
+#[derive(Clone, Copy)]
 pub enum Again {
     /// When an event shows it.
     AtEvent,
@@ -102,7 +102,7 @@ pub fn is_cut_off(calls: usize, written: usize) -> bool
 }
 
 /// When in a turn a connection is served.
-#[derive(Clone, Copy, Debug, PartialEq, Eq)]
+#[derive(Clone, Copy)]
 pub enum Round {
     /// When its event is looked at.
     First,

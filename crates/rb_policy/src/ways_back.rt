@@ -6,7 +6,7 @@ use std::alloc::{AllocError, Global};
 use std::marker::Model;
 
 /// A forwarded call, and the socket on which it came.
-#[derive(Clone, Copy, Debug, PartialEq, Eq)]
+#[derive(Clone, Copy)]
 struct Way {
     /// The number of the call.
     number: u64,

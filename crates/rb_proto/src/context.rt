@@ -10,7 +10,7 @@ use rb_uaddr::Hosts;
 
 /// What the answer to a call depends on beside the books: the announced hosts and the terms, the limits, the moment and
 /// the caller.
-#[derive(Clone, Copy, PartialEq, Eq, Debug)]
+#[derive(Clone, Copy)]
 pub struct Context {
     /// The families that are served, and the host of each.
     pub announced: Announced,

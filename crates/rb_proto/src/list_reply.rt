@@ -17,7 +17,7 @@ use rb_xdr::{Kept, Meter, Xdr};
 
 /// A reply that lists the rows as they were at its call, and how much of it was given. It holds no rows: each part
 /// reads them from the registry again.
-#[derive(Clone, Copy, PartialEq, Eq, Debug)]
+#[derive(Clone, Copy)]
 pub struct ListReply {
     xid: u32,
     list: Listing,
@@ -43,7 +43,7 @@ fn layout(reply: &ListReply) {
 }
 
 /// Where a part stands in the buffer that it was made in, and whether the reply ends with it.
-#[derive(Clone, Copy, PartialEq, Eq, Debug)]
+#[derive(Clone, Copy)]
 pub struct ListPart {
     /// The place of its first byte.
     pub start: usize,

@@ -11,7 +11,7 @@ use rb_uaddr::{AddressText, Hosts, Uaddr};
 
 /// Which families are served, and the host of each that is told to a caller who asked no host of it: 0.0.0.0 or :: if
 /// there is none.
-#[derive(Clone, Copy, PartialEq, Eq, Debug)]
+#[derive(Clone, Copy)]
 pub struct Announced {
     /// The IPv4 host, its most significant byte first; `None` if IPv4 is not served.
     pub inet: Option<[u8; 4]>,
@@ -31,7 +31,7 @@ pub enum Forwarding {
 }
 
 /// On which terms callers are served.
-#[derive(Clone, Copy, PartialEq, Eq, Debug)]
+#[derive(Clone, Copy)]
 pub struct Terms {
     /// Whether a reply over UDP to a stranger may have more than twice the bytes of its call.
     pub long_replies: bool,
@@ -48,7 +48,7 @@ impl Terms {
 }
 
 /// Where the daemon listens, and on which terms it serves there.
-#[derive(Clone, PartialEq, Eq, Debug, Drop)]
+#[derive(Clone, Drop)]
 pub struct Listener {
     /// The families over which it is reached.
     pub announced: Announced,

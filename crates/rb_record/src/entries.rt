@@ -11,7 +11,7 @@ use rb_proto::{Forwarding, Listener};
 use rb_uaddr::AddressText;
 
 /// What a run begins with.
-#[derive(Clone, Copy, Debug)]
+#[derive(Clone, Copy)]
 pub struct Start<'a> {
     /// How many connections, rows and forwarded calls there may be.
     pub limits: Limits,

@@ -6,7 +6,7 @@ ghost use Rattle.rb_registry.specs.Cursors.{StandsIn, slots_left};
 use std::marker::Model;
 
 /// A place among the rows of a registry: before all of them, or after one.
-#[derive(Clone, Copy, PartialEq, Eq, Debug)]
+#[derive(Clone, Copy)]
 pub struct Cursor {
     // the key of the row before it
     passed: Option<usize>,

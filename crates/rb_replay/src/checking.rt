@@ -20,7 +20,7 @@ use std::alloc::Global;
 use std::io::{BufWriter, Read, Write};
 
 /// What a check found.
-#[derive(Clone, Copy, Debug, PartialEq, Eq)]
+#[derive(Clone, Copy)]
 pub struct Agreement {
     /// How many output lines agree with the run.
     pub count: usize,

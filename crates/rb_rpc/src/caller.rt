@@ -5,7 +5,7 @@ use rb_address::Who;
 pub const LONGEST_FORWARDED: usize = 8_800;
 
 /// Where a call came from: a connection, by its number, or a datagram, with the most bytes that its reply may have.
-#[derive(Clone, Copy, PartialEq, Eq, Debug)]
+#[derive(Clone, Copy)]
 pub enum Caller {
     /// A connection, by its number, and who is at its other end.
     Tcp(u64, Who),

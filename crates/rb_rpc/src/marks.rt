@@ -39,7 +39,7 @@ pub const LONGEST_FRAGMENT: usize = FRAGMENT_HEADER + FRAGMENT_SIZE;
 const START: Place = Place::Header { seen: 0, number: 0 };
 
 /// Reads marked records byte by byte (RFC 5531 section 11). It keeps the place in the record, and no bytes.
-#[derive(Clone, Copy, PartialEq, Eq, Debug)]
+#[derive(Clone, Copy)]
 pub struct Marks {
     place: Place,
 }

@@ -25,7 +25,7 @@ fn refusal(xid: u32, status: ReplyStatus) -> Message<'static>
 }
 
 /// A call of a procedure.
-#[derive(Clone, Copy, Debug, PartialEq, Eq)]
+#[derive(Clone, Copy)]
 pub struct Called<'a> {
     pub head: &'a CallHead,
     pub procedure: Procedure,

@@ -27,7 +27,7 @@ const NO_BYTES: u32 = 0;
 const LONGEST_QUESTION: usize = 1024;
 
 /// A question, to the portmapper or to procedure 0 of a program.
-#[derive(Clone, Copy, Debug, PartialEq, Eq)]
+#[derive(Clone, Copy)]
 pub enum Question {
     /// DUMP of version 3, shown with addresses and owners.
     Rows,
@@ -62,7 +62,7 @@ pub enum Question {
 }
 
 /// A question, and the user who asks.
-#[derive(Clone, Copy, Debug, PartialEq, Eq)]
+#[derive(Clone, Copy)]
 pub struct Ask {
     /// The question.
     pub question: Question,

@@ -9,7 +9,7 @@ use rb_names::{Service, name_of};
 use std::alloc::{AllocError, Global};
 
 /// The form in which the lines of a list are written.
-#[derive(Clone, Copy, Debug)]
+#[derive(Clone, Copy)]
 pub enum Form<'a> {
     /// In columns.
     Plain,

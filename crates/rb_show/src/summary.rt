@@ -15,7 +15,7 @@ use std::alloc::{AllocError, Global};
 const HEADING: &str = "   program version(s) netid(s)                         service     owner\n";
 
 /// A row, with its texts as they are shown.
-#[derive(Debug, Drop)]
+#[derive(Drop)]
 pub struct Row {
     prog: u32,
     vers: u32,

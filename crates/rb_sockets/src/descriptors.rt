@@ -17,7 +17,7 @@ pub fn open_files() -> u64 {
 }
 
 /// That the limit of open files leaves fewer places for connections than are asked for.
-#[derive(Clone, Copy, Debug, PartialEq, Eq)]
+#[derive(Clone, Copy)]
 pub struct Shortage {
     /// The limit of open files.
     pub limit: u64,

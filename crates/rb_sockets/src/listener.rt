@@ -10,7 +10,7 @@ use std::net::{Net, SocketAddr};
 use std::os::fd::{AsRawFd, RawFd};
 
 /// The two ends of a connection over TCP.
-#[derive(Clone, Copy, Debug, PartialEq, Eq)]
+#[derive(Clone, Copy)]
 pub struct Ends {
     /// Who is at the other end.
     pub theirs: Peer,
@@ -30,7 +30,7 @@ impl Ends {
 }
 
 /// Whose a connection is, as far as its accept tells.
-#[derive(Clone, Copy, Debug, PartialEq, Eq)]
+#[derive(Clone, Copy)]
 pub enum Visitor {
     /// All is known of it.
     Known(Who),

@@ -10,7 +10,7 @@ use rb_proto::{Announced, Listener, Terms};
 use rb_uaddr::{AddressText, MAX_KEPT};
 
 /// A stream socket in the file system.
-#[derive(Clone, Copy, Debug, PartialEq, Eq)]
+#[derive(Clone, Copy)]
 pub struct LocalSocket<'a> {
     /// At most 107 bytes.
     pub path: &'a str,
@@ -20,7 +20,7 @@ pub struct LocalSocket<'a> {
 }
 
 /// What a daemon has lines of in its log.
-#[derive(Clone, Copy, Debug, PartialEq, Eq)]
+#[derive(Clone, Copy)]
 pub enum Logged {
     /// Nothing.
     Nothing,

@@ -32,7 +32,7 @@ const CALLS: usize = 2048;
 const LISTENERS: usize = 4096;
 
 /// What an event shows.
-#[derive(Clone, Copy, Debug, PartialEq, Eq)]
+#[derive(Clone, Copy)]
 pub enum Shown {
     /// The connection that has the place of this number.
     Connection(usize),

@@ -6,7 +6,7 @@ use rb_address::Netid;
 
 /// A version of the protocol, which has an rpcb_stat of its own (RFC 1833 section 2.1,
 /// rpcb_stat_byvers).
-#[derive(Clone, Copy, PartialEq, Eq, Debug)]
+#[derive(Clone, Copy)]
 pub enum Version {
     /// Version 2, of the portmapper.
     Two,
@@ -32,7 +32,7 @@ pub(crate) enum Info {
 }
 
 /// A version of a program on a netid.
-#[derive(Clone, Copy, PartialEq, Eq, Debug)]
+#[derive(Clone, Copy)]
 pub struct Target {
     /// The program's number.
     pub prog: u32,

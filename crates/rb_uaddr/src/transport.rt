@@ -18,7 +18,7 @@ const IPV6_FAMILY: u8 = 10;
 /// its most significant byte first, and eight zeros; for IPv6 the bytes 10 and 0, the port, four
 /// zeros, the host and four zeros. RFC 1833 section 2.1 leaves this form to the transport; it is
 /// this project's own.
-#[derive(Debug, Drop)]
+#[derive(Drop)]
 pub struct TransportForm {
     bytes: ArrayVec<u8, MAX_TRANSPORT>,
 }

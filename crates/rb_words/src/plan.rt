@@ -66,7 +66,7 @@ pub enum Layout {
 }
 
 /// The words of a command line, read.
-#[derive(Clone, Copy, Debug, PartialEq, Eq)]
+#[derive(Clone, Copy, PartialEq, Eq)]
 pub struct Request {
     /// The portmapper's port, 111 if none is given.
     pub port: u16,

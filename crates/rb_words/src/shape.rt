@@ -5,7 +5,7 @@ use crate::plan::Layout;
 use rb_names::Service;
 
 /// A flag names a form; at most one stands on a command line.
-#[derive(Clone, Copy, Debug, PartialEq, Eq)]
+#[derive(Clone, Copy, PartialEq, Eq)]
 pub enum Flag {
     /// `-p`
     Table,
@@ -28,7 +28,7 @@ pub enum Flag {
 }
 
 /// What stands on a command line, unread.
-#[derive(Clone, Copy, Debug)]
+#[derive(Clone, Copy)]
 pub struct Shape<'s, 'a, 'n> {
     /// The flags, in their order.
     pub flags: &'s [Flag],

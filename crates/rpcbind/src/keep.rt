@@ -19,7 +19,7 @@ use std::rt::Clock;
 use std::{fmt, io};
 
 /// Why rows that were kept are not read.
-#[derive(Debug, Drop)]
+#[derive(Drop)]
 enum KeepReadFault {
     /// Their file is not read.
     File(KeptFileFault),

@@ -22,7 +22,7 @@ use std::rt::Clock;
 pub type Answered = (Result<Shown, Fault>, Notices);
 
 /// What is asked of a host.
-#[derive(Clone, Copy, Debug)]
+#[derive(Clone, Copy)]
 enum Errand<'a> {
     /// Its portmapper is asked this.
     Question(Question),

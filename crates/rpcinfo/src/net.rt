@@ -16,7 +16,7 @@ use std::time::{Duration, Instant};
 pub const LONGEST_DATAGRAM: usize = 65_536;
 
 /// Where a call goes over a connection.
-#[derive(Clone, Copy, Debug)]
+#[derive(Clone, Copy)]
 pub enum Peer<'a> {
     Host(SocketAddr),
     /// A socket of this machine, by its path.
