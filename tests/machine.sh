@@ -75,5 +75,5 @@ minutes_of_make() {
 }
 
 minutes_of_test() {
-    echo $((46 + 228 / $1))
+    echo $((46 + 268 / $1))
 }
