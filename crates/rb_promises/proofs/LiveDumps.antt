@@ -74,13 +74,13 @@ dump-call vers uid xid = call_bytes (dump-head vers uid xid) ++ []
 abbrev Calls : Question → ℕ → Type 0
 Calls question vers = (uid : Option ℕ) (xid : ℕ) → asking (record { question = question; uid = uid }) xid ≡ dump-call vers uid xid
 
-asks-in-version-3 : Calls Rows 3 × Calls Short 3 × Calls Summary 3
+rpcbind-asks : Calls Rows 3 × Calls Short 3 × Calls Summary 3
 unfolding asking dump-call dump-head is_void is_mapping is_rpcb is_procedure number_of
-asks-in-version-3 = (λ uid xid. refl, λ uid xid. refl, λ uid xid. refl)
+rpcbind-asks = (λ uid xid. refl, λ uid xid. refl, λ uid xid. refl)
 
-asks-in-version-2 : Calls OldRows 2 × Calls OldShort 2 × Calls OldSummary 2 × Calls Pmap 2
+portmapper-asks : Calls OldRows 2 × Calls OldShort 2 × Calls OldSummary 2 × Calls Pmap 2
 unfolding asking dump-call dump-head is_void is_mapping is_rpcb is_procedure number_of
-asks-in-version-2 = (λ uid xid. refl, λ uid xid. refl, λ uid xid. refl, λ uid xid. refl)
+portmapper-asks = (λ uid xid. refl, λ uid xid. refl, λ uid xid. refl, λ uid xid. refl)
 
 head-fits : (vers : ℕ) (uid : Option ℕ) (xid : ℕ) → vers ≤ 4 → IsNumber xid → IsHead (dump-head vers uid xid)
 unfolding dump-head
@@ -94,21 +94,31 @@ caller-is vers uid xid is = is
 asked-for : ℕ → VoidProcedure → Option ℕ → ℕ → Message
 asked-for vers procedure uid xid = says.Asked (record { head = dump-head vers uid xid; request = requests.Void procedure })
 
-request-of-version-3 : request 3 4 [] ≡ Some (requests.Void voids.Dump)
+-- the versions whose DUMP is asked for, and its number in both: RFC 1833, sections 2.2.1 and 3.2
+abbrev rpcbind : ℕ
+rpcbind = 3
+
+abbrev portmapper : ℕ
+portmapper = 2
+
+abbrev dump-number : ℕ
+dump-number = 4
+
+rpcbind-request : request rpcbind dump-number [] ≡ Some (requests.Void voids.Dump)
 unfolding procedure_at
-request-of-version-3 = asked_request 3 4 [] (requests.Void voids.Dump) (refl, tt)
+rpcbind-request = asked_request rpcbind dump-number [] (requests.Void voids.Dump) (refl, tt)
 
-request-of-version-2 : request 2 4 [] ≡ Some (requests.Void voids.PmapDump)
+portmapper-request : request portmapper dump-number [] ≡ Some (requests.Void voids.PmapDump)
 unfolding procedure_at
-request-of-version-2 = asked_request 2 4 [] (requests.Void voids.PmapDump) (refl, tt)
+portmapper-request = asked_request portmapper dump-number [] (requests.Void voids.PmapDump) (refl, tt)
 
-called-in-version-3 : (uid : Option ℕ) (xid : ℕ) (arguments : List ℕ) → request 3 4 arguments ≡ Some (requests.Void voids.Dump) → call_of (dump-head 3 uid xid) arguments ≡ asked-for 3 voids.Dump uid xid
+rpcbind-call : (uid : Option ℕ) (xid : ℕ) (arguments : List ℕ) → request rpcbind dump-number arguments ≡ Some (requests.Void voids.Dump) → call_of (dump-head 3 uid xid) arguments ≡ asked-for 3 voids.Dump uid xid
 unfolding asked-for dump-head call_of request_of is_served is_known procedure_at
-called-in-version-3 uid xid arguments e = rw e refl
+rpcbind-call uid xid arguments e = rw e refl
 
-called-in-version-2 : (uid : Option ℕ) (xid : ℕ) (arguments : List ℕ) → request 2 4 arguments ≡ Some (requests.Void voids.PmapDump) → call_of (dump-head 2 uid xid) arguments ≡ asked-for 2 voids.PmapDump uid xid
+portmapper-call : (uid : Option ℕ) (xid : ℕ) (arguments : List ℕ) → request portmapper dump-number arguments ≡ Some (requests.Void voids.PmapDump) → call_of (dump-head 2 uid xid) arguments ≡ asked-for 2 voids.PmapDump uid xid
 unfolding asked-for dump-head call_of request_of is_served is_known procedure_at
-called-in-version-2 uid xid arguments e = rw e refl
+portmapper-call uid xid arguments e = rw e refl
 
 dump-message : (vers : ℕ) (uid : Option ℕ) (xid : ℕ) (message : Message) → vers ≤ 4 → IsNumber xid → IsCaller (credential_of uid) → call_of (dump-head vers uid xid) [] ≡ message → message_of (dump-call vers uid xid) ≡ message
 unfolding dump-call
@@ -136,22 +146,22 @@ lists-2 s id who uid xid content is = ap (λ (m : Message). (outcome (context_in
 answered-3 : (s : State) (question : Question) → Calls question 3 → IsAnsweredBy s question (dump (rows_in s.ledger))
 answered-3 s question calls id who uid xid fits caller =
     lists-3 s id who uid xid (asking (record { question = question; uid = uid }) xid)
-    (ap message_of (calls uid xid) ∙ dump-message 3 uid xid (asked-for 3 voids.Dump uid xid) (omega arith) fits caller (called-in-version-3 uid xid [] request-of-version-3))
+    (ap message_of (calls uid xid) ∙ dump-message 3 uid xid (asked-for 3 voids.Dump uid xid) (omega arith) fits caller (rpcbind-call uid xid [] rpcbind-request))
 
 answered-2 : (s : State) (question : Question) → Calls question 2 → IsAnsweredBy s question (pmap_dump (rows_in s.ledger))
 answered-2 s question calls id who uid xid fits caller =
     lists-2 s id who uid xid (asking (record { question = question; uid = uid }) xid)
-    (ap message_of (calls uid xid) ∙ dump-message 2 uid xid (asked-for 2 voids.PmapDump uid xid) (omega arith) fits caller (called-in-version-2 uid xid [] request-of-version-2))
+    (ap message_of (calls uid xid) ∙ dump-message 2 uid xid (asked-for 2 voids.PmapDump uid xid) (omega arith) fits caller (portmapper-call uid xid [] portmapper-request))
 
 pub dumps_are_answered : DumpsAreAnswered
 dumps_are_answered s = record {
-  each = answered-3 s Rows asks-in-version-3.0;
-  short = answered-3 s Short asks-in-version-3.1;
-  summary = answered-3 s Summary asks-in-version-3.2;
-  old_each = answered-2 s OldRows asks-in-version-2.0;
-  old_short = answered-2 s OldShort asks-in-version-2.1;
-  old_summary = answered-2 s OldSummary asks-in-version-2.2;
-  table = answered-2 s Pmap asks-in-version-2.3;
+  each = answered-3 s Rows rpcbind-asks.0;
+  short = answered-3 s Short rpcbind-asks.1;
+  summary = answered-3 s Summary rpcbind-asks.2;
+  old_each = answered-2 s OldRows portmapper-asks.0;
+  old_short = answered-2 s OldShort portmapper-asks.1;
+  old_summary = answered-2 s OldSummary portmapper-asks.2;
+  table = answered-2 s Pmap portmapper-asks.3;
 }
 
 -- ---- all live rows fit
