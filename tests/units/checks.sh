@@ -175,6 +175,16 @@ fails_with() {
     [ $((SECONDS - begin)) -lt 10 ] && [ ! -L $link ]
 }
 
+# Without IPv6 a start is over soon too, unless ::1 is left out. (The boot's own /proc/sys is read-only.)
+serves_without_ipv6() {
+    local proc=/run/proc off=/run/proc/sys/net/ipv6/conf/lo/disable_ipv6 served
+    mkdir $proc && mount -t proc proc $proc && echo 1 > $off || return 1
+    fails_with && serves_with RPCBIND_LOOPBACK6=
+    served=$?
+    echo 0 > $off && umount $proc && rmdir $proc || return 1
+    return $served
+}
+
 # ---- rows that are kept
 
 # Services as units of their own, which want nothing of rpcbind's; each is named as its program.
@@ -444,6 +454,7 @@ first() {
     check "it serves at another port" serves_with 'RPCBIND_OPTIONS="--port 1111"'
     check "it serves at another address" serves_with 'RPCBIND_ADDRESSES="--bind 127.0.0.2"'
     check "with options that can't be it fails soon" fails_with 'RPCBIND_OPTIONS="--conns 0"'
+    check "it serves without IPv6, if ::1 is left out" serves_without_ipv6
     check "it serves with its defaults again" serves_with
     check "a record stays after a stop, and agrees" record_stays
     check "the next start keeps it" record_before_is_kept
