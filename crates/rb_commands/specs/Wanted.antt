@@ -83,7 +83,7 @@ bad_value_text bad =
 
 -- ---- values that do not go together
 
--- whether the file at a path, in which rows are kept, is that of the record, which a start removes
+-- whether the path at which rows are kept is that of the record, whose file a start removes
 -- KEEP-8
 abbrev pub is_the_record : List ℕ → Option (Bor (List ℕ)) → Bool
 is_the_record keep None = false

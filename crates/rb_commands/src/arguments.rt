@@ -137,7 +137,7 @@ fn unless_kept_in_the_record<'a>(serve: Serve<'a>) -> Result<Serve<'a>, BadValue
     }
 }
 
-/// Whether the file at this path, in which rows are kept, is that of the record.
+/// Whether this path, at which rows are kept, is that of the record. Another path of one file is not noticed.
 fn is_the_record(keep: &str, record_path: Option<&str>) -> bool
     ensures { result ≡ is_the_record keep.now record_path.entry }
 {

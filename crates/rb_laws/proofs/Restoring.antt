@@ -75,7 +75,14 @@ rpcb_fits row is may =
     let few : length row.addr ≤ 128 = settable-short row may in
     record { prog = is.prog; vers = is.vers; netid = netid_fits row.netid; addr = (few, omega (arith, few), is.addr); owner = nothing 128 }
 
-asks-set : (row : Row) → IsSpelled row → can_be_set row ≡ true → Asks 4 1 (requests.Rpcb rpcbs.Set (rpcb_for row)) (rpcb_spelling (rpcb_for row))
+-- SET of the rpcbind program, as `set_head` has it: RFC 1833, section 2.1
+abbrev newest : ℕ
+newest = 4
+
+abbrev set-number : ℕ
+set-number = 1
+
+asks-set : (row : Row) → IsSpelled row → can_be_set row ≡ true → Asks newest set-number (requests.Rpcb rpcbs.Set (rpcb_for row)) (rpcb_spelling (rpcb_for row))
 unfolding procedure_at
 asks-set row is may = (refl, record { fits = rpcb_fits row is may; rest = []; whole = sym (append-nil (rpcb_spelling (rpcb_for row))) })
 
@@ -83,8 +90,8 @@ asks-set row is may = (refl, record { fits = rpcb_fits row is may; rest = []; wh
 abbrev call_for : Row → Call
 call_for row = record { head = set_head row; request = requests.Rpcb rpcbs.Set (rpcb_for row) }
 
--- a call with this head and arguments that SET, procedure 1 of version 4, reads asks for that
-called : (row : Row) (arguments : List ℕ) → request 4 1 arguments ≡ Some (requests.Rpcb rpcbs.Set (rpcb_for row)) → call_of (set_head row) arguments ≡ says.Asked (call_for row)
+-- a call with this head and arguments that SET reads asks for that
+called : (row : Row) (arguments : List ℕ) → request newest set-number arguments ≡ Some (requests.Rpcb rpcbs.Set (rpcb_for row)) → call_of (set_head row) arguments ≡ says.Asked (call_for row)
 unfolding call_of request_of is_served is_known procedure_at
 called row arguments e = rw e refl
 
@@ -95,7 +102,7 @@ pub read-again : (row : Row) → IsSpelled row → can_be_set row ≡ true → m
 read-again row is may =
     by_verdict_again (set_bytes row) (verdicts.Call (set_head row) (length (call_bytes (set_head row)))) (written_again (set_head row) (rpcb_spelling (rpcb_for row)) (head_fits row) is.owner)
     ∙ ap (call_of (set_head row)) (drop-append_seam (call_bytes (set_head row)) (rpcb_spelling (rpcb_for row)))
-    ∙ called row (rpcb_spelling (rpcb_for row)) (asked_request 4 1 (rpcb_spelling (rpcb_for row)) (requests.Rpcb rpcbs.Set (rpcb_for row)) (asks-set row is may))
+    ∙ called row (rpcb_spelling (rpcb_for row)) (asked_request newest set-number (rpcb_spelling (rpcb_for row)) (requests.Rpcb rpcbs.Set (rpcb_for row)) (asks-set row is may))
 
 -- ---- the call sets the row
 

@@ -151,7 +151,7 @@ fn take_port<B: ByteSource>(
     Ok(Shown::Port(port))
 }
 
-/// The address that a text is. An empty text says that there is none, and any other text is `None`.
+/// The address that a text is. An empty text says that there is none, and a text that is no address is `None`.
 fn address_in(text: &[u8]) -> Option<Option<Uaddr>>
     ensures { result ≡ address_in text.now }
 {
