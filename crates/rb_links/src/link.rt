@@ -43,7 +43,7 @@ pub struct Link {
     held: Option<Held>,
     origin: Origin,
     /// The moment of its last progress, or of its opening, in milliseconds. A record that ended is progress, and so
-    /// are bytes that the socket took.
+    /// are bytes of a reply that the outbox took over, and those that the socket took.
     since: u64,
     /// Whether it made progress in the turn that serves it.
     made_progress: bool,

@@ -72,7 +72,7 @@ pub struct Holder {
     /// Where it stands. It is Owing, too, while its socket has not taken all of its replies.
     pub standing: Standing,
     /// The moment of its last progress, or of its opening, in milliseconds. A whole record is progress, and so are
-    /// bytes of a reply that the socket takes.
+    /// bytes of a reply that the outbox takes over, and those that the socket takes.
     pub since: u64,
 }
 
