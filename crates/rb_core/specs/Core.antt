@@ -32,6 +32,7 @@ use Rattle.rb_core.specs.Awaits.{AreAwaited}
 -- What is true of all that a core holds: it has one meter, its draft is empty between two events, each connection for
 -- which a call is forwarded awaits it, the registry can make the rest of each list that is being given, and the reply
 -- has this many bytes.
+-- METER-1
 pub record IsCore (setting : Setting) (connections : Table) (books : Books) (reply draft arguments : Kept) (reply_len : ℕ) : Type 0 where
   pub conns : connections.conns ≡ setting.limits.conns
   pub few_conns : setting.limits.conns ≤ 256

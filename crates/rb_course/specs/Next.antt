@@ -158,7 +158,8 @@ abbrev pub refused_find : Course → Aim → ReplyStatus → Step
 refused_find course (aims.Each vers high lacks) status = after_lack course (aims.Each vers high lacks) (Some status)
 refused_find course aim status = step_to (End (ends.Refused status))
 
--- a portmapper without GETADDR is asked by GETPORT
+-- a portmapper that has not the version of GETADDR is asked by GETPORT
+-- FALLBACK-2
 abbrev pub after_find_refusal_by : Way → Course → Aim → ReplyStatus → Step
 after_find_refusal_by (ways.Getaddr netid) course aim (statuses.ProgMismatch low high) = step_to (FindOld aim (transport_of netid))
 after_find_refusal_by way course aim status = refused_find course aim status

@@ -27,6 +27,7 @@ use Rattle.rb_plans.specs.declared.invocation.Invocation.{Invocation}
 use Rattle.rb_plans.specs.Ending.{Says}
 
 -- a question of the user that the words name
+-- WORDS-8
 abbrev pub ask_of : Invocation → Question → Ask
 ask_of words question = record { question = question; uid = words.request.uid }
 

@@ -104,7 +104,7 @@ fn with_flags<'a>(alloc: Global, command: Command<'a>) -> Result<Command<'a>, Al
 
 /// The options that say what is called, and where.
 fn with_places<'a>(alloc: Global, command: Command<'a>) -> Result<Command<'a>, AllocError> {
-    let help = "where -b goes [255.255.255.255]";
+    let help = "where -b goes [each network of this machine]";
     let network = option(alloc, "broadcast", "ADDRESS", help);
     let command = command.arg(network.long("broadcast"))?;
     let help = "tcp, udp, tcp6, udp6 or local";
