@@ -88,6 +88,7 @@ results_cost rows written = 4 * rows + 72 + written + statistics_cost
 
 -- what it costs to serve a message: a row of each netid is changed, or two searches find one, results are put in a reply of
 -- this many bytes, a look-up is noted, and what is forwarded is kept, of this many bytes of arguments
+-- METER-1
 abbrev pub serve_cost : Sizes → ℕ → ℕ → ℕ
 serve_cost sizes args written =
     5 * sizes.change + 2 * sizes.looks + results_cost sizes.left written + 4 + note_cost + forward_cost args

@@ -10,12 +10,10 @@ pub record Tape : Type 0 where
   pub limit : ℕ
 
 -- what the file has not got yet
--- TAPE-1
 abbrev pub unwritten : Tape → List ℕ
 unwritten tape = drop tape.written tape.text
 
 -- the tape once the file has it all
--- TAPE-1
 abbrev pub all_written : Tape → Tape
 all_written tape = record tape { written = length tape.text }
 
@@ -51,7 +49,7 @@ pub record EndsWithin (limit : ℕ) (entries : List (List ℕ)) (old new : List 
 
 -- While the recording goes on, it went on before, and these entries are recorded after what was. It ends in front of the
 -- first entry that does not fit, and nowhere else. If it had ended, all stays. No byte is written out.
--- TAPE-2
+-- TAPE-1 TAPE-2
 pub record Records (entries : List (List ℕ)) (old new : Tape) : Type 0 where
   pub on : new.is_on ≡ true → old.is_on ≡ true
   pub grows : new.is_on ≡ true → new.text ≡ old.text ++ concat entries

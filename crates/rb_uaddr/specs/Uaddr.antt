@@ -89,14 +89,16 @@ ipv6_of_parts _ = None
 unfoldable pub parts_of : List ℕ → List (List ℕ)
 parts_of text = slice_split (λ b. b == dot) text
 
+-- UADDR-4
 unfoldable pub parse_ipv4 : List ℕ → Option Uaddr
 parse_ipv4 text = ipv4_of_parts (parts_of text)
 
+-- UADDR-4
 unfoldable pub parse_ipv6 : List ℕ → Option Uaddr
 parse_ipv6 text = ipv6_of_parts (parts_of text)
 
 -- the address that has this text: an IPv4 address has six parts, and an IPv6 address three
--- UADDR-1 UADDR-2 UADDR-4
+-- UADDR-1 UADDR-2
 unfoldable pub parse : List ℕ → Option Uaddr
 parse text = option_or (parse_ipv4 text) (parse_ipv6 text)
 
