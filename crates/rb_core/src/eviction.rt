@@ -32,8 +32,9 @@ fn is_roomy(registry: &Registry, limit: usize, meter: &mut Meter) -> bool
     retained < MANY_RETAINED && retained < limit - live
 }
 
-/// Makes room for the row that a message will add: if the live and the retained rows reach the limit,
-/// the connections become Lost whose lists began before the earliest change that removed a retained row.
+/// Makes room for the row that a message will add. Retained rows that no list needs any more go. If the live and the
+/// needed rows reach the limit, the connections become Lost whose lists began before the earliest change that removed a
+/// needed row.
 ///
 /// It is inlined, since for most calls there is nothing to do.
 #[inline(always)]
