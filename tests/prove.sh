@@ -1,9 +1,10 @@
 #!/usr/bin/env bash
 # Proves each crate of crates.txt and builds the programs, as many crates side by side as processors and memory allow.
 #
-# A crate begins as soon as those that it stands on are proved, the one with the longest chain of others above it first.
-# Crates that begin at one time share the free processors by their lines of code, up to four each; one that a longer chain
-# is still to begin beside gets one.
+# A crate begins as soon as those that it stands on are proved, the one with the longest chain of others above it first, and
+# no more crates at a time than there are processors. The crate of the longest chain works in up to four processes, however
+# many others work beside it, and these give way to it (nice): nothing else decides when all is proved. Each other crate works
+# in one, since a proof in several takes more processor time.
 #
 # `rt` lets one command at a time work in a crate's folder or in one below it. So each crate is proved in a room
 # of its own: a folder with links to its files and to the libraries below it, which has its out/ meanwhile. The crates'
@@ -20,10 +21,9 @@ memory_of_one=3000 # in MiB
 
 names=()         # the crates
 declare -A uses  # of each crate those of ours that it stands on, as crates.txt has them
-declare -A lines # its lines of code
-declare -A chain # its lines and those of the longest chain of crates above it
+declare -A costs # its seconds by docs/TIMINGS.md, or a guess by its lines of code
+declare -A chain # its seconds and those of the longest chain of crates above it
 declare -A state # waiting, running, proved, failed or skipped
-declare -A jobs  # how many processors a running crate was given
 declare -A since # when it began
 declare -A pids  # its process
 
@@ -47,14 +47,15 @@ read_crates() {
 measure_chains() {
     local name below least grows=1
     for name in "${names[@]}"; do
-        lines[$name]=$(find "crates/$name/src" -name '*.rt' -exec cat {} + | wc -l)
-        chain[$name]=${lines[$name]}
+        costs[$name]=$(sed -nE "s/^\| $name \|[^|]*\|[^|]*\| ([0-9]+) .*/\1/p" docs/TIMINGS.md 2> /dev/null)
+        [ -n "${costs[$name]}" ] || costs[$name]=$(($(find "crates/$name/src" -name '*.rt' -exec cat {} + | wc -l) / 10))
+        chain[$name]=${costs[$name]}
     done
     while [ "$grows" = 1 ]; do
         grows=0
         for name in "${names[@]}"; do
             for below in ${uses[$name]}; do
-                least=$((lines[$below] + chain[$name]))
+                least=$((costs[$below] + chain[$name]))
                 [ "${chain[$below]}" -ge "$least" ] || { chain[$below]=$least; grows=1; }
             done
         done
@@ -134,7 +135,7 @@ prove() {
         words=(run --jobs "$2" -- --version)
     fi
     furnish "$name" && cd "$rooms/$name/crates/$name" && {
-        rt "${words[@]}" < /dev/null &
+        nice -n "$3" rt "${words[@]}" < /dev/null &
         rt=$!
         wait "$rt"
     }
@@ -175,28 +176,35 @@ longest_to_come() {
     echo "$longest"
 }
 
-# Shares the free processors among the crates that are ready.
+# The longest chain above a crate that is being proved.
+longest_running() {
+    local name longest=0
+    for name in "${names[@]}"; do
+        [ "${state[$name]}" = running ] || continue
+        [ "${chain[$name]}" -le "$longest" ] || longest=${chain[$name]}
+    done
+    echo "$longest"
+}
+
+# Begins the crates that are ready, as far as there are processors.
 start_ready() {
-    local ready name share longest all=0
+    local ready name share way longest
     mapfile -t ready < <(list_ready)
     longest=$(longest_to_come "${ready[@]}")
     for name in "${ready[@]}"; do
-        all=$((all + lines[$name]))
-    done
-    for name in "${ready[@]}"; do
         [ "$free" -gt 0 ] || return 0
-        share=$(((free * lines[$name] + all / 2) / all))
-        [ "${chain[$name]}" -ge "$longest" ] || share=1
-        [ "$share" -gt 0 ] || share=1
-        [ "$share" -le 4 ] || share=4
-        prove "$name" "$share" > "$logs/$name" 2>&1 &
+        share=1
+        way=10
+        if [ "${chain[$name]}" -ge "$longest" ] && [ "${chain[$name]}" -gt "$(longest_running)" ]; then
+            share=$((slots < 4 ? slots : 4))
+            way=0
+        fi
+        prove "$name" "$share" "$way" > "$logs/$name" 2>&1 &
         pids[$name]=$!
         state[$name]=running
-        jobs[$name]=$share
         since[$name]=$SECONDS
-        free=$((free - share))
-        all=$((all - lines[$name]))
-        say "$name begins, on $share of $slots"
+        free=$((free - 1))
+        say "$name begins, in $share processes"
     done
 }
 
@@ -217,7 +225,7 @@ await_one() {
     wait "${pids[$name]}"
     unset "pids[$name]"
     put_back "$name"
-    free=$((free + jobs[$name]))
+    free=$((free + 1))
     if [ "$status" -eq 0 ]; then
         state[$name]=proved
         say "$name is proved, in $(in_minutes $((SECONDS - since[$name]))) ($(processor_seconds "$name") processor" \

@@ -189,13 +189,7 @@ impl Core {
         if !are_good(&limits, &listener) {
             return Err(CoreFault::BadLimits);
         }
-        let forwards = limits.forwards as u32;
-        let Ok(books) = Books::new(alloc, limits.rows, forwards, first_xid, &listener, meter) else {
-            return Err(CoreFault::NoMemory);
-        };
-        let Ok(connections) = Connections::new(alloc, limits.conns, meter) else {
-            return Err(CoreFault::NoMemory);
-        };
+        // What takes many parts to let go is made last, since each `?` lets go all that was made before it.
         let Ok(reply) = Kept::new(alloc, LONGEST_REPLY, meter) else {
             return Err(CoreFault::NoMemory);
         };
@@ -203,6 +197,13 @@ impl Core {
             return Err(CoreFault::NoMemory);
         };
         let Ok(arguments) = Kept::new(alloc, BUFFER_SIZE, meter) else {
+            return Err(CoreFault::NoMemory);
+        };
+        let Ok(connections) = Connections::new(alloc, limits.conns, meter) else {
+            return Err(CoreFault::NoMemory);
+        };
+        let forwards = limits.forwards as u32;
+        let Ok(books) = Books::new(alloc, limits.rows, forwards, first_xid, &listener, meter) else {
             return Err(CoreFault::NoMemory);
         };
         Ok(Core {

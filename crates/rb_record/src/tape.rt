@@ -155,6 +155,16 @@ impl Tape {
         if !self.page.is_on {
             return;
         }
+        self.add(event, output);
+    }
+
+    /// Adds an event and what it gave while the recording goes on. It is not inlined, as its two lines of text are filled
+    /// with zeros before they are made.
+    #[inline(never)]
+    fn add(&mut self, event: &Event<&[u8]>, output: &Output<&[u8]>)
+        requires { self.old.is_on ≡ true }
+        ensures { Records (entry_of event.now output.now ∷ []) self.old self.new }
+    {
         let event = event_line(event);
         let output = output_line(output);
         if self
