@@ -16,8 +16,7 @@ use Rattle.rb_address.specs.Hosts.{family_of, is_same_host, IsHost}
 use Rattle.rb_address.specs.Netids.{netid_on}
 use Rattle.rb_address.specs.Peers.{IsPeer, bare_host_text, peer_text}
 
--- the netid of a caller by a transport: over IPv4 or IPv6, or local
--- NETID-3
+-- NETID-3: A caller's netid is that of its transport and of its peer's family, or local.
 abbrev pub netid_from : Transport → Source → Netid
 netid_from transport (Inet peer) = netid_on transport (family_of peer.host)
 netid_from transport Local = netids.Local
@@ -65,6 +64,9 @@ trust_text trusts.Claims = []
 trust_text (trusts.Local owner) = codes "/" ++ owner_text owner
 trust_text trusts.Stranger = codes "/stranger"
 
--- CALLER-1
+-- CALLER-1: A caller is a peer, or `local`; after it stands `>` and the host that it asked, if that
+-- is not 0.0.0.0, an IPv6 host without brackets; and after that `/` and a uid, `unknown` or
+-- `stranger`, if more is known of it than what it claims. It has one spelling: an event line has
+-- the text that is printed of it, and no other.
 abbrev pub who_text : Who → List ℕ
 who_text w = source_text w.source ++ asked_text w.asked ++ trust_text w.trust

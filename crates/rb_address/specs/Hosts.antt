@@ -26,8 +26,7 @@ is_same_host (V6 a) (V6 b) = bytes_eq a b
 is_same_host (V4 a) (V6 b) = false
 is_same_host (V6 a) (V4 b) = false
 
--- 127.0.0.0/8 and ::1
--- LOOPBACK-1
+-- LOOPBACK-1: Of this machine by its address alone are 127.0.0.0/8 and ::1.
 unfoldable pub is_loopback : Host → Bool
 is_loopback (V4 octets) = slice_index octets 0 == 127
 is_loopback (V6 octets) = bytes_eq octets (0 ∷ 0 ∷ 0 ∷ 0 ∷ 0 ∷ 0 ∷ 0 ∷ 0 ∷ 0 ∷ 0 ∷ 0 ∷ 0 ∷ 0 ∷ 0 ∷ 0 ∷ 1 ∷ [])
@@ -45,8 +44,7 @@ mapped_front = 0 ∷ 0 ∷ 0 ∷ 0 ∷ 0 ∷ 0 ∷ 0 ∷ 0 ∷ 0 ∷ 0 ∷ 255 �
 unfoldable pub is_mapped : List ℕ → Bool
 is_mapped octets = bytes_eq (take 12 octets) mapped_front
 
--- as IPv4 if it is ::ffff:a.b.c.d
--- MAPPED-1
+-- MAPPED-1: A host ::ffff:a.b.c.d counts as a.b.c.d.
 unfoldable pub plain_host : Host → Host
 plain_host (V4 octets) = V4 octets
 plain_host (V6 octets) = if is_mapped octets then V4 (drop 12 octets) else V6 octets

@@ -7,7 +7,8 @@ use Rattle.rb_address.specs.declared.netid.Transport.TheVariants as transports
 use Rattle.rb_address.specs.declared.netid.Netid.{Netid}
 use Rattle.rb_address.specs.declared.netid.Netid.TheVariants.{Tcp, Udp, Tcp6, Udp6, Local}
 
--- NETID-1
+-- NETID-1: The netids are `tcp` and `udp`, `tcp6` and `udp6`, and `local`; a text that is none of
+-- these five names no netid.
 abbrev pub netid_text : Netid → List ℕ
 netid_text Tcp = codes "tcp"
 netid_text Udp = codes "udp"
@@ -34,7 +35,7 @@ netid_named name =
     else if bytes_eq name (codes "local") then Some Local
     else None
 
--- NETID-2
+-- NETID-2: tcp and udp are of IPv4, tcp6 and udp6 of IPv6.
 abbrev pub netid_on : Transport → Family → Netid
 netid_on transports.Tcp Inet = Tcp
 netid_on transports.Tcp Inet6 = Tcp6

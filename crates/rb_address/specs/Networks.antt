@@ -32,7 +32,8 @@ has_front (V6 a) length (V6 b) = is_same_front length a b
 has_front (V4 a) length (V6 b) = false
 has_front (V6 a) length (V4 b) = false
 
--- NETWORK-1
+-- NETWORK-1: A network has the hosts whose first bits are those of its own host, as many as its
+-- length says, and none of the other family.
 abbrev pub has : Network → Host → Bool
 has network host = has_front network.host network.length host
 
@@ -43,8 +44,8 @@ is_clear_behind length octets = list_all (λ bit. bit == 0) (drop length (bits_o
 abbrev pub is_clear : ℕ → Host → Bool
 is_clear length host = is_clear_behind length (octets_of_host host)
 
--- the network of a host and a length, or why there is none
--- NETWORK-2
+-- NETWORK-2: No network has a length of more than 32 bits, or of 128 for IPv6, a bit set after its
+-- length, or a host of IPv4 in IPv6's form.
 unfoldable pub network_at : Host → ℕ → Result Network NetworkFault
 network_at host length =
     if nat_lt (bit_count host) length then Err TooLong
@@ -58,8 +59,8 @@ network_at host length =
 abbrev pub host_of : List ℕ → Option Host
 host_of text = option_or (option_map V4 (ipv4_host text)) (option_map V6 (ipv6_host text))
 
--- the same, but none of IPv4 in IPv6's form
--- HOST-1
+-- HOST-1: An address of an option is dotted IPv4 without leading zeros, or IPv6 in any spelling,
+-- except one of IPv4 in IPv6's form.
 unfoldable pub plain_host_of : List ℕ → Option Host
 plain_host_of text = do
   host ← host_of text

@@ -11,7 +11,6 @@ use Rattle.rb_address.specs.declared.host.Host.TheVariants.{V4, V6}
 use Rattle.rb_address.specs.declared.peer.Peer.{Peer}
 use Rattle.rb_address.specs.Hosts.{IsHost, plain_host}
 
--- a host ::ffff:a.b.c.d counts as a.b.c.d
 -- MAPPED-1
 abbrev pub peer_at : Host → ℕ → Peer
 peer_at host port = record { host = plain_host host; port = port }
@@ -35,6 +34,7 @@ host_text (V4 octets) = ipv4_text octets
 host_text (V6 octets) = codes "[" ++ ipv6_host_text octets ++ codes "]"
 
 -- the host, a colon and the port in decimal
--- PEER-1
+-- PEER-1: A peer is `h1.h2.h3.h4:port` without leading zeros, or `[host]:port` with an IPv6 host as
+-- RFC 5952 section 4 prints it. An event line has the text that is printed of it, and no other.
 abbrev pub peer_text : Peer → List ℕ
 peer_text p = host_text p.host ++ codes ":" ++ decimal p.port

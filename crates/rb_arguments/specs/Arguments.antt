@@ -15,7 +15,9 @@ use Rattle.rb_arguments.specs.declared.request.Request.TheVariants as requests
 pub use Rattle.rb_arguments.specs.declared.request.Request.{Request}
 
 -- version, number and procedure, under the type of its argument
--- PROC-1 PROC-2
+-- PROC-1: Version 2 has the procedures 0 to 5, version 3 those from 0 to 8, version 4 those from 0
+-- to 12: 28 in all.
+-- PROC-2
 abbrev pub procedures : List (ℕ × ℕ × Procedure)
 procedures =
     line 2 0 (Void voids.Null)
@@ -65,7 +67,7 @@ abbrev pub value_of : {A : Type 0} → Reading A → Option A
 value_of (Ok read) = Some read.0
 value_of (Err fault) = None
 
--- ARGS-1
+-- ARGS-1: Bytes after the arguments are ignored.
 abbrev pub front : {A : Type 0} → Reader A → List ℕ → Option A
 front reads bytes = value_of (reads bytes)
 
@@ -87,7 +89,8 @@ abbrev pub or_garbage : Option Request → Result Request ArgumentFault
 or_garbage (Some request) = Ok request
 or_garbage None = Err GarbageArgs
 
--- PROC-2
+-- PROC-2: A number that the version has no procedure for is PROC_UNAVAIL, before the arguments are
+-- read.
 abbrev pub read_request : ℕ → ℕ → List ℕ → Result Request ArgumentFault
 read_request vers proc bytes = if is_known vers proc then or_garbage (request vers proc bytes) else Err ProcUnavail
 

@@ -4,8 +4,8 @@ use Rattle.rb_xdr.specs.Xdr.{number, opaque, Reader, ◌>>=◌, give, read_numbe
 use Rattle.rb_rpc.specs.Forwarded.{longest_forwarded}
 use Rattle.rb_arguments.specs.declared.remote.RemoteCall.{RemoteCall}
 
--- prog, vers, proc, args<8800>: of args only the number of its bytes is kept
--- ARGS-2
+-- ARGS-2: CALLIT, BCAST and INDIRECT take prog, vers, proc and args of at most 8,800 bytes; more
+-- are GARBAGE_ARGS.
 unfoldable pub read_remote : Reader RemoteCall
 read_remote = do
   prog ← read_number
@@ -15,7 +15,7 @@ read_remote = do
   give (record { prog = prog; vers = vers; proc = proc; count = length args })
 
 -- The content of args. It stands after three numbers and its own count.
--- ARGS-3
+-- ARGS-3: The content of args is passed on as it came; bytes after it are ignored.
 abbrev pub args_of : RemoteCall → List ℕ → List ℕ
 args_of remote arguments = slice_range arguments 16 (16 + remote.count)
 

@@ -52,7 +52,8 @@ max_rpcb = max_number + max_number + max_opaque 32 + max_opaque 128 + max_opaque
 abbrev pub rpcb_form : Form
 rpcb_form = Then Number (Then Number (Then (Content 32) (Then (Content 128) (Content 128))))
 
--- ARGS-6
+-- ARGS-6: A netid has at most 32 bytes, an address and an owner at most 128; what has a longer text
+-- is unreadable.
 unfoldable pub read_rpcb : Reader Rpcb
 read_rpcb = do
   prog ← read_number

@@ -16,14 +16,13 @@ pub record Input : Type 0 where
 abbrev pub of_stream : List ℕ → Input
 of_stream bytes = record { bytes = bytes; is_marked = true }
 
--- DATA-6
+-- DATA-6: A datagram is a whole record, without marks.
 abbrev pub of_datagram : List ℕ → Input
 of_datagram bytes = record { bytes = bytes; is_marked = false }
 
 -- ---- what may be read
 
--- the most bytes of a record that are read
--- DATA-2
+-- DATA-2: At most 16,777,216 bytes of a record are read.
 abbrev pub longest_record : ℕ
 longest_record = 16777216
 
@@ -43,9 +42,8 @@ data_read input front = if input.is_marked then data_of front else take (length 
 unfoldable pub is_over : Input → List ℕ → Bool
 is_over input front = if input.is_marked then is_whole front else nat_le (length input.bytes) (length front)
 
--- What is wrong if more is needed than the data that may be read: the input or its record ends there, or the record
--- goes on after the bytes that may be read.
--- DATA-3
+-- DATA-3: Data that ends before a value does is cut off, or too long if the record goes on after
+-- the bytes that are read.
 unfoldable pub end_of : Input → InfoFault
 end_of input =
     if nat_lt (length input.bytes) longest_record || is_over input (front_of input.bytes) then CutOff else TooLong
@@ -53,7 +51,7 @@ end_of input =
 -- ---- where a reader stands
 
 -- the data that is still to come of a record, before these bytes
--- DATA-1
+-- DATA-1: A reply's data is that of all its fragments.
 unfoldable pub data_left : Record → List ℕ → List ℕ
 data_left at bytes = if at.last then take at.left bytes else take at.left bytes ++ data_of (drop at.left bytes)
 

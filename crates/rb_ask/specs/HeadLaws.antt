@@ -13,6 +13,6 @@ abbrev pub IsHead : Read → InfoFault → List ℕ → Told ReplyHead → Type 
 IsHead (Some read) end content told = told ≡ Done [] read.0 (drop read.1 content)
 IsHead None end content told = (told ≡ Stop [] Unreadable) ⊎ (told ≡ Stop [] end)
 
--- HEAD-2
+-- HEAD-2: What is taken as a reply's head is what `read_reply` says of all the data.
 abbrev pub HeadsAreRead : Type 0
 HeadsAreRead = (end : InfoFault) (content : List ℕ) → IsHead (read_reply content) end content (take_head end content)

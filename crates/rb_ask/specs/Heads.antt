@@ -59,6 +59,6 @@ head_with_status xid stat = reply_stat stat >>= λ status. give (record { xid = 
 abbrev pub reply_words : ℕ → ℕ × ℕ → Teller ReplyHead
 reply_words xid w = if w.0 == 1 then head_with_status xid w.1 else stop Unreadable
 
--- HEAD-1
+-- HEAD-1: A reply has mtype 1, and a verifier of at most 400 bytes.
 unfoldable pub take_head : Teller ReplyHead
 take_head = take_one (read_pair read_number two_numbers) >>= λ (w : ℕ × (ℕ × ℕ)). reply_words w.0 w.1

@@ -5,8 +5,7 @@ use Rattle.rb_xdr.specs.XdrTypes.{read_optional}
 use Rattle.rb_ask.specs.declared.fault.InfoFault.TheVariants.{TooMany}
 use Rattle.rb_ask.specs.Telling.{Teller, ◌>>=◌, give, stop, tell, take_one}
 
--- the most items of a list that are shown
--- ITEM-1
+-- ITEM-1: At most 4,096 items of a list are shown; a further TRUE is too many.
 abbrev pub greatest_list : ℕ
 greatest_list = 4096
 
@@ -15,7 +14,7 @@ abbrev pub tell_end : ℕ → Bool → Teller ℕ
 tell_end shown more = if more then stop TooMany else give shown
 
 -- an item's line, and then more; without an item, how many there were
--- ITEM-2
+-- ITEM-2: An item's line is written once the item was read whole.
 abbrev pub tell_item : {A : Type 0} → (A → List ℕ) → ℕ → Teller ℕ → Option A → Teller ℕ
 tell_item line shown more None = give shown
 tell_item line shown more (Some x) = tell (line x ∷ []) >>= λ _. more

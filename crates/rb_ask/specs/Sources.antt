@@ -9,7 +9,7 @@ pub record Supply : Type 0 where
   pub can_fail : Bool
 
 -- The first of the known bytes was taken, or none is left, or the source is one that can fail.
--- DATA-4
+-- DATA-4: Reading bytes that are in memory never fails.
 abbrev pub GivesNext : Supply → Supply → Result (Option ℕ) SourceFailed → Type 0
 GivesNext old new (Ok (Some b)) = Consumes old.bytes new.bytes (b ∷ [])
 GivesNext old new (Ok None) = IsAtEnd old.bytes

@@ -55,7 +55,7 @@ told_by end (Err faults.BadBool) content = Stop [] Unreadable
 told_by end (Err faults.BadPadding) content = Stop [] Unreadable
 
 -- a value of XDR
--- DATA-5
+-- DATA-5: No byte after a value is read.
 unfoldable pub take_one : {A : Type 0} → Reader A → Teller A
 take_one reads = λ end content. told_by end (reads content) content
 

@@ -60,6 +60,10 @@ struct Check<'a> {
     found: Vec<Found>,
 }
 
+// KEEPCHECK-2: With `--keep-check` a kept row is left out, and a line says so, if the system says
+// that nobody listens there, or if nothing came until two seconds were over. Those asked are the
+// ones that come to one of 64 places within a second; any datagram and any byte is an answer; each
+// other row stays.
 /// Asks the programs of the rows that are of this machine over TCP and UDP, 64 at a time: those that it comes to in
 /// the first second, and waits for answers until two seconds are over. Returns for each row what is known. If the
 /// system gives no socket or no time, nothing is. An error if the allocation is refused.

@@ -57,7 +57,8 @@ announced_of (first ∷ second ∷ third ∷ more) = do
 
 -- ---- the local socket
 
--- OPTION-3
+-- OPTION-3: `--local` is a path of 1 to 107 bytes, none of them below 32 or `'`; `--local-mode` a
+-- number below 512 in octal digits alone.
 abbrev pub read_local : Option (Bor (List ℕ)) → Result (Option (Bor (List ℕ))) Valued
 read_local None = Ok None
 read_local (Some text) = if is_path text.now then Ok (Some text) else Err Local
@@ -71,8 +72,8 @@ abbrev pub unless_zero : Option ℕ → Option ℕ
 unless_zero None = None
 unless_zero (Some n) = if n == 0 then None else Some n
 
--- a port from 1 to 65535
--- OPTION-1
+-- OPTION-1: Numbers of options are decimal digits alone, a port from 1 to 65535, an xid of 32 bits,
+-- every other one of 64 bits.
 abbrev pub port : List ℕ → Option ℕ
 port text = unless_zero (number_below (2 ^ 16) text)
 
@@ -87,7 +88,8 @@ limits_of conns rows forwards = do
 -- ---- the terms
 
 -- whether replies over UDP may be long to strangers
--- OPTION-7
+-- OPTION-7: `--udp-lists` is `all` or `local`; `--forward-for` is one of these, and of `replay`
+-- also `any`.
 abbrev pub udp_lists : List ℕ → Option Bool
 udp_lists text =
     if bytes_eq text (codes "all") then Some true
@@ -108,7 +110,7 @@ abbrev pub forwarding_of : List ℕ → Option Forwarding
 forwarding_of text = if bytes_eq text (codes "any") then Some Anywhere else forward_for text
 
 -- what a replay begins with, or the first option whose value can't be read
--- OPTION-11
+-- OPTION-11: Each option of `replay` sets its own field.
 abbrev pub beginning_of : ReplayTexts → Result Beginning Valued
 beginning_of texts = do
   announced ← announced_of texts.announce.now

@@ -20,8 +20,8 @@ use Rattle.rb_commands.specs.declared.serving.ServeTexts.{ServeTexts}
 use Rattle.rb_commands.specs.declared.serving.Serve.{Serve}
 use Rattle.rb_commands.specs.Options.{◌>>=◌, value_of, announced_of, read_local, port, limits_of, udp_lists, forward_for}
 
--- what stands for an option that is not given
--- OPTION-10
+-- OPTION-10: What stands for an option of `serve` that is not given is the text that the help
+-- shows.
 abbrev pub default_of : Valued → List ℕ
 default_of (Bind place) = codes "127.0.0.1"
 default_of LocalMode = codes "0600"
@@ -59,11 +59,12 @@ values_from value_at place (text ∷ texts) = do
   others ← values_from value_at (place + 1) texts
   Ok (first ∷ others)
 
--- OPTION-4
+-- OPTION-4: `--bind` is given at most 16 times, `--announce` at most once for each family.
 abbrev pub hosts_from : ℕ → List (Bor (List ℕ)) → Result (List Host) Valued
 hosts_from place texts = values_from host_at place texts
 
--- OPTION-5
+-- OPTION-5: `--from` is a host, a slash and a length in decimal without leading zeros, or a host
+-- alone, an IPv6 host in any spelling; it is given at most 16 times.
 abbrev pub networks_from : ℕ → List (Bor (List ℕ)) → Result (List Network) Valued
 networks_from place texts = values_from network_at place texts
 
@@ -104,7 +105,7 @@ rate_of_parts (Some parts) text = do
   Ok (record { network = of_network; host = of_host })
 
 -- of one network and, after a comma, of one host
--- OPTION-6
+-- OPTION-6: `--udp-rate` is a number from 1 to 1,000, or two with a comma; one stands for both.
 abbrev pub rate_of : List ℕ → Result Rate Valued
 rate_of text = rate_of_parts (cut 44 text) text
 
@@ -121,7 +122,7 @@ terms_of lists whom = do
   Ok (record { long_replies = long; forwarding = served })
 
 -- in bytes
--- OPTION-2
+-- OPTION-2: `--record-limit` is a number from 1,000 to 16,777,216.
 abbrev pub record_limit : List ℕ → Option ℕ
 record_limit text = if_between 1000 16777216 (number_below (2 ^ 64) text)
 
@@ -137,8 +138,8 @@ recorded_of path text = do
 
 -- ---- the file of kept rows, and the log
 
--- a path of at least one byte
--- OPTION-8
+-- OPTION-8: `--keep` is a path of at least one byte; `--log` is `changes` or `all`, and nothing is
+-- told without it.
 abbrev pub keep_of : Option (Bor (List ℕ)) → Result (Option (Bor (List ℕ))) Valued
 keep_of None = Ok None
 keep_of (Some path) = if length path.now == 0 then Err Keep else Ok (Some path)
@@ -157,9 +158,11 @@ log_of (Some text) = value_of Log (log_named text.now)
 
 -- ---- all of them
 
--- What the daemon is started with, or the first option whose value can't be read. Each option sets its own field, and no
--- other; the limit of open files is none of them.
--- SETTING-1 OPTION-9
+-- what the daemon is started with; the limit of open files is none of the options
+-- SETTING-1: Each setting of the daemon is the one that its option asks for: without `--local`
+-- there is no local socket, without `--udp-rate` no limit, without `--record` no record, and
+-- without `--keep` nothing is kept.
+-- OPTION-9: Each option of `serve` sets its own field; the first that can't be read is named.
 abbrev pub settings_of : ℕ → ServeTexts → Result Settings Valued
 settings_of open_files texts = do
   announced ← announced_of texts.announce.now

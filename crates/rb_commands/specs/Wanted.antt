@@ -74,8 +74,8 @@ wanted_text RecordLimit = codes "a number from 1000 to 16777216"
 wanted_text Keep = codes "the path of a file"
 wanted_text Log = codes "changes or all"
 
--- the line of a value that can't be read
--- WORD-1
+-- WORD-1: The line of a value that can't be read names its option, the value and what is expected
+-- there.
 abbrev pub bad_value_text : BadValue → List ℕ
 bad_value_text bad =
     codes "error: invalid value '" ++ bad.value.now ++ codes "' for '--" ++ bad.option.now ++ codes "': " ++ bad.wanted.now
@@ -84,7 +84,7 @@ bad_value_text bad =
 -- ---- values that do not go together
 
 -- whether the path at which rows are kept is that of the record, whose file a start removes
--- KEEP-8
+-- KEEP-8: Rows are not kept at the path of the record: status 2, and nothing is run.
 abbrev pub is_the_record : List ℕ → Option (Bor (List ℕ)) → Bool
 is_the_record keep None = false
 is_the_record keep (Some path) = bytes_eq keep path.now

@@ -25,6 +25,8 @@ pub enum Words<'a> {
     Check(Beginning),
 }
 
+// WORD-3: Words that name no command, or an option that can't be read, end the program with status
+// 2, and nothing is run.
 /// What the words ask for, the program's own name first. If nothing needs to be run, what there is to say was
 /// written, and the exit status is the error: 0 if help or the version went to `output`; 2 if the words can't
 /// be read, and `faults` got the reason; 1 if memory or `output` failed.

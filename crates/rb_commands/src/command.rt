@@ -253,6 +253,7 @@ fn add_record<'a>(alloc: Global, args: &mut Vec<Arg<'a>>) -> Result<(), AllocErr
     )
 }
 
+// KEEP-9: `--keep-check` is taken with `--keep` alone: without it status 2, and nothing is run.
 /// What `serve` keeps over a restart, and what it tells while it serves.
 fn add_keep<'a>(alloc: Global, args: &mut Vec<Arg<'a>>) -> Result<(), AllocError> {
     add(
@@ -338,6 +339,7 @@ fn add_shown<'a>(alloc: Global, args: &mut Vec<Arg<'a>>) -> Result<(), AllocErro
     )
 }
 
+// CHECK-5: `--check` and `--steps` are not taken together: status 2, and nothing is run.
 /// Whether `replay` compares its outputs, and whether it tells its steps: one of them at most.
 fn add_check<'a>(alloc: Global, args: &mut Vec<Arg<'a>>) -> Result<(), AllocError> {
     add_comparison(alloc, args)?;

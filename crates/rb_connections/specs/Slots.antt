@@ -263,7 +263,7 @@ number_wanted wanted.AnyLost = 0
 number_wanted (wanted.Due clock) = 0
 
 -- the key and the slot of the first connection that is asked for
--- HINT-1
+-- HINT-1: A call on a connection finds the one of its number, whatever the hint says.
 unfoldable pub wanted_slot : Sought → List (ℕ × Slot) → Option (ℕ × Slot)
 wanted_slot sought slots = find (λ (e : ℕ × Slot). is_wanted_slot sought e.1) slots
 
@@ -304,8 +304,7 @@ pub record AreBuffers (tie : ℕ) (buffer window : Kept) : Type 0 where
 abbrev pub HasBuffers : ℕ → Slot → Type 0
 HasBuffers tie slot = AreBuffers tie slot.buffer slot.window
 
--- buffers that no connection has are empty
--- SPARE-1
+-- SPARE-1: Buffers that no connection has, live or Lost, are empty.
 pub record AreSpare (tie : ℕ) (b : Buffers) : Type 0 where
   pub buffers : AreBuffers tie b.buffer b.window
   pub buffer_empty : b.buffer.bytes ≡ []

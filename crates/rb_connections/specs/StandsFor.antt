@@ -62,7 +62,8 @@ stamp_of_rest (rests.Held start) = None
 stamp_of_rest (rests.Listed list) = Some list.stamp
 
 -- The window and the rest after it stand for what is owed: this many bytes of the fragment that is shown were given.
--- LIST-5
+-- LIST-5: A fragment of a streamed list is made once the one before it was given, from the rows as
+-- of the call.
 pub record IsGiving (registry : Registry) (giving : Giving) (buffer : List ℕ) (shown : Kept) (o : Owed) : Type 0 where
   pub reply : List ℕ
   pub shows : IsShown reply shown o
@@ -89,8 +90,8 @@ pub record StandsForConnection (registry : Registry) (slot : Slot) (c : Connecti
   pub since : slot.since ≡ c.since
   pub phase : StandsForPhase registry slot.stage slot.buffer slot.window c.phase
 
--- the bytes of its buffer and its window count, and its fixed part
--- HELD-4
+-- HELD-4: A connection, also one that is Lost, counts as 128 bytes and those of its buffer and its
+-- window.
 abbrev pub charge : Slot → ℕ
 charge slot = connection_charge + length slot.buffer.bytes + length slot.window.bytes
 

@@ -28,7 +28,7 @@ abbrev pub count_shown : Meter → ℕ
 count_shown meter = min meter.steps greatest_count
 
 -- Nothing has changed but `steps_before`, what the meter showed as the last event began.
--- REFUSED-2
+-- REFUSED-2: A look, and a refused event, change nothing but which event was the last.
 abbrev pub OnlyBegins : CoreView → CoreView → Type 0
 OnlyBegins old new = new ≡ record old { steps_before = new.steps_before }
 
@@ -42,7 +42,8 @@ abbrev pub LendsFrom : MutBor CoreView → Meter → Fml
 LendsFrom core before = Rests the_row core (BeginsAt before core.now)
 
 -- These are the steps since the meter was `before`, if the last event began then, while its count is below the greatest.
--- STEPS-5
+-- STEPS-5: `Core::steps` gives the steps that were counted since the last event began, a refused
+-- one too, while the meter's count is below 2^128 - 1.
 abbrev pub TellsSteps : CoreView → Meter → ℕ → Type 0
 TellsSteps core now steps =
     (before : Meter) → core.steps_before ≡ count_shown before → before.steps ≤ now.steps → now.steps < greatest_count
@@ -67,7 +68,10 @@ length_given (Err fault) n = 0
 
 -- A call that takes this many bytes, and lends or reports as given this many, pays no more than the bound, whatever state
 -- that a run reaches the core stood for.
--- STEPS-4
+-- STEPS-4: Each event of the core, each look but `next_row`, and `exchange` cost no more than an
+-- event may, for the bytes that they take, lend or report as given themselves; for a refused call
+-- these are none. A `write_into` costs as much as a `gave` of 1,028 bytes may, for each 1,028 bytes
+-- that it gives, and once more.
 pub record StaysWithinSteps (core : CoreView) (taken given : ℕ) (before now : Meter) : Type 0 where
   pub within : (s : State) → StandsFor core s → IsReached s
       → PaysAtMost before now (steps_bound core.setting.limits taken given)
@@ -85,9 +89,8 @@ abbrev pub ExchangesWithinSteps : CoreView → Result Exchanged CoreFault → Me
 ExchangesWithinSteps core result before now =
     StaysWithinSteps core (length_taken (taken_in result)) (count_given result) before now
 
--- From each state that a run reaches and that the core stood for: if no record ends in a piece on a connection, no more
--- is paid than 8 steps for each byte that is taken, 64 for each connection that there may be, and 64.
--- STEPS-3
+-- STEPS-3: A piece in which no record ends costs at most 8 steps for each byte, 64 for each
+-- connection that there may be, and 64 more.
 abbrev pub StaysCheapIfQuiet : CoreView → ℕ → List ℕ → Result (Taken × Standing) CoreFault → Meter → Meter → Type 0
 StaysCheapIfQuiet core id piece result before now =
     (s : State) → StandsFor core s → IsReached s → NoRecordEnds s id piece

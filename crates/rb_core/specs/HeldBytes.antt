@@ -20,7 +20,7 @@ use Rattle.rb_core.specs.StandsFor.{CoreView, StandsFor}
 
 -- what the connections hold, the rows, live or retained, the keys of the statistics, the forwarded calls, and the last reply
 -- over UDP
--- HELD-5
+-- HELD-5: What a core holds is the sum of what its pools and buffers have.
 abbrev pub held : CoreView → ℕ
 held core =
     held_of_connections (values_of core.connections.slots) + held_of_rows (rows_of core.books.registry) + 48 * key_count core.books.stats

@@ -12,8 +12,8 @@ use Rattle.rb_core.specs.StandsFor.{CoreView}
 abbrev pub rows_held : CoreView → Registry
 rows_held core = core.books.registry
 
--- its live rows: the own ones first
--- LOOK-1
+-- LOOK-1: A core tells between two events how many changes it accepted, its clock, and its live
+-- rows: each once, the own ones first, in their order.
 abbrev pub rows_shown : CoreView → List Row
 rows_shown core = rows_of (rows_held core)
 

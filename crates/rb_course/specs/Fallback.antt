@@ -17,6 +17,7 @@ old_of Short = Some OldShort
 old_of Summary = Some OldSummary
 old_of _ = None
 
--- FALLBACK-1
+-- FALLBACK-1: Rows of version 3 are asked by version 2 if the refusal says that the server has
+-- version 2.
 abbrev pub fallback : Question → ReplyStatus → Option Question
 fallback question status = if has_two status then old_of question else None

@@ -8,8 +8,7 @@ use Rattle.std.specs.Str.{bytes_eq}
 use Rattle.hex.specs.Hex.{decode_sized}
 use Rattle.hex.specs.declared.error.FromHexError.{FromHexError}
 
--- the most bytes of the routes that are read
--- BROADCAST-2
+-- BROADCAST-2: Routes are read whole, at most 1,048,576 bytes.
 abbrev pub longest_routes : ℕ
 longest_routes = 1048576
 
@@ -58,7 +57,8 @@ abbrev pub networks_in_line : List ℕ → List (List ℕ)
 networks_in_line line = option_list (network_of (pieces_of tab line))
 
 -- those of all lines, in their order
--- BROADCAST-1
+-- BROADCAST-1: `-b` goes to the broadcast address of each network that this machine is on, to
+-- 255.255.255.255 if none is shown, and with `--broadcast` to that address alone.
 abbrev pub networks_in : List ℕ → List (List ℕ)
 networks_in routes = flat_map networks_in_line (pieces_of newline routes)
 

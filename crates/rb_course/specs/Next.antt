@@ -56,7 +56,7 @@ place_of (ways.Port transport port) = Some (places.Port transport port)
 place_of (ways.Address netid address) = Some (places.Address (transport_of netid) address)
 
 -- GETPORT with the protocol of the transport, or GETADDR of the netid, over its own transport
--- COURSE-1
+-- COURSE-1: GETPORT asks with the protocol of the transport.
 abbrev pub find_by : Way → ℕ → Aim → Place × Question
 find_by (ways.Getport transport) prog aim = (places.Portmapper transports.Tcp, questions.Port (protocol_of transport) prog (version_of aim))
 find_by (ways.Getaddr netid) prog aim = (places.Portmapper (transport_of netid), questions.Address netid prog (version_of aim))
@@ -75,8 +75,7 @@ question_at course (End end) = None
 abbrev pub by_user : Option ℕ → Place × Question → Place × Ask
 by_user uid q = (q.0, record { question = q.1; uid = uid })
 
--- each question is asked by the user of the course
--- COURSE-2
+-- COURSE-2: Each question of a course has the same credential.
 abbrev pub ask_at : Course → Stage → Option (Place × Ask)
 ask_at course stage = option_map (by_user course.uid) (question_at course stage)
 
@@ -94,13 +93,15 @@ abbrev pub step_to : Stage → Step
 step_to stage = record { lacks = None; stage = stage }
 
 -- the version after this one, or the end
--- COURSE-5 COURSE-9
+-- COURSE-5: Without a version each version is called that the refusal of version 0 names, or, if
+-- that answers, the one of version 4294967295, from the least to the greatest.
+-- COURSE-9: If one of several versions is not available, that is no success, and the version has a
+-- line.
 abbrev pub next_stage : Course → ℕ → ℕ → Bool → Stage
 next_stage course vers high lacks =
     if nat_lt vers high then begin course (aims.Each (vers + 1) high lacks) else End (if lacks then ends.SomeLack else ends.Ready)
 
--- the most versions that are called
--- COURSE-8
+-- COURSE-8: At most 256 versions are called.
 abbrev pub most_versions : ℕ
 most_versions = 256
 
@@ -124,8 +125,7 @@ transport_at (ways.Getaddr netid) = transport_of netid
 transport_at (ways.Port transport port) = transport
 transport_at (ways.Address netid address) = transport_of netid
 
--- 0, and a number that no port has, say that there is none
--- COURSE-3
+-- COURSE-3: A port of 0 says that the version is not available.
 abbrev pub after_port : Course → Aim → ℕ → Step
 after_port course aim port =
     if port == 0 || nat_le 65536 port then after_lack course aim None
@@ -136,7 +136,8 @@ host_in (uaddrs.V4 octets port) = hosts.V4 octets
 host_in (uaddrs.V6 octets port) = hosts.V6 octets
 
 -- 0.0.0.0 and :: stand for every host of the one that tells them, and 127.0.0.0/8 and ::1 for that host itself
--- COURSE-4
+-- COURSE-4: An address of every host or of the loopback that a portmapper tells, also one of IPv4
+-- in IPv6's form, is a port of the host that was asked.
 abbrev pub means_teller : Host → Bool
 means_teller host = is_any host || is_loopback host
 
@@ -158,8 +159,7 @@ abbrev pub refused_find : Course → Aim → ReplyStatus → Step
 refused_find course (aims.Each vers high lacks) status = after_lack course (aims.Each vers high lacks) (Some status)
 refused_find course aim status = step_to (End (ends.Refused status))
 
--- a portmapper that has not the version of GETADDR is asked by GETPORT
--- FALLBACK-2
+-- FALLBACK-2: If GETADDR is refused by PROG_MISMATCH, GETPORT is asked over the same transport.
 abbrev pub after_find_refusal_by : Way → Course → Aim → ReplyStatus → Step
 after_find_refusal_by (ways.Getaddr netid) course aim (statuses.ProgMismatch low high) = step_to (FindOld aim (transport_of netid))
 after_find_refusal_by way course aim status = refused_find course aim status
@@ -215,7 +215,8 @@ lack_of_several course (aims.Each vers high lacks) = Some (after_lack course (ai
 lack_of_several course aim = None
 
 -- A question had no answer, or none that can be read: of several versions this one is not available, else the course ends.
--- COURSE-6
+-- COURSE-6: A version of several that isn't answered, or whose place isn't told, is not available,
+-- and the next one follows.
 abbrev pub unanswered : Course → Stage → Option Step
 unanswered course (Find aim) = lack_of_several course aim
 unanswered course (FindOld aim transport) = lack_of_several course aim

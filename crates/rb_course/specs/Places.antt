@@ -38,8 +38,8 @@ pub record IsPortOf (portmapper : SocketAddr) (port : ℕ) (called : SocketAddr)
   pub port_is : socket_port called ≡ port
   pub scope : socket_scope_id called ≡ socket_scope_id portmapper
 
--- the place, of the host whose portmapper has this address, is called at this one
--- COURSE-7
+-- COURSE-7: A port of a host is called at the host that was asked, by the scope by which it was
+-- found; an address of a link that is told has that scope too.
 abbrev pub IsCalledAt : Place → SocketAddr → SocketAddr → Type 0
 IsCalledAt (Portmapper transport) portmapper called = called ≡ portmapper
 IsCalledAt (Port transport port) portmapper called = IsPortOf portmapper port called

@@ -67,7 +67,8 @@ CountsGiven id piece room engine count = Shows StandsFor (count_now engine.momen
 
 -- Bytes came on a connection. The core had all the free room of the outbox, and what it gave at once stands there, after
 -- what the outbox held.
--- OUTBOX-4
+-- OUTBOX-4: A reply that is given in the call that takes its record stands in the outbox, after
+-- what that held.
 pub record FillsOutbox (id : ℕ) (piece : List ℕ) (old new : Engine) (before after : Outgoing) (result : Result Exchanged CoreFault) : Type 0 where
   pub given : List ℕ
   pub count : count_given result ≡ length given
@@ -77,7 +78,8 @@ pub record FillsOutbox (id : ℕ) (piece : List ℕ) (old new : Engine) (before 
 
 -- What is owed on a connection is given into all the free room of the outbox, as far as it fits. It stands there, after
 -- what the outbox held, and is recorded. If that is no byte, the core stays.
--- OUTBOX-3
+-- OUTBOX-3: What an outbox takes over of a reply are whole fragments, as many as fit into all that
+-- is free of it; they stand in it after what it held, and the core counts exactly them as given.
 pub record WritesToOutbox (id : ℕ) (old new : Engine) (before after : Outgoing) (result : Result Given CoreFault) : Type 0 where
   pub given : List ℕ
   pub count : given_in result ≡ length given

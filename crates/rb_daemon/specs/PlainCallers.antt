@@ -14,6 +14,7 @@ abbrev pub plain_source : Source → Source
 plain_source (Inet peer) = Inet (plain_peer peer)
 plain_source Local = Local
 
--- MAPPED-3
+-- MAPPED-3: A caller or a peer at ::ffff:a.b.c.d is at a.b.c.d for the core, and so is the host
+-- that was asked: each event has a line.
 abbrev pub plain_who : Who → Who
 plain_who who = record { source = plain_source who.source; asked = plain_host who.asked; trust = who.trust }

@@ -46,7 +46,8 @@ abbrev pub entries_of : {s : State} → IsReached s → List (List ℕ)
 entries_of r = options_text r.limits r.listener r.first_xid r.now ∷ run_entries (opening r.limits r.listener r.first_xid r.now) r.events
 
 -- The tape has all of them while the recording goes on, and the first ones, whole, once it has ended.
--- TAPE-4
+-- TAPE-4: Each event is recorded as it happened, with its moment and with what it gave, if a record
+-- is asked for; and nothing else is. What is given into a room is recorded piece by piece.
 abbrev pub HasRecorded : {s : State} → IsReached s → Tape → Type 0
 HasRecorded r tape = IsRecordOf (entries_of r) tape
 

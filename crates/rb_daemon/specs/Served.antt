@@ -29,7 +29,7 @@ use Rattle.rb_daemon.specs.declared.engine.Due.TheVariants as dues
 
 -- The core stands for a state that a run of events reaches from an opening, and the tape is a record of that run. Its limits
 -- are good, its listener has a port of 16 bits and a short path, and each of its events has a line.
--- EVENT-1
+-- EVENT-1: Each event happens at the moment of its turn, and is one step of the model.
 pub record IsServed (core : CoreView) (tape : Tape) : Type 0 where
   pub state : State
   pub stands : StandsFor core state
@@ -86,7 +86,8 @@ ready_after (None, s) = (None, s)
 ready_after (Some told, s) = (ready_of told, s)
 
 -- a datagram came where forwarded calls are sent from
--- SEND-2
+-- SEND-2: The reply to a forwarded call goes to the core at the moment of the turn, and on to the
+-- caller: over UDP from the socket that it called; a connection is served again.
 abbrev pub take_forward_reply : Peer → List ℕ → State → ℕ → Option ℕ × State
 take_forward_reply from message s now = ready_after (forward_reply s now from message)
 
@@ -99,8 +100,9 @@ due_after (NothingDue, s) = (dues.Nothing, s)
 due_after (Ended told, s) = (due_when (ready_of told), s)
 due_after (ConnectionLost id, s) = (dues.Closed id, s)
 
--- what is due first ends
--- DUE-4
+-- DUE-4: What is due at the moment of a turn that does not put it off ends in that turn, forwarded
+-- calls first; a connection that is due is closed, and one whose forwarded call ends is served
+-- again.
 abbrev pub expire_due : State → ℕ → Due × State
 expire_due s now = due_after (expire s now)
 
@@ -109,6 +111,7 @@ abbrev pub send_unsent : State → Option Unsent → Option ℕ × State
 send_unsent s None = (None, s)
 send_unsent s (Some unsent) = (Some unsent.number, (sent_call s unsent.number).1)
 
--- SEND-1
+-- SEND-1: A forwarded call is sent as soon as it came, once, over the socket for forwarded calls to
+-- its target's family, and counts as sent though the socket does not take it.
 abbrev pub send_forward : State → ℕ → Option ℕ × State
 send_forward s now = send_unsent s (unsent_call s)

@@ -36,6 +36,8 @@ pub struct Daemon<'a, R: Clock> {
 }
 
 impl<'a, R: Clock> Daemon<'a, R> {
+    // LIMITS-2: The fault is `Limits` exactly if a limit is out of its range: before memory is taken
+    // and sockets are bound.
     /// A daemon that listens where the settings say: over TCP and UDP on each of their hosts, and also on ::1 and on a
     /// local socket if they are asked for. Before that it sets the rows again that were kept. `Limits` if a limit is
     /// out of its range, or the rows have no room for the own ones and two more; else `Memory` or `Socket`, whichever
@@ -104,6 +106,11 @@ impl<'a, R: Clock> Daemon<'a, R> {
         self.left_out.as_slice()
     }
 
+    // WAIT-4: A turn waits for the next deadline, of the core or of a connection whose socket takes
+    // nothing; for the next reading of the kernel's tables, the next line on lines that were left out,
+    // or the next try of a socket that failed; and without an end if there is none of these. An idle
+    // daemon makes no system call, and its record does not grow.
+    // ANSWER-2: A daemon answers a call within 100 turns.
     /// Waits for events once, until the next deadline or for `longest` milliseconds, whichever is sooner, without an
     /// end if there is neither, and not at all if something is left from the last turn. Then it serves all that the
     /// wait showed, in this order: datagrams, what comes back for forwarded calls, connections, those that are owed
@@ -162,6 +169,8 @@ impl<'a, R: Clock> Daemon<'a, R> {
         self.serving.write_log(writer)
     }
 
+    // WAIT-3: After a wait that showed nothing, and if it does not wait, the daemon reads the clock and
+    // looks once more.
     /// Waits until something is ready, or for this many milliseconds, and reads the clock. A wait that showed something is
     /// over then; else the daemon looks once more after the clock, so that nothing is unread that came before the moment
     /// of the turn. Returns whether it did. A signal ends a wait too, and is told as one that showed nothing.

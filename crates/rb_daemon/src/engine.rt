@@ -346,6 +346,8 @@ impl Engine {
         self.core.next_deadline()
     }
 
+    // ANSWER-1: A datagram gets its reply from the socket on which it came: the sockets for calls and
+    // for forwarded calls are two types.
     /// Takes a datagram in. If it has a reply, `reply` sends it.
     pub(crate) fn answer(&mut self, caller: Caller, content: &[u8]) -> Answer
         ensures acts { ActsNow (answer_datagram caller.who content.now)

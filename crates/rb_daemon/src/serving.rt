@@ -204,6 +204,7 @@ impl Serving {
         }
     }
 
+    // CLOSE-1: A fault on one connection closes that connection, and its place is free.
     /// Serves the connection at a place, at most once in a turn. `may_end` is whether its peer may have ended what it
     /// sends.
     fn serve_at<H: Files>(&mut self, host: &H, key: usize, may_end: bool) {
@@ -370,6 +371,8 @@ impl Serving {
         }
     }
 
+    // CLOSE-2: A connection that the core gave up in a turn is closed in it: one that was due at once,
+    // and those of which the room of a row was made at the end of the turn.
     /// Ends what is due, unless the turn is behind. `deadline` is the next one as the turn began; `is_fresh` is whether
     /// the turn looked for events after its moment, and `shown` is how many sockets were shown, of which there can be
     /// no more than `most`.
@@ -450,6 +453,7 @@ impl Serving {
         }
     }
 
+    // LISTENER-1: The first fault of each listener is told, and no later one; each turn tries again.
     /// Accepts connections on the listener of this number, as many as are left for the turn, and says when it is
     /// served again.
     fn accept_on(&mut self, registry: &Registry, which: usize, left: &mut usize) -> Again {
@@ -500,6 +504,11 @@ impl Serving {
         self.fault.take()
     }
 
+    // TABLES-6: A connection over TCP from this host has its place at once, and is opened once the
+    // kernel's tables were read. One reading serves all that wait for it; any other connection waits
+    // for none.
+    // DOOR-7: The connection that is given up is closed for the core before the one that takes its
+    // place is opened.
     /// Gives a connection a free place, or that of one that is given up for it, and opens it, unless the kernel's
     /// tables must show first whose it is. One that is nobody's is closed at once.
     fn open(&mut self, registry: &Registry, stream: Stream, from: Option<Visitor>) {

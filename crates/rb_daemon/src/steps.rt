@@ -43,6 +43,9 @@ pub(crate) fn serve<H: Files>(
     progress
 }
 
+// TURN-5: A connection on which all 64 socket calls of a turn were interrupted is closed.
+// TURN-4: A socket is served until it would block or is cut off; one that was is served in the next
+// turn, which does not wait.
 /// Calls the core and the socket in turn, until the socket's calls are enough for a turn, or none is left to make: what
 /// changed is kept before what tells it is written. If they were enough and none moved a byte, each was interrupted:
 /// the connection would keep turns from waiting, and is over.
@@ -77,6 +80,11 @@ fn serve_calls<H: Files>(
     }
 }
 
+// EVENT-3: A piece with which no record ends is one event, and nothing else is asked of the core
+// for it.
+// EVENT-2: What is done with a connection is what the core says is next: Idle or Reading, bytes are
+// handed in; Owing, the reply is taken over; if it Sends, the forwarded call is sent; Awaiting, it
+// waits; Lost, it is closed.
 /// Does what the core says is next, until it wants bytes that are not there, waits for the end of a forwarded call, or
 /// owes more than the outbox has room for. A forwarded call is sent at once: no other one is unsent, since each was sent
 /// when it came. Returns whether the connection goes on.

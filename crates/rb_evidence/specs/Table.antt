@@ -54,7 +54,8 @@ words_text octets = []
 abbrev pub text_at : Host → ℕ → List ℕ
 text_at host port = words_text (octets_of_host host) ++ codes ":" ++ port_text port
 
--- EVIDENCE-3
+-- EVIDENCE-3: An address stands in the table in upper-case hexadecimal, each four bytes of the host
+-- with the last one first, after a colon the port.
 unfoldable pub endpoint_text : Peer → List ℕ
 endpoint_text p = text_at p.host p.port
 
@@ -72,12 +73,15 @@ the_only [] = None
 the_only (line ∷ []) = Some line
 the_only (line ∷ another ∷ more) = None
 
--- EVIDENCE-1
+-- EVIDENCE-1: A connection's user is the one that the table shows in its only line between the
+-- peer's address and ours, the peer's first; if there is none, or more than one, the table shows no
+-- user.
 unfoldable pub only_between : List ℕ → List ℕ → List ℕ → Option (List ℕ)
 only_between table theirs ours = the_only (filter (is_between theirs ours) (lines_of table))
 
--- the uid of a line that is established, 01, and has an inode that is not 0
--- EVIDENCE-2
+-- EVIDENCE-2: The line that shows a connection's user must be of a connection that is established,
+-- and have an inode other than 0: a client that has closed stands there with the uid 0 and without
+-- a socket.
 unfoldable pub owner_in : List ℕ → Option ℕ
 owner_in line = do
   uid ← slice_get (fields_of line) 7
@@ -95,7 +99,8 @@ uid_between table theirs ours = do
 unfoldable pub uid_of : List ℕ → Peer → Peer → Option ℕ
 uid_of table theirs ours = uid_between table (endpoint_text theirs) (endpoint_text ours)
 
--- EVIDENCE-4
+-- EVIDENCE-4: A client over IPv4 whose socket is of IPv6 stands in the table of IPv6, in IPv6's
+-- form.
 unfoldable pub uid_of_mapped : List ℕ → Peer → Peer → Option ℕ
 uid_of_mapped table theirs ours = uid_between table (mapped_text theirs) (mapped_text ours)
 

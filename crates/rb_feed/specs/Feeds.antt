@@ -19,7 +19,7 @@ pub record HasPart (feed : CallFeed) (front : List ℕ) : Type 0 where
   pub number_is : feed.number ≡ number_so_far front
 
 -- The feed was fed these bytes: whole words, and the front of one more, or after the head of a call any bytes.
--- FEED-1
+-- FEED-1: A call that is fed in pieces is what `read_call` says of all its bytes.
 pub record StandsForCall (feed : CallFeed) (fed : List ℕ) : Type 0 where
   pub numbers : List ℕ
   pub front : List ℕ

@@ -19,7 +19,7 @@ abbrev pub StandsForSame : CallFeed → CallFeed → Type 0
 StandsForSame feed other = (fed : List ℕ) → StandsForCall feed fed → StandsForCall other fed
 
 -- Of more bytes, these are the call's arguments.
--- FEED-2
+-- FEED-2: For each piece `feed` says where the call's arguments begin in it.
 abbrev pub AreArguments : CallFeed → List ℕ → List ℕ → Type 0
 AreArguments feed more arguments =
     (fed : List ℕ) → StandsForCall feed fed → arguments_of (fed ++ more) ≡ arguments_of fed ++ arguments

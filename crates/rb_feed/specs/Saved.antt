@@ -52,6 +52,8 @@ stage_saved_as ws =
 
 -- The feed that sixteen words say, whatever they are: how many bytes of the next word have come, the number that they
 -- spell, and the stage. The last three say nothing.
--- FEED-3
+-- FEED-3: Nothing of arguments is kept, and of bodies the uid, how much of a name, of the gids or
+-- of the body is still to come, and at most the three bytes of a word whose fourth has not come; a
+-- feed is sixteen words.
 unfoldable pub feed_saved_as : List ℕ → CallFeed
 feed_saved_as ws = record { seen = slice_index ws 0 % 256; number = slice_index ws 1; stage = stage_saved_as (slice_range ws 2 13) }

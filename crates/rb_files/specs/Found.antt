@@ -14,8 +14,8 @@ IsRecordState kind records.Absent = ⊥
 IsRecordState kind records.Plain = IsFile kind
 IsRecordState kind records.Other = ¬ IsFile kind
 
--- The same, and of a plain one the mode is told, of which the twelve bits of permission count.
--- FILE-3
+-- FILE-3: What is at a path is a plain file, or one of another kind: a link is not followed. Of the
+-- mode of a plain one the twelve bits of permission count.
 abbrev pub IsKeepState : FileType → ℕ → KeepState → Type 0
 IsKeepState kind mode keeps.Absent = ⊥
 IsKeepState kind mode (keeps.Plain writers) = IsFile kind × (writers.mode ≡ bit_and mode 0o7777)

@@ -42,6 +42,9 @@ impl KeptFile {
         &self.path
     }
 
+    // FILE-4: A file of kept rows is replaced as a whole: the new text is written beside it, under its
+    // name with `.new` after, reaches the disk, and is renamed. If a step fails the old one stays, and
+    // the one beside goes; one of another kind that stood there stays.
     /// Puts a new file with this text in place of what is at the path, which its owner alone may read: it is written
     /// beside it, reaches the disk, and is renamed. A plain file that is there beside goes. No memory is taken. If the
     /// system refuses a step, its error: what is at the path stays, and the file beside goes.

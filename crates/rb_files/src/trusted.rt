@@ -27,6 +27,8 @@ pub enum KeptFileFault {
     Failed(io::Error),
 }
 
+// FILE-5: No link at the path of kept rows is followed: what was opened is the file that was found
+// there, and is believed still.
 /// The text of the file at the path; none if nothing is there. `Distrusted` if it is no plain file, or somebody
 /// other than root and the daemon's own user may have written it; `TooLong` if it has over `most` bytes. A file
 /// that is not believed is not read, and no link at the path is followed.

@@ -39,8 +39,7 @@ no_forwards = record { next = 1; all = [] }
 
 -- ---- what a target is asked
 
--- the xid of the entry of a number
--- XID-1
+-- XID-1: The xid of the call of entry k, from 1 upwards, is the first xid and k - 1, modulo 2^32.
 unfoldable pub xid_of : ℕ → ℕ → ℕ
 xid_of first_xid number = (first_xid + number - 1) % 2 ^ 32
 
@@ -49,7 +48,7 @@ head_of first_xid number asked =
     record { xid = xid_of first_xid number; prog = asked.prog; vers = asked.vers; proc = asked.proc; cred = credentials.None }
 
 -- the datagram: a call by AUTH_NONE (RFC 5531 section 9), and the content of the arguments after it
--- FORWARD-7
+-- FORWARD-7: What is sent is a call with AUTH_NONE, and the content of args after it.
 unfoldable pub question : ℕ → Entry → List ℕ
 question first_xid e = call_bytes (head_of first_xid e.number e.forward) ++ e.args
 
@@ -75,7 +74,9 @@ abbrev pub outcome_read : ℕ → Option (ReplyHead × ℕ) → ForwardEnd
 outcome_read count None = Failed
 outcome_read count (Some (head, place)) = outcome_said head.status place (count - place)
 
--- FORWARD-4
+-- FORWARD-4: Results of up to 8,800 bytes pass; PROG_UNAVAIL, PROG_MISMATCH with its versions,
+-- PROC_UNAVAIL, GARBAGE_ARGS and SYSTEM_ERR are passed on; a denial and any other reply is a
+-- failure.
 unfoldable pub outcome_of : List ℕ → ForwardEnd
 outcome_of message = outcome_read (length message) (read_reply message)
 
@@ -84,8 +85,8 @@ outcome_of message = outcome_read (length message) (read_reply message)
 unfoldable pub is_same_peer : Peer → Peer → Bool
 is_same_peer a b = is_same_host a.host b.host && a.port == b.port
 
--- it was sent, and the xid, host and port, and moment are right
--- FORWARD-1
+-- FORWARD-1: A datagram ends the sent entry of least number that has its xid, host and port, before
+-- the entry's deadline; every other datagram is ignored.
 unfoldable pub is_answered : ℕ → ℕ → Peer → ℕ → Entry → Bool
 is_answered first_xid clock from xid e =
     e.sent && is_same_peer e.forward.target from && xid_of first_xid e.number == xid && nat_lt clock e.deadline
@@ -143,7 +144,7 @@ abbrev pub greatest_number : ℕ
 greatest_number = 2 ^ 64 - 1
 
 -- a target's time to answer, in milliseconds
--- FORWARD-3
+-- FORWARD-3: An entry waits for 5,000 ms.
 abbrev pub patience : ℕ
 patience = 5000
 
@@ -173,8 +174,8 @@ pub record Unsent : Type 0 where
 abbrev pub unsent_call : ℕ → Entry → Unsent
 unsent_call first_xid e = record { number = e.number; target = e.forward.target; call = question first_xid e }
 
--- the unsent entry of least number, whether or not its deadline has come
--- FORWARD-6
+-- FORWARD-6: Unsent calls are lent in the order of their numbers, whether or not their deadlines
+-- have come.
 unfoldable pub unsent : ℕ → Forwards → Option Unsent
 unsent first_xid f = option_map (unsent_call first_xid) (find (λ e. not e.sent) f.all)
 
@@ -190,7 +191,7 @@ abbrev pub as_sent : Entry → Entry
 as_sent e = record e { sent = true }
 
 -- it is known, and was not sent
--- FORWARD-5
+-- FORWARD-5: A call is sent once.
 unfoldable pub can_be_sent : ℕ → Forwards → Bool
 can_be_sent number f = list_any (is_unsent number) f.all
 

@@ -81,7 +81,7 @@ NumbersNeverRecur =
     → AreRising 1 (run cap first_xid no_forwards events).begun (run cap first_xid no_forwards events).left.next
 
 -- Each entry that begins ends once, or is still there, and nothing else ends.
--- FORWARD-2
+-- FORWARD-2: A forwarded call (an entry of the table) ends once.
 abbrev pub EachEndsOnce : Type 0
 EachEndsOnce =
     (cap first_xid : ℕ) (events : List Event) (number : ℕ)

@@ -7,8 +7,9 @@ use Rattle.rb_model.specs.State.{State}
 use Rattle.rb_model.specs.ChangeLaws.{set_call, kept_calls}
 use Rattle.rb_record.specs.Entries.{event_text}
 
--- the line of a row: the event that sets it again, at this moment
--- KEEP-2
+-- KEEP-2: A row that was set is kept as the line of the event that sets it again: a datagram from
+-- port 0 of 127.0.0.1 with a SET of version 4, by AUTH_SYS of the row's owner or by AUTH_NONE, of
+-- xid 0 and with no r_owner.
 abbrev pub row_line : ℕ → Row → List ℕ
 row_line now row = event_text (set_call now row)
 
@@ -16,8 +17,8 @@ row_line now row = event_text (set_call now row)
 abbrev pub rows_text : ℕ → List Row → List ℕ
 rows_text now rows = concat (map (row_line now) rows)
 
--- what is kept of a state: the events that set its rows again
--- KEEP-3
+-- KEEP-3: Of each state that a run reaches all rows but the daemon's own are kept, in their order,
+-- at the moment of the last event.
 abbrev pub kept_text : State → List ℕ
 kept_text s = concat (map event_text (kept_calls s))
 

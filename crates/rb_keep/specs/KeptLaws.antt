@@ -57,7 +57,7 @@ ReadsTheRows =
 
 -- What is kept of a state that a run of bytes reaches, by a moment of 64 bits and with no more rows than there may
 -- be, is read as the rows that were set, in their order.
--- KEEP-7
+-- KEEP-7: What is kept of a state that a run of bytes reaches is read as its rows.
 abbrev pub KeptTextIsRead : Type 0
 KeptTextIsRead =
     (s : State) → IsReachedByBytes s → s.clock < 2 ^ 64 → length (set_rows s) ≤ most_rows

@@ -86,8 +86,8 @@ kept_by SaysNothing = Skipped
 kept_by SaysNoEvent = Bad
 kept_by (Happens event) = keeps_or_not (kept_row event)
 
--- what a line keeps: the row that its event sets again, if it does
--- KEEP-4
+-- KEEP-4: A line that says something must be the event that sets some row again, at any moment; the
+-- first that is not is named by its number from 1, as no event line or as another one.
 unfoldable pub kept_line : List ℕ → KeptLine
 kept_line text = kept_by (line text)
 
@@ -96,7 +96,8 @@ abbrev pub most_rows : ℕ
 most_rows = 4096
 
 -- the rows so far, and after them what the line of this number keeps
--- KEEP-6
+-- KEEP-6: The line of a row after 4,096 others is named; a text of more than 16,777,216 bytes is
+-- too long.
 abbrev pub with_line : ℕ → List Row → KeptLine → Result (List Row) KeepFault
 with_line k rows Skipped = Ok rows
 with_line k rows Bad = Err (faults.BadLine k)
@@ -108,7 +109,8 @@ abbrev pub with_text : ℕ → List Row → List ℕ → Result (List Row) KeepF
 with_text k rows text = with_line k rows (kept_line text)
 
 -- the rows so far, and after them those of the lines, the first of which has this number; or the first fault
--- KEEP-5
+-- KEEP-5: A text is read as the rows of its lines, in their order; empty lines and lines that begin
+-- with `#` are skipped and count.
 unfoldable pub rows_from : ℕ → List (List ℕ) → Result (List Row) KeepFault → Result (List Row) KeepFault
 rows_from k texts (Err fault) = Err fault
 rows_from k [] (Ok rows) = Ok rows

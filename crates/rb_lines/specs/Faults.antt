@@ -27,8 +27,8 @@ status_of NoOutputs = 2
 status_of (Differs n) = 1
 status_of (Lacks n) = 1
 
--- the line of a fault
--- FAULT-1
+-- FAULT-1: The error message of a fault is one line, after that of FAULT-2 if limits are out of
+-- their ranges, and each fault has its status.
 abbrev pub fault_line : Fault → List ℕ
 fault_line NotText = codes "rpcbind: a word is no text\n"
 fault_line (Lines (reading.BadLine n)) = codes "rpcbind: line " ++ (decimal n ++ codes ": bad event\n")

@@ -15,8 +15,8 @@ use Rattle.rb_lines.specs.Lines.Line.{Skipped, Happens, Bad}
 abbrev pub Spells : List ℕ → List ℕ → Type 0
 Spells word text = text ≡ word
 
--- a number below 2^64 in decimal digits, leading zeros allowed
--- LINE-6
+-- LINE-6: Moments, numbers and counts are decimal digits of a value below 2^64, with leading zeros
+-- if one likes and no sign.
 pub record SpellsNumber (n : ℕ) (text : List ℕ) : Type 0 where
   pub digits : IsNumeral 10 text
   pub value : digits_value 10 text ≡ n
@@ -33,8 +33,8 @@ SpellsBytes [] [] = Unit {0}
 SpellsBytes (byte ∷ bytes) (high ∷ low ∷ text) = SpellsByte byte high low × SpellsBytes bytes text
 SpellsBytes _ _ = ⊥
 
--- two digits for each byte, or `-` for no bytes
--- LINE-9
+-- LINE-9: Bytes in an event line are two hexadecimal digits of either case for each, or `-` for
+-- none.
 abbrev pub SpellsHex : List ℕ → List ℕ → Type 0
 SpellsHex [] text = text ≡ codes "-"
 SpellsHex (byte ∷ bytes) text = SpellsBytes (byte ∷ bytes) text
@@ -53,7 +53,10 @@ infixr 5 ◌␣◌
 abbrev pub ◌␣◌ : (List ℕ → Type 0) → (List ℕ → Type 0) → List ℕ → Type 0
 Front ␣ Back = IsSpaced Front Back
 
--- LINE-5 LINE-7 LINE-8
+-- LINE-5: A line is the event's words with one space between each two.
+-- LINE-7: The lines of forwarded calls are `unsent`, `sent ID`, `forward NOW PEER HEX` and `expire
+-- NOW`.
+-- LINE-8: The line by which statistics begin anew is `zero`.
 abbrev pub SpellsEvent : Event → List ℕ → Type 0
 SpellsEvent (Open now from) = Spells (codes "open") ␣ SpellsNumber now ␣ SpellsWho from
 SpellsEvent (Bytes now id bytes) = Spells (codes "bytes") ␣ SpellsNumber now ␣ SpellsNumber id ␣ SpellsHex bytes
@@ -70,8 +73,8 @@ SpellsEvent (Forward now from bytes) =
 SpellsEvent (Expire now) = Spells (codes "expire") ␣ SpellsNumber now
 SpellsEvent ZeroStats = Spells (codes "zero")
 
--- an empty line, or one that begins with `#`
--- LINE-10
+-- LINE-10: Empty lines and lines that begin with `#` are skipped, and count for the number in the
+-- error message.
 abbrev pub SaysNothing : List ℕ → Type 0
 SaysNothing text = (text ≡ []) ⊎ ((rest : List ℕ) × (text ≡ codes "#" ++ rest))
 

@@ -37,13 +37,14 @@ pub record IsFirstBad (texts : List (List ℕ)) (from n : ℕ) : Type 0 where
   pub number : n ≡ from + length before
 
 -- A text is refused at this line exactly if it is short enough and this is its first bad line, counted from 1.
--- LINE-11
+-- LINE-11: The error message names the first bad line by its number from 1, the status is 2, and no
+-- event is run.
 abbrev pub StopsAtTheFirstBadLine : Type 0
 StopsAtTheFirstBadLine =
     (text : List ℕ) (n : ℕ)
     → (read text ≡ Err (BadLine n)) ↔ ((length text ≤ longest_input) × IsFirstBad (lines_of text) 1 n)
 
 -- A text is too long exactly if it has more bytes than the longest input, whatever they say.
--- LINE-12
+-- LINE-12: An input of more than 16,777,216 bytes is too long, with status 2, and no event is run.
 abbrev pub RefusesLongText : Type 0
 RefusesLongText = (text : List ℕ) → (read text ≡ Err TooLong) ↔ (longest_input < length text)

@@ -61,6 +61,8 @@ impl Inbox {
         &self.bytes[self.start..self.end]
     }
 
+    // INBOX-1: Bytes that were read from a connection and that the core did not take are handed in
+    // again, unless it is closed, and no others.
     /// The first this many of them were taken.
     pub(crate) fn take(&mut self, count: usize)
         requires { count ≤ length self.old }

@@ -147,6 +147,8 @@ impl Link {
         }
     }
 
+    // TABLES-5: What the kernel's tables show counts only if the connection is still connected after
+    // they were read; otherwise its owner is unknown.
     /// Who it is, if it waited for that, by what the tables showed. They say nothing of it if it is no longer
     /// connected: another connection may have its two ends by then.
     pub(crate) fn shown(&mut self) -> Option<Who> {
@@ -281,6 +283,8 @@ impl Link {
         has_some && self.outbox.is_empty()
     }
 
+    // PROGRESS-1: A record ended if bytes were taken and the connection is not Reading after them: a
+    // byte of a record that goes on is no progress.
     /// The core took this many of the bytes that were read, and says where it stands then. A record that ended is progress.
     pub fn note_taken(&mut self, count: usize, standing: Standing)
         requires { count ≤ length self.old.inbox }

@@ -79,6 +79,8 @@ impl Outbox {
         self.end = 0;
     }
 
+    // OUTBOX-2: The long outbox is for each connection while it is served, unless another's bytes are
+    // left in it. It is exchanged only while it and the connection's own outbox are empty.
     /// Swaps the two if both are empty and the other one is longer.
     pub(crate) fn take_longer(&mut self, other: &mut Outbox)
         ensures stays { self.new.bytes ≡ self.old.bytes }
@@ -89,6 +91,7 @@ impl Outbox {
         }
     }
 
+    // OUTBOX-1: What the outbox holds goes to the socket in its order, each byte once.
     /// Writes what waits, once.
     pub(crate) fn send<W: Write>(&mut self, writer: &mut W) -> io::Result<usize>
         ensures sent { WriteAppends (W.contents writer.old) (W.contents writer.new)

@@ -32,6 +32,8 @@ pub struct Places {
     first_left: usize,
 }
 
+// PLACES-2: There are as many places as connections may be, or as descriptors are left for, and
+// their memory is written at the start.
 /// A number of free places. Each is written, so that its memory is the process's from here on.
 fn free_places(alloc: Global, count: usize) -> Result<Vec<Link>, AllocError>
     ensures { IfOk result (λ places. vec_len places ≡ count) }

@@ -25,7 +25,8 @@ longest_address = 128
 abbrev pub connection_charge : ℕ
 connection_charge = 128
 
--- HELD-3
+-- HELD-3: What a core holds is at most its bound, less 1,868 for each connection that is Idle or
+-- Reading, in each state that a run reaches.
 abbrev pub bytes_bound : Limits → ℕ
 bytes_bound limits =
     limits.conns * (connection_charge + longest_served_call + longest_fragment) + limits.rows * (32 + longest_address) + limits.forwards * (entry_charge + longest_forwarded_call)
@@ -59,7 +60,9 @@ bytes_out (Gave now id n) Done = n
 bytes_out event output = bytes_lent output
 
 -- the most steps of an event at these limits, if it takes this many bytes, and lends or reports as given this many
--- STEPS-1
+-- STEPS-1: An event costs at most 8 steps for each byte that it takes, lends or reports as given,
+-- 64 for each connection, row, key and forwarded call that there may be, and 16 for each byte of
+-- the longest call, in each state that a run reaches at good limits.
 abbrev pub steps_bound : Limits → ℕ → ℕ → ℕ
 steps_bound limits taken given =
     8 * taken + 8 * given + 64 * (limits.conns + limits.rows + most_keys + limits.forwards) + 16 * longest_served_call

@@ -38,14 +38,16 @@ abbrev pub refusal : ℕ → ReplyStatus → Message
 refusal xid status = says.Refused (record { xid = xid; status = status })
 
 -- a call of a version that is served, with its arguments, or why they can't be read
--- PROC-3 ARGS-4
+-- ARGS-4: Arguments that can't be read are GARBAGE_ARGS.
+-- PROC-3
 unfoldable pub request_of : CallHead → Result Request ArgumentFault → Message
 request_of head (Err faults.ProcUnavail) = refusal head.xid replies.ProcUnavail
 request_of head (Err faults.GarbageArgs) = says.Garbage head
 request_of head (Ok request) = says.Asked (record { head = head; request = request })
 
 -- A call with a readable head, and the bytes after its verifier: the first line that holds decides.
--- PROGRAM-1 VERSION-1
+-- PROGRAM-1: A call of another program is PROG_UNAVAIL, once its head was read.
+-- VERSION-1: A call of another version than 2, 3 and 4 is PROG_MISMATCH, low 2, high 4.
 unfoldable pub call_of : CallHead → List ℕ → Message
 call_of head arguments =
     if not (head.prog == rpcb_prog) then refusal head.xid replies.ProgUnavail
@@ -101,18 +103,21 @@ abbrev pub longest_for : Caller → ℕ
 longest_for (Tcp id who) = longest_reply
 longest_for (Udp who longest) = min (max longest shortest_reply) longest_reply
 
--- a reply that has more bytes than the longest is SYSTEM_ERR
--- LENGTH-1
+-- LENGTH-1: A reply of more than 9,000 bytes becomes SYSTEM_ERR, unless it is a list over TCP; one
+-- of exactly 9,000 is sent.
 unfoldable pub fitting_reply : ℕ → ℕ → List ℕ → List ℕ
 fitting_reply longest xid reply = if nat_lt longest (length reply) then reply_head xid replies.SystemErr else reply
 
 -- the reply with results to this caller
--- SUCCESS-1
+-- SUCCESS-1: A call that is answered by its procedure has accept_stat SUCCESS in front of the
+-- results.
 abbrev pub success : Caller → ℕ → List ℕ → List ℕ
 success caller xid results = fitting_reply (longest_for caller) xid (reply_head xid replies.Success ++ results)
 
 -- Results of these bytes, after this many changes: a list of rows is streamed on a connection, of any length.
--- LENGTH-1 LIST-4
+-- LIST-4: Each DUMP and GETADDRLIST over TCP is a streamed list of the rows as of its call, of any
+-- length: one of a single fragment too, and one that shows no row.
+-- LENGTH-1
 abbrev pub results_outcome : Caller → ℕ → ℕ → List ℕ → Results → Outcome
 results_outcome (Tcp id who) count xid bytes (results.Rows list) = Reply (reply_head xid replies.Success ++ bytes) (Some count)
 results_outcome (Udp who longest) count xid bytes (results.Rows list) = Reply (success (Udp who longest) xid bytes) None
@@ -137,7 +142,12 @@ reply_with context xid (given, ledger) = (
 -- What a message is answered with in this context, and the ledger after it; `arguments` are the bytes after its
 -- head. A call of a procedure that is served is noted in the history of calls before it is answered; one that is
 -- refused before that is not.
--- DATAGRAM-1 ARGS-4 COUNT-6 COUNT-7 NULL-1
+-- DATAGRAM-1: A datagram that is no call is not answered.
+-- COUNT-6: A call of a procedure that its version has is counted before it is answered, GETSTAT
+-- too, and also if its arguments can't be read.
+-- COUNT-7: A call that is refused before its procedure is known is not counted.
+-- NULL-1: A call of NULL is answered by a head with SUCCESS and no results.
+-- ARGS-4
 unfoldable pub outcome : Context → Message → List ℕ → Ledger → Outcome × Ledger
 outcome context says.NoCall arguments ledger = (NoCall, ledger)
 outcome context (says.Refused head) arguments ledger = (Reply (reply_head head.xid head.status) None, ledger)
@@ -149,11 +159,13 @@ outcome context (says.Asked call) arguments ledger =
 -- ---- the arguments that are kept of a record while it is read (RFC 5531 section 11)
 
 -- the greatest length of arguments that are served
--- ARGS-5
+-- ARGS-5: Bytes after the arguments are taken with the record and ignored, however many; the first
+-- 8,816 bytes after the head decide.
 unfoldable pub longest_kept : ℕ
 longest_kept = 8816
 
--- What is kept of a record with this data: the first bytes after the head of its call, nothing if it is no call.
--- TAKE-4
+-- TAKE-4: Of a record that is read the first 8,816 bytes of its call's arguments are kept in its
+-- buffer, and nothing of the head, of headers and of what is no call; what was read of the head and
+-- the place in its fragments stand beside that.
 abbrev pub kept_of : List ℕ → List ℕ
 kept_of content = take longest_kept (arguments_of content)

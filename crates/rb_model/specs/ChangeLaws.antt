@@ -130,7 +130,8 @@ change_from s None = []
 change_from s (Some m) = change_told m.caller (said_to s m) (message_of m.content)
 
 -- the change of the call that an event brings, if it asks for one and is answered TRUE
--- CHANGE-3
+-- CHANGE-3: The rows are changed by the SETs and UNSETs of whole calls that were answered TRUE,
+-- each once, in order, and by nothing else.
 abbrev pub change_by : State → Event → List Change
 change_by s event = change_from s (brought_by s event)
 
@@ -280,7 +281,9 @@ pub record Sets (start : State) (calls : List Event) (rows : List Row) : Type 0 
 
 -- The rows of a state that a run of bytes reaches can be set again from any opening with room for them, whatever its
 -- listener, its first xid, its moment and that of the calls.
--- KEEP-1
+-- KEEP-1: One SET of version 4 from 127.0.0.1 for each row, by its owner, sets all rows of a run of
+-- bytes again, in their order, from an opening with room for them; if statistics then begin anew,
+-- these SETs are in none.
 abbrev pub RowsCanBeSetAgain : Type 0
 RowsCanBeSetAgain =
     (s : State) → IsReachedByBytes s → (limits : Limits) (listener : Listener) → are_good limits listener ≡ true

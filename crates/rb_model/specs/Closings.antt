@@ -70,7 +70,8 @@ pub record ClosesExactly (s : State) (event : Event) (id : ℕ) (c : Connection)
   pub lost : IsLost (step s event).1 id ↔ (EndsNoCall id c event ⊎ EndsAtDeadline s id c event ⊎ EndsForRoom s c event)
   pub gone : (is_there id (step s event).1.connections ≡ false) ↔ (event ≡ Closed id)
 
--- LOST-1
+-- LOST-1: A live connection becomes Lost by a record that is no call, at its deadline, or for the
+-- room of a row (EVICT-1), and by nothing else.
 abbrev pub ConnectionsCloseExactly : Type 0
 ConnectionsCloseExactly =
     (s : State) → IsReached s → (event : Event) (id : ℕ) (c : Connection)

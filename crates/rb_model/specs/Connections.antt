@@ -18,7 +18,10 @@ unfoldable pub longest_fragment : ℕ
 longest_fragment = 1028
 
 -- what is still to be given of the current fragment, in which the next byte to be given stands
--- FRAGMENT-2 PENDING-1 LIST-5
+-- FRAGMENT-2: A reply is given in fragments of 1,024 bytes; the last alone has the flag, also if it
+-- has a full 1,024.
+-- PENDING-1: What is pending is the rest of the current fragment; a `gave` never crosses its end.
+-- LIST-5
 unfoldable pub pending_of : Owed → List ℕ
 pending_of o = drop o.given (take (longest_fragment * (o.given / longest_fragment + 1)) o.marked)
 
@@ -37,7 +40,9 @@ pub data Taking : Type 0 where
   Ends : ℕ → List ℕ → Taking
 
 -- the bytes that came since the last record's end; None if the connection takes no bytes now
--- TAKE-2 GAVE-3 AWAIT-1
+-- TAKE-2: No byte is taken while a reply is owed.
+-- AWAIT-1: A connection whose call is forwarded takes no byte and has none to give.
+-- GAVE-3
 abbrev pub fed_in : Phase → Option (List ℕ)
 fed_in Idle = Some []
 fed_in (Reading fed) = Some fed
@@ -53,19 +58,20 @@ taking_up_to fed piece (Some n) = Ends (n - length fed) (data_of (take n (fed ++
 abbrev pub taking_on : List ℕ → List ℕ → Taking
 taking_on fed piece = taking_up_to fed piece (first_record (fed ++ piece))
 
--- TAKE-3
+-- TAKE-3: An empty piece takes nothing and begins no record.
 abbrev pub taking_behind : Option (List ℕ) → List ℕ → Taking
 taking_behind None piece = TakesNone
 taking_behind (Some fed) [] = TakesNone
 taking_behind (Some fed) (byte ∷ piece) = taking_on fed (byte ∷ piece)
 
 -- what a connection in this phase takes of the piece
--- TAKE-1
+-- TAKE-1: A connection takes bytes exactly up to the one that ends the first record, or all if none
+-- ends.
 unfoldable pub taking_of : Phase → List ℕ → Taking
 taking_of phase piece = taking_behind (fed_in phase) piece
 
--- while a record is read, `since` is the moment of its first byte
--- SINCE-1
+-- SINCE-1: A connection's `since` is, while a record is read, the moment of the record's first
+-- byte, one of an empty fragment's header too.
 abbrev pub since_when_fed : ℕ → ℕ → Phase → ℕ
 since_when_fed clock since Idle = clock
 since_when_fed clock since (Reading fed) = since
@@ -85,7 +91,10 @@ phase_after Forwarded = Awaiting
 phase_after Silent = Idle
 
 -- the connection once its record is answered, or the call that was forwarded for it has ended
--- OWING-1 SINCE-2
+-- OWING-1: The reply to a call is owed from the end of its record on, unless the call is forwarded
+-- or has no reply.
+-- SINCE-2: Before a record `since` is the moment of the opening; after one it is that of its call
+-- or of the end of its forwarded call, and then of the last bytes given. A `gave` of 0 leaves it.
 unfoldable pub settle : ℕ → Outcome → Connection → Connection
 settle clock given c = record c { phase = phase_after given; since = clock }
 
@@ -99,8 +108,7 @@ pending_in (Reading fed) = []
 pending_in Awaiting = []
 pending_in Lost = []
 
--- with its last byte given, the connection is Idle again
--- GAVE-3
+-- GAVE-3: With the last byte of its reply a connection is Idle, and takes the next record.
 abbrev pub phase_when_given : ℕ → Phase → Phase
 phase_when_given n (Owing o) =
     if nat_lt (o.given + n) (length o.marked) then Owing (record o { given = o.given + n }) else Idle
@@ -110,12 +118,12 @@ phase_when_given n Awaiting = Awaiting
 phase_when_given n Lost = Lost
 
 -- this many of the pending bytes were given; none leaves it as it was
--- PENDING-2 SINCE-2
+-- PENDING-2: What was given is not shown again, and nothing is left out; the next fragment follows.
+-- SINCE-2
 unfoldable pub with_given : ℕ → ℕ → Connection → Connection
 with_given clock n c = if n == 0 then c else record c { phase = phase_when_given n c.phase; since = clock }
 
--- n bytes were given, or as many as are pending
--- GAVE-1
+-- GAVE-1: `Core::gave` gives n bytes, or as many as are pending.
 unfoldable pub give : ℕ → ℕ → Connection → Unit {0} × Connection
 give clock n c = (tt, with_given clock (min n (length (pending_in c.phase))) c)
 
@@ -132,7 +140,7 @@ abbrev pub has_number : ℕ → Connection → Bool
 has_number id c = c.number == id
 
 -- it has this number and is not Lost
--- LOST-2
+-- LOST-2: A Lost connection takes, shows and gives nothing.
 unfoldable pub is_live : ℕ → Connection → Bool
 is_live id c = c.number == id && not (is_lost c.phase)
 
@@ -162,7 +170,9 @@ on_live id act connections = on_found id act connections (live_connection id con
 -- ---- how they come and go
 
 -- the number of a new connection, or why there is none: Lost ones count until they are closed
--- NUMBER-1 NUMBER-2 NUMBER-3
+-- NUMBER-1: Connections are numbered from 1 upwards, and no number recurs.
+-- NUMBER-2: There may be as many connections as the limit, Lost ones among them; one more is Full.
+-- NUMBER-3: After 2^64 - 1 numbers an opening is Spent.
 unfoldable pub number_for : ℕ → Connections → Result ℕ CoreFault
 number_for conns c =
     if not (nat_lt (length c.all) conns) then Err Full
@@ -185,7 +195,8 @@ unfoldable pub open_in_table : ℕ → Who → ℕ → Connections → Result �
 open_in_table conns who clock c = opening_as who clock c (number_for conns c)
 
 -- The connections are in the order of their numbers, so the first is that of least number.
--- LOST-4 CLOSE-2
+-- LOST-4: `next_lost` gives the least number of the connections that are Lost.
+-- CLOSE-2
 unfoldable pub next_lost_in_table : Connections → Option ℕ
 next_lost_in_table c = option_map (λ (x : Connection). x.number) (find (λ (x : Connection). is_lost x.phase) c.all)
 
@@ -195,7 +206,6 @@ is_there id c = list_any (has_number id) c.all
 unfoldable pub without_number : ℕ → Connections → Connections
 without_number id c = record c { all = filter (λ (x : Connection). not (x.number == id)) c.all }
 
--- the connection of the number, live or Lost, is removed
--- LOST-3
+-- LOST-3: A Lost connection is there until it is closed; `closed` takes a live or a Lost one away.
 unfoldable pub close_in_table : ℕ → Connections → Result (Unit {0}) CoreFault × Connections
 close_in_table id c = if is_there id c then (Ok tt, without_number id c) else (Err Gone, c)

@@ -55,8 +55,10 @@ asks_for_list says.NoCall = false
 asks_for_list (says.Refused head) = false
 asks_for_list (says.Garbage head) = false
 
--- or a SET or an UNSET, if its caller may register
--- COST-2
+-- COST-2: A message that asks for no list, and is no SET or UNSET of a caller that may register,
+-- costs at most 4 times the looks of a search, its bytes, those of its reply, and fixed parts,
+-- whatever is registered or retained. As a record it costs its piece's bytes, twice its arguments,
+-- 9,000 for the reply, two look-ups of its connection, and fixed parts.
 abbrev pub asks_for_rows : Bool → Message → Bool
 asks_for_rows may (says.Asked call) = walks_rows may call.request
 asks_for_rows may says.NoCall = false
@@ -88,7 +90,7 @@ results_cost rows written = 4 * rows + 72 + written + statistics_cost
 
 -- what it costs to serve a message: a row of each netid is changed, or two searches find one, results are put in a reply of
 -- this many bytes, a look-up is noted, and what is forwarded is kept, of this many bytes of arguments
--- METER-1
+-- METER-1: Each call pays on the meter that the core was made with.
 abbrev pub serve_cost : Sizes → ℕ → ℕ → ℕ
 serve_cost sizes args written =
     5 * sizes.change + 2 * sizes.looks + results_cost sizes.left written + 4 + note_cost + forward_cost args
@@ -192,8 +194,8 @@ record_cost may sizes (GoesOn fed) = 0
 record_cost may sizes (Ends n content) =
     swap_cost + answer_cost (sizes_for may (message_of content) sizes) (length (kept_of content))
 
--- to take bytes on this connection, if there is one
--- COST-1
+-- COST-1: While a record goes on, a piece costs at most its bytes, the look-up of the connection
+-- and 5: nothing that was kept is read again.
 abbrev pub bytes_cost : Announced → Sizes → List ℕ → Option Connection → ℕ
 bytes_cost announced sizes piece None = find_cost sizes.connections
 bytes_cost announced sizes piece (Some c) =
@@ -207,7 +209,7 @@ gives_list c = is_some (stamp_in c.phase)
 
 -- to count bytes as given on this connection, if there is one, of this many, beside this many rows: only the next
 -- fragment of a list walks them
--- COST-3
+-- COST-3: Bytes that are counted as given go by the rows only if the connection gives a list.
 abbrev pub gave_cost : ℕ → ℕ → Option Connection → ℕ
 gave_cost connections rows None = find_cost connections
 gave_cost connections rows (Some c) =

@@ -65,6 +65,7 @@ pub record ReachesNothing (s : State) (now : ℕ) : Type 0 where
   pub few : calls ≤ s.setting.limits.conns + s.setting.limits.forwards
   pub nothing : (step (after s (replicate calls (Expire now))) (Expire now)).0 ≡ Nothing
 
--- EXPIRE-2
+-- EXPIRE-2: At one moment nothing is due after as many calls of `expire` as there may be
+-- connections and forwarded calls.
 abbrev pub NothingIsDueSoon : Type 0
 NothingIsDueSoon = (s : State) → IsReached s → (now : ℕ) → ReachesNothing s now

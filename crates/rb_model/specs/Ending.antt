@@ -42,7 +42,8 @@ outcome_of_failure forward status = refused_by forward.xid (refusal forward.kind
 
 -- what the caller is told if its forwarded call ended with this outcome; `message` is the datagram of the target,
 -- whose last bytes are the results
--- END-2
+-- END-2: At its deadline a forwarded call has failed: SYSTEM_ERR for INDIRECT, and silence for
+-- CALLIT and BCAST.
 abbrev pub outcome_of_end : Forward → List ℕ → target.ForwardEnd → Outcome
 outcome_of_end forward message (Passed place) = Reply (success forward.caller forward.xid (forwarded_bytes forward (drop place message))) None
 outcome_of_end forward message (Refused status) = outcome_of_failure forward status
@@ -64,7 +65,10 @@ told_over_udp id who Silent = told.Silent id
 
 -- A caller is told this at the end of its call, which has this number. A connection goes on with it; over UDP it is the last
 -- reply.
--- AWAIT-3 END-1
+-- AWAIT-3: At the end of its forwarded call a connection owes the reply, or is Idle if the call has
+-- none.
+-- END-1: Over UDP a caller gets nothing when its call is forwarded, and the reply, if there is one,
+-- at its end; the program around the core is told the call's number then.
 abbrev pub tell : FwdId → Caller → Outcome → State → Told × State
 tell call (Tcp id who) said s = (TcpReady id, on_connection id (settle s.clock said) s)
 tell call (Udp who longest) said s = (told_over_udp call who said, record s { reply = reply_in said })
@@ -102,8 +106,7 @@ abbrev pub expired_as : Option Told × State → Expired × State
 expired_as (None, s) = expire_connection s
 expired_as (Some told, s) = (Ended told, s)
 
--- One thing that is due is done: the due entry of least number ends, or, if there is none, the due connection of least
--- number becomes Lost, if there is one.
--- EXPIRE-1
+-- EXPIRE-1: `expire` does one thing: the due forwarded call of least number ends; if none is due,
+-- the due connection of least number becomes Lost.
 unfoldable pub expire : State → ℕ → Expired × State
 expire s now = expired_as (tell_end [] (at_fresh_moment now s) (fell_due (max s.clock now) s.ledger))

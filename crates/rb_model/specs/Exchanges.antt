@@ -45,7 +45,9 @@ at_once_of room id before (Ok taken, s) =
     if is_owing before.phase || taken.lost then 0 else at_once_on room (live_connection id s.connections.all)
 
 -- how many bytes are given at once if bytes came on the connection
--- EXCHANGE-2
+-- EXCHANGE-2: The bytes that `Core::exchange` gives are the whole of a reply that was not owed
+-- before, is one fragment and no list, if there is room for the longest fragment; otherwise it
+-- gives none.
 abbrev pub at_once : ℕ → ℕ → Option Connection → Result Taken CoreFault × State → ℕ
 at_once room id None result = 0
 at_once room id (Some before) result = at_once_of room id before result
@@ -55,7 +57,8 @@ count_now now id piece room s = at_once room id (live_connection id s.connection
 
 -- Bytes arrive on a connection; if they end a record whose reply is one fragment, and no list, and there is room for
 -- the longest, the reply is given.
--- EXCHANGE-1
+-- EXCHANGE-1: `Core::exchange` is a `bytes`, and then a `gave` of the first bytes of what is
+-- pending; it says how many, and they stand in the room that it gets.
 abbrev pub exchange : ℕ → ℕ → List ℕ → ℕ → State → (Result Taken CoreFault × List ℕ) × State
 exchange now id piece room s =
     then_gave now id (count_now now id piece room s) (bytes s now id piece)

@@ -36,8 +36,8 @@ abbrev pub count_awaiting : Option Connection → ℕ
 count_awaiting None = 0
 count_awaiting (Some c) = if is_awaiting c.phase then 1 else 0
 
--- While a connection is Awaiting, one entry is of it. No other connection, live, Lost or gone, has an entry.
--- AWAIT-2
+-- AWAIT-2: A connection is Awaiting exactly while one forwarded call is its own, and no other
+-- connection has one.
 abbrev pub ConnectionsAwait : Type 0
 ConnectionsAwait =
     (s : State) → IsReached s → (id : ℕ)
@@ -75,7 +75,8 @@ pub record EndsFirst (Is : Entry → Type 0) (says : Entry → Outcome) (s : Sta
   pub tells : CallerGets s clock (says entry) (id_of entry) entry.forward.caller told after
 
 -- `Is` holds for no entry. But for the clock and the last reply over UDP, nothing changes.
--- END-3
+-- END-3: A datagram that answers no forwarded call changes nothing but the clock and the last reply
+-- over UDP, which is taken back.
 pub record EndsNone (Is : Entry → Type 0) (s : State) (now : ℕ) (after : State) : Type 0 where
   pub none : NoneIs Is s.ledger.forwards.all
   pub stays : after ≡ at_fresh_moment now s
@@ -178,7 +179,8 @@ abbrev pub has_begun : ℕ → State → Bool
 has_begun number s = nat_le 1 number && nat_lt number (next_in s)
 
 -- In every run, each entry that has begun has ended with one event, or is there, once. No other number occurs.
--- END-5
+-- END-5: Each forwarded call of a run that has begun has ended with exactly one of its events, or
+-- is still there. An event ends one, or begins one with the next number, or neither.
 abbrev pub EntriesEndOnce : Type 0
 EntriesEndOnce =
     (limits : Limits) (listener : Listener) (first_xid now : ℕ) (events : List Event) (number : ℕ)

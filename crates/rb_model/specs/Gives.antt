@@ -38,15 +38,18 @@ write_fitting clock room c = (fitting_in room c.phase, with_given clock (length 
 
 -- ---- in a state
 
--- if no byte was given, the state stays, its clock too
--- GIVE-2
+-- GIVE-2: If no fragment fits whole into its room, or none is owed, `Core::write_into` changes
+-- nothing, the clock neither.
 abbrev pub unless_nothing : State → Result (List ℕ) CoreFault × State → Result (List ℕ) CoreFault × State
 unless_nothing s (Ok [], new) = (Ok [], s)
 unless_nothing s (Ok (byte ∷ bytes), new) = (Ok (byte ∷ bytes), new)
 unless_nothing s (Err fault, new) = (Err fault, new)
 
 -- those of the live connection of the number are given
--- GIVE-1 OUTBOX-3
+-- GIVE-1: `Core::write_into` is a `pending`, and a `gave` of all of it, fragment by fragment, as
+-- many as fit whole into the room that it gets; it says how many bytes, and they stand in that
+-- room.
+-- OUTBOX-3
 unfoldable pub write_into : State → ℕ → ℕ → ℕ → Result (List ℕ) CoreFault × State
 write_into s now id room =
     unless_nothing s (unless_refused now s (on_live id (write_fitting (max s.clock now) room) s.connections))

@@ -35,8 +35,7 @@ pub record IsOfOtherVersion (head : CallHead) : Type 0 where
   pub program : head.prog ≡ rpcb_prog
   pub other : (head.vers < 2) ⊎ (4 < head.vers)
 
--- of one of its versions, which has no procedure of this number
--- PROC-3
+-- PROC-3: A procedure that the version does not have is PROC_UNAVAIL.
 pub record IsOfNoProcedure (head : CallHead) : Type 0 where
   pub served : IsOfServedVersion head
   pub none : procedure_at head.vers head.proc ≡ None

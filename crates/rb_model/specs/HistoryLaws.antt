@@ -121,8 +121,9 @@ EventsAreNoted =
     (s : State) (event : Event)
     → (step s event).1.ledger.history ≡ unless_anew (begins_anew event) s.ledger.history ++ notes_by s event
 
--- In every run, the history is the notes of its events, in order, from where statistics last began anew.
--- HISTORY-1
+-- HISTORY-1: The history has each call that reached its procedure, what it did, and how each
+-- forwarded call ended, as far as COUNT-2 and COUNT-3 count these, in order, from where statistics
+-- last began anew, and nothing else.
 abbrev pub HistoryIsOfItsEvents : Type 0
 HistoryIsOfItsEvents =
     (limits : Limits) (listener : Listener) (first_xid now : ℕ) (events : List Event)

@@ -40,8 +40,7 @@ IsKeptIfRefused (Refused fault) old new = new ≡ old
 IsKeptIfRefused TooMuch old new = new ≡ old
 IsKeptIfRefused other old new = ⊤
 
--- A refused event changes nothing, not even the clock.
--- REFUSED-1
+-- REFUSED-1: A refused event changes nothing, the clock included.
 abbrev pub RefusedEventsChangeNothing : Type 0
 RefusedEventsChangeNothing =
     (s : State) (event : Event) → IsKeptIfRefused (step s event).0 s (step s event).1
@@ -264,7 +263,8 @@ OwedRepliesStay =
 -- ---- the ledger
 
 -- What is true of all that is remembered of the calls.
--- ROWS-1
+-- ROWS-1: No two live rows are of one program, version and netid, and at good limits at most as
+-- many are live as the limit, in each state that a run reaches.
 pub record IsWellKept (s : State) : Type 0 where
   -- The own rows are the listener's, and each change was accepted by the rows that were live before it.
   pub own : s.ledger.own ≡ own_rows s.setting.listener

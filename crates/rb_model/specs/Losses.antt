@@ -31,7 +31,8 @@ owing_time = 30000
 
 -- How long a connection may stay in this phase, from `since` on. One that is Awaiting has no
 -- deadline: its forwarded call has one.
--- DEADLINE-1
+-- DEADLINE-1: The deadline of an Idle connection is 300,000 ms after its `since`, of one that reads
+-- a record or owes a reply 30,000 ms; one that is Awaiting or Lost has none.
 abbrev pub time_in : Phase → Option ℕ
 time_in Idle = Some idle_time
 time_in (Reading fed) = Some reading_time
@@ -42,7 +43,8 @@ time_in Lost = None
 -- ---- what is due
 
 -- the moment from which a connection is due, by its `since` and its phase; at most the greatest moment
--- DEADLINE-2
+-- DEADLINE-2: A connection is due if the clock is at its deadline or later. No deadline is later
+-- than the greatest moment, at which all that has a deadline is due.
 abbrev pub deadline : ℕ → Phase → Option ℕ
 deadline since phase = option_map (later since) (time_in phase)
 
@@ -94,15 +96,18 @@ is_needed_for stamps change = list_any (λ n. nat_lt n change) stamps
 abbrev pub removals_by : Ledger → List ℕ
 removals_by l = filter_map (λ (slot : Slot). slot.removed) (all_slots l.own l.changes)
 
--- the changes that removed rows which some unfinished list needs: it began before them
--- NEEDED-1
+-- NEEDED-1: A removed row is needed, and retained, while a list is unfinished that began before its
+-- removal, whether or not the list shows it; a list is unfinished until its last byte was given, or
+-- its connection is Lost or gone. What is no longer needed goes at the next SET that is accepted
+-- and finds 16 retained rows or no room.
 unfoldable pub needed_removals : List Connection → Ledger → List ℕ
 needed_removals all l = filter (is_needed_for (list_stamps all)) (removals_by l)
 
 -- ---- room for a row
 
 -- the message is a SET that is accepted
--- EVICT-2
+-- EVICT-2: A SET that is refused closes no list, also if the live rows alone reach the limit, and
+-- neither does any other call.
 abbrev pub asks_room : Context → Message → Ledger → Bool
 asks_room context (says.Asked call) l = wants_room context call l
 asks_room context says.NoCall l = false
@@ -131,9 +136,10 @@ evict_early changes c = if began_before changes (stamp_in c.phase) then lose c e
 abbrev pub evict : List ℕ → Connections → Connections
 evict changes c = record c { all = map (evict_early changes) c.all }
 
--- Before a message that needs room is answered, the connections whose lists began before the earliest change that
--- removed a row which some list needs become Lost, if the live rows and those that lists need reach the limit.
--- LOST-1 EVICT-1
+-- EVICT-1: At a SET that is accepted, if the live and the needed rows reach the limit, those
+-- connections become Lost whose lists began before the earliest change that removed a needed row,
+-- and no others.
+-- LOST-1
 abbrev pub with_room : Context → Message → State → State
 with_room context message s =
     record s { connections = evict (removals_in_the_way context message s.connections.all s.ledger) s.connections }

@@ -17,8 +17,9 @@ connection_deadlines all = map (λ (c : Connection). deadline c.since c.phase) a
 abbrev pub next_connection_deadline : Connections → Option ℕ
 next_connection_deadline c = soonest_of (connection_deadlines c.all)
 
--- the least deadline of the connections and of the forwarded calls
--- DEADLINE-3 WAIT-4
+-- DEADLINE-3: The next deadline is the least one of the connections and of the forwarded calls:
+-- before it `expire` finds nothing, and from it on something.
+-- WAIT-4
 unfoldable pub next_deadline : State → Option ℕ
 next_deadline s = sooner_of (next_connection_deadline s.connections) (next_entry_deadline s.ledger.forwards)
 

@@ -64,10 +64,11 @@ outsider_allowance = 34000
 abbrev pub datagram_allowance : ℕ
 datagram_allowance = 2048
 
--- In each state that a run reaches at good limits, an event of an outsider that is for no list costs at most 16 steps for
--- each of its bytes, and the allowance, whatever is registered, retained, open or forwarded. SETs and UNSETs are among
--- them.
--- OUTSIDER-1
+-- SETs and UNSETs of an outsider are such events too.
+-- OUTSIDER-1: An event of an outsider, a caller that may not register, that is for no list costs at
+-- most 16 steps for each byte that it takes, lends or reports as given, and 34,000, whatever is
+-- registered, retained, open or forwarded, in each state that a run reaches at good limits; its
+-- datagram at most a step for each of its bytes, two for each of its reply's, and 2,048.
 abbrev pub OutsidersCostFew : Type 0
 OutsidersCostFew =
     (s : State) → IsReached s → are_good s.setting.limits s.setting.listener ≡ true → (event : Event)
@@ -75,7 +76,6 @@ OutsidersCostFew =
     → event_cost s event
     ≤ 16 * (bytes_in event (step s event).0 + bytes_reported event (step s event).0) + outsider_allowance
 
--- A datagram costs at most a step for each of its bytes, two for each of its reply's, and its allowance.
 -- OUTSIDER-1
 abbrev pub OutsidersDatagramsCostFew : Type 0
 OutsidersDatagramsCostFew =

@@ -19,14 +19,16 @@ abbrev pub standing_on : Option Connection → Standing
 standing_on None = stands.Lost
 standing_on (Some c) = standing_in c.phase
 
--- where the connection of the number stands
--- STANDING-1
+-- STANDING-1: `Core::bytes`, `Core::exchange`, `Core::gave` and `Core::write_into` say where the
+-- connection stands then: its phase without its data; `bytes` and `exchange` but for STANDING-2.
 abbrev pub standing_of : ℕ → State → Standing
 standing_of id s = standing_on (live_connection id s.connections.all)
 
 -- Where it stands after this many bytes that were taken of a piece: the call that was forwarded with the last of them waits
 -- to be sent.
--- STANDING-2 PROGRESS-1 EVENT-2
+-- STANDING-2: After bytes that brought a call which is forwarded a connection is told as Sends,
+-- later as Awaiting: its call waits unsent, and `unsent` lends the first that does.
+-- PROGRESS-1 EVENT-2
 abbrev pub standing_behind : ℕ → Standing → Standing
 standing_behind count stands.Idle = stands.Idle
 standing_behind count stands.Reading = stands.Reading

@@ -54,8 +54,9 @@ pub record State : Type 0 where
   pub ledger : Ledger
   pub reply : List ℕ
 
--- there is room for the own rows and two more
--- LIMITS-1 LIMITS-2
+-- LIMITS-1: Limits are 1 to 256 connections, rows from the own ones and two more to 4,096, and 0 to
+-- 64 forwarded calls.
+-- LIMITS-2
 abbrev pub are_good : Limits → Listener → Bool
 are_good limits listener =
     nat_le 1 limits.conns && nat_le limits.conns 256
@@ -75,8 +76,7 @@ opening limits listener first_xid now = record {
 abbrev pub greatest_number : ℕ
 greatest_number = 2 ^ 64 - 1
 
--- a moment earlier than the last one counts as the last one
--- CLOCK-1
+-- CLOCK-1: A moment earlier than the last one counts as the last one.
 abbrev pub at_moment : ℕ → State → State
 at_moment now s = record s { clock = max s.clock now }
 

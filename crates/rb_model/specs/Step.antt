@@ -108,8 +108,7 @@ pending s id = pending_at id s.connections
 unfoldable pub gave : State → ℕ → ℕ → ℕ → Result (Unit {0}) CoreFault × State
 gave s now id n = unless_refused now s (on_live id (give (max s.clock now) n) s.connections)
 
--- more than is pending
--- GAVE-2
+-- GAVE-2: An event that gives more than is pending is answered TooMuch, and nothing happens.
 abbrev pub is_too_much : ℕ → Result (List ℕ) CoreFault → Bool
 is_too_much n (Err fault) = false
 is_too_much n (Ok bytes) = nat_lt (length bytes) n
@@ -119,8 +118,7 @@ is_too_much n (Ok bytes) = nat_lt (length bytes) n
 unfoldable pub open_connection : State → ℕ → Who → Result ℕ CoreFault × State
 open_connection s now who = unless_refused now s (open_in_table s.setting.limits.conns who (max s.clock now) s.connections)
 
--- when a connection is closed, the call that was forwarded for it ends
--- END-4
+-- END-4: A forwarded call ends with its connection: a later connection never gets its reply.
 abbrev pub dropped_with : State → ℕ → Result (Unit {0}) CoreFault × Connections → Result (Unit {0}) CoreFault × State
 dropped_with s id (Err fault, connections) = (Err fault, s)
 dropped_with s id (Ok u, connections) =
@@ -137,13 +135,14 @@ next_lost s = next_lost_in_table s.connections
 -- ---- datagrams
 
 -- the last reply over UDP is replaced by this one, or by nothing if there is none
--- DATAGRAM-2
+-- DATAGRAM-2: The last reply over UDP is lent whole; it is empty if the last `datagram`,
+-- `forward_reply` or `expire` gave no reply.
 abbrev pub with_reply : Outcome × State → Outcome × State
 with_reply (given, s) = (given, record s { reply = reply_in given })
 
--- The most bytes of the reply to a datagram of this many: to a stranger at most twice as many, if replies over UDP are
--- held to that.
--- REFLECT-1
+-- REFLECT-1: With `--udp-lists local` a reply over UDP to a stranger has at most twice the bytes of
+-- its call's datagram, at once and at the end of its forwarded call; a longer one becomes
+-- SYSTEM_ERR.
 unfoldable pub longest_to : Terms → Who → ℕ → ℕ
 longest_to terms who count =
     if terms.long_replies || not (is_stranger who) then longest_reply else min longest_reply (2 * count)
@@ -259,8 +258,7 @@ step s ZeroStats = (Done, zero_stats s)
 
 -- ---- runs
 
--- the outputs of a list of events
--- OUTPUT-1
+-- OUTPUT-1: Each event has one output, in order.
 abbrev pub run : State → List Event → List Output
 run s [] = []
 run s (event ∷ events) = (step s event).0 ∷ run (step s event).1 events

@@ -55,9 +55,11 @@ total_out events outputs = total_of bytes_reported events outputs
 abbrev pub event_allowance : Limits → ℕ
 event_allowance limits = 64 * (limits.conns + limits.rows + most_keys + limits.forwards) + 4096
 
--- The bound of a whole run: 16 steps for each byte that is taken or given and for each that was in a buffer as the run
--- began, and the allowance of each event.
--- STEPS-2
+-- STEPS-2: A whole run costs at most 16 steps for each byte that is taken, lent or reported as
+-- given and for each byte in the connections' buffers as it begins, and for each event 64 for each
+-- connection, row, key and forwarded call that there may be, and 4,096. A datagram or a `forward`
+-- counts its whole length, ignored ones too. A `gave` counts what it reports if it is called, also
+-- for a connection that is gone, and not if it is too much.
 abbrev pub whole_bound : Limits → ℕ → List Event → List Output → ℕ
 whole_bound limits buffered events outputs =
     16 * (total_in events outputs + total_out events outputs + buffered) + length events * event_allowance limits

@@ -14,7 +14,7 @@ abbrev pub is_between : ℕ → ℕ → ℕ → Bool
 is_between least most n = nat_le least n && nat_le n most
 
 -- the number that the digits are, if it is between the bounds
--- DIGITS-1
+-- DIGITS-1: A number has decimal digits alone, no sign.
 abbrev pub number_in : ℕ → ℕ → List ℕ → Option ℕ
 number_in least most text =
     if is_numeral text && is_between least most (digits_value 10 text) then Some (digits_value 10 text) else None

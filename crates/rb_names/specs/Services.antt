@@ -58,13 +58,13 @@ pairs_of_lent names number = pairs_with (borrowed_texts names) number
 abbrev pub services_of_lent : List (Bor (List ℕ)) → List NamedNumber
 services_of_lent words = services_of (borrowed_texts words)
 
--- a longer line has no names
--- NAMES-2
+-- NAMES-2: A line of names of more than 1,024 bytes, and a text of more than 65,536, has no names.
 abbrev pub longest_line : ℕ
 longest_line = 1024
 
--- the comment after `#` says nothing
--- NAMES-1
+-- NAMES-1: A line of the file of names has a name, a number and further names, with white space
+-- between them; what is after `#` says nothing, and a line whose second word is no number has no
+-- names.
 abbrev pub services_in_line : List ℕ → List NamedNumber
 services_in_line line =
     if nat_lt longest_line (length line) then [] else services_of (words_of (before_first is_hash line))
@@ -81,7 +81,8 @@ services_in text =
 
 -- ---- what is looked up: the first one is it
 
--- NAMES-3
+-- NAMES-3: Of several lines with a name or a number the first counts; a program's name is the first
+-- of its line.
 abbrev pub number_of : List Service → List ℕ → Option ℕ
 number_of services name = option_map (λ service. service.number) (find (λ service. bytes_eq service.name.items name) services)
 

@@ -15,7 +15,8 @@ use Rattle.rb_plans.specs.declared.fault.Fault.{Fault}
 use Rattle.rb_plans.specs.declared.fault.Fault.TheVariants.{Info, NoConnection, NoSocket, NoReply, NoHost, NoAddress, TooManyRoutes}
 
 -- the family of the addresses that are asked where a program is; none if every address is asked
--- ADDRESS-1
+-- ADDRESS-1: Of a netid of one family the addresses of that family are asked; a host that has only
+-- others has no address of the netid.
 abbrev pub family_of : Way → Option Family
 family_of (ways.Getaddr netid) = family_of_netid netid
 family_of (ways.Getport transport) = None
@@ -45,12 +46,11 @@ is_no_socket (Err NoSocket) = true
 is_no_socket answer = false
 
 -- 127.0.0.1 is asked in place of the socket of this path, which gave this
--- ADDRESS-3
+-- ADDRESS-3: 127.0.0.1 is asked in place of /run/rpcbind.sock alone, if nobody is there.
 abbrev pub falls_back : List ℕ → Result Shown Fault → Bool
 falls_back path answer = bytes_eq path default_path && is_no_socket answer
 
--- nobody answered at an address
--- ADDRESS-2
+-- ADDRESS-2: The next address of a host is asked if nobody answered, but for COURSE-10.
 abbrev pub is_unanswered : Result Shown Fault → Bool
 is_unanswered (Err NoConnection) = true
 is_unanswered (Err NoSocket) = true
@@ -74,8 +74,7 @@ has_answered (Err TooManyRoutes) = false
 has_answered (Err (Info Memory)) = false
 has_answered answer = true
 
--- the address, if it is one of several and somebody answered there
--- ADDRESS-4
+-- ADDRESS-4: An address is said to have answered if it is one of several and did.
 abbrev pub answered_at : IpAddr → ℕ → Result Shown Fault → Option IpAddr
 answered_at address count answer = if nat_lt 1 count && has_answered answer then Some address else None
 

@@ -31,7 +31,7 @@ AsksNoOther (Call aim place) = IsOfSeveral aim
 AsksNoOther (End end) = ⊤
 
 -- whatever is replied, another of them follows, or the end
--- COURSE-10
+-- COURSE-10: Once the versions of a program are known, the host's next address is not asked.
 abbrev pub SeveralStay : Type 0
 SeveralStay =
     (course : Course) (stage : Stage) (reply : Result Shown Fault) → AsksOfSeveral stage

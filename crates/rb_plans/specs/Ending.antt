@@ -121,19 +121,18 @@ line_of None = []
 abbrev pub detail_line : Fault → List ℕ
 detail_line fault = line_of (status_in fault)
 
--- STATUS-1 STATUS-4
+-- STATUS-4: The line of a refusal is followed by one with what the refusal says.
+-- STATUS-1
 abbrev pub fault_lines : Fault → List ℕ
 fault_lines fault = fault_line fault ++ detail_line fault
 
--- a word of the command line that is no text
--- STATUS-3
+-- STATUS-3: A word that is no text has its line, and the status 2.
 abbrev pub text_line : List ℕ
 text_line = codes "rpcinfo: a word is no text\n"
 
 -- ---- the end by an answer
 
--- UNSET that removed nothing is no success
--- STATUS-2
+-- STATUS-2: An UNSET that removed nothing ends the command with status 1.
 abbrev pub shown_status : Shown → ℕ
 shown_status (Rows n) = 0
 shown_status (Statistics n) = 0
@@ -152,7 +151,7 @@ no_row_line Null = []
 no_row_line (Removed true) = []
 no_row_line (Removed false) = codes "rpcinfo: there is no such row, or it is another user's\n"
 
--- STATUS-1
+-- STATUS-1: A fault ends the command with status 1 and the fault's lines.
 abbrev pub status_of : Result Shown Fault → ℕ
 status_of (Ok shown) = shown_status shown
 status_of (Err fault) = 1

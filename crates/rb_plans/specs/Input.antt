@@ -24,7 +24,7 @@ abbrev pub digits_of : List ℕ → List ℕ
 digits_of text = filter (λ b. not (is_white b)) text
 
 -- the greatest length of a text
--- HEX-2
+-- HEX-2: A text of more than 67,108,864 bytes is too long, whatever it holds.
 unfoldable pub longest_text : ℕ
 longest_text = 67108864
 
@@ -32,8 +32,8 @@ abbrev pub or_unreadable : Result (List ℕ) FromHexError → Result (List ℕ) 
 or_unreadable (Ok bytes) = Ok bytes
 or_unreadable (Err fault) = Err Unreadable
 
--- two digits of either case for each byte, with white space anywhere
--- HEX-1
+-- HEX-1: The text of standard input is pairs of hexadecimal digits of either case, white space
+-- anywhere; other text is an unreadable reply.
 abbrev pub read_hex : List ℕ → Result (List ℕ) InfoFault
 read_hex text = or_unreadable (decode_of (digits_of text))
 

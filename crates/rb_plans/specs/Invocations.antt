@@ -73,7 +73,7 @@ is_at_host (ways.Getaddr netid) = true
 is_at_host (ways.Port transport port) = true
 is_at_host (ways.Address netid address) = false
 
--- HOSTNAME-1
+-- HOSTNAME-1: A host that is asked has a name: the first word is not empty.
 abbrev pub names_host : Plan → Bool
 names_host (Show listing source) = is_named source
 names_host (Entries source prog vers) = is_named source

@@ -39,7 +39,7 @@ plan_question (Delete netid prog vers) = Some (Here, questions.Unset netid prog 
 plan_question (Ping way prog vers) = None
 plan_question (Broadcast prog vers) = None
 
--- COURSE-12
+-- COURSE-12: A version that is named is the only one called.
 abbrev pub aim_of : Option ℕ → Aim
 aim_of (Some vers) = aims.Only vers
 aim_of None = aims.Least
@@ -81,7 +81,7 @@ abbrev pub follow : Course → Stage → Result Shown Fault → Result Step Faul
 follow course stage reply = follow_answer course stage (answer_of reply)
 
 -- the end of a program's course
--- COURSE-11
+-- COURSE-11: A program of more versions than are called has too many versions.
 abbrev pub course_end : ℕ → ℕ → Stage → Result Shown Fault
 course_end prog xid (End ends.Ready) = Ok shown.Null
 course_end prog xid (End ends.SomeLack) = Err SomeLack

@@ -29,8 +29,8 @@ is_same a b = is_same_host a b
 abbrev pub has_host : Host → List Host → Bool
 has_host wanted hosts = list_any (λ host. is_same host wanted) hosts
 
--- :: is every host of both families
--- BIND-1
+-- BIND-1: `::` is every host of both families: a 0.0.0.0 that is given beside it is passed over.
+-- After all others 0.0.0.0 is tried once; an address in use counts as one that `::` has.
 abbrev pub has_every_host : List Host → Bool
 has_every_host hosts = list_any is_any6 hosts
 
@@ -40,7 +40,7 @@ abbrev pub is_bound : List Host → Host → Bool
 is_bound hosts host = not (has_every_host hosts && is_same_host host (V4 every_inet))
 
 -- ::1 is bound as well, if that is asked for, it is none of them, and :: is none
--- BIND-2
+-- BIND-2: `--loopback6` also binds `::1`, unless it is given already, or `::` is.
 abbrev pub binds_loopback6 : List Host → Bool → Bool
 binds_loopback6 hosts wanted = wanted && not (has_every_host hosts) && not (has_host (V6 loopback6) hosts)
 
@@ -78,7 +78,9 @@ announced_for None given = None
 announced_for (Some first) None = Some first
 announced_for (Some first) (Some given) = Some given
 
--- ANNOUNCE-1
+-- ANNOUNCE-1: A family is served if a host of it is listened on, and both are if `::` is. What is
+-- announced of one that is served is the host that is given, or the first that is listened on; of
+-- another one nothing.
 abbrev pub announced_inet : Option (List ℕ) → List Host → Option (List ℕ)
 announced_inet given hosts = announced_for (served_inet hosts) given
 
@@ -90,7 +92,8 @@ abbrev pub inet_or_loopback : Option (List ℕ) → Host
 inet_or_loopback (Some octets) = V4 octets
 inet_or_loopback None = V4 loopback
 
--- BIND-3
+-- BIND-3: Calls are forwarded to a target from the first host of its family that is listened on; to
+-- one of IPv4 from 127.0.0.1 if there is none.
 abbrev pub forwards_inet : List Host → Host
 forwards_inet hosts = inet_or_loopback (served_inet hosts)
 

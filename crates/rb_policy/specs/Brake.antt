@@ -72,8 +72,7 @@ admit rate served now host =
 
 -- ---- whose datagrams count
 
--- the host of a stranger
--- BRAKE-3
+-- BRAKE-3: With `--udp-rate` strangers alone are counted, each by its host.
 abbrev pub host_counted : Trust → Source → Option Host
 host_counted Stranger (Inet peer) = Some peer.host
 host_counted Stranger Local = None

@@ -33,8 +33,9 @@ abbrev pub served_in_second : (Host → Bool) → ℕ → List Datagram → ℕ
 served_in_second is_one since served =
     count_by (λ d. is_one d.host && (nat_le since d.moment && nat_lt d.moment (since + one_second))) served
 
--- In no second are more served of one network, or of one host.
--- BRAKE-1
+-- BRAKE-1: With `--udp-rate`, of strangers' datagrams at most as many are served in a second as the
+-- rate has, of one network (IPv4 /24, IPv6 /56) and of one host; others are dropped, and are not
+-- counted.
 pub record NeverMore : Type 0 where
   pub network : (rate : Rate) (came : List Datagram) (since : ℕ) (host : Host)
       → served_in_second (is_same_network host) since (serve rate came) ≤ rate.network
@@ -47,8 +48,9 @@ WereServed rate served now host =
     (rate.network ≤ served_within network_place (network_place host) now served)
     ⊎ (rate.host ≤ served_within host_place (host_place host) now served)
 
--- One is dropped only if this many were served.
--- BRAKE-2
+-- BRAKE-2: With `--udp-rate` a stranger's datagram is dropped only if within the second before as
+-- many were served as the rate has, of the place of its network or of its host; each has one place
+-- of 1,024.
 abbrev pub NeverHeldBack : Type 0
 NeverHeldBack =
     (rate : Rate) (came : List Datagram) (now : ℕ) (host : Host) → admits rate (serve rate came) now host ≡ false

@@ -1,9 +1,8 @@
 -- When what is due ends: not before all was read that came in time.
 use Rattle.std.specs.Prelude.{ℕ, ◌+◌, nat_lt, nat_le, Bool, not, ◌&&◌, ◌||◌, if◌then◌else◌}
 
--- whether a turn may have left unread what came before its moment: it looked for events after it read that, or did not;
--- its look showed this many sockets of that many that it can show; and something is left for the next turn, or is not
--- DUE-2
+-- DUE-2: A turn is behind if it did not look for events after it read its moment, if its look
+-- showed as many sockets as it can show, or if it leaves something for the next.
 abbrev pub is_behind : Bool → ℕ → ℕ → Bool → Bool
 is_behind fresh shown most left = not fresh || nat_le most shown || left
 
@@ -12,12 +11,12 @@ abbrev pub most_put_off : ℕ
 most_put_off = 64
 
 -- whether a turn puts off what is due, if this many in a row before it did
--- DUE-3
+-- DUE-3: A turn that is behind puts off what is due, and the next does not wait; at most 64 turns
+-- in a row do so.
 abbrev pub puts_off : ℕ → Bool → Bool → Bool
 puts_off turns due behind = due && behind && nat_lt turns most_put_off
 
--- whether what is due ends in a turn
--- DUE-1
+-- DUE-1: What is due in a turn ends in it, unless the turn puts it off.
 abbrev pub ends : ℕ → Bool → Bool → Bool
 ends turns due behind = due && not (puts_off turns due behind)
 

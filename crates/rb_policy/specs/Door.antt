@@ -27,14 +27,15 @@ is_free (Some holder) = false
 
 -- ---- what is kept of a connection
 
--- of this host are 127.0.0.0/8, ::1 and the local socket, which has the host 127.0.0.1
--- DOOR-5
+-- DOOR-5: A client is of this host if it comes from 127.0.0.0/8, from ::1 or by the local socket,
+-- which has the host 127.0.0.1 as far as shares go.
 abbrev pub origin_of : Source → Origin
 origin_of (Inet peer) = record { host = peer.host; is_local = is_loopback peer.host }
 origin_of Local = record { host = V4 (127 ∷ 0 ∷ 0 ∷ 1 ∷ []); is_local = true }
 
 -- where it stands outside: what the core gave is owed until the socket has taken it
--- DOOR-6
+-- DOOR-6: A connection whose outbox holds bytes is Owing, though the core counts them as given,
+-- unless its call is forwarded; one whose call must be sent counts as Awaiting.
 abbrev pub standing_outside : Standing → Bool → Standing
 standing_outside Sends is_owed = Awaiting
 standing_outside Awaiting is_owed = Awaiting
@@ -48,7 +49,8 @@ abbrev pub owed_for : ℕ
 owed_for = 30000
 
 -- the moment from which it is given up if its socket has taken nothing since another one
--- STUCK-1
+-- STUCK-1: A connection is closed whose socket has taken nothing of what its outbox holds for
+-- 30,000 ms.
 abbrev pub stuck_at : ℕ → ℕ
 stuck_at since = later since owed_for
 
@@ -76,8 +78,6 @@ is_within_share places peer = peer.is_local || not (nat_lt (share (length places
 
 -- ---- who is given up
 
--- Idle before Reading before Owing before Awaiting; one that Sends goes as one that is Awaiting, and one that is Lost as one
--- that is Idle
 -- DOOR-3
 abbrev pub rank : Standing → ℕ
 rank Idle = 0
@@ -105,7 +105,11 @@ candidate_of places now place holder = record {
 -- The order in which holders are given up. Of two that differ in one of these, and in none before it, first goes: who
 -- is over the share; who is of another host; who made no progress of late; who stands earlier; who has made none for
 -- longer; and who has the lower place.
--- DOOR-2 DOOR-3
+-- DOOR-2: Of the connections that may be given up it is the one that no other goes before: first
+-- goes one of a host over its share, then one that is not of this host.
+-- DOOR-3: Of several connections that are equal by DOOR-2, first goes one without progress in the
+-- last 1,000 ms; then Idle (and Lost) before Reading before Owing before Awaiting (and Sends); then
+-- the one without progress for longest; then the one of the lower place.
 abbrev pub by_precedence : Candidate → Candidate → Ordering
 by_precedence =
     then_cmp (then_cmp (then_cmp (then_cmp (then_cmp
@@ -121,12 +125,13 @@ GoesBefore a b = by_precedence a b ≡ Less
 
 -- The holder of a place may be given up for a newcomer: any, if the newcomer may hold one place more, and else one
 -- of its own host.
--- DOOR-4
+-- DOOR-4: One host may hold half of the places, and at least one, while others want some: if it
+-- holds as many, a client of it takes the place of another of its own. Clients of this host are not
+-- counted in this way.
 pub record MayBeGivenUp (places : Places) (newcomer : Origin) (place : ℕ) (holder : Holder) : Type 0 where
   pub holds : slice_get places place ≡ Some (Some holder)
   pub may : IsTrue (may_hold_more places newcomer || is_same_host holder.origin.host newcomer.host)
 
--- Of those that may be given up, it is the one that no other goes before.
 -- DOOR-2
 pub record IsGivenUp (places : Places) (newcomer : Origin) (now : ℕ) (place : ℕ) : Type 0 where
   pub holder : Holder
@@ -135,9 +140,8 @@ pub record IsGivenUp (places : Places) (newcomer : Origin) (now : ℕ) (place : 
 
 -- ---- what is done with a newcomer
 
--- It takes the first place that is free. If none is, it takes that of the one that is given up for it. It is
--- closed if there are no places at all.
--- DOOR-1
+-- DOOR-1: A client that comes takes the first free place. If none is free it takes that of a
+-- connection that is given up for it. It is closed only if there are no places.
 abbrev pub IsAdmitted : Places → Origin → ℕ → Admission → Type 0
 IsAdmitted places newcomer now (Take place) = position is_free places ≡ Some place
 IsAdmitted places newcomer now (GiveUp place) = (position is_free places ≡ None) × IsGivenUp places newcomer now place

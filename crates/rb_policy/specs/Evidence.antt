@@ -9,13 +9,13 @@ use Rattle.rb_evidence.specs.Table.{uid_of, uid_of_mapped}
 use Rattle.rb_policy.specs.declared.evidence.Evidence.{Evidence}
 use Rattle.rb_policy.specs.declared.evidence.Evidence.TheVariants.{Found, NotFound, Unread}
 
--- of peers of this host alone, if what callers claim is not believed
--- TABLES-1
+-- TABLES-1: The kernel's tables of connections (/proc/net/tcp, tcp6) are asked of peers of
+-- 127.0.0.0/8 and ::1 alone, and not if claims are believed.
 abbrev pub is_shown : Bool → Peer → Bool
 is_shown claims peer = not claims && is_loopback peer.host
 
--- the table of IPv4 has peers of IPv4 alone; that of IPv6 is looked at if the first shows nothing
--- TABLES-2
+-- TABLES-2: A peer of IPv4 is looked for in the kernel's table of IPv4, and if that shows no user
+-- in the one of IPv6, in IPv6's form; a peer of IPv6 in the latter alone.
 abbrev pub looks_in : Family → Family → Evidence → Bool
 looks_in Inet Inet NotFound = true
 looks_in Inet6 peer NotFound = true
@@ -53,7 +53,8 @@ abbrev pub next_reading : Option ℕ → ℕ
 next_reading (Some last) = later last between_readings
 next_reading None = 0
 
--- TABLES-4
+-- TABLES-4: Between two readings of the kernel's tables lie at least 20 ms. If connections wait for
+-- one, a turn waits no longer than until it may come.
 abbrev pub may_read : ℕ → Option ℕ → Bool
 may_read now last = nat_le (next_reading last) now
 
@@ -62,6 +63,6 @@ abbrev pub longest_table : ℕ
 longest_table = 1048576
 
 -- the first bytes of the room, if they are no more than a table may have
--- TABLES-3
+-- TABLES-3: A table of the kernel of more than 1,048,576 bytes counts as one that can't be read.
 abbrev pub whole_text : List ℕ → ℕ → Option (List ℕ)
 whole_text room count = if nat_le count longest_table then Some (take count room) else None

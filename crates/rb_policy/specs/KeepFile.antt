@@ -22,8 +22,9 @@ action_on_file own file =
     if not (is_trusted own file.owner) then GiveUp (OtherOwner file.owner)
     else (if others_may_write file.mode then GiveUp (OthersMayWrite file.mode) else Read)
 
--- what is done by the daemon of a user
--- FILE-2
+-- FILE-2: A file of kept rows is read if it is a plain one that belongs to root or to the daemon's
+-- own user, and neither its group nor others may write to it; if nothing is at the path the daemon
+-- begins with no rows. In each other case the file stays, and the daemon does not start.
 abbrev pub keep_action : ℕ → KeepState → KeepAction
 keep_action own Absent = Begin
 keep_action own (Plain file) = action_on_file own file

@@ -18,9 +18,9 @@ abbrev pub is_nothing_there : ErrorKind → Bool
 is_nothing_there kinds.NotFound = true
 is_nothing_there _ = false
 
--- what a try to connect says of a socket there: ECONNREFUSED that nobody listens, and EAGAIN that somebody does who has no
--- room for one more (connect(2))
--- LOCAL-2
+-- LOCAL-2: Nothing is at a path exactly if a look at it ends with ENOENT. A socket there refuses
+-- exactly if a try to connect ends with ECONNREFUSED, and answers if it is taken, or ends with
+-- EAGAIN: its listener has no room for one more. Any other error is told, and the file stays.
 abbrev pub state_by_connect : ErrorKind → Option FileState
 state_by_connect kinds.ConnectionRefused = Some Refuses
 state_by_connect kinds.WouldBlock = Some Answers
@@ -29,7 +29,9 @@ state_by_connect _ = None
 -- ---- what is done about it
 
 -- a file is removed if it is a socket that nobody listens on any more, and in no other case
--- LOCAL-1
+-- LOCAL-1: A file at the path of the local socket is stale, and removed, if it is a socket that
+-- refuses a connection; one that answers, and one that is no socket, stay, and the daemon does not
+-- start. A line says which of the two it is.
 abbrev pub file_action : FileState → FileAction
 file_action Absent = Bind
 file_action NotASocket = GiveUp
@@ -51,8 +53,8 @@ abbrev pub lets_in_root_by : Option ℕ → Bool
 lets_in_root_by None = false
 lets_in_root_by (Some mode) = lets_in_root_alone mode
 
--- it is root's if the mode with which the file was made, and the one that it has, let in root alone
--- TRUST-3
+-- TRUST-3: The local socket is root's if the mode with which the system made its file lets in root
+-- alone, and so does the one that it has then; if the first is not known it is not.
 abbrev pub entrance_of : Option ℕ → ℕ → Entrance
 entrance_of made mode = if lets_in_root_by made && lets_in_root_alone mode then RootSocket else OpenSocket
 
@@ -61,6 +63,7 @@ abbrev pub IsRootsByMode : ℕ → Entrance → Type 0
 IsRootsByMode mode entrance = entrance ≡ RootSocket → IsTrue (lets_in_root_alone mode)
 
 -- the abstract name is taken on the port of the portmapper (RFC 1833 section 3.1)
--- LOCAL-3
+-- LOCAL-3: If the port is 111 and there is a local socket, the abstract name `/run/rpcbind.sock` is
+-- held, unless another program has it, and who connects there is refused.
 abbrev pub takes_abstract_name : ℕ → Bool
 takes_abstract_name port = port == 111

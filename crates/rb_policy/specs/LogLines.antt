@@ -15,8 +15,8 @@ use Rattle.rb_policy.specs.declared.log_lines.LogLine.TheVariants as lines
 
 -- ---- texts that callers sent
 
--- a byte that is no printable ASCII character, or a space, is shown as `?`
--- LOG-2
+-- LOG-2: What a caller sent is shown in the log with `?` for each byte that is no printable
+-- character of ASCII, or a space: it begins no line, and has no escape.
 abbrev pub shown_byte : ℕ → ℕ
 shown_byte b = if nat_le 33 b && nat_le b 126 then b else 63
 
@@ -86,7 +86,9 @@ change_line line =
     codes "rpcbind: " ++ changes_text line.adds ++ codes " " ++ row_part line
     ++ codes " of " ++ owner_text line.owner ++ codes " by " ++ caller_text line.who ++ codes ": " ++ end_text line.is_accepted
 
--- LOG-3
+-- LOG-3: A line of the log says what a SET or an UNSET is about, as whom the caller registers, from
+-- where it called and whether it was accepted; or of a refused call from where and why; or whose
+-- connection was given up; or how many lines of a kind were left out.
 abbrev pub log_line : LogLine → List ℕ
 log_line (lines.Change change) = change_line change
 log_line (lines.RefusedCall who status) = codes "rpcbind: call by " ++ caller_text who ++ codes " refused: " ++ status_text status

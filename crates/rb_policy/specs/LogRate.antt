@@ -20,7 +20,10 @@ rate_at rate now =
     else record { second = second_of now; written = 0; left_out = rate.left_out }
 
 -- whether the log gets a line: so long as it has fewer than the most of this second
--- LOG-1
+-- LOG-1: Of each kind of lines, accepted changes, refused changes, refused calls and connections
+-- that are given up, the log gets at most 20 in each whole second of the daemon's clock, beside the
+-- line on those left out. How many are left out is told in a later second, from the end of theirs
+-- on.
 abbrev pub gets_line : LogRate → ℕ → Bool
 gets_line rate now = nat_lt (rate_at rate now).written lines_a_second
 

@@ -12,11 +12,11 @@ abbrev pub is_in_one : Host → List Network → Bool
 is_in_one host networks = list_any (λ network. has network host) networks
 
 -- everybody, if no networks are given; else hosts of this machine, and those in one of them
--- FROM-1
+-- FROM-1: If networks are given, a host may ask that is in one of them or of the loopback,
+-- 127.0.0.0/8 or ::1; if none are, every host may. What comes from any other host is from nobody.
 abbrev pub may_ask : List Network → Host → Bool
 may_ask networks host = length networks == 0 || is_loopback host || is_in_one host networks
 
--- what comes from a host that may not ask is from nobody
 -- FROM-1
 abbrev pub asker : List Network → Option Peer → Option Peer
 asker networks None = None

@@ -10,7 +10,9 @@ use Rattle.rb_policy.specs.declared.outcome.Next.{Next}
 use Rattle.rb_policy.specs.declared.outcome.Next.TheVariants.{GoOn, AwaitEvent, AwaitTurn, Close}
 
 -- what is done after an accept (accept(2))
--- ACCEPT-1
+-- ACCEPT-1: After an accept comes the next. If no connection waits, an event shows when one does;
+-- if no descriptor or memory is left, or the listener fails, what waits stays, and each turn tries
+-- again after its wait.
 abbrev pub after_accept : SocketResult → Next
 after_accept Done = GoOn
 after_accept Ended = GoOn
@@ -20,8 +22,8 @@ after_accept PeerFailed = GoOn
 after_accept NoRoom = AwaitTurn
 after_accept Failed = AwaitTurn
 
--- what is done after a read of a connection, which waits for a forwarded call or does not
--- READ-1
+-- READ-1: A read that finds the end of what a peer sends closes its connection, but not while that
+-- waits for a forwarded call.
 abbrev pub after_read : SocketResult → Bool → Next
 after_read Done waits = GoOn
 after_read Ended true = AwaitEvent
@@ -33,7 +35,7 @@ after_read NoRoom waits = Close
 after_read Failed waits = Close
 
 -- what is done after a write to a connection
--- WRITE-1
+-- WRITE-1: A write that takes nothing, or a fault of a connection, closes it.
 abbrev pub after_write : SocketResult → Next
 after_write Done = GoOn
 after_write Ended = Close
@@ -43,8 +45,7 @@ after_write PeerFailed = Close
 after_write NoRoom = Close
 after_write Failed = Close
 
--- what is done after a receive: a fault loses one datagram
--- RECEIVE-1
+-- RECEIVE-1: A receive that fails loses one datagram.
 abbrev pub after_receive : SocketResult → Next
 after_receive Done = GoOn
 after_receive Ended = GoOn
@@ -63,7 +64,8 @@ outcome_of_number (Some (pos n)) =
 outcome_of_number _ = Failed
 
 -- what an error means, by its kind, and else by its number
--- ACCEPT-2
+-- ACCEPT-2: EMFILE, ENFILE, ENOBUFS and ENOMEM are lack of room; errors of the network that
+-- accept(2) reports are one connection's; every other error is the listener's.
 abbrev pub outcome_of : ErrorKind → Option ℤ → SocketResult
 outcome_of kinds.WouldBlock number = WouldBlock
 outcome_of kinds.Interrupted number = Interrupted

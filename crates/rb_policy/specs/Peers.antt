@@ -14,7 +14,8 @@ is_no_host (V4 octets) = slice_index octets 0 == 0
 is_no_host (V6 octets) = is_any (V6 octets)
 
 -- such a host, and port 0, to which nothing can be sent
--- NOBODY-1
+-- NOBODY-1: A connection or a datagram from a host of 0.0.0.0/8, from `::` or from port 0 is from
+-- nobody: it is closed, or dropped.
 abbrev pub is_nobody : Peer → Bool
 is_nobody peer = is_no_host peer.host || peer.port == 0
 
@@ -22,8 +23,7 @@ is_nobody peer = is_no_host peer.host || peer.port == 0
 abbrev pub somebody : Peer → Option Peer
 somebody peer = if is_nobody peer then None else Some peer
 
--- for a socket of IPv6 a host in IPv6's form
--- MAPPED-2
+-- MAPPED-2: To a peer of IPv4 a socket of IPv6 sends in IPv6's form.
 abbrev pub host_for : Host → Host → Host
 host_for (V4 bound) host = host
 host_for (V6 bound) host = mapped_host host

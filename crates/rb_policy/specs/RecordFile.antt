@@ -4,8 +4,8 @@ use Rattle.rb_policy.specs.declared.record_file.RecordState.TheVariants.{Absent,
 use Rattle.rb_policy.specs.declared.record_file.RecordAction.{RecordAction}
 use Rattle.rb_policy.specs.declared.record_file.RecordAction.TheVariants.{Make, RemoveAndMake, GiveUp}
 
--- a plain file is replaced, and one of any other kind stays
--- FILE-1
+-- FILE-1: A file at the path of a record is replaced if it is a plain one; one of another kind, a
+-- link or a FIFO among them, stays, and the daemon does not start.
 abbrev pub record_action : RecordState → RecordAction
 record_action Absent = Make
 record_action Plain = RemoveAndMake

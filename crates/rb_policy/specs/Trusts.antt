@@ -12,34 +12,39 @@ use Rattle.rb_policy.specs.Evidence.{is_shown}
 use Rattle.rb_policy.specs.declared.trust.Entrance.{Entrance}
 use Rattle.rb_policy.specs.declared.trust.Entrance.TheVariants.{RootSocket, OpenSocket, Tcp, Udp}
 
--- the owner that the kernel's table shows
--- TRUST-5 TRUST-6
+-- TRUST-6: If the kernel's tables show no uid of a connection from this host, or can't be read, its
+-- owner is unknown.
+-- TRUST-5
 abbrev pub owner_shown : Evidence → Owner
 owner_shown (Found uid) = Uid uid
 owner_shown NotFound = Unknown
 owner_shown Unread = Unknown
 
--- 127.0.0.0/8 and ::1 are of this host; any other host is a stranger, the one that is announced too
--- TRUST-5 TRUST-8
+-- TRUST-5: Whoever comes over TCP from 127.0.0.0/8 or ::1 is the uid that the kernel's tables show
+-- of the connection.
+-- TRUST-8: Whoever comes from any other host is a stranger, from the announced one too.
 abbrev pub trust_from : Peer → Owner → Trust
 trust_from peer owner = if is_loopback peer.host then Local owner else Stranger
 
--- the local socket that lets in root alone is root's; what comes over another one, or over UDP, is nobody's known
--- TRUST-1 TRUST-4 TRUST-7
+-- TRUST-1: Whoever comes by a local socket that only root (and the daemon's user, TRUST-2) may use
+-- is uid 0.
+-- TRUST-4: Whoever comes by any other local socket is of this machine, with an owner that is
+-- unknown.
+-- TRUST-7: Whoever comes over UDP from 127.0.0.0/8 or ::1 is of this machine, with an owner that is
+-- unknown.
 abbrev pub trust_by : Entrance → Trust
 trust_by RootSocket = Local (Uid 0)
 trust_by OpenSocket = Local Unknown
 trust_by (Tcp peer evidence) = trust_from peer (owner_shown evidence)
 trust_by (Udp peer) = trust_from peer Unknown
 
--- each caller's own claims, if claims are believed
--- TRUST-9
+-- TRUST-9: With `--believe-claims` nothing is known of a caller but its claims.
 abbrev pub trust_of : Bool → Entrance → Trust
 trust_of true entrance = Claims
 trust_of false entrance = trust_by entrance
 
--- whether a socket's file of this mode lets in root and its owner alone: no one else may write to it
--- TRUST-2
+-- TRUST-2: A socket lets in root alone if its file's mode lets no group and no others write to it.
+-- Root and the file's owner, which is the daemon's user, come in then, and both count as uid 0.
 abbrev pub lets_in_root_alone : ℕ → Bool
 lets_in_root_alone mode = bit_and mode 18 == 0
 

@@ -21,7 +21,8 @@ abbrev pub last_round : ℕ
 last_round = 8
 
 -- when a socket is served again on which all receives or accepts of a turn were made, by whether some got something
--- TURN-1
+-- TURN-1: A socket on which all receives or all accepts of a turn failed does not keep the next
+-- turn from waiting.
 abbrev pub after_all_calls : Bool → Again
 after_all_calls true = AtOnce
 after_all_calls false = AfterWait
@@ -32,29 +33,35 @@ time_until now None = None
 time_until now (Some due) = Some (due - now)
 
 -- the wait of a turn: 0 if something is left, else until something is due, and no longer than it may; None has no end
--- WAIT-2
+-- WAIT-2: A turn does not wait if something is left. Otherwise it waits until the next thing is
+-- due, and no longer than it may; without an end if neither is set.
 abbrev pub wait_of : Bool → ℕ → Option ℕ → Option ℕ → Option ℕ
 wait_of true now due longest = Some 0
 wait_of false now due longest = sooner_of (time_until now due) longest
 
 -- how many connections a turn accepts, if this many of all places are free when it begins to accept
--- ACCEPT-3
+-- ACCEPT-3: Connections are accepted last in a turn, on all listeners together at most 64, and no
+-- more than places are free then; if none is free, at most half of the places change hands, or the
+-- only one.
 abbrev pub accept_count : ℕ → ℕ → ℕ
 accept_count free all = if free == 0 then min (max (all / 2) 1) socket_calls else min free socket_calls
 
 -- how many places there are, of this many that are asked for, if of this many descriptors that many are others': one
 -- more is kept for whoever comes when all places are taken
--- PLACES-1
+-- PLACES-1: Of the descriptors that the process may have, one is kept for a client that comes if
+-- all places are taken; there are no more places than that leaves, and at least one.
 abbrev pub place_count : ℕ → ℕ → ℕ → ℕ
 place_count asked descriptors others = max (min asked (descriptors - others - 1)) 1
 
 -- whether a connection is left for the next turn, after this many socket calls for it, and this many bytes written
--- TURN-2
+-- TURN-2: A connection is left for the next turn after 64 socket calls, or when 65,536 bytes were
+-- written to it.
 abbrev pub is_cut_off : ℕ → ℕ → Bool
 is_cut_off calls written = nat_le socket_calls calls || nat_le enough_written written
 
 -- in which round a connection is served that was left by the last turn or was not, by where it stands
--- TURN-3
+-- TURN-3: Connections that are owed bytes, and those that the last turn left, are served after the
+-- others: at most 8 in a turn, and the next turn begins with the first that was passed over.
 abbrev pub round_of : Bool → Standing → Round
 round_of true standing = Last
 round_of false Owing = Last

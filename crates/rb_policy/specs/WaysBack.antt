@@ -28,8 +28,8 @@ without number ways = record { most = ways.most; all = filter (λ w. not (is_of 
 
 -- ---- what follows
 
--- The end of a call goes out on the socket that was noted for it.
--- WAYBACK-1
+-- WAYBACK-1: The end of a forwarded call that came over UDP goes out on the socket on which the
+-- call came, which is noted by the call's number.
 abbrev pub EndsGoBack : Type 0
 EndsGoBack =
     (ways : Ways) (number socket : ℕ) → length ways.all < ways.most → socket_of number ways.all ≡ None

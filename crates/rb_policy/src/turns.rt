@@ -61,6 +61,8 @@ pub fn wait_of(
     }
 }
 
+// READ-2: A read that got less than it had room for is the last in a turn, unless the event shows
+// that the peer has ended what it sends.
 /// Whether a read that got this many bytes is followed by another: if it filled its room, or the peer may have ended
 /// what it sends, since no other event tells of that end. Else an event shows what arrives next.
 pub fn reads_on(count: usize, room: usize, may_end: bool) -> bool

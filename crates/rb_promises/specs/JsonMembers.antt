@@ -81,7 +81,8 @@ pub data AreNamesOf : Question → List (List ℕ) → Type 0 where
 
 -- An object and a line feed. However the grammar reads the object, its members have these names,
 -- in this order.
--- JSON-4
+-- JSON-4: With `--json` an object has the members of its kind and no others, in the order of the
+-- manual page, and no name twice.
 pub record HasMembers (names : List (List ℕ)) (line : List ℕ) : Type 0 where
   pub object : List ℕ
   pub is : line ≡ object ++ codes "\n"

@@ -67,8 +67,8 @@ change_if accepted change note l = (
 
 -- ---- SET (RPCBPROC_SET, PMAPPROC_SET)
 
--- version 2 names a transport by its protocol and an address by its port, at every host
--- SET-4
+-- SET-4: SET of version 2 needs protocol 6 or 17 and a port from 1 to 65,535; the row is at 0.0.0.0
+-- and that port.
 unfoldable pub row_of_mapping : Owner → Mapping → Option Row
 row_of_mapping owner m =
     if nat_le m.port 65535 then option_map on (transport_of_protocol m.prot) else None
@@ -76,8 +76,8 @@ row_of_mapping owner m =
     on : Transport → Row
     on transport = record { prog = m.prog; vers = m.vers; netid = netid_of transport; owner = owner; addr = text_of (V4 any_host m.port) }
 
--- the address is kept as it is given, and r_owner is ignored
--- SET-5
+-- SET-5: SET of an empty or unknown netid is FALSE; the address text is kept as it is given;
+-- r_owner is ignored.
 unfoldable pub row_of_rpcb : Owner → Rpcb → Option Row
 row_of_rpcb owner r = option_map on (netid_named r.netid)
   where
@@ -99,12 +99,13 @@ abbrev pub accepts : Context → List Row → ℕ → Row → Bool
 accepts context rows count row =
     comes_from_here context && can_be_set row && has_share context rows && has_place context.limit rows count row
 
--- SET-2
+-- SET-2: SET of a caller that may not register is FALSE.
 unfoldable pub accepts_row : Context → Ledger → Row → Bool
 accepts_row context l row = accepts context (rows_in l) (length l.changes) row
 
 -- A SET of the row that is asked for, if there is one: TRUE, the row added and the SET noted, else FALSE.
--- COUNT-1
+-- COUNT-1: Only SETs and UNSETs that answer TRUE are counted as such, in setinfo and unsetinfo of
+-- their version; as calls all are (COUNT-6).
 unfoldable pub set_row : Context → CallHead → Option Row → Ledger → Bool × Ledger
 set_row context head None l = (false, l)
 set_row context head (Some row) l = change_if (accepts_row context l row) (Added row) (WasSet (version_of head.vers)) l
@@ -129,15 +130,15 @@ adds context rows count (Some row) = accepts context rows count row
 unfoldable pub adds_row : Context → Call → List Row → ℕ → Bool
 adds_row context call rows count = adds context rows count (row_to_set context call)
 
--- a SET that is accepted needs room for its row
--- ROOM-1
+-- ROOM-1: A call needs room exactly if it is a SET that is accepted; if live rows fill the table no
+-- SET is.
 abbrev pub wants_room : Context → Call → Ledger → Bool
 wants_room context call l = adds_row context call (rows_in l) (length l.changes)
 
 -- ---- UNSET (RPCBPROC_UNSET, PMAPPROC_UNSET)
 
 -- a caller on this machine may remove some row by it
--- UNSET-3
+-- UNSET-3: UNSET of a caller that may not register is FALSE.
 unfoldable pub accepts_removal : Context → Ledger → Change → Bool
 accepts_removal context l removal = comes_from_here context && removes_some (rows_in l) (length l.changes) removal
 
@@ -156,7 +157,8 @@ unset_rows context head prog vers (Some which) l =
 -- ---- rows that are asked for
 
 -- the row's universal address as callers are told it: a host of its family stands in for 0.0.0.0 or ::
--- TOLD-2
+-- TOLD-2: GETADDR and GETVERSADDR tell a universal address with the host of TOLD-1, and the name of
+-- a local socket as it was set.
 unfoldable pub shown_address : Hosts → Row → Option Uaddr
 shown_address hosts row = option_map (merged_address hosts) (address_in row.netid row.addr)
 
@@ -184,7 +186,6 @@ shown_port row = option_map_or port_of (address_in row.netid row.addr) 0
 abbrev pub port_found : Option Row → ℕ
 port_found found = option_map_or shown_port found 0
 
--- the name of a local socket stays as it was set
 -- TOLD-2
 abbrev pub addr_told : Hosts → Row → List ℕ
 addr_told hosts row = option_map_or text_of (shown_address hosts row) row.addr
@@ -193,8 +194,9 @@ addr_told hosts row = option_map_or text_of (shown_address hosts row) row.addr
 abbrev pub addr_found : Hosts → Option Row → List ℕ
 addr_found hosts found = option_map_or (addr_told hosts) found []
 
--- a look-up of the target, in a call of this head, is noted with whether it found a row, if it counts
--- COUNT-3
+-- COUNT-3: GETPORT counts in its version a look-up by the transport of prot, GETADDR and
+-- GETVERSADDR one by the netid of the call: a success if a row was found. A GETPORT by another prot
+-- than 6 and 17 counts none, nor does a stranger's look-up except by COUNT-2.
 abbrev pub with_lookup : Context → CallHead → Target → Option Row → Ledger → Ledger
 with_lookup context head target found l =
     note_where (counts_look_up (who_of context.caller) target.vers found) (LookedUp (version_of head.vers) target (is_some found)) l
@@ -209,7 +211,9 @@ port_on context head m (Some transport) l =
     port_told context head (record { prog = m.prog; vers = m.vers; netid = netid_of transport }) (find_row m.prog m.vers (netid_of transport) (rows_in l)) l
 
 -- PMAPPROC_GETPORT: by the transport of prot; port is ignored. If prot is of none, nothing is looked up.
--- GETPORT-1 COUNT-3
+-- GETPORT-1: GETPORT goes by the transport of prot; it is 0 if there is no row, or prot is another
+-- one.
+-- COUNT-3
 unfoldable pub getport : Context → CallHead → Mapping → Ledger → ℕ × Ledger
 getport context head m l = port_on context head m (transport_of_protocol m.prot) l
 
@@ -227,24 +231,26 @@ text_found context head r found l =
     (addr_found (hosts_in context) found, with_lookup context head (target_of context r) found l)
 
 -- RPCBPROC_GETADDR
--- GETADDR-1 GETADDR-2 COUNT-3
+-- GETADDR-2: GETADDR without a row of the version gives the greatest one on that netid.
+-- GETADDR-1 COUNT-3
 unfoldable pub getaddr : Context → CallHead → Rpcb → Ledger → List ℕ × Ledger
 getaddr context head r l = text_found context head r (find_row r.prog r.vers (netid_asked context) (rows_in l)) l
 
 -- RPCBPROC_GETVERSADDR: the same, of the exact version alone
--- GETVERSADDR-1 COUNT-3
+-- GETVERSADDR-1: GETVERSADDR gives the exact version alone.
+-- COUNT-3
 unfoldable pub getversaddr : Context → CallHead → Rpcb → Ledger → List ℕ × Ledger
 getversaddr context head r l = text_found context head r (find_exact r.prog r.vers (netid_asked context) (rows_in l)) l
 
 -- ---- the rest
 
 -- whole seconds since the start of 1970, as far as an unsigned int goes
--- GETTIME-1
+-- GETTIME-1: GETTIME gives whole seconds, 2^32 - 1 if they are more.
 unfoldable pub seconds : ℕ → ℕ
 seconds clock = min (clock / 1000) (2 ^ 32 - 1)
 
--- empty if the text is no address
--- UADDR2TADDR-1
+-- UADDR2TADDR-1: UADDR2TADDR of a text that is no address gives an empty buf, TADDR2UADDR of a buf
+-- that is none the empty text.
 unfoldable pub taddr_of : List ℕ → Netbuf
 taddr_of text = let buf = option_map_or transport_of (parse text) [] in record { maxlen = length buf; buf = buf }
 
@@ -279,7 +285,8 @@ answer_void context voids.Getstat = results.Statistics
 -- What a call of this head that asks for this is answered, and what it leaves behind. SET, UNSET, the look-ups and
 -- calls that can't be forwarded note what they did. A call that is forwarded has its args in the bytes of the
 -- arguments, which count for nothing else.
--- UNSET-5 GETSTAT-1
+-- UNSET-5: UNSET of version 2 means tcp and udp; prot and port are ignored.
+-- GETSTAT-1: GETSTAT gives the statistics of versions 2, 3 and 4, of the calls so far.
 abbrev pub answer_to : Context → CallHead → Request → List ℕ → Ledger → Answer × Ledger
 answer_to context head (requests.Void procedure) arguments l = (answers.Results (answer_void context procedure), l)
 answer_to context head (requests.Mapping mappings.Set m) arguments l = tell_done values.Bool (set_row context head (row_of_mapping (owner_in context head) m) l)

@@ -64,7 +64,10 @@ abbrev pub own_local : Option (List ℕ) → List Row
 own_local None = []
 own_local (Some path) = own_pair netids.Local path
 
--- OWN-1
+-- OWN-1: A fresh registry has the daemon's own rows, owner superuser: if IPv6 is served versions 4
+-- and 3 on tcp6 and udp6, at `::` and the listener's port; if IPv4 is, versions 4, 3 and 2 on tcp
+-- and udp, at 0.0.0.0 and that port; if there is a local socket, versions 4 and 3 on local, at its
+-- path.
 unfoldable pub own_rows : Listener → List Row
 own_rows listener = inet6_rows listener ++ inet_rows listener ++ own_local listener.local
 
@@ -74,8 +77,8 @@ abbrev pub who_of : Caller → Who
 who_of (callers.Tcp id who) = who
 who_of (callers.Udp who longest) = who
 
--- the netid by which the call came
--- GETADDR-1
+-- GETADDR-1: GETADDR goes by the netid by which the call came: tcp or udp over IPv4, tcp6 or udp6
+-- over IPv6, local by the local socket; r_netid is ignored.
 abbrev pub netid_of_caller : Caller → Netid
 netid_of_caller (callers.Tcp id who) = netid_from transports.Tcp who.source
 netid_of_caller (callers.Udp who longest) = netid_from transports.Udp who.source
@@ -94,8 +97,8 @@ is_stranger who = is_of_a_stranger who.trust
 abbrev pub is_announced_as : List ℕ → Option (List ℕ) → Bool
 is_announced_as octets announced = option_map_or (λ own. bytes_eq octets own) announced false
 
--- by its address alone: 127.0.0.0/8, ::1, or the announced host of its family
--- REGISTER-1
+-- REGISTER-1: A caller of which nothing is known but its claims may register if its host is in
+-- 127.0.0.0/8, is ::1 or is the announced host of its family, or if it comes by the local socket.
 unfoldable pub is_local : Announced → Host → Bool
 is_local announced (hosts.V4 octets) = is_loopback (hosts.V4 octets) || is_announced_as octets announced.inet
 is_local announced (hosts.V6 octets) = is_loopback (hosts.V6 octets) || is_announced_as octets announced.inet6
@@ -106,7 +109,8 @@ is_here announced (sources.Inet peer) = is_local announced peer.host
 is_here announced sources.Local = true
 
 -- who claims to be of this machine has to be there by its address
--- REGISTER-2
+-- REGISTER-2: A caller that is known to be of this machine may register, wherever it comes from; a
+-- stranger may not, wherever it comes from.
 abbrev pub is_trusted : Announced → Source → Trust → Bool
 is_trusted announced source trusts.Claims = is_here announced source
 is_trusted announced source (trusts.Local owner) = true
@@ -120,8 +124,9 @@ abbrev pub owner_named : Credential → Owner
 owner_named credentials.None = Unknown
 owner_named (credentials.Sys uid) = Uid uid
 
--- whose owner is known is that owner, whatever the credential says
--- OWNER-1
+-- OWNER-1: A caller that is known to be of this machine registers as its owner, `unknown` too,
+-- whatever its credential says; one of which nothing is known but its claims as the uid of its
+-- AUTH_SYS credential, and without one as unknown.
 abbrev pub owner_of : Trust → Credential → Owner
 owner_of trusts.Claims cred = owner_named cred
 owner_of (trusts.Local owner) cred = owner
@@ -136,7 +141,8 @@ abbrev pub share_of : Owner → ℕ → ℕ
 share_of owner limit = if is_superuser owner then limit else limit - limit / 4
 
 -- how many rows there may be with the one that a caller sets
--- QUOTA-1
+-- QUOTA-1: The last quarter of the rows is for uid 0: if only that is left, a SET of a caller of
+-- another uid or of `unknown` is FALSE; one whose claims are believed may take all.
 abbrev pub share_by : Trust → ℕ → ℕ
 share_by trusts.Claims limit = limit
 share_by (trusts.Local owner) limit = share_of owner limit
@@ -154,9 +160,8 @@ announced_hosts announced = record {
   inet6 = option_map_or (λ host. host) announced.inet6 any_host6;
 }
 
--- In place of every host of a family a caller is told the host that it asked, if that is one of the family; else
--- the announced one.
--- TOLD-1
+-- TOLD-1: In place of 0.0.0.0 or `::` a caller is told the host that it asked, if that is one of
+-- the family, otherwise the announced host of the family; if there is none it stays.
 unfoldable pub hosts_told : Announced → Host → Hosts
 hosts_told announced (hosts.V4 asked) =
     record (announced_hosts announced) { inet = merged_host (announced_hosts announced).inet asked }
@@ -167,8 +172,7 @@ hosts_told announced (hosts.V6 asked) =
 abbrev pub hosts_in : Context → Hosts
 hosts_in context = hosts_told context.announced (who_of context.caller).asked
 
--- r_owner as DUMP shows it
--- DUMP-2
+-- DUMP-2: DUMP shows the owner as superuser (uid 0), the uid in decimal, or unknown.
 unfoldable pub owner_text : Owner → List ℕ
 owner_text Unknown = codes "unknown"
 owner_text (Uid uid) = if uid == 0 then codes "superuser" else decimal uid

@@ -95,7 +95,9 @@ pub record IsNotedOnce (l : Ledger) : Type 0 where
   pub falls_due : (clock : ℕ) → CountsOn uncounted_at_end (asked_so_far l) (fell_due clock l)
   pub is_dropped : (id : ℕ) → CountsOn uncounted_at_end (asked_so_far l) (caller_dropped id l)
 
--- Each call that asks for another is noted once, at its outcome; a stranger's only if it passed.
--- COUNT-5
+-- COUNT-5: Each forwarding call is counted once, at its outcome, a stranger's only if it passed: as
+-- a success if it passed, otherwise as a failure; by the version of its procedure, the program,
+-- version and procedure that it calls, and its caller's netid. Those of INDIRECT are counted as
+-- such too.
 abbrev pub ForwardsAreNotedOnce : Type 0
 ForwardsAreNotedOnce = (l : Ledger) → IsNotedOnce l

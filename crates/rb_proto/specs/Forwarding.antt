@@ -65,8 +65,8 @@ outcome_note kind caller prog vers proc passed =
 
 -- ---- where a call is forwarded
 
--- over IPv6 for a caller of IPv6, else over IPv4
--- CALLIT-2
+-- CALLIT-2: The row that CALLIT, BCAST and INDIRECT call is on udp6 for a caller of IPv6, on udp
+-- for any other.
 abbrev pub netid_to_forward : Source → Netid
 netid_to_forward (sources.Inet peer) = netid_on transports.Udp (family_of peer.host)
 netid_to_forward sources.Local = netids.Udp
@@ -92,9 +92,10 @@ peer_of_address (V6 host port) = peer_at (hosts.V6 host) port
 abbrev pub merged_peer : Hosts → Uaddr → Peer
 merged_peer hosts registered = peer_of_address (merged_address hosts registered)
 
--- What is asked at the registered address. In place of 0.0.0.0 the call goes to 127.0.0.1, in place of :: to ::1, and
--- the caller is shown the host that it is told.
--- CALLIT-3 CALLIT-4
+-- CALLIT-3: A forwarded call goes to the row's host and port, to 127.0.0.1 in place of 0.0.0.0 and
+-- to ::1 in place of `::`.
+-- CALLIT-4: The answer to a forwarded call shows the row's host and port as of the call, with the
+-- host that its caller is told in place of 0.0.0.0 or `::`.
 unfoldable pub forward_of : Context → ℕ → Kind → RemoteCall → Uaddr → Forward
 forward_of context xid kind remote registered = record {
   caller = context.caller;
@@ -109,8 +110,8 @@ forward_of context xid kind remote registered = record {
 
 -- ---- what its caller is told
 
--- INDIRECT answers a failure; CALLIT and BCAST are silent, as calls to all hosts have to be
--- CALLIT-6
+-- calls to all hosts have to be silent
+-- CALLIT-6: If forwarding fails INDIRECT answers with the failure; CALLIT and BCAST are silent.
 abbrev pub refusal : Kind → ReplyStatus → Answer
 refusal Callit2 status = answers.Silent
 refusal Callit3 status = answers.Silent
@@ -123,7 +124,9 @@ refuse context kind remote status l =
     (refusal kind status, note_where (counts_forward context.caller false) (outcome_note kind context.caller remote.prog remote.vers remote.proc false) l)
 
 -- a call of these arguments, to the registered address if there is one
--- CALLIT-5
+-- CALLIT-5: A call that must be forwarded and has a row has failed if there is no place among the
+-- forwarded calls or no number left for it: INDIRECT is answered SYSTEM_ERR, CALLIT and BCAST are
+-- silent (CALLIT-6). What is refused at once takes no number.
 abbrev pub forward_to : Context → ℕ → Kind → RemoteCall → List ℕ → Option Uaddr → Ledger → Answer × Ledger
 forward_to context xid kind remote args None l = refuse context kind remote replies.ProgUnavail l
 forward_to context xid kind remote args (Some registered) l =
@@ -138,7 +141,8 @@ if_may_go context remote (Some registered) =
     if may_go context remote (peer_of_address registered).host then Some registered else None
 
 -- where the call that is asked for goes, for this caller
--- CALLIT-1
+-- CALLIT-1: CALLIT, BCAST and INDIRECT call the live row of exactly the program and version, and
+-- never program 100000; without such a row the call is PROG_UNAVAIL.
 abbrev pub address_asked : Context → RemoteCall → List Row → Option Uaddr
 address_asked context remote rows =
     if_may_go context remote (address_to_forward (netid_to_forward (who_of context.caller).source) remote.prog remote.vers rows)
@@ -207,6 +211,7 @@ place_bytes Bcast shown = opaque (text_of (uaddr_at shown))
 place_bytes Indirect shown = opaque (text_of (uaddr_at shown))
 
 -- rpcb_rmtcallres (RFC 1833 section 2.1) or call_result (section 3.1)
--- CALLIT-10
+-- CALLIT-10: Results that passed stand after the port in version 2, and after the universal address
+-- in versions 3 and 4.
 unfoldable pub forwarded_bytes : Forward → List ℕ → List ℕ
 forwarded_bytes forward results = place_bytes forward.kind forward.shown ++ opaque results

@@ -31,7 +31,7 @@ rows_in l = live l.own l.changes
 -- ---- the history
 
 -- the version that counts a call (one of another number has no procedures)
--- COUNT-4
+-- COUNT-4: A call is counted in the version in which it was called.
 unfoldable pub version_of : ℕ → Version
 version_of vers = if vers == 2 then Two else if vers == 3 then Three else Four
 
@@ -48,7 +48,6 @@ abbrev pub notes_where : Bool → Note → List Note
 notes_where true note = note ∷ []
 notes_where false note = []
 
--- a call of a procedure that its version has is noted before it is answered, whether its arguments can be read or not
 -- COUNT-6
 unfoldable pub with_call_noted : CallHead → Ledger → Ledger
 with_call_noted head l = with_note (Called (version_of head.vers) head.proc) l

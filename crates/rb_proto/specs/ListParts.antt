@@ -61,6 +61,8 @@ pub record ContinuesAlike (old new : Registry) (r : ListReply) : Type 0 where
   pub rest : rest_of new r ≡ rest_of old r
 
 -- Whatever is called in between, the same is yet to be given, as long as the floor isn't above the reply's stamp.
--- LIST-3
+-- LIST-3: A list that is given in parts is the whole reply as of its call, its head included: no
+-- row is left out or given twice when a part ends in it, whatever is SET and UNSET in between,
+-- unless a SET closes its connection for room (EVICT-1).
 abbrev pub ListRepliesGoOn : Type 0
 ListRepliesGoOn = (old new : Registry) (r : ListReply) → GoesOn old new → new.floor ≤ r.stamp → CanBeContinued old r → ContinuesAlike old new r

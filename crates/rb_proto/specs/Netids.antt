@@ -10,8 +10,7 @@ use Rattle.rb_registry.specs.declared.row.Which.{Which}
 use Rattle.rb_registry.specs.declared.row.Which.TheVariants.{All, One}
 use Rattle.rb_address.specs.Netids.{netid_named, protocol_of}
 
--- the netids that UNSET means: every one if the name is empty
--- UNSET-4
+-- UNSET-4: UNSET with an empty netid means every netid; with an unknown one it is FALSE.
 unfoldable pub which_of : List ℕ → Option Which
 which_of [] = Some All
 which_of (c ∷ text) = option_map One (netid_named (c ∷ text))
@@ -56,7 +55,9 @@ proto_text Local = codes "-"
 
 -- The universal address of the netid's family that the text spells: of tcp and udp an IPv4 address, of tcp6 and udp6 an
 -- IPv6 address (RFC 5665 section 5.2.3). The address of a local socket is none.
--- SET-3
+-- SET-3: SET of program 100000 is FALSE, and of an address that may not be set on the netid: on tcp
+-- and udp an IPv4 address with a port, on tcp6 and udp6 an IPv6 address with one, on local any name
+-- of a local socket.
 unfoldable pub address_in : Netid → List ℕ → Option Uaddr
 address_in Tcp text = parse_ipv4 text
 address_in Udp text = parse_ipv4 text

@@ -50,8 +50,9 @@ removal_cost kept (Some which) = unset_cost kept which
 abbrev pub forwarding_cost : Books → ℕ → ℕ
 forwarding_cost books args = looks books.registry.limit + 3 + note_cost + forward_cost args
 
--- what a SET or an UNSET costs its caller: if that may not register, it is refused before anything is looked up
--- REGISTER-3
+-- what a SET or an UNSET costs its caller
+-- REGISTER-3: A SET or an UNSET of a caller that may not register is refused before anything is
+-- looked up.
 abbrev pub registering_cost : Bool → ℕ → ℕ
 registering_cost may cost = if may then cost else 0
 

@@ -36,8 +36,7 @@ value_bytes (values.Netbuf netbuf) = netbuf_spelling netbuf
 
 -- ---- lists of rows
 
--- version 2 shows tcp and udp alone
--- DUMP-3
+-- DUMP-3: DUMP of version 2 shows rows of tcp and udp alone, and of an address its port.
 abbrev pub is_inet : Row → Bool
 is_inet row = is_among row.netid Inet
 
@@ -48,12 +47,12 @@ is_version prog vers row = row.prog == prog && row.vers == vers
 abbrev pub mapping_of : Row → Mapping
 mapping_of row = record { prog = row.prog; vers = row.vers; prot = prot_on row.netid; port = shown_port row }
 
--- DUMP shows addresses as they were set
--- DUMP-1
+-- DUMP-1: DUMP shows each address as it was set, 0.0.0.0 too.
 abbrev pub rpcb_of : Row → Rpcb
 rpcb_of row = record { prog = row.prog; vers = row.vers; netid = netid_text row.netid; addr = row.addr; owner = owner_text row.owner }
 
--- GETADDRLIST-1
+-- GETADDRLIST-1: GETADDRLIST gives all rows of the program's version, each with the host of TOLD-1
+-- in place of 0.0.0.0 or `::`; any other text is shown as it was set.
 abbrev pub entry_of : Hosts → Row → Entry
 entry_of hosts row = record {
   maddr = shown_text hosts row;

@@ -21,9 +21,9 @@ open_terms = record { long_replies = true; forwarding = Anywhere }
 
 -- ---- for whom another call is made, and to what
 
--- programs that go by the host of who calls them, which would be this one: ypserv, ypbind, yppasswdd, and mountd but for
--- its procedure 0, which does nothing
--- CALLIT-8
+-- a program that goes by its caller's host would go by this one
+-- CALLIT-8: With `--forward-for` of `local` or `all` no program is called that goes by its caller's
+-- host: ypserv, ypbind, yppasswdd, and mountd except for its procedure 0.
 unfoldable pub goes_by_host : ℕ → ℕ → Bool
 goes_by_host prog proc = prog == 100004 || prog == 100007 || prog == 100009 || prog == 100005 && not (proc == 0)
 
@@ -31,8 +31,9 @@ abbrev pub is_any_host : Host → Bool
 is_any_host (V4 octets) = bytes_eq octets any_host
 is_any_host (V6 octets) = bytes_eq octets any_host6
 
--- every host of the listener, one of the loopback, an announced one, or the one that the caller asked
--- CALLIT-7
+-- CALLIT-7: With `--forward-for` of `local` or `all` a call goes to this host alone: to a row at
+-- every host, of the loopback, at an announced host, or at the host that its caller asked. Any
+-- other row counts as none: PROG_UNAVAIL.
 unfoldable pub is_this_host : Context → Host → Bool
 is_this_host context host =
     is_any_host host || is_local context.announced host || is_same_host host (who_of context.caller).asked
@@ -41,7 +42,8 @@ is_this_host context host =
 abbrev pub is_harmless : Context → RemoteCall → Host → Bool
 is_harmless context remote host = is_this_host context host && not (goes_by_host remote.prog remote.proc)
 
--- CALLIT-9
+-- CALLIT-9: With `--forward-for local` no call is made for a stranger: it is answered as if there
+-- were no row.
 abbrev pub may_go_by : Forwarding → Context → RemoteCall → Host → Bool
 may_go_by Anywhere context remote host = true
 may_go_by ForAll context remote host = is_harmless context remote host
@@ -59,9 +61,9 @@ abbrev pub is_exact : ℕ → Option Row → Bool
 is_exact vers None = false
 is_exact vers (Some row) = row.vers == vers
 
--- A look-up that found this counts. A stranger's counts only if what it names is registered, so that strangers bring
--- no other keys into the statistics.
--- COUNT-2
+-- COUNT-2: A stranger's look-up counts only if the row that is found is of exactly the version that
+-- it names, and its forwarded call only if it passed: so strangers bring no key of what is not
+-- registered.
 abbrev pub counts_look_up : Who → ℕ → Option Row → Bool
 counts_look_up who vers found = not (is_stranger who) || is_exact vers found
 

@@ -61,6 +61,7 @@ fn put_value(value: &Value, limit: usize, out: &mut Kept, meter: &mut Meter) -> 
     }
 }
 
+// PUT-1: Results that would be longer than the limit are refused whole, and nothing is put.
 /// Puts the rows that a list shows, and its end: all or nothing.
 fn put_rows(
     list: Listing,

@@ -24,8 +24,7 @@ use Rattle.rb_record.specs.Printing.{bytes_line, peer_line, output_text}
 abbrev pub who_line : List ℕ → Who → List ℕ → List ℕ
 who_line word who bytes = word ++ (who_text who ++ bytes_line (codes " ") bytes)
 
--- the line of an event
--- LINE-2
+-- LINE-2: An event is written as its line, without leading zeros and in lower case.
 abbrev pub event_text : Event → List ℕ
 event_text (Open now from) = codes "open " ++ (decimal now ++ (codes " " ++ (who_text from ++ codes "\n")))
 event_text (Bytes now id bytes) = codes "bytes " ++ (decimal now ++ (codes " " ++ (decimal id ++ bytes_line (codes " ") bytes)))
@@ -44,8 +43,7 @@ event_text ZeroStats = codes "zero\n"
 abbrev pub event_line : {B : Type 0} → (B → List ℕ) → event_type.Event B → List ℕ
 event_line bytes_of event = event_text (plain_event bytes_of event)
 
--- an event, and what it gave after `#> `
--- LINE-3
+-- LINE-3: What an event gave stands in the line below it, after `#> `.
 abbrev pub entry_text : Event → Output → List ℕ
 entry_text event output = event_text event ++ (codes "#> " ++ output_text output)
 
@@ -100,7 +98,7 @@ listener_text listener =
     ++ (codes " --port " ++ (decimal listener.port ++ (local_text listener.local ++ terms_text listener.terms))))
 
 -- the command that checks a record of a run from such an opening, in a comment
--- LINE-4
+-- LINE-4: The first line of a record is a comment with the command that checks it.
 abbrev pub options_text : Limits → Listener → ℕ → ℕ → List ℕ
 options_text limits listener first_xid now =
     codes "# rpcbind replay --check" ++ (limits_text limits ++ (listener_text listener

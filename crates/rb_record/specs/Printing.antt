@@ -43,8 +43,7 @@ source_line word source bytes = word ++ (source_text source ++ bytes_line (codes
 abbrev pub unsent_line : Unsent → List ℕ
 unsent_line unsent = codes "unsent " ++ (decimal unsent.number ++ peer_line (codes " ") unsent.target unsent.call)
 
--- the line of an output
--- LINE-1
+-- LINE-1: Each output is a line; no bytes are `-`.
 abbrev pub output_text : Output → List ℕ
 output_text (Replied bytes) = bytes_line (codes "reply ") bytes
 output_text Silent = codes "silent\n"

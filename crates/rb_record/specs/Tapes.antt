@@ -34,7 +34,7 @@ abbrev pub entry_fits : ℕ → List ℕ → List ℕ → Bool
 entry_fits limit text entry = nat_le (length text + length entry + length last_line) limit
 
 -- After a text and the first of these entries, this many, the next entry does not fit.
--- TAPE-3
+-- TAPE-3: An entry that fits, with the last line after it, ends no record.
 pub record IsFull (limit : ℕ) (text : List ℕ) (entries : List (List ℕ)) (count : ℕ) : Type 0 where
   pub next : List ℕ
   pub left : List (List ℕ)
@@ -49,7 +49,9 @@ pub record EndsWithin (limit : ℕ) (entries : List (List ℕ)) (old new : List 
 
 -- While the recording goes on, it went on before, and these entries are recorded after what was. It ends in front of the
 -- first entry that does not fit, and nowhere else. If it had ended, all stays. No byte is written out.
--- TAPE-1 TAPE-2
+-- TAPE-1: What a turn recorded is written at its end.
+-- TAPE-2: A record ends at its limit, in front of the event that would pass it, with a comment
+-- line; and at a fault of its file, which is said once. The daemon goes on.
 pub record Records (entries : List (List ℕ)) (old new : Tape) : Type 0 where
   pub on : new.is_on ≡ true → old.is_on ≡ true
   pub grows : new.is_on ≡ true → new.text ≡ old.text ++ concat entries

@@ -39,7 +39,9 @@ AreRanked [] = Unit {0}
 AreRanked (e ∷ rest) = (e.1.row.vers < 2 ^ 32) × AreRanked rest
 
 -- The index has the key of each live row under its rank, and no other. No two live rows have the same rank.
--- LOOKUP-3
+-- LOOKUP-3: Rows are looked for in an index of the live ones, by program, netid and version, and
+-- never walked for: two searches at most. A SET and an UNSET keep it: a SET costs two searches and
+-- a step for each live row at most, an UNSET as much for each netid that it names.
 pub record IsIndexed (entries : List (ℕ × Slot)) (index : List (ℕ × ℕ)) : Type 0 where
   pub ranked : AreRanked entries
   pub distinct : HasDistinctKeys (ranks entries)

@@ -65,7 +65,8 @@ abbrev pub retained_count : Registry → ℕ
 retained_count kept = length (removals_of kept)
 
 -- the rows after this many changes can be listed
--- RETAIN-2
+-- RETAIN-2: The rows of each stamp from the floor on can be listed. A trim raises the floor to the
+-- change that it names, at most to the last one; the floor never falls.
 pub record Reaches (kept : Registry) (stamp : ℕ) : Type 0 where
   pub from_floor : kept.floor ≤ stamp
   pub made : stamp ≤ kept.stamp

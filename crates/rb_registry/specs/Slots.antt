@@ -27,7 +27,8 @@ removed_by None oldest = false
 removed_by (Some removed) None = true
 removed_by (Some removed) (Some oldest) = nat_le removed oldest
 
--- RETAIN-1
+-- RETAIN-1: A removed row is retained until a trim drops it. A trim drops the retained rows that
+-- were removed by the change that it names or by one before it, and all of them if it names none.
 unfoldable pub is_dropped : Option ℕ → Slot → Bool
 is_dropped oldest slot = removed_by slot.removed oldest
 
@@ -56,7 +57,7 @@ slots_from floor own changes = filter (λ slot. not (is_dropped (Some floor) slo
 
 -- ---- what is held
 
--- the bytes of a row's address text count, and 32 for its fixed part
--- HELD-1
+-- HELD-1: Each row in the table, live or retained, counts as 32 bytes and those of its address
+-- text.
 abbrev pub held_in : List Slot → ℕ
 held_in slots = sum_by (λ (slot : Slot). 32 + length slot.row.addr) slots

@@ -103,14 +103,15 @@ pub record IsLeast (numbers : List ℕ) (least : ℕ) : Type 0 where
   pub all : All (λ number. least ≤ number) numbers
 
 -- of changes that removed rows, those after that one, or none if none is named
--- RETAIN-1 RETAIN-3
+-- RETAIN-3: A retained row stays until a trim says that it is no longer needed.
+-- RETAIN-1
 abbrev pub later_than : Option ℕ → List ℕ → List ℕ
 later_than oldest numbers = filter (λ number. not (removed_by (Some number) oldest)) numbers
 
 -- ---- what calls leave
 
--- the row may be set, and there is room for it beside the live and the retained rows
--- SET-1
+-- SET-1: A row is added unless a live row of its program, version and netid is there, or the live
+-- and the retained rows are as many as the limit.
 abbrev pub takes : Registry → Row → Bool
 takes kept row =
     has_place kept.limit (rows_of kept) kept.stamp row && nat_lt (length (rows_of kept) + retained_count kept) kept.limit

@@ -27,8 +27,8 @@ IsWalk stamp kept cursor [] = IsAtEnd kept stamp cursor
 IsWalk stamp kept cursor (Given next row ∷ later) = Gives kept stamp cursor next row × IsWalk stamp kept next later
 IsWalk stamp kept cursor (Changed new ∷ later) = GoesOn kept new × (new.floor ≤ stamp) × IsWalk stamp new cursor later
 
--- A whole walk for a stamp gives the rows that were live after this many changes, whatever is called on the way.
--- LIST-2
+-- LIST-2: A list for a stamp shows the rows that were live after that many changes, whatever is set
+-- and removed on the way, as long as no trim raises the floor above the stamp.
 abbrev pub WalksGiveRowsAsTheyWere : Type 0
 WalksGiveRowsAsTheyWere = (own : List Row) (changes : List Change) (kept : Registry) (stamp : ℕ) (cursor : Option ℕ) (steps : List WalkStep)
     → StandsForChanges kept own changes → StandsIn kept stamp cursor → rows_passed kept stamp cursor ≡ 0 → IsWalk stamp kept cursor steps

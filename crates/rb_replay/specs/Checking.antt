@@ -30,7 +30,8 @@ IsFrontOf some all = (rest : List (List ℕ)) × (all ≡ some ++ rest)
 
 -- This is the number of the first line at which the text and the outputs differ: the output lines before it are a front
 -- of those of the outputs, and with this line they are none.
--- CHECK-2
+-- CHECK-2: If an output differs from its line, the error message names the first line that says
+-- another output than the run gives there, or the first output that has no line, with status 1.
 pub record IsFirstOther (text : List ℕ) (outputs : List Output) (n : ℕ) : Type 0 where
   pub before : List (List ℕ)
   pub line : List ℕ
@@ -48,8 +49,9 @@ pub record IsLacking (text : List ℕ) (outputs : List Output) (n : ℕ) : Type 
   pub number : n ≡ length (output_lines_in text) + 1
   pub there : n ≤ length outputs
 
--- The text has output lines, and they are those of the outputs.
--- CHECK-1
+-- CHECK-1: With `--check` the lines that begin with `#> `, in their order, are compared with the
+-- outputs. Status 0 says that there are some, and that they are the lines of all outputs, or, if
+-- the last line is cut off (CHECK-3), of the first ones.
 pub record Agrees (text : List ℕ) (outputs : List Output) : Type 0 where
   pub same : output_lines_in text ≡ output_lines outputs
   pub some : 0 < length outputs
@@ -77,8 +79,8 @@ unfoldable pub whole_len : List ℕ → ℕ → ℕ
 whole_len text zero = 0
 whole_len text (suc n) = if slice_index text n == 10 then suc n else whole_len text n
 
--- what is checked of a text: all of it, but for a last line that no line feed ends, which is cut off
--- CHECK-3
+-- CHECK-3: With `--check` a last line that no line feed ends is left out, and if the rest agrees it
+-- is said that it is cut off; then outputs at the end may have no line.
 unfoldable pub whole_lines : List ℕ → List ℕ
 whole_lines text = if nat_lt longest_input (length text) then text else take (whole_len text (length text)) text
 
@@ -119,7 +121,7 @@ FindsAgreed beginning remaining reader contents old new =
     (a : Agreement) × IsAgreed beginning remaining reader a × BufWrites contents old new (agreement a)
 
 -- The input is no event lines, or has no output lines.
--- CHECK-4
+-- CHECK-4: An input without a line that begins with `#> ` cannot be checked: status 2.
 abbrev pub CannotBeChecked : List ℕ → Type 0
 CannotBeChecked input = IsRefused (read input) ⊎ (output_lines_in input ≡ [])
 

@@ -22,8 +22,7 @@ use Rattle.rb_lines.specs.Printing.{report_of, report, steps_line_if}
 use Rattle.rb_replay.specs.declared.running.Ran.{Ran}
 use Rattle.rb_replay.specs.Runs.{bound_shown}
 
--- the core with which a replay begins
--- REPLAY-1
+-- REPLAY-1: A replay begins with the limits, listener, xid and moment of its options.
 abbrev pub first_state : Beginning → State
 first_state beginning =
     opening beginning.limits beginning.listener beginning.first_xid beginning.moment
@@ -60,7 +59,8 @@ IsCoreFault beginning other = ⊥
 
 -- How a replay of a text that reads as this may fail: by what is wrong with the text, and if nothing is, by limits
 -- out of their ranges, by want of memory or by the writer.
--- REPLAY-2
+-- REPLAY-2: Limits out of their ranges end `replay` with status 1, once the lines were read, and a
+-- line says the first that is.
 abbrev pub IsReplayFault : Beginning → Fault → Result (List Event) ReadFault → Type 0
 IsReplayFault beginning NotText given = ⊥
 IsReplayFault beginning (Lines fault) given = Fails fault given
@@ -79,7 +79,8 @@ abbrev pub BufWrites : {W A : Type 0} → (W → Option (List ℕ)) → BufWrite
 BufWrites contents old new text = Writes (writer_contents contents) old new text
 
 -- how many steps the run of these events may take, or 2^128 - 1 if they are more
--- STEPS-6
+-- STEPS-6: With `--steps` the last line has the steps that the run took and its bound, at status 0
+-- alone.
 abbrev pub bound_of : Beginning → List Event → ℕ
 bound_of beginning events = bound_shown beginning.limits events (run (first_state beginning) events)
 
@@ -124,7 +125,7 @@ pub record AreCounted (beginning : Beginning) (taken : ℕ) (old now : Meter) : 
 
 -- The printed outputs of the run of these events were written, and, if it is asked for, how many steps the meter
 -- counted of the run, which are no more than they may be; and nothing else.
--- REPLAY-3
+-- REPLAY-3: Status 0 says that the output was written out.
 abbrev pub PrintsRun : {W A : Type 0} → Beginning → Meter → Meter → (W → Option (List ℕ))
     → BufWriter W A → BufWriter W A → Result (List Event) ReadFault → Type 0
 PrintsRun beginning before now contents old new (Ok events) =

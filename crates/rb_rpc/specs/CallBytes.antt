@@ -18,8 +18,8 @@ credential (credentials.Sys uid) = auth 1 (sys_body uid)
 abbrev pub call_words : CallHead → List ℕ
 call_words head = number head.xid ++ number 0 ++ number 2 ++ number head.prog ++ number head.vers ++ number head.proc
 
--- The head of a call as these programs write it: these words, the credential, and the null verifier.
--- CALL-4
+-- CALL-4: A call is written with RPC version 2, AUTH_NONE, or AUTH_SYS with stamp 0, an empty name,
+-- gid 0 and no gids, and the null verifier; what is written is read again.
 unfoldable pub call_bytes : CallHead → List ℕ
 call_bytes head = call_words head ++ credential head.cred ++ auth_none
 

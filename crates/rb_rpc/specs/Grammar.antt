@@ -48,7 +48,9 @@ pub record IsHead (head : CallHead) : Type 0 where
 -- ---- calls
 
 -- The bytes begin with a call of this head, which ends at the place: its words, a credential and a verifier.
--- CALL-3
+-- CALL-3: A message that CALL-1, CALL-2, RPCVERS-1, CRED and VERF do not refuse is a call. It is
+-- read as its words (xid, program, version and procedure), its credential (none, or the uid of
+-- AUTH_SYS), and the place after the verifier, where its arguments begin.
 pub record BeginsWithCall (head : CallHead) (place : ℕ) (bytes : List ℕ) : Type 0 where
   pub flavor : ℕ
   pub body : List ℕ
@@ -69,7 +71,8 @@ VerdictIsOfTheGrammar =
 -- ---- refusals, in their order
 
 -- The bytes begin with xid, CALL, and another version of RPC than 2.
--- RPCVERS-1
+-- RPCVERS-1: A call whose rpcvers is not 2 is answered RPC_MISMATCH, low 2, high 2, whatever
+-- follows the word of the version.
 pub record BeginsWithOtherVersion (xid : ℕ) (bytes : List ℕ) : Type 0 where
   pub version : ℕ
   pub rest : List ℕ
@@ -102,8 +105,8 @@ pub record HasLongCredential (xid : ℕ) (bytes : List ℕ) : Type 0 where
   pub words : BeginsWithWords xid rest bytes
   pub credential : BeginsOverLong rest
 
--- a call's words, a credential of any flavor, and a verifier that is over-long
--- VERF-1
+-- VERF-1: A verifier whose length word is there and over 400 is answered AUTH_ERROR AUTH_BADVERF,
+-- before the credential's flavor is checked.
 pub record HasLongVerifier (xid : ℕ) (bytes : List ℕ) : Type 0 where
   pub flavor : ℕ
   pub body : List ℕ
@@ -122,7 +125,8 @@ pub record HasAuths (xid flavor : ℕ) (body bytes : List ℕ) : Type 0 where
   pub words : BeginsWithWords xid (auth flavor body ++ (auth verifier_flavor verifier_body ++ rest)) bytes
 
 -- these, with a flavor that is neither AUTH_NONE nor AUTH_SYS
--- CRED-3
+-- CRED-3: A credential of another flavor than AUTH_NONE and AUTH_SYS is answered AUTH_ERROR
+-- AUTH_REJECTEDCRED, once its verifier was read.
 pub record HasOtherFlavor (xid : ℕ) (bytes : List ℕ) : Type 0 where
   pub flavor : ℕ
   pub body : List ℕ
@@ -175,7 +179,8 @@ IsReplyStatus GarbageArgs = ⊤
 IsReplyStatus SystemErr = ⊤
 
 -- The bytes begin with a reply that says this, with any verifier if it has one, and it ends at the place.
--- REPLY-2
+-- REPLY-2: A reply is read exactly if the bytes begin with one; its verifier may have any flavor
+-- and at most 400 bytes.
 pub record BeginsWithReply (xid : ℕ) (status : ReplyStatus) (place : ℕ) (bytes : List ℕ) : Type 0 where
   pub flavor : ℕ
   pub body : List ℕ

@@ -35,8 +35,9 @@ max_machine = 255
 abbrev pub max_gids : ℕ
 max_gids = 16
 
--- stamp, machinename<255>, uid, gid, gids<16>
--- CRED-4
+-- CRED-4: An AUTH_SYS credential is answered AUTH_ERROR AUTH_BADCRED unless its body begins with a
+-- stamp, a name of at most 255 bytes, uid, gid and at most 16 gids; bytes after these fields are
+-- ignored.
 unfoldable pub body_of_sys : List ℕ → Reading SysBody
 body_of_sys = do
   stamp ← read_number

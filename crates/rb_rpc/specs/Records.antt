@@ -12,7 +12,8 @@ pub record Fragment : Type 0 where
   pub content : List ℕ
 
 -- the highest bit is 1 in the last fragment, the low 31 bits are the length of the data
--- FRAGMENT-1
+-- FRAGMENT-1: A reply is marked in fragments of 1,024 bytes; the last has 1 to 1,024, and it alone
+-- has the flag.
 unfoldable pub fragment_header : ℕ → Bool → List ℕ
 fragment_header len last = number (if last then 2 ^ 31 + len else len)
 
@@ -45,12 +46,13 @@ record_of (suc k) bytes =
     else option_map (λ n. fragment_end bytes + n) (record_of k (drop (fragment_end bytes) bytes))
 
 -- The least n such that the first n bytes are a marked record, if any.
--- RECORD-1
+-- RECORD-1: A record is its fragments up to the first whose highest header bit is 1; the low 31
+-- bits are the fragment's length, which may be 0.
 unfoldable pub first_record : List ℕ → Option ℕ
 first_record bytes = record_of (length bytes) bytes
 
--- the data of the first record, if that is one fragment and whole
--- RECORD-5
+-- RECORD-5: `one_fragment` gives the data of the first record of bytes if that is one fragment and
+-- whole.
 abbrev pub one_fragment : List ℕ → Option (List ℕ)
 one_fragment bytes =
     if is_cut bytes then None
@@ -64,7 +66,7 @@ data_in (suc k) bytes =
     else slice_range bytes 4 (fragment_end bytes) ++ data_in k (drop (fragment_end bytes) bytes)
 
 -- The data of the marked record that the bytes begin with, as far as the bytes go.
--- RECORD-2
+-- RECORD-2: The data of a record is that of its fragments joined; headers are no data.
 unfoldable pub data_of : List ℕ → List ℕ
 data_of bytes = data_in (length bytes) bytes
 

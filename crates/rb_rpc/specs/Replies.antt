@@ -25,8 +25,8 @@ reply_with verifier xid SystemErr = accepted_reply xid verifier 5
 reply_with verifier xid (RpcMismatch low high) = rejected_reply xid 0 ++ number low ++ number high
 reply_with verifier xid (AuthError stat) = rejected_reply xid 1 ++ number (auth_stat_number stat)
 
--- the daemon's verifier is AUTH_NONE, empty
--- REPLY-1
+-- REPLY-1: A reply's head is written whole, with its status, or nothing is; the verifier of an
+-- accepted one is AUTH_NONE, empty.
 unfoldable pub reply_head : ℕ → ReplyStatus → List ℕ
 reply_head xid status = reply_with auth_none xid status
 

@@ -10,7 +10,7 @@ use Rattle.rb_rpc.specs.declared.marks.Marks.{Marks}
 use Rattle.rb_rpc.specs.Marks.{StandsForFed}
 
 -- how many bytes of the fragment's data are still to come; none before its header ends
--- RECORD-4
+-- RECORD-4: A run of a fragment's data is taken as far as the piece and the fragment go.
 abbrev pub data_left : Place → ℕ
 data_left (Header seen number) = 0
 data_left (Data left last) = left
@@ -36,7 +36,8 @@ more_data bytes true read = record { contents = read.contents ++ (read.unfinishe
 more_data bytes false read = record { contents = read.contents; unfinished = read.unfinished ++ bytes }
 
 -- The reader was fed these bytes since it was new, and this is the data of their marked records and of the rest.
--- RECORD-3
+-- RECORD-3: For all bytes since it was made, a reader of records gives the data and the ends of the
+-- stream's records, and the data of the unfinished rest.
 pub record StandsForStream (marks : Marks) (bytes : List ℕ) (read : RecordData) : Type 0 where
   pub rest : List ℕ
   pub records : Records bytes read.contents rest

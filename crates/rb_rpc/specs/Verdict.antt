@@ -20,13 +20,15 @@ body_length place bytes = number_at (place + 4) bytes
 unfoldable pub auth_end : ℕ → List ℕ → ℕ
 auth_end place bytes = body_at place + body_length place bytes + residue (body_length place bytes)
 
--- the length word is there and over 400
--- CRED-1
+-- CRED-1: A credential whose length word is there and over 400 is answered AUTH_ERROR AUTH_BADCRED,
+-- whatever follows.
 unfoldable pub is_over_long : ℕ → List ℕ → Bool
 is_over_long place bytes = not (nat_lt (length bytes) (body_at place)) && nat_lt max_auth_body (body_length place bytes)
 
--- cut short, or a residual byte is not zero
--- CRED-2 VERF-2
+-- CRED-2: A credential that is cut short, or has a residual byte that is not zero, makes it no
+-- call.
+-- VERF-2: A verifier that is cut short, or has a residual byte that is not zero, makes it no call;
+-- any flavor is taken.
 unfoldable pub is_broken : ℕ → List ℕ → Bool
 is_broken place bytes =
     nat_lt (length bytes) (auth_end place bytes)
@@ -70,7 +72,9 @@ head_of bytes = record {
 }
 
 -- The first line that holds decides.
--- CALL-1 RPCVERS-1 CALL-2 VERF-1 CRED-3 CALL-3 FEED-1
+-- CALL-1: A message of fewer than 12 bytes, or whose mtype is not CALL, is no call.
+-- CALL-2: A call of version 2 that is cut short within its six words is no call.
+-- RPCVERS-1 VERF-1 CRED-3 CALL-3 FEED-1
 unfoldable pub verdict : List ℕ → Verdict
 verdict bytes =
     if nat_lt (length bytes) 12 || not (word 1 bytes == 0) then NoCall

@@ -27,7 +27,7 @@ abbrev pub of_portmapper : ℕ → Procedure → ℕ × ℕ × ℕ
 of_portmapper vers procedure = (100000, vers, unwrap_or (number_of vers procedure) 0)
 
 -- program, version and procedure
--- QUESTION-1
+-- QUESTION-1: What is asked is a procedure of the table, by its number there.
 abbrev pub procedure_of : Question → ℕ × ℕ × ℕ
 procedure_of Rows = of_portmapper 3 (Void voids.Dump)
 procedure_of Short = of_portmapper 3 (Void voids.Dump)
@@ -61,12 +61,12 @@ rpcb_arguments netid prog vers = rpcb_spelling (rpcb_of netid prog vers)
 abbrev pub mapping_of : ℕ → ℕ → ℕ → Mapping
 mapping_of prot prog vers = record { prog = prog; vers = vers; prot = prot; port = 0 }
 
--- procedure 0 of a program's version, with arguments of no bytes
--- QUESTION-2
+-- QUESTION-2: `-b` asks CALLIT of version 2 for procedure 0 of the program, with arguments of no
+-- bytes.
 abbrev pub callit_arguments : ℕ → ℕ → List ℕ
 callit_arguments prog vers = (number prog ++ number vers) ++ (number 0 ++ number 0)
 
--- QUESTION-3
+-- QUESTION-3: UNSET names the netid of `-T`, and none without it.
 abbrev pub arguments_of : Question → List ℕ
 arguments_of Rows = []
 arguments_of Short = []

@@ -66,6 +66,6 @@ tell_version form vers = take_one read_version >>= λ n. tell_counts form vers n
 abbrev pub total : ℕ × ℕ → ℕ × ℕ → ℕ × ℕ → ℕ
 total a b c = a.0 + a.1 + b.0 + b.1 + c.0 + c.1
 
--- SHOW-4
+-- SHOW-4: What GETSTAT gives is shown as versions 2, 3 and 4, in this order.
 unfoldable pub tell_statistics : Form → Teller Shown
 tell_statistics form = tell_version form 2 >>= λ a. tell_version form 3 >>= λ b. tell_version form 4 >>= λ c. give (Statistics (total a b c))

@@ -9,8 +9,8 @@ hex_digit n = if nat_lt n 10 then 48 + n else 87 + n
 abbrev pub code_escape : ℕ → List ℕ
 code_escape b = codes "\\u00" ++ (hex_digit (b / 16) ∷ hex_digit (b % 16) ∷ [])
 
--- a quotation mark and a backslash stand after a backslash, and what is no printable ASCII character is written by its number
--- JSON-1
+-- JSON-1: In a text of JSON a quotation mark and a backslash have a backslash before them, and a
+-- byte that is no printable ASCII character is written by its number, as `\u00XX`.
 abbrev pub escaped_byte : ℕ → List ℕ
 escaped_byte b =
     if b == 34 then codes "\\\""

@@ -23,7 +23,7 @@ name_text (Some name) = shown_text name
 name_text None = codes "-"
 
 -- what stands after the columns of a line that speaks of a program
--- SHOW-8
+-- SHOW-8: With names each line of a list ends in the name of its own program, or `-`.
 abbrev pub line_end : Form → ℕ → List ℕ
 line_end Plain prog = codes "\n"
 line_end Json prog = codes "\n"

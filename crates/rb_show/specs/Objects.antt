@@ -21,7 +21,7 @@ place_members netid addr = codes "\"netid\":" ++ (json_text netid ++ (codes ",\"
 abbrev pub row_members : ℕ → ℕ → List ℕ → List ℕ → List ℕ
 row_members prog vers netid addr = program_members prog vers ++ (codes "," ++ place_members netid addr)
 
--- JSON-2
+-- JSON-2: With `--json` each line is an object with all that the columns have.
 abbrev pub row_object : Rpcb → List ℕ
 row_object r = codes "{" ++ (row_members r.prog r.vers r.netid r.addr ++ (codes ",\"owner\":" ++ (json_text r.owner ++ codes "}\n")))
 

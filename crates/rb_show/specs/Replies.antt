@@ -64,8 +64,8 @@ tell_table form = if is_json form then tell_list read_mapping (mapping_line form
 unfoldable pub tell_port : Teller Shown
 tell_port = take_one read_number >>= λ port. give (shown.Port port)
 
--- The address that a text is. An empty text says that there is none.
--- SHOW-7
+-- SHOW-7: An empty text from GETADDR says that there is no address; another text that is no address
+-- is unreadable.
 abbrev pub address_in : List ℕ → Option (Option Uaddr)
 address_in [] = Some None
 address_in (b ∷ text) = option_map (λ address. Some address) (parse (b ∷ text))
@@ -119,16 +119,15 @@ is_success statuses.SystemErr = false
 is_success (statuses.RpcMismatch low high) = false
 is_success (statuses.AuthError stat) = false
 
--- SHOW-2
+-- SHOW-2: A refused call shows nothing.
 abbrev pub by_status : Form → Question → ReplyHead → Teller Shown
 by_status form question head = if is_success head.status then tell_results form question else stop (Refused head)
 
--- a reply by another xid answers another call
--- SHOW-1
+-- SHOW-1: The xid of a reply is that of its call.
 unfoldable pub by_head : Form → Question → ℕ → ReplyHead → Teller Shown
 by_head form question xid head = if head.xid == xid then by_status form question head else stop Unreadable
 
--- SHOW-3
+-- SHOW-3: A reply that can be read is shown.
 unfoldable pub tell_reply : Ask → Form → ℕ → Teller Shown
 tell_reply ask form xid = take_head >>= by_head form ask.question xid
 

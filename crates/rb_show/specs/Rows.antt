@@ -13,8 +13,8 @@ itself r = r
 abbrev pub address_of_port : ℕ → List ℕ
 address_of_port port = codes "0.0.0.0." ++ (decimal (port / 256) ++ (codes "." ++ decimal (port % 256)))
 
--- A mapping of version 2 stands for a row on its port of every host, whose owner is not known.
--- SHOW-6
+-- SHOW-6: A mapping of version 2 is the row at 0.0.0.0 and its port, with the owner `unknown`, if
+-- rows are asked for.
 abbrev pub mapping_row : Mapping → Rpcb
 mapping_row m = record {
   prog = m.prog;

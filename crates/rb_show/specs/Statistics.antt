@@ -74,7 +74,7 @@ max_addr = max_number + max_number + max_number + max_number + max_opaque 32
 abbrev pub addr_form : Form
 addr_form = Then Number (Then Number (Then Number (Then Number (Content 32))))
 
--- SHOW-5
+-- SHOW-5: A netid of the statistics has at most 32 bytes.
 unfoldable pub read_addr : Reader AddrStat
 read_addr = do
   prog ← read_number

@@ -40,8 +40,8 @@ borrowed_texts texts = map (λ text. text.now) texts
 abbrev pub add_program : List ℕ → ShownRow → List ℕ
 add_program seen row = if list_any (λ prog. prog == row.prog) seen then seen else seen ++ row.prog ∷ []
 
--- the programs, each once, in the order in which they appear
--- SUMMARY-1
+-- SUMMARY-1: A summary has a line for each program, in the order in which they appear, and is
+-- printed once the last row was read.
 abbrev pub programs_of : List ShownRow → List ℕ
 programs_of rows = fold add_program [] rows
 
@@ -52,8 +52,8 @@ add_version prog seen row = if row.prog == prog && not (list_any (λ vers. vers 
 abbrev pub AddsVersion : ℕ → ShownRow → List ℕ → List ℕ → Type 0
 AddsVersion prog row old new = new ≡ add_version prog old row
 
--- the versions of a program, each once, the one that appears last first
--- SUMMARY-2
+-- SUMMARY-2: A program's line in a summary has its own versions and netids, each once, in the
+-- reverse order of their first appearance.
 abbrev pub versions_of : List ShownRow → ℕ → List ℕ
 versions_of rows prog = fold (add_version prog) [] rows
 
@@ -73,8 +73,7 @@ abbrev pub owner_in : Option ShownRow → List ℕ
 owner_in (Some row) = row.owner
 owner_in None = []
 
--- the owner of its first row
--- SUMMARY-3
+-- SUMMARY-3: A program's owner in a summary is that of its first row.
 abbrev pub owner_of : List ShownRow → ℕ → List ℕ
 owner_of rows prog = owner_in (find (λ row. row.prog == prog) rows)
 

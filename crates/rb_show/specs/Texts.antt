@@ -16,8 +16,8 @@ HasBytes bytes text = string_bytes text ≡ bytes
 abbrev pub shown_byte : ℕ → ℕ
 shown_byte b = if nat_le 33 b && nat_le b 126 then b else 63
 
--- an empty text is shown as `-`
--- SHOW-9
+-- SHOW-9: An empty text is shown as `-`, and a byte that is no printable character of ASCII, or a
+-- space, as `?`.
 abbrev pub shown_text : List ℕ → List ℕ
 shown_text [] = codes "-"
 shown_text (b ∷ text) = map shown_byte (b ∷ text)

@@ -11,7 +11,8 @@ family_at key = if key == 1025 then Inet6 else Inet
 
 -- below 1024 the place of a connection, below 2048 a socket for forwarded calls, below 4096 one where datagrams come in,
 -- and from there on a listener
--- TOKEN-1
+-- TOKEN-1: The token of a socket has a key by which an event shows that socket; a place of a
+-- connection has its number as key.
 abbrev pub shown_by : ℕ → Shown
 shown_by key =
     if nat_lt key 1024 then Connection key

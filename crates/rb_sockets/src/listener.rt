@@ -71,6 +71,8 @@ impl Listener {
         }
     }
 
+    // ASKED-2: A connection over TCP asked the host of its own end, also if the listener has every
+    // host; one on the local socket asked none.
     /// A connection, and whose it is when these networks are served. One that is nobody's must be closed.
     pub fn accept(&self, networks: &[Network]) -> io::Result<(Stream, Option<Visitor>)> {
         match self {

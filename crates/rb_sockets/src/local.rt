@@ -16,6 +16,7 @@ use std::os::unix::fs::{FileTypeExt, PermissionsExt};
 use std::os::unix::net::{SocketAddr, SocketAddrExt};
 use std::{fs, io};
 
+// LOCAL-4: The file of the local socket has the mode that is given.
 /// Listens on the local socket, in a file of its mode, and says where its callers come in. A socket that nobody listens
 /// on any more is removed first. It is root's if its mode lets in root alone, and the one with which the system made
 /// the file did too: otherwise somebody may have come in before its mode was set.

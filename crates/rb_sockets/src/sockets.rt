@@ -193,6 +193,7 @@ impl Sockets {
         }
     }
 
+    // ACCEPT-4: Each turn begins to accept at another listener.
     /// The number of the listener that comes at this place in a turn.
     pub fn nth_listener(&self, turn: u64, place: usize) -> usize {
         match self.listeners.len() {

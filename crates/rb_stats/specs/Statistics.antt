@@ -28,7 +28,7 @@ abbrev pub greatest_int : ℕ
 greatest_int = 2 ^ 31 - 1
 
 -- how many pass the test, as far as an int goes
--- STAT-2
+-- STAT-2: Each count stops at 2^31 - 1.
 unfoldable pub number_of : {A : Type 0} → (A → Bool) → List A → ℕ
 number_of test xs = min (count_by test xs) greatest_int
 
@@ -61,7 +61,8 @@ is_proc None None = true
 is_proc (Some a) (Some b) = a == b
 is_proc _ _ = false
 
--- STAT-4
+-- STAT-4: Look-ups are counted by version, program, its version and netid; forwarded calls by the
+-- procedure that is called too.
 unfoldable pub is_key : Key → Key → Bool
 is_key a b = is_version a.version b.version && is_target a.target b.target && is_proc a.proc b.proc
 
@@ -94,8 +95,7 @@ abbrev pub distinct_keys : List Key → List Key
 distinct_keys [] = []
 distinct_keys (key ∷ keys) = key ∷ filter (λ other. not (is_key key other)) (distinct_keys keys)
 
--- a list has the first 32 keys
--- STAT-3
+-- STAT-3: Each list of a version has the first 32 keys; later keys are not counted.
 abbrev pub greatest_list : ℕ
 greatest_list = 32
 
@@ -108,7 +108,8 @@ abbrev pub one_more : ℕ → ℕ
 one_more n = min (n + 1) greatest_int
 
 -- a key with its numbers: how often it passed, failed, and came by INDIRECT
--- STAT-5
+-- STAT-5: A look-up without a row and a forwarded call that failed count as failures; a forwarded
+-- call by INDIRECT is counted as such too.
 abbrev pub item_of : List Count → Key → Item
 item_of counts key = record {
   key = key;
@@ -133,7 +134,8 @@ pub record Stat : Type 0 where
 abbrev pub procedures : List ℕ
 procedures = 0 ∷ 1 ∷ 2 ∷ 3 ∷ 4 ∷ 5 ∷ 6 ∷ 7 ∷ 8 ∷ 9 ∷ 10 ∷ 11 ∷ 12 ∷ []
 
--- STAT-1
+-- STAT-1: A call of procedures 0 to 12 that is noted is counted in its version, whatever its
+-- arguments.
 unfoldable pub stat : Version → List Note → Stat
 stat version notes = record {
   info = map (λ proc. number_of (is_call version proc) notes) procedures;
@@ -167,6 +169,7 @@ unfoldable pub stat_spelling : Stat → List ℕ
 stat_spelling s = words s.info ++ (number s.setinfo ++ (number s.unsetinfo ++ (linked_list item_spelling s.addrinfo ++ linked_list item_spelling s.rmtinfo)))
 
 -- rpcb_stat_byvers: versions 2, 3 and 4
--- STAT-6
+-- STAT-6: Statistics are written with both lists of each version, or refused whole if they would be
+-- longer than the limit.
 unfoldable pub statistics : List Note → List ℕ
 statistics notes = stat_spelling (stat Two notes) ++ (stat_spelling (stat Three notes) ++ stat_spelling (stat Four notes))

@@ -18,7 +18,7 @@ pub record SameFrame (old new : Stats) : Type 0 where
   pub tie : new.tie ≡ old.tie
 
 -- Statistics that keep this stand for these calls.
--- STAT-7
+-- STAT-7: When statistics begin anew, nothing was called, and no key is left.
 pub record StandsForHistory (kept : Stats) (notes : List Note) : Type 0 where
   pub two : kept.two ≡ stat Two notes
   pub three : kept.three ≡ stat Three notes
@@ -29,7 +29,7 @@ abbrev pub stat_len : Stat → ℕ
 stat_len s = length s.addrinfo + length s.rmtinfo
 
 -- the number of all keys
--- HELD-2
+-- HELD-2: Each key of a list counts as 48 bytes.
 abbrev pub key_count : Stats → ℕ
 key_count kept = stat_len kept.two + stat_len kept.three + stat_len kept.four
 

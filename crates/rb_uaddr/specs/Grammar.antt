@@ -10,9 +10,8 @@ use Rattle.rb_uaddr.specs.declared.address.Uaddr.TheVariants.{V4, V6}
 use Rattle.rb_uaddr.specs.declared.address.Hosts.{Hosts}
 use Rattle.rb_uaddr.specs.Uaddr.{IsBytes, IsUaddr, any_host, any_host6, dot, ipv6_host_text, parse, text_of, merged_address, is_local_text, transport_of, from_transport}
 
--- `h1.h2.h3.h4.p1.p2`: six numbers from 0 to 255 in decimal without leading zeros, with a dot between each two.
--- The first four are the host, and the port is 256·p1 + p2.
--- UADDR-1
+-- UADDR-1: An IPv4 address is `h1.h2.h3.h4.p1.p2`, six decimal numbers from 0 to 255 without
+-- leading zeros; the port is 256·p1 + p2.
 pub record SpellsV4 (host : List ℕ) (port : ℕ) (text : List ℕ) : Type 0 where
   pub p1 : ℕ
   pub p2 : ℕ
@@ -61,7 +60,9 @@ SpellsHost host text = SpellsInFull host text ⊎ SpellsShortened host text
 
 -- `x1:x2:x3:x4:x5:x6:x7:x8.p1.p2` or the same with `::`: the host's text, and two numbers from 0 to 255 in decimal without leading zeros,
 -- with a dot before each. The port is 256·p1 + p2.
--- UADDR-2
+-- UADDR-2: An IPv6 address is read as eight groups of one to four hexadecimal digits of either case
+-- with colons between them, or at most seven and one `::` for those that are missing, and `.p1.p2`.
+-- A host that ends in an IPv4 address, or has a zone, is none.
 pub record SpellsV6 (host : List ℕ) (port : ℕ) (text : List ℕ) : Type 0 where
   pub host_text : List ℕ
   pub p1 : ℕ
@@ -108,7 +109,9 @@ pub record PrintsInFull (groups text : List ℕ) : Type 0 where
   pub no_run : (start : ℕ) → ¬ (IsZeroRun groups start 2)
   pub text_is : text ≡ printed_groups groups
 
--- UADDR-3
+-- UADDR-3: An IPv6 host is printed in lower case without leading zeros, always in groups, and its
+-- longest run of at least two zero groups as `::`, the first of several that are as long (RFC 5952
+-- section 4).
 abbrev pub PrintsHost : List ℕ → List ℕ → Type 0
 PrintsHost host text = PrintsShortened (segments_of host) text ⊎ PrintsInFull (segments_of host) text
 
@@ -184,8 +187,8 @@ TransportIsRead = (u : Uaddr) → IsUaddr u → from_transport (transport_of u) 
 abbrev pub TransportIsAddress : Type 0
 TransportIsAddress = (form : List ℕ) (u : Uaddr) → All (λ b. b < 256) form → from_transport form ≡ Some u → IsUaddr u
 
--- The host of its family stands in for 0.0.0.0 and for ::, and for no other host; the port stays.
--- MERGE-1
+-- MERGE-1: `merge` puts the host of its family in place of 0.0.0.0 and of `::`, and of no other;
+-- the port stays.
 pub record MergesAnyHost : Type 0 where
   pub replaced : (hosts : Hosts) (port : ℕ) → merged_address hosts (V4 any_host port) ≡ V4 hosts.inet port
   pub kept : (hosts : Hosts) (own : List ℕ) (port : ℕ) → own ≢ any_host → merged_address hosts (V4 own port) ≡ V4 own port

@@ -89,7 +89,8 @@ ipv6_of_parts _ = None
 unfoldable pub parts_of : List ℕ → List (List ℕ)
 parts_of text = slice_split (λ b. b == dot) text
 
--- UADDR-4
+-- UADDR-4: The text of an address is kept as it was given, beside the universal address that it
+-- spells, if it spells one.
 unfoldable pub parse_ipv4 : List ℕ → Option Uaddr
 parse_ipv4 text = ipv4_of_parts (parts_of text)
 
@@ -102,8 +103,7 @@ parse_ipv6 text = ipv6_of_parts (parts_of text)
 unfoldable pub parse : List ℕ → Option Uaddr
 parse text = option_or (parse_ipv4 text) (parse_ipv6 text)
 
--- 1 to 128 bytes, none of them zero: what the address of a local socket may be
--- UADDR-5
+-- UADDR-5: The name of a local socket is any text of 1 to 128 bytes, none of them zero.
 unfoldable pub is_local_text : List ℕ → Bool
 is_local_text text = nat_lt 0 (length text) && nat_le (length text) 128 && not (list_any (λ b. b == 0) text)
 
@@ -125,8 +125,9 @@ merged_address hosts (V6 own port) = V6 (merged_host6 hosts.inet6 own) port
 
 -- ---- the transport form, which RFC 1833 section 2.1 leaves open
 
--- The family, 2 for IPv4 and 10 for IPv6, a zero, the port and the host, and zeros: eight after an IPv4 host, four on each side of an IPv6 host.
--- TADDR-1
+-- TADDR-1: The transport form of an IPv4 address is 16 bytes: 2, 0, the port, the host, and eight
+-- zeros; of an IPv6 address 28: 10, 0, the port, four zeros, the host, four zeros. If a form is
+-- read these eight may be any bytes.
 unfoldable pub transport_of : Uaddr → List ℕ
 transport_of (V4 host port) = 2 ∷ 0 ∷ port_bytes port ++ host ++ replicate 8 0
 transport_of (V6 host port) = 10 ∷ 0 ∷ port_bytes port ++ replicate 4 0 ++ host ++ replicate 4 0

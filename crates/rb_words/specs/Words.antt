@@ -44,8 +44,7 @@ abbrev pub ◌>>=◌ : {A B : Type 0} → Result A Refusal → (A → Result B R
 (Ok x) >>= f = f x
 (Err refusal) >>= f = Err refusal
 
--- at most one flag
--- WORDS-5
+-- WORDS-5: There is at most one flag.
 abbrev pub flag_of : List Flag → Result (Option Flag) Refusal
 flag_of [] = Ok None
 flag_of (flag ∷ []) = Ok (Some flag)
@@ -74,8 +73,7 @@ word_number i wanted (Some text) = or_refusal (spots.Word i) wanted (number_in 0
 abbrev pub number_at : List (Bor (List ℕ)) → ℕ → Expected → Result ℕ Refusal
 number_at words i wanted = word_number i wanted (slice_get words i)
 
--- the program of this number, or of this name
--- WORDS-2
+-- WORDS-2: A program is a number, or else a name of the file.
 abbrev pub program_of : List Service → List ℕ → Option ℕ
 program_of services text = option_or (number_in 0 4294967295 text) (number_of services text)
 
@@ -169,8 +167,7 @@ abbrev pub option_netid : Option (Bor (List ℕ)) → Result (Option Netid) Refu
 option_netid None = Ok None
 option_netid (Some text) = some_or_refusal spots.Netid wants.Netid (netid_named text.now)
 
--- the universal address of `-a` (RFC 5665 section 5.2.3)
--- WORDS-10
+-- WORDS-10: The address of `-a` is a universal address.
 abbrev pub option_address : Option (Bor (List ℕ)) → Result (Option Uaddr) Refusal
 option_address None = Ok None
 option_address (Some text) = some_or_refusal spots.Address wants.Address (parse text.now)
@@ -211,7 +208,8 @@ delete_plan shape = do
 abbrev pub broadcast_plan : Shape → Result Plan Refusal
 broadcast_plan shape = program_and_version shape >>= λ program. Ok (Broadcast program.0 program.1)
 
--- WORDS-6 WORDS-7
+-- WORDS-6: A form has its own words, and no more.
+-- WORDS-7: `-t` and `-u` call over their own transport.
 abbrev pub plan_of : Option Flag → Shape → Result Plan Refusal
 plan_of None shape = without_flag shape
 plan_of (Some flags.Table) shape = show_plan listings.Table shape.words.now
@@ -248,7 +246,7 @@ has_address None netid = netid
 has_address (Some flag) netid = false
 
 -- each option that is given is one that the flag has
--- WORDS-1
+-- WORDS-1: `--broadcast` goes with `-b` alone.
 abbrev pub check_options : Option Flag → Shape → Result (Unit {0}) Refusal
 check_options flag shape = do
   _ ← only_where (is_some shape.target) (is_ping flag) spots.Target wants.Ping
@@ -283,8 +281,8 @@ has_layout (Ping way prog vers) layout = false
 has_layout (Delete netid prog vers) layout = false
 has_layout (Broadcast prog vers) layout = false
 
--- at most one layout, and one that the plan has
--- WORDS-3
+-- WORDS-3: `--names` goes with the rows, `-p`, `-s` and `-l` alone, `--json` with the rows, `-p`,
+-- `-l` and `-m` alone, and at most one of them is asked for.
 abbrev pub layout_of : List Layout → Plan → Result (Option Layout) Refusal
 layout_of [] plan = Ok None
 layout_of (layout ∷ []) plan = if has_layout plan layout then Ok (Some layout) else refusal_at (spots.Layout layout) (wanted_with layout)
@@ -293,7 +291,9 @@ layout_of (layout ∷ second ∷ layouts) plan = refusal_at (spots.Layout second
 -- ---- all of it
 
 -- the portmapper's port is 111 if none is given
--- WORDS-4 WORDS-8 WORDS-9
+-- WORDS-4: Ports are 1 to 65535, other numbers 0 to 4294967295.
+-- WORDS-8: What is asked is asked as the user of `--uid`.
+-- WORDS-9: What can't be read is named, with what is expected.
 abbrev pub request_of : Shape → Result Request Refusal
 request_of shape = do
   flag ← flag_of shape.flags.now

@@ -19,7 +19,9 @@ extent (Err fault) = Err fault
 -- What is read of a form, without its value. Short comes for fewer than four bytes of a number or a bool, BadBool for a
 -- bool above 1; of opaque data Short for the count, then TooLong, then Short for content and residual bytes, then
 -- BadPadding. Of fields the first with a fault decides.
--- XDR-4
+-- XDR-4: The first fault from the left is the one that is named. Of opaque data a missing count
+-- comes first, then a count over the limit, then missing content or residual bytes, then a residual
+-- byte that is not zero.
 abbrev pub extent_of : Form → Reader ⊤
 extent_of Number = λ bytes. extent (read_number bytes)
 extent_of Flag = λ bytes. extent (read_bool bytes)

@@ -23,7 +23,9 @@ count_upto number [] = 0
 count_upto number (e ∷ rest) = if nat_le e.0 number then count_upto number rest + 1 else 0
 
 -- the last of them that is at most that number, with its key
--- SEARCH-1
+-- SEARCH-1: Numbers in rising order are searched by halves, to the end each time: a step for each
+-- look, at most k + 1 among 2^k numbers. A number that is put among them or taken from them moves
+-- each greater one, a step for each, and one for itself.
 abbrev pub last_upto : ℕ → List (ℕ × ℕ) → Option (ℕ × ℕ)
 last_upto number [] = None
 last_upto number (e ∷ rest) = if nat_le e.0 number then Some (unwrap_or (last_upto number rest) e) else None

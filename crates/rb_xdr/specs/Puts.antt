@@ -15,7 +15,8 @@ abbrev pub Leaves : List ℕ → ℕ → Option ℕ → Type 0
 Leaves bytes room result = MatchOption result (room < length bytes) (λ left. left + length bytes ≡ room)
 
 -- The bytes are put if the buffer then has at most `limit` bytes. Else they are refused, and it stays as it was.
--- XDR-5 PUT-1
+-- XDR-5: What does not fit is refused whole, and the buffer stays as it was.
+-- PUT-1
 pub record Puts {A E : Type 0} (bytes : List ℕ) (limit : ℕ) (old new : Kept) (result : Result A E) : Type 0 where
   pub room : IsOk result ↔ (length old.bytes + length bytes ≤ limit)
   pub ok : OnOk result (Appends bytes old new)

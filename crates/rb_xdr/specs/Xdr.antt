@@ -91,7 +91,7 @@ refuse fault = λ bytes. Err fault
 unfoldable pub read_number : Reader ℕ
 read_number bytes = if nat_lt (length bytes) 4 then Err Short else Ok (number_at 0 bytes, 4)
 
--- XDR-2
+-- XDR-2: A bool is 0 or 1; another number is unreadable.
 unfoldable pub read_bool : Reader Bool
 read_bool = do
   n ← read_number
@@ -105,7 +105,8 @@ read_content count bytes =
     else Err BadPadding
 
 -- opaque data or a string of at most this many bytes
--- XDR-1 XDR-3
+-- XDR-1: A residual byte that is not zero makes an item unreadable.
+-- XDR-3: A count over the limit of its type is unreadable, whatever follows it.
 unfoldable pub read_opaque : ℕ → Reader (List ℕ)
 read_opaque limit = do
   count ← read_number

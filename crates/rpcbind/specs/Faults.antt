@@ -34,7 +34,8 @@ HasWritten {E} contents old text = (front : E) × Appends (contents old) (conten
 -- If all was written: the lines of the fault, and nothing else. Of a socket its line is the last, and the step that failed
 -- was written at some time, with the address or path. The system's word for the error stands between: nothing is known of
 -- it, so nothing ties the two.
--- FAULT-3
+-- FAULT-3: If the daemon ends by a step that failed, it writes `rpcbind: ` and that step, of a bind
+-- with its address or the path of the local socket; the last line is `rpcbind: socket failed`.
 abbrev pub TellsFault : {E : Type 0} → Settings → (E → Option (List ℕ)) → E → E → Ending → DaemonFault → Type 0
 TellsFault s contents old new ending (Memory error) = Says contents old new ending (fault_line NoMemory)
 TellsFault s contents old new ending OfLimits = Says contents old new ending (fault_lines s.limits (listener_of s) BadLimits)

@@ -24,8 +24,9 @@ abbrev pub local_line : Option LocalSocket → List ℕ
 local_line None = []
 local_line (Some local) = codes "rpcbind: listening on " ++ local.path.now ++ codes "\n"
 
--- the lines of the hosts, in their order, of ::1 and of the local socket
--- START-1
+-- START-1: A start says where the daemon listens, a line for each address in their order, one for
+-- ::1 if that is also bound, and one for the local socket; and before that, on standard error,
+-- which host clients over UDP are told that is no address.
 abbrev pub start_text : Settings → List ℕ
 start_text s =
     flat_map (host_line s.port) s.bind
@@ -39,8 +40,8 @@ start_text s =
 abbrev pub unannounced_line : Host → List ℕ
 unannounced_line host = codes "rpcbind: no --announce: clients over UDP will be told " ++ bare_host_text host
 
--- if the limit of open files leaves fewer places than are asked for
--- START-2
+-- START-2: If the limit of open files leaves fewer places than were asked for, a line at the start
+-- says so, with both numbers.
 abbrev pub shortage_line : Shortage → List ℕ
 shortage_line short =
     codes "rpcbind: the limit of open files is " ++ decimal short.limit ++ codes ", --conns " ++ decimal short.asked

@@ -28,6 +28,8 @@ impl<F: Write + Drop> Recorder<F> {
     }
 }
 
+// TAPE-5: The file of a record is made once all sockets are bound, and before the daemon says where
+// it listens; its owner alone may read it.
 /// Makes the file at the path, if there is one. If it can't be made it is said why, and the error is the exit status.
 pub fn make_record<R: Files, E: Write>(
     rt: &R,

@@ -30,6 +30,7 @@ where
     }
 }
 
+// KEEP-10: Kept rows are read, and asked, before anything listens.
 /// A daemon that has the rows that were kept, which are read before anything listens; those that it has not are said.
 fn begin<'a, R, E>(rt: &'a R, serve: &Serve<'_>, faults: &mut E) -> Result<Daemon<'a, R>, u8>
 where

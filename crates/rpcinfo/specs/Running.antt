@@ -27,7 +27,7 @@ OfInput plan Holds = OfSource (plan_question plan) Holds
 
 -- If the words name standard input and its text is known, the answer is what the reply in it tells. Of an answer
 -- over sockets nothing is said.
--- INPUT-1
+-- INPUT-1: With `-` the question of the words is answered from the text.
 abbrev pub Answers : {I O : Type 0} → (I → Option (List ℕ)) → (O → Option (List ℕ)) → Invocation → I → O → O → Result Shown Fault → Type 0
 Answers remaining contents words input output output' answer =
     OfInput words.request.plan (λ question. Asks remaining contents words question input output output' answer)
@@ -60,7 +60,8 @@ abbrev pub EndsSaying : {E : Type 0} → (E → Option (List ℕ)) → E → E �
 EndsSaying contents faults faults' ending = ((ending.status ≡ 1) × IsExplained contents faults faults' ending) ⊎ (ending.status ≡ 2)
 
 -- How it ends without words that were read: by help, by a fault, or by words that can't be read.
--- STATUS-5
+-- STATUS-5: Words that can't be read end the command with status 2; nothing is read of standard
+-- input, and nothing written to the output.
 pub record EndsUnread {O E : Type 0} (contents : E → Option (List ℕ)) (output output' : O) (faults faults' : E) (ending : Ending) : Type 0 where
   pub status : ending.status ≤ 2
   pub quiet : ending.status ≡ 0 → faults' ≡ faults
