@@ -1,7 +1,7 @@
 mod Inputs
 mod HexTexts
 mod Written
-mod Asked
+mod AddressesInOrder
 mod Several
 mod ObjectTexts
 pub mod Flushes

@@ -1,4 +1,4 @@
-use Rattle.rb_plans.proofs.Asked.{up_to, all}
+use Rattle.rb_plans.proofs.AddressesInOrder.{up_to, all}
 use Rattle.rb_plans.proofs.laws.addresses_are_asked_in_order.Goals as goal
 
 pub returns : goal.returns
