@@ -1,6 +1,7 @@
 # Sourced by run-rows.sh: what rpcinfo's forms ask over sockets, of the built daemon, of tests/programs.py and where nobody
 # listens. What it makes of replies on standard input is in rows.sh.
 
+# UNANSWERED-2 UNANSWERED-3 STATUS-1
 # Nobody listens on port 20199.
 run_rpcinfo_of_nobody() {
     echo 'rpcinfo: no connection' > "$work/wanted"
@@ -16,6 +17,7 @@ run_rpcinfo_of_nobody() {
     judge $? "rpcinfo where no socket is"
 }
 
+# ADDRESS-1
 # A host is there, and has no address of the netid's family.
 run_rpcinfo_of_other_family() {
     echo 'rpcinfo: the host has no IPv6 address' > "$work/wanted"
@@ -83,6 +85,7 @@ ask_programs() {
     judge $? "rpcinfo of programs: $1"
 }
 
+# WORDS-7 COURSE-2 COURSE-4 COURSE-5 COURSE-6 COURSE-8 COURSE-9 COURSE-11 COURSE-12 UNANSWERED-3
 # Each version has its line, whatever those before it did. 127.0.0.2 is a host of its own: nobody listens there else, and
 # an address of every host or of the loopback that is told there is called there.
 run_rpcinfo_of_programs() {
@@ -117,6 +120,7 @@ run_rpcinfo_of_programs() {
     wait "$programs" 2> /dev/null
 }
 
+# WORDS-8 STATUS-2
 # -d removes what is named, and no more, if the user is the row's owner: of one netid or of all, over TCP and on the
 # local socket. --uid says who asks, which counts if claims are believed.
 run_rpcinfo_removes() {

@@ -224,6 +224,7 @@ run_keep_at_other_starts() {
     judge $? "three turns of a daemon that keeps its rows"
 }
 
+# KEEP-6 DATA-1
 # As many rows as there may be, with the longest addresses, of root, of nobody known and of others.
 run_keep_of_most_rows() {
     local file=$work/rows-most
@@ -294,6 +295,7 @@ refuses_line() {
     refuses "$2" "line 3: $fault"
 }
 
+# KEEP-4 KEEP-10
 # Lines that are no event, and events that set no row as it is kept: another version's SET, another procedure, caller, number,
 # verifier or owner, and other events.
 run_keep_of_other_lines() {
@@ -332,6 +334,7 @@ END
     refuses "a line that is cut off within a byte" 'line 1: bad event'
 }
 
+# KEEP-6
 # At most 4,096 lines of rows, and 16,777,216 bytes.
 run_keep_of_long_files() {
     local file=$work/rows-long
@@ -342,6 +345,7 @@ run_keep_of_long_files() {
     refuses "more bytes than are read" 'too long'
 }
 
+# FILE-2
 # A file that is no plain file, or that another user than root and the daemon's own may have written.
 run_keep_in_the_way() {
     local file=$work/rows-kept kept=$work/rows-kept mode
@@ -527,6 +531,7 @@ run_keep_on_full_device() {
 
 # ---- rows whose programs have gone
 
+# KEEPCHECK-1 KEEPCHECK-2
 # Of rows of this host on tcp, udp, tcp6 and udp6 those are left out, and said, at whose port nobody answers a call; whoever
 # answers anything stays, and so does who is not asked. The ports are 78 times 256 and 60 to 67.
 run_keep_check() {

@@ -19,6 +19,7 @@ serve_and_ask() {
     got=$?
 }
 
+# LINE-2 LINE-3 LINE-4 TAPE-1 TAPE-4 TAPE-5
 # A daemon that records is asked, over TCP and UDP; its record, of all that it was asked, agrees with a replay.
 run_record() {
     local file=$work/record check
@@ -42,6 +43,7 @@ run_record() {
     judge $? "a record that is cut in its last line"
 }
 
+# EVENT-3
 # A call that comes in three pieces is three events, and its reply two: nothing else is asked of the core. Each piece is sent
 # once the one before is in the record.
 run_call_in_pieces() {
@@ -64,6 +66,7 @@ run_call_in_pieces() {
     judge $? "a call in three pieces is five events"
 }
 
+# TAPE-2
 # At its limit a record ends with a comment line, and what stands before agrees. At a fault of its file it ends, which is
 # said once. A file that can't be made ends the program.
 run_record_that_ends() {
@@ -88,6 +91,7 @@ run_record_that_ends() {
     judge $? "a record whose file can't be made"
 }
 
+# FILE-1
 # A file of another kind at the path of a record stays as it is, and the daemon does not start: it follows no link, and does
 # not wait for somebody who reads a FIFO.
 run_record_in_the_way() {
@@ -103,6 +107,7 @@ run_record_in_the_way() {
     done
 }
 
+# TAPE-5
 # A daemon whose port is in use leaves the record of the other.
 run_record_of_another() {
     local file=$work/another daemon
@@ -134,6 +139,7 @@ await_rest() {
     return 1
 }
 
+# WAIT-4
 # A daemon of which nobody asks anything makes no system call: it is on no processor in two seconds, and records nothing.
 # Then it answers, and its connection that is idle wakes it no more often.
 run_idle_daemon() {
@@ -188,6 +194,7 @@ await_lines() {
     return 1
 }
 
+# LOG-2
 # With --log changes the daemon tells of each SET and UNSET, accepted and refused, and of nothing else; a line break in a
 # netid is shown as `?`.
 run_log_of_changes() {

@@ -21,12 +21,18 @@ check_proofs_by_hand() {
     judge $? "proofs by hand other than those of the meter's token"
 }
 
-# Each name that the documents give is one of the repository's, and each rule of docs/RULES.md has its tag beside its
-# definition and a row, a test or an edit.
+# Each name that the documents give is one of the repository's.
 check_names() {
     tests/check-names.py > "$work/names"
-    judge $? "names, code of others and tags of rules that stand nowhere or elsewhere: $(grep -vc ' passed, ' "$work/names")"
+    judge $? "names and code of others that stand nowhere: $(grep -vc ' passed, ' "$work/names")"
     grep -v ' passed, ' "$work/names"
+}
+
+# docs/RULES.md is what the comments make it, and each rule has a row, a test or an edit, or a reason why it has none.
+check_rules() {
+    tests/make-rules.py --check > "$work/rules"
+    judge $? "comments of rules, or docs/RULES.md: $(wc -l < "$work/rules")"
+    cat "$work/rules"
 }
 
 # tests/row.py makes events from words: those of the example as they stand, and in the rows those below their words.
@@ -82,5 +88,6 @@ check_repository() {
     check_proofs_by_hand
     check_crates_are_named
     check_names
+    check_rules
     check_words
 }

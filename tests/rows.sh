@@ -181,6 +181,7 @@ run_rpcinfo_rows() {
 
 # ---- inputs of replay that are made here
 
+# LINE-12
 # The input has at most 16,777,216 bytes: that many are read, and of one more no event is run.
 run_longest_inputs() {
     head -c 16777216 /dev/zero | tr '\0' '\n' > "$work/events"
@@ -203,6 +204,7 @@ run_many_events() {
     judge $? "250,001 events"
 }
 
+# WORD-2
 # A word that is no text can't be read.
 run_word_without_text() {
     echo lost > "$work/events"
@@ -212,6 +214,7 @@ run_word_without_text() {
     judge $? "a word that is no text"
 }
 
+# REPLAY-3
 # Status 0 says that the output was written out.
 run_full_device() {
     echo 'rpcbind: write failed' > "$work/wanted"
@@ -282,6 +285,7 @@ long_dump() {
     printf '00000000'
 }
 
+# ITEM-1
 # At most 4,096 rows are shown: one more is too many, and the lines before it stand.
 run_rpcinfo_longest_lists() {
     { echo '   program   vers proto  port'; yes '         7      1 udp    2049' | head -n 4096; } > "$work/table"
@@ -296,6 +300,7 @@ run_rpcinfo_longest_lists() {
     judge $? "rpcinfo: 4,097 rows"
 }
 
+# HEX-2
 # A text has at most 67,108,864 bytes: one more is not read, whatever it holds.
 run_rpcinfo_longest_texts() {
     local base=tests/rows-rpcinfo/rpcinfo_port_table
@@ -310,6 +315,7 @@ run_rpcinfo_longest_texts() {
     judge $? "rpcinfo: a text of 67,108,865 bytes"
 }
 
+# DATA-2
 # Empty fragments without end: 16,777,216 bytes are read, and that no more are is another fault than that no more are there.
 run_rpcinfo_endless_reply() {
     echo 'rpcinfo: read failed' > "$work/wanted"
@@ -319,6 +325,7 @@ run_rpcinfo_endless_reply() {
     judge $? "rpcinfo: a record that goes on behind 16,777,216 bytes"
 }
 
+# DATA-3
 run_rpcinfo_long_reply_cut_off() {
     echo 'rpcinfo: unreadable reply' > "$work/wanted"
     yes 00000000 | head -n 4194303 > "$work/events"
@@ -327,6 +334,7 @@ run_rpcinfo_long_reply_cut_off() {
     judge $? "rpcinfo: a record that is cut off before"
 }
 
+# STATUS-3
 # A word that is no text can't be read.
 run_rpcinfo_word_without_text() {
     echo 'rpcinfo: a word is no text' > "$work/wanted"

@@ -18,6 +18,7 @@ asked_are() {
     same "$work/wanted-answers" "$work/answers" answers
 }
 
+# ACCEPT-1 ACCEPT-2 LISTENER-1
 # If no descriptor is left for a client that comes, it waits until there is one, though nothing else comes; calls over
 # UDP are answered meanwhile, and the fault is said once.
 run_without_descriptors() {
@@ -42,6 +43,7 @@ run_without_descriptors() {
     wait "$client" "$daemon" 2> /dev/null
 }
 
+# TABLES-6
 # Connections from this host that come at once wait for a reading of the system's tables, each 20 milliseconds after the one
 # before, though nothing else comes.
 run_connections_at_once() {
@@ -139,6 +141,7 @@ callers_of_networks() {
     return $bad
 }
 
+# FROM-1
 run_callers_of_networks() {
     if [ "$(id -u)" -ne 0 ] || ! unshare --net true 2> /dev/null || ! command -v ip > /dev/null; then
         echo "callers of other networks are not tried: that wants root, unshare and ip"

@@ -1,6 +1,7 @@
 # Sourced by run-rows.sh: starts of the built daemon, with what it says of them: its listeners, words that it takes and
 # refuses, limits, what is in its way, and the help of rpcbind.
 
+# SETTING-1
 # The daemon says where it listens, and ends after its turns.
 run_three_turns() {
     echo 'rpcbind: listening on 127.0.0.1 port 20112' > "$work/wanted"
@@ -9,6 +10,7 @@ run_three_turns() {
     judge $? "three turns of the daemon"
 }
 
+# LOCAL-4 SETTING-1 OPTION-3 OPTION-4 START-1
 # It says so of each address, of [::1] and of the local socket, whose file has the mode that is given. The second start
 # finds the file of the first, which nobody listens on any more.
 run_all_listeners() {
@@ -24,6 +26,7 @@ run_all_listeners() {
     judge $bad "a daemon on all listeners, twice"
 }
 
+# START-2
 # If the limit of open files is less than the connections need, there are fewer of them, and that is said.
 run_few_descriptors() {
     local needed places
@@ -36,6 +39,7 @@ run_few_descriptors() {
     judge $? "a daemon with few descriptors"
 }
 
+# LOCAL-1 FAULT-3
 # A file that is no socket stays.
 run_file_in_the_way() {
     local file=$work/in-the-way
@@ -46,6 +50,7 @@ run_file_in_the_way() {
     judge $? "a file in the way of the local socket"
 }
 
+# FAULT-2
 # Which limit is out of its range, and what is expected.
 run_daemon_with_bad_limits() {
     local option value wanted
@@ -61,6 +66,7 @@ forwards 65 0 to 64
 END
 }
 
+# FAULT-3
 # 192.0.2.1 is no address of this machine.
 run_daemon_elsewhere() {
     printf 'rpcbind: %s\n' 'bind TCP 192.0.2.1:20112: Cannot assign requested address (os error 99)' 'socket failed' \
@@ -70,6 +76,7 @@ run_daemon_elsewhere() {
     judge $? "a daemon at an address that is not there"
 }
 
+# START-1
 # Clients from elsewhere can make nothing of 0.0.0.0.
 run_daemon_without_announce() {
     echo 'rpcbind: listening on 0.0.0.0 port 20112' > "$work/wanted"
@@ -84,6 +91,7 @@ run_daemon_without_announce() {
     judge $? "a daemon at :: that announces nothing else"
 }
 
+# WORD-1 KEEP-8 KEEP-9 OPTION-2 OPTION-3 OPTION-5 OPTION-6 OPTION-7 OPTION-8 OPTION-9
 # Words of `serve` that can't be read: the value, the option, and what is expected.
 run_bad_words_of_serve() {
     local option value wanted words
@@ -144,6 +152,7 @@ END
     judge $? "the rows are to be kept in the file of the record"
 }
 
+# OPTION-5
 # Sixteen networks, of both families, with a host alone among them.
 run_daemon_of_networks() {
     local words

@@ -291,6 +291,7 @@ def why_not():
         sleeper.wait()
 
 
+# RECEIVE-1 TURN-5
 def run_faults(names):
     """Runs the faults of these names, or of these calls, or all if there is no name; how many passed, and failed."""
     faults = [(name, error) for name, error in FAULTS if not names or {name, f"{name}_{error}", "faults"} & set(names)]

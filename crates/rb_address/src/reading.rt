@@ -35,6 +35,7 @@ fn with_digit(n: u64, digit: u32) -> Option<u64>
     n.checked_mul(10)?.checked_add(u64::from(digit))
 }
 
+// LINE-6
 /// A number of 64 bits in decimal digits, leading zeros allowed. A sign is no digit.
 #[tactic(auto, unfolding(crate::specs::Reading::number_below))]
 pub fn number_below(text: &[u8]) -> Option<u64>

@@ -122,6 +122,7 @@ impl Procedure {
             .map(|row| row.2)
     }
 
+    // ARGS-1
     /// What the bytes ask of the procedure, `None` if its arguments can't be read. Bytes after them count for nothing.
     #[tactic(auto, unfolding(crate::specs::Arguments::arguments))]
     pub fn read(self, bytes: &[u8]) -> Option<Request<'_>>

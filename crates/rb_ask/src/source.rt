@@ -38,6 +38,7 @@ impl<'a> HeldBytes<'a> {
 impl ByteSource for HeldBytes<'_> {
     ghost left = { λ held. record { bytes = Some held.rest.now; can_fail = false } };
 
+    // DATA-4
     fn next_byte(&mut self) -> Result<Option<u8>, SourceFailed> {
         match self.rest.split_first() {
             Some((byte, rest)) => {

@@ -56,7 +56,7 @@ pub struct Giving {
 }
 
 /// Names each field, so that a further one does not compile until it stands here. It belongs in the table of
-/// charges of docs/RULES.md first.
+/// charges of crates/rb_core/README.md first.
 fn layout(giving: &Giving) {
     let Giving { rest, place, last } = *giving;
     let _: (usize, bool) = (place, last);
@@ -180,6 +180,7 @@ fn write_held(
     write_part(data, last, Rest::Held(end), room, window, meter)
 }
 
+// LIST-5
 /// Writes the next fragment of a list to `room`, or else puts it in the window. It is made in `draft`, empty before
 /// and after.
 #[tactic(auto, unfolding(rb_model::specs::Connections::longest_fragment, rb_model::specs::Calls::longest_kept, crate::specs::StandsFor::buffer_size, rb_model::specs::Calls::longest_reply))]
@@ -321,6 +322,7 @@ pub fn write_fragments(
     }
 }
 
+// EXCHANGE-2
 /// Writes a reply of one fragment, with its header, to `room`, if that has place for the longest fragment, and
 /// empties its buffer. Returns the number of bytes written, 0 if nothing was.
 #[tactic(auto, unfolding(rb_model::specs::Connections::longest_fragment))]

@@ -13,7 +13,7 @@ pub struct Hints {
 }
 
 /// Names each field, so that a further one does not compile until it stands here. It belongs in the table of
-/// charges of docs/RULES.md first.
+/// charges of crates/rb_core/README.md first.
 fn layout(hints: &Hints) {
     let Hints { keys } = *hints;
     let _: [u8; 256] = keys;

@@ -22,7 +22,7 @@ pub struct Reader {
 }
 
 /// Names each field, so that a further one does not compile until it stands here. It belongs in the table of
-/// charges of docs/RULES.md first.
+/// charges of crates/rb_core/README.md first.
 fn layout(reader: &Reader) {
     let Reader { marks, head } = *reader;
     let _: (Marks, CallFeed) = (marks, head);

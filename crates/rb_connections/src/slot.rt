@@ -102,7 +102,7 @@ pub struct Buffers {
 }
 
 /// Names each field, so that a further one does not compile until it stands here. It belongs in the table of
-/// charges of docs/RULES.md first.
+/// charges of crates/rb_core/README.md first.
 fn layout(slot: &Slot, spare: &Buffers) {
     let Slot {
         number,
@@ -298,6 +298,7 @@ impl Slot {
         Some(self.who)
     }
 
+    // SINCE-1
     /// Takes the bytes of the piece up to the end of a record, or all, and returns the verdict on a record that
     /// ended. Its arguments go into `arguments`, which is swapped for the connection's buffer. Nothing is taken while
     /// a reply is owed or awaited. From the end of a record on, the connection is Idle until it is settled.

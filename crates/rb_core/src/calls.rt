@@ -161,6 +161,7 @@ fn note(seen: &mut Option<Seen>, context: &Context, message: &Message, is_accept
     }
 }
 
+// EXCHANGE-2
 /// Writes the reply into `room`, with its header, if it is one fragment and `room` has place for the longest, and
 /// then empties its buffer. Returns the number of bytes written, 0 if nothing was.
 pub fn write_at_once(served: Served, draft: &mut Kept, room: &mut [u8], meter: &mut Meter) -> usize

@@ -49,7 +49,7 @@ pub struct Core {
 // CHARGE-1: A core keeps its bytes in pools, buffers and the index of rows alone, beside the fields
 // of the table of charges.
 /// Names each field, so that a further one does not compile until it stands here. It belongs in the table of
-/// charges of docs/RULES.md first.
+/// charges of crates/rb_core/README.md first.
 fn layout(core: &Core) {
     let Core {
         limits,

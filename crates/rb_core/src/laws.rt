@@ -8,6 +8,7 @@ pub fn held_bytes_are_bounded()
     ensures { HeldBytesAreBounded }
 {}
 
+// HELD-3 HELD-5
 /// The definition of held bytes gives what the worked example says.
 pub fn worked_held()
     ensures { FreshCoreHolds }

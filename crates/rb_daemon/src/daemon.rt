@@ -96,6 +96,7 @@ impl<'a, R: Clock> Daemon<'a, R> {
         })
     }
 
+    // START-2
     /// That the limit of open files leaves fewer places for connections than the settings ask for, if it does.
     pub fn shortage(&self) -> Option<Shortage> {
         self.shortage

@@ -268,6 +268,7 @@ impl Engine {
         opened
     }
 
+    // EVENT-1
     /// Bytes came on a connection. A reply of one fragment to the record that ends with them goes into the room, if
     /// there is enough of it.
     pub(crate) fn exchange(
@@ -346,6 +347,7 @@ impl Engine {
         self.core.next_deadline()
     }
 
+    // EVENT-1
     // ANSWER-1: A datagram gets its reply from the socket on which it came: the sockets for calls and
     // for forwarded calls are two types.
     /// Takes a datagram in. If it has a reply, `reply` sends it.

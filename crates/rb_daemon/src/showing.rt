@@ -54,6 +54,7 @@ pub(crate) fn count_given(done: &Result<Exchanged, CoreFault>) -> usize
     }
 }
 
+// TAPE-4
 /// Records that bytes came on a connection, and, if some were given at once, the look at them and that they were
 /// given.
 pub(crate) fn record_exchange(
@@ -80,6 +81,7 @@ fn record_given(tape: &mut Tape, now: u64, id: u64, given: &[u8])
     tape.record(&Event::Gave(now, id, given.len() as u64), &Output::Done);
 }
 
+// TAPE-4
 /// Records, piece by piece, the look at bytes and that all of them were given. The first piece has this many of them, or all;
 /// each after it is a fragment. There is at least one byte.
 pub(crate) fn record_pieces(tape: &mut Tape, now: u64, id: u64, first: usize, given: &[u8])

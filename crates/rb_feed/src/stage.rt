@@ -111,7 +111,7 @@ pub(crate) enum Stage {
 }
 
 /// Names each field, so that a further one does not compile until it stands here. It belongs in the table of
-/// charges of docs/RULES.md first.
+/// charges of crates/rb_core/README.md first.
 fn layout(stage: &Stage) {
     match *stage {
         Stage::Xid | Stage::NoCall => {}

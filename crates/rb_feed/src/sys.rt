@@ -29,7 +29,7 @@ pub(crate) enum SysField {
 pub(crate) fn part<T: Copy>(_part: T) {}
 
 /// Names each field, so that a further one does not compile until it stands here. It belongs in the table of
-/// charges of docs/RULES.md first.
+/// charges of crates/rb_core/README.md first.
 fn layout(field: &SysField) {
     match *field {
         SysField::Stamp | SysField::NameLength | SysField::Uid | SysField::Unreadable => {}

@@ -149,7 +149,6 @@ abbrev pub patience : ℕ
 patience = 5000
 
 -- a moment this many milliseconds after that one
--- FORWARD-3 DEADLINE-2
 unfoldable pub later : ℕ → ℕ → ℕ
 later moment wait = min (moment + wait) greatest_number
 

@@ -33,7 +33,7 @@ pub struct Forwards {
 }
 
 /// Names each field, so that a further one does not compile until it stands here. It belongs in the table of
-/// charges of docs/RULES.md first.
+/// charges of crates/rb_core/README.md first.
 fn layout(forwards: &Forwards) {
     let Forwards {
         slots,
@@ -117,6 +117,7 @@ impl Forwards {
         })
     }
 
+    // FORWARD-7
     /// Adds an entry at the moment `clock`, in milliseconds, and returns its number. Its deadline is 5,000 ms later.
     /// `args` are the arguments for the target, at most 8,800 bytes.
     ///

@@ -7,6 +7,7 @@ use hex::FromHexError;
 use rb_xdr::NoMemory;
 use std::alloc::Global;
 
+// LINE-9
 /// Bytes in hexadecimal digits of either case, or `-` for none.
 #[tactic(auto, unfolding(crate::specs::Fields::hex_bytes))]
 pub fn hex_bytes(alloc: Global, text: &[u8]) -> Result<Option<Vec<u8>>, NoMemory>

@@ -138,6 +138,7 @@ fn gave_line(text: &[u8]) -> Option<Event>
     Some(Event::Gave(now, id, n))
 }
 
+// LINE-7
 /// The event of a line of more than one word: the first, and what stands after the space after it.
 #[tactic(auto, unfolding(crate::specs::Lines::event))]
 fn read_event(alloc: Global, word: &[u8], rest: &[u8]) -> Result<Option<Event>, NoMemory>
@@ -173,6 +174,7 @@ fn read_event(alloc: Global, word: &[u8], rest: &[u8]) -> Result<Option<Event>, 
     Ok(None)
 }
 
+// LINE-8
 /// The event of a line of one word.
 #[tactic(auto, unfolding(crate::specs::Lines::lone_event))]
 fn lone_event(word: &[u8]) -> Option<Event>
@@ -243,6 +245,7 @@ fn read_lines(alloc: Global, text: &[u8]) -> Result<Vec<Event>, ReadFault>
     Ok(events)
 }
 
+// LINE-12
 /// The events of a text of event lines, one in each line. A text of more than 16,777,216 bytes is
 /// too long, whatever it says. Empty lines and lines that begin with `#` say nothing.
 #[tactic(auto, unfolding(crate::specs::Lines::read))]

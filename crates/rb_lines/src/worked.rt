@@ -1,6 +1,7 @@
 //! Worked examples of the definitions, which the proof computes.
 ghost use Rattle.rb_lines.specs.Worked.{StoredRunIsRead, StoredRunIsPrinted, BadEventLine, LinesAreCounted, NumbersOfLines, PeersOfLines, ConnectionsAreRead, ConnectionsArePrinted, ForwardsAreRead, ZeroIsRead, ZeroIsPrinted, ForwardsArePrinted, CallersAreRead, CallersArePrinted, OptionsArePrinted, Ipv6PeersAreRead, Ipv6PeersArePrinted};
 
+// LINE-6 LINE-8 LINE-9
 /// The definitions give what the worked examples say.
 #[tactic(auto, unfolding(crate::proofs::OnLiterals::rb_lines_on_literals))]
 pub fn worked_examples()

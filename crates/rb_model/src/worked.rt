@@ -89,6 +89,7 @@ pub fn worked_lists()
     ensures into_room { ListIntoRoom }
 {}
 
+// DEADLINE-3
 /// The definitions give what the worked examples of deadlines say.
 pub fn worked_deadlines()
     ensures idle { IdleEnds }
@@ -108,6 +109,7 @@ pub fn worked_bounds()
     ensures steps_bounds { StepsBounds }
 {}
 
+// CHANGE-3 KEEP-1
 /// The definitions give what the worked examples of changes say.
 pub fn worked_changes()
     ensures changes_of_some_calls { ChangesOfSomeCalls }
@@ -138,6 +140,7 @@ pub fn worked_strangers()
     ensures told_shortly { StrangersAreToldShortly }
 {}
 
+// STAT-7 HISTORY-1
 /// The definitions give what the worked examples of the history of calls say.
 pub fn worked_history()
     ensures history_of_some_calls { HistoryOfSomeCalls }

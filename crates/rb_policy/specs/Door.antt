@@ -27,6 +27,10 @@ is_free (Some holder) = false
 
 -- ---- what is kept of a connection
 
+-- A connection's progress is its opening, a record that ended, and bytes of a reply that its socket took. It is
+-- Awaiting while its call is forwarded, Owing while its socket has not taken all that it is owed, Reading while its
+-- first call, or the rest of one, is still to come, and otherwise Idle.
+
 -- DOOR-5: A client is of this host if it comes from 127.0.0.0/8, from ::1 or by the local socket,
 -- which has the host 127.0.0.1 as far as shares go.
 abbrev pub origin_of : Source → Origin

@@ -55,7 +55,7 @@ pub enum Listing {
 }
 
 /// Names each field, so that a further one does not compile until it stands here. It belongs in the table of
-/// charges of docs/RULES.md first.
+/// charges of crates/rb_core/README.md first.
 fn layout(list: &Listing) {
     match *list {
         Listing::Mappings | Listing::Rpcbs => {}

@@ -28,7 +28,7 @@ pub struct Books {
 }
 
 /// Names each field, so that a further one does not compile until it stands here. It belongs in the table of
-/// charges of docs/RULES.md first.
+/// charges of crates/rb_core/README.md first.
 fn layout(books: &Books) {
     let Books {
         registry,

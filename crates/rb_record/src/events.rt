@@ -70,6 +70,7 @@ fn forward_line<'a>(now: u64, from: Peer, bytes: &'a [u8]) -> Line<'a>
     Line::with(front, bytes)
 }
 
+// LINE-2
 /// The line of an event (docs/EVENTS.md).
 pub(crate) fn event_line<'a, B: AsSlice<u8>>(event: &'a Event<B>) -> Line<'a>
     ensures { line_text result ≡ event_line B.items event.now }
@@ -90,6 +91,7 @@ pub(crate) fn event_line<'a, B: AsSlice<u8>>(event: &'a Event<B>) -> Line<'a>
     }
 }
 
+// LINE-2
 /// Writes the line of an event. An error if the writer fails; how much of the line it has then is not known.
 pub fn write_event<B: AsSlice<u8>, W: Write>(event: &Event<B>, writer: &mut W) -> io::Result<()>
     ensures { OnOk result (Writes W.contents writer.old writer.new (event_line B.items event.now)) }

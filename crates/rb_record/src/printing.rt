@@ -79,6 +79,7 @@ fn refusal_line<'a>(fault: CoreFault) -> Line<'a>
     }
 }
 
+// LINE-1
 /// The line of an output (docs/EVENTS.md).
 pub(crate) fn output_line<'a, B: AsSlice<u8>>(output: &'a Output<B>) -> Line<'a>
     ensures { line_text result ≡ output_line B.items output.now }

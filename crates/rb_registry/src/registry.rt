@@ -38,7 +38,7 @@ pub struct Registry {
 }
 
 /// Names each field, so that a further one does not compile until it stands here. It belongs in the table of
-/// charges of docs/RULES.md first.
+/// charges of crates/rb_core/README.md first.
 fn layout(registry: &Registry) {
     let Registry {
         slots,
@@ -153,6 +153,7 @@ impl Registry {
         })
     }
 
+    // CHANGE-1
     /// Adds the row at the end and answers true (RFC 1833 section 2.2.1, RPCBPROC_SET), unless a live
     /// row of its program, version and netid is there, the live and the retained rows reach the limit, or
     /// 2^64 - 1 changes were accepted: then nothing changes.
@@ -193,6 +194,7 @@ impl Registry {
         }
     }
 
+    // CHANGE-1
     /// Removes the rows of the program's version on these netids that a caller of this owner may
     /// remove (RFC 1833 section 2.2.1, RPCBPROC_UNSET), and answers whether there was one. If
     /// 2^64 - 1 changes were accepted, none is removed. Removed rows are retained until `trim` drops them. It costs as
@@ -304,6 +306,7 @@ impl Registry {
         (self.retained, least_removal(&self.slots, meter))
     }
 
+    // RETAIN-2
     /// Drops the retained rows that were removed by the change of number `oldest` or an earlier one; all of them
     /// if it is `None`. It costs at most 3 steps for each row and 1, and nothing if no row is retained.
     ///

@@ -58,6 +58,7 @@ fn is_printed_as(output: &Output, line: &[u8], shown: &mut Vec<u8>) -> Result<bo
     }
 }
 
+// CHECK-2
 /// Compares the line of this number with the next output, if it is an output line.
 fn compare_line(
     outputs: &[Output],
@@ -84,6 +85,7 @@ fn compare_line(
     Ok(())
 }
 
+// CHECK-2
 /// What is said once all output lines of a text agreed: there are `found` of them, and the run has `count` outputs.
 fn end_of(found: usize, count: usize) -> Result<(), Fault>
     ensures ok { OnOk result ((count ≤ found) × (0 < found)) }

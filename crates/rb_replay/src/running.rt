@@ -87,6 +87,7 @@ pub(crate) struct Ran {
     pub bound: u128,
 }
 
+// STEPS-6
 /// Runs the events on a core of these limits.
 fn run_on(
     alloc: Global,
@@ -138,6 +139,7 @@ pub(crate) fn run_from(
     Ok(ran)
 }
 
+// REPLAY-3
 /// Writes what a run is printed as, to the last byte, and its steps if that is asked for.
 fn put_ran<W: Write + Drop>(
     ran: &Ran,

@@ -27,7 +27,7 @@ pub enum Kind {
 }
 
 /// Names each field, so that a further one does not compile until it stands here. It belongs in the table of
-/// charges of docs/RULES.md first.
+/// charges of crates/rb_core/README.md first.
 fn layout(caller: &Caller) {
     match *caller {
         Caller::Tcp(number, who) => {

@@ -45,7 +45,7 @@ pub struct Marks {
 }
 
 /// Names each field, so that a further one does not compile until it stands here. It belongs in the table of
-/// charges of docs/RULES.md first.
+/// charges of crates/rb_core/README.md first.
 fn layout(Marks { place }: &Marks) {
     match *place {
         Place::Header { seen, number } => {
@@ -97,6 +97,7 @@ impl Marks {
         Marks { place: START }
     }
 
+    // RECORD-3
     /// Takes one byte. It says what the byte is, and whether the record ends with it.
     pub fn feed(&mut self, byte: u8) -> (Part, bool)
         ensures ends { RecordEnds self.old (byte ∷ []) result.1 }

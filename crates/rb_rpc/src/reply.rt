@@ -112,6 +112,7 @@ fn put_accepted(xid: u32, stat: u32, out: &mut Kept, meter: &mut Meter) -> Resul
     out.extend(&head, meter)
 }
 
+// REPLY-1
 /// Writes the head of a reply at the end of a buffer (RFC 5531 section 9); the verifier of an accepted one is
 /// AUTH_NONE, empty. It costs 1 step and one for each byte. `Full`, with the buffer as it was, if it does not fit:
 /// 1 step.

@@ -58,6 +58,7 @@ impl Called<'_> {
     }
 }
 
+// PROGRAM-1
 /// The procedure that is called, by its program, version and number; if there is none, what the message says
 /// instead: that it is no call, or is refused.
 #[tactic(auto, unfolding(rb_model::specs::Calls::call_of), using(crate::proofs::Procedures::calls, crate::proofs::Procedures::unavailable))]

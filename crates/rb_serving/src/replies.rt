@@ -42,6 +42,7 @@ fn put_head(out: &mut Kept, head: ReplyHead, meter: &mut Meter)
     };
 }
 
+// SUCCESS-1
 /// Writes the head of a reply with results into an empty buffer.
 fn put_success(xid: u32, out: &mut Kept, meter: &mut Meter)
     requires out { IsEmptyReply meter.old.tie out.old }
@@ -94,6 +95,7 @@ fn put_reply_with(
     }
 }
 
+// LIST-4
 /// The list that is streamed, if the results are rows and the caller is on a connection; else None, and they are
 /// written as a whole.
 fn list_in(results: &Results, caller: Caller) -> Option<Listing>
@@ -108,6 +110,7 @@ fn list_in(results: &Results, caller: Caller) -> Option<Listing>
     }
 }
 
+// SUCCESS-1
 /// Writes an answer into an empty buffer, unless it is a list that is streamed.
 #[tactic(auto, unfolding(rb_model::specs::Calls::longest_reply))]
 fn put_answer(

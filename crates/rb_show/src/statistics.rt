@@ -192,6 +192,7 @@ fn show_numbers<W: Write>(
     }
 }
 
+// SHOW-5
 /// Shows the two lists of a version, and says how many items they have.
 fn show_lists<B: ByteSource, W: Write>(
     alloc: Global,

@@ -14,7 +14,7 @@ pub(crate) struct Counts {
 }
 
 /// Names each field, so that a further one does not compile until it stands here. It belongs in the table of
-/// charges of docs/RULES.md first.
+/// charges of crates/rb_core/README.md first.
 fn layout(counts: &Counts) {
     let Counts {
         info,
@@ -36,6 +36,7 @@ impl Counts {
         }
     }
 
+    // STAT-1
     /// Counts a call of the procedure, if there is such a number.
     pub(crate) fn count_call(&mut self, proc: u32)
         ensures info { self.new ≡ record self.old { info = with_call proc self.old.info } }

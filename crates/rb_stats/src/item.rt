@@ -14,6 +14,7 @@ use rb_xdr::{Kept, Meter, Text, Xdr};
 /// The greatest number of type int (RFC 4506 section 4.1), at which counts stop.
 const GREATEST_INT: u32 = 0x7fff_ffff;
 
+// STAT-2
 /// Counts one more, as far as an int goes.
 pub(crate) fn count_one(number: &mut u32)
     ensures { number.new ≡ one_more number.old }
@@ -44,7 +45,7 @@ pub(crate) struct Item {
 }
 
 /// Names each field, so that a further one does not compile until it stands here. It belongs in the table of
-/// charges of docs/RULES.md first.
+/// charges of crates/rb_core/README.md first.
 fn layout(item: &Item) {
     let Item {
         key,
@@ -68,6 +69,7 @@ impl Item {
         }
     }
 
+    // STAT-5
     /// Counts one more of the key, also at its INDIRECT calls if it is one.
     pub(crate) fn count(&mut self, passed: bool, indirect: bool)
         ensures { self.new ≡ item_after passed indirect self.old }

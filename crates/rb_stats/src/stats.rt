@@ -22,7 +22,7 @@ pub struct Stats {
 }
 
 /// Names each field, so that a further one does not compile until it stands here. It belongs in the table of
-/// charges of docs/RULES.md first.
+/// charges of crates/rb_core/README.md first.
 fn layout(stats: &Stats) {
     let Stats {
         two,
@@ -89,6 +89,7 @@ impl Stats {
         self.items.clear(meter);
     }
 
+    // STAT-1
     /// Notes a call of a procedure of the version, whatever its arguments.
     ///
     /// A procedure above 12 is in no count; a count of 2^31 - 1 stays. It costs nothing.

@@ -101,7 +101,7 @@ pub(crate) struct Items {
 }
 
 /// Names each field, so that a further one does not compile until it stands here. It belongs in the table of
-/// charges of docs/RULES.md first.
+/// charges of crates/rb_core/README.md first.
 fn layout(items: &Items) {
     let Items { items, len } = items;
     let _: &Pool<Item> = items;

@@ -34,7 +34,7 @@ impl Model for AddressText {
 }
 
 /// Names each field, so that a further one does not compile until it stands here. It belongs in the table of
-/// charges of docs/RULES.md first.
+/// charges of crates/rb_core/README.md first.
 fn layout(text: &AddressText) {
     let AddressText {
         address,

@@ -74,6 +74,7 @@ fn run_words<N: Net + Clock + Files, I: Read, O: Write, E: Write>(
     ((answer, notices), conclude(answer, notices, faults))
 }
 
+// STATUS-5
 /// Runs the command that the words name, and answers how it ended, with its exit status.
 ///
 /// 0 says that what was asked is printed and written out; 1 that reading, writing, memory or the reply failed, or that

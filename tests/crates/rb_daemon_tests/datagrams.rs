@@ -21,6 +21,7 @@ pub(crate) fn answers(
     Some(is_sent && caller.got_just(&reply) && host.is_well())
 }
 
+// ANSWER-1
 /// What comes back first is the reply to the call after it.
 #[test]
 fn datagram_that_is_no_call(rt: HostRuntime) -> Result<(), Fail> {
@@ -44,6 +45,7 @@ fn keeps_rows(rt: &HostRuntime, host: &mut Host<'_>) -> Option<bool> {
     Some(is_set && is_there && is_kept)
 }
 
+// ANSWER-1
 #[test]
 fn datagrams_are_answered(rt: HostRuntime) -> Result<(), Fail> {
     let clock = Stopped::new(&rt);
@@ -80,6 +82,7 @@ fn answers_many(
     Some(!waits && host.is_well())
 }
 
+// WAIT-2 TOKEN-1
 #[test]
 fn many_datagrams(rt: HostRuntime) -> Result<(), Fail> {
     let clock = Stopped::new(&rt);
@@ -88,6 +91,7 @@ fn many_datagrams(rt: HostRuntime) -> Result<(), Fail> {
     Ok(())
 }
 
+// TURN-4
 #[test]
 fn many_datagrams_to_the_second_address(rt: HostRuntime) -> Result<(), Fail> {
     let clock = Stopped::new(&rt);

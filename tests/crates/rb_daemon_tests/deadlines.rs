@@ -34,6 +34,7 @@ fn closes_idle(rt: &HostRuntime, host: &mut Host<'_>, clock: &Stopped) -> Option
     Some(is_open && is_closed && answers_a_call(rt, host, 21)?)
 }
 
+// DUE-1 CLOSE-2 WAIT-4 DUE-4
 #[test]
 fn idle_connection_is_closed(rt: HostRuntime) -> Result<(), Fail> {
     let clock = Stopped::new(&rt);
@@ -54,6 +55,7 @@ fn closes_after_a_reply(rt: &HostRuntime, host: &mut Host<'_>, clock: &Stopped) 
     Some(is_open && is_served && is_closed)
 }
 
+// DUE-1
 #[test]
 fn connection_is_closed_after_its_last_reply(rt: HostRuntime) -> Result<(), Fail> {
     let clock = Stopped::at(&rt, 1_000_250, 5_999);
@@ -94,6 +96,7 @@ fn closes_after_silence(rt: &HostRuntime, host: &mut Host<'_>, clock: &Stopped) 
     Some(is_open && is_silent && is_begun && is_closed)
 }
 
+// DUE-1
 #[test]
 fn half_of_a_second_call_is_closed(rt: HostRuntime) -> Result<(), Fail> {
     let clock = Stopped::at(&rt, 1_000_999, 5_001);
@@ -117,6 +120,7 @@ fn closes_half_sent(rt: &HostRuntime, host: &mut Host<'_>, clock: &Stopped) -> O
     Some(is_over && answers_a_call(rt, host, 23)?)
 }
 
+// DUE-4
 #[test]
 fn half_sent_record_is_closed(rt: HostRuntime) -> Result<(), Fail> {
     let clock = Stopped::new(&rt);
@@ -137,6 +141,7 @@ fn ends_without_target(rt: &HostRuntime, host: &mut Host<'_>, clock: &Stopped) -
     Some(is_set && is_sent && caller.got_just(&reply) && host.is_well())
 }
 
+// DUE-4
 #[test]
 fn indirect_ends_at_its_deadline(rt: HostRuntime) -> Result<(), Fail> {
     let clock = Stopped::new(&rt);
@@ -157,6 +162,7 @@ fn keeps_time(rt: &HostRuntime, host: &mut Host<'_>, clock: &Stopped) -> Option<
     Some(is_open && stays && is_closed)
 }
 
+// MOMENT-1 MOMENT-2
 #[test]
 fn clock_is_set_while_a_client_is_idle(rt: HostRuntime) -> Result<(), Fail> {
     let clock = Stopped::new(&rt);
@@ -179,6 +185,7 @@ fn tells_the_time(rt: &HostRuntime, host: &mut Host<'_>, clock: &Stopped) -> Opt
     Some(is_first && is_later && is_on)
 }
 
+// MOMENT-2
 #[test]
 fn gettime_is_the_greater_of_both_clocks(rt: HostRuntime) -> Result<(), Fail> {
     let clock = Stopped::new(&rt);

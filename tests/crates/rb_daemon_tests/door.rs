@@ -78,6 +78,7 @@ fn gives_up_who_drips(rt: &HostRuntime, host: &mut Host<'_>, clock: &Stopped) ->
     Some(is_served && gives_up(rt, host, &mut first, &mut second)?)
 }
 
+// DOOR-3 PROGRESS-1
 #[test]
 fn dripped_bytes_keep_no_place(rt: HostRuntime) -> Result<(), Fail> {
     let clock = Stopped::new(&rt);
@@ -99,6 +100,7 @@ fn gives_up_the_idle(rt: &HostRuntime, host: &mut Host<'_>, clock: &Stopped) -> 
     Some(is_sent && is_served && gives_up(rt, host, &mut first, &mut second)?)
 }
 
+// DOOR-3
 #[test]
 fn idle_goes_before_reading(rt: HostRuntime) -> Result<(), Fail> {
     let clock = Stopped::new(&rt);
@@ -117,6 +119,7 @@ fn gives_up_who_waits_for_nothing(rt: &HostRuntime, host: &mut Host<'_>) -> Opti
     Some(is_set && is_sent && gives_up(rt, host, &mut second, &mut first)?)
 }
 
+// DOOR-3 DOOR-7
 #[test]
 fn waiting_connection_stays(rt: HostRuntime) -> Result<(), Fail> {
     let clock = Stopped::new(&rt);
@@ -138,6 +141,7 @@ fn gives_up_who_reads_no_reply(
     Some(are_set && gives_up(rt, host, &mut second, &mut first)?)
 }
 
+// DOOR-3
 #[test]
 fn reading_goes_before_owing(rt: HostRuntime) -> Result<(), Fail> {
     let clock = Stopped::new(&rt);
@@ -163,6 +167,7 @@ fn gives_up_who_does_not_read(
     Some(is_set && rows && gives_up(rt, host, &mut second, &mut first)?)
 }
 
+// DOOR-3 DOOR-6
 #[test]
 fn owing_goes_before_awaiting(rt: HostRuntime) -> Result<(), Fail> {
     let clock = Stopped::new(&rt);
@@ -186,6 +191,7 @@ fn gives_up_who_never_did(rt: &HostRuntime, host: &mut Host<'_>, clock: &Stopped
     Some(are_set && has_read && gives_up(rt, host, &mut second, &mut first)?)
 }
 
+// PROGRESS-1
 #[test]
 fn bytes_taken_are_progress(rt: HostRuntime) -> Result<(), Fail> {
     let clock = Stopped::new(&rt);
@@ -205,6 +211,7 @@ fn gives_up_the_older(rt: &HostRuntime, host: &mut Host<'_>, clock: &Stopped) ->
     Some(is_second && is_first && gives_up(rt, host, &mut second, &mut first)?)
 }
 
+// DOOR-3
 #[test]
 fn older_goes_before_newer(rt: HostRuntime) -> Result<(), Fail> {
     let clock = Stopped::new(&rt);
@@ -247,6 +254,7 @@ fn gives_up_the_idle_of_both(
     gives_up(rt, host, &mut second, &mut first)
 }
 
+// DOOR-3
 #[test]
 fn last_second_counts(rt: HostRuntime) -> Result<(), Fail> {
     let clock = Stopped::at(&rt, 1_000_500, 5_900);
@@ -274,6 +282,7 @@ fn begins_anew(rt: &HostRuntime, host: &mut Host<'_>, clock: &Stopped) -> Option
     Some(is_served && is_up && gives_up(rt, host, &mut second, &mut third)?)
 }
 
+// PROGRESS-1
 #[test]
 fn place_begins_anew(rt: HostRuntime) -> Result<(), Fail> {
     let clock = Stopped::new(&rt);
@@ -337,6 +346,7 @@ fn gives_up_who_never_reads(
     Some(are_set && are_sent && reader.is_closed() && host.is_well())
 }
 
+// DOOR-6
 #[test]
 fn who_never_reads_is_closed(rt: HostRuntime) -> Result<(), Fail> {
     let clock = Stopped::new(&rt);

@@ -113,6 +113,7 @@ fn serves_beside_a_fault(rt: &HostRuntime, host: &mut Host<'_>) -> Option<bool> 
     Some(is_served && are_closed && is_told && is_told_once && host.is_well())
 }
 
+// ACCEPT-1 LISTENER-1
 #[test]
 fn failing_listener_ends_nothing(rt: HostRuntime) -> Result<(), Fail> {
     let clock = Stopped::new(&rt);
@@ -136,6 +137,7 @@ fn serves_one_after_another(rt: &HostRuntime, host: &mut Host<'_>) -> Option<boo
     Some(is_first && is_open && is_next && waiting.is_closed() && host.is_well())
 }
 
+// PLACES-1 START-2
 #[test]
 fn few_descriptors_are_few_places(rt: HostRuntime) -> Result<(), Fail> {
     let clock = Stopped::new(&rt);

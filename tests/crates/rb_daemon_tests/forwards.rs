@@ -68,6 +68,7 @@ fn passed_reply(told: [u32; 6]) -> [u32; 12] {
     ]
 }
 
+// SEND-1 SEND-2
 #[test]
 fn indirect_is_passed_back(rt: HostRuntime) -> Result<(), Fail> {
     let clock = Stopped::new(&rt);
@@ -79,6 +80,7 @@ fn indirect_is_passed_back(rt: HostRuntime) -> Result<(), Fail> {
     Ok(())
 }
 
+// WAYBACK-1 ANSWER-1
 #[test]
 fn replies_come_from_the_asked_address(rt: HostRuntime) -> Result<(), Fail> {
     let clock = Stopped::new(&rt);
@@ -143,6 +145,7 @@ fn forwards_over_tcp(rt: &HostRuntime, host: &mut Host<'_>, ends: bool) -> Optio
     Some(is_set && is_sent && is_answered && is_right && host.is_well())
 }
 
+// EVENT-2 SEND-2
 #[test]
 fn connection_waits_for_indirect(rt: HostRuntime) -> Result<(), Fail> {
     let clock = Stopped::new(&rt);
@@ -151,6 +154,7 @@ fn connection_waits_for_indirect(rt: HostRuntime) -> Result<(), Fail> {
     Ok(())
 }
 
+// READ-1
 #[test]
 fn client_ends_behind_indirect(rt: HostRuntime) -> Result<(), Fail> {
     let clock = Stopped::new(&rt);
@@ -210,6 +214,7 @@ fn are_told_failures(
     Some(caller.got_just(reply.get(4..)?) && is_ended && is_open)
 }
 
+// SEND-2
 #[test]
 fn forwarded_calls_end_together(rt: HostRuntime) -> Result<(), Fail> {
     let clock = Stopped::at(&rt, 1_000_500, 5_500);
@@ -257,6 +262,7 @@ fn forwards_the_greatest(rt: &HostRuntime, host: &mut Host<'_>) -> Option<bool> 
     Some(is_set && is_sent && is_answered && is_passed && host.is_well())
 }
 
+// SEND-2
 #[test]
 fn greatest_forwarded_call_is_passed_back(rt: HostRuntime) -> Result<(), Fail> {
     let clock = Stopped::new(&rt);

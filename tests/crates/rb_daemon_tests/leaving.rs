@@ -44,6 +44,7 @@ fn leaves_in_a_record(rt: &HostRuntime, host: &mut Host<'_>, pauses: bool) -> Op
     Some(is_sent)
 }
 
+// READ-2 CLOSE-1
 #[test]
 fn client_leaves_in_a_call(rt: HostRuntime) -> Result<(), Fail> {
     let clock = Stopped::new(&rt);
@@ -99,6 +100,7 @@ fn leaves_in_a_reply(
     Some(is_sent && is_read && !client.is_closed())
 }
 
+// WRITE-1 CLOSE-1
 #[test]
 fn client_leaves_in_a_reply(rt: HostRuntime) -> Result<(), Fail> {
     let clock = Stopped::new(&rt);
@@ -149,6 +151,7 @@ fn clients_that_leave_but_read(rt: HostRuntime) -> Result<(), Fail> {
     Ok(())
 }
 
+// ACCEPT-1 ACCEPT-3
 /// Two connections may be open, and ten clients come and are gone before a turn; one that stays is served.
 #[test]
 fn gone_clients_take_no_places(rt: HostRuntime) -> Result<(), Fail> {

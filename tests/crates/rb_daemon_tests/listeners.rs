@@ -64,6 +64,7 @@ fn local_socket_serves(rt: HostRuntime) -> Result<(), Fail> {
     Ok(())
 }
 
+// BIND-2
 #[test]
 fn loopback6_serves(rt: HostRuntime) -> Result<(), Fail> {
     let clock = Stopped::new(&rt);
@@ -90,6 +91,7 @@ fn shares_places(rt: &HostRuntime, host: &mut Host<'_>) -> Option<bool> {
     Some(first.is_closed() && is_sent && are_served && host.is_well())
 }
 
+// ACCEPT-3 DOOR-1 TOKEN-1 DOOR-7
 #[test]
 fn listeners_share_the_places(rt: HostRuntime) -> Result<(), Fail> {
     let clock = Stopped::new(&rt);
@@ -129,6 +131,7 @@ fn serves_a_queue(rt: &HostRuntime, host: &mut Host<'_>) -> Option<bool> {
     Some(host.is_well())
 }
 
+// ACCEPT-3
 #[test]
 fn queue_of_the_second_address_is_served(rt: HostRuntime) -> Result<(), Fail> {
     let clock = Stopped::new(&rt);
@@ -153,6 +156,7 @@ fn serves_beside_a_queue(rt: &HostRuntime, host: &mut Host<'_>) -> Option<bool> 
     Some(clients.len() == QUEUE && is_sent && is_served && turns <= TURNS && host.is_well())
 }
 
+// ACCEPT-4
 #[test]
 fn local_socket_is_served_beside_a_queue(rt: HostRuntime) -> Result<(), Fail> {
     let clock = Stopped::new(&rt);
@@ -161,6 +165,7 @@ fn local_socket_is_served_beside_a_queue(rt: HostRuntime) -> Result<(), Fail> {
     Ok(())
 }
 
+// LOCAL-1 LOCAL-2 LOCAL-4
 /// A socket that nobody listens on any more is replaced by one that has the mode that was asked for.
 #[test]
 fn stale_file_is_replaced(rt: HostRuntime) -> Result<(), Fail> {
@@ -184,6 +189,7 @@ fn is_kept_out(clock: &Stopped, settings: &Settings<'_>) -> bool {
     }
 }
 
+// LOCAL-1 LOCAL-2
 #[test]
 fn live_file_stays(rt: HostRuntime) -> Result<(), Fail> {
     let clock = Stopped::new(&rt);
@@ -198,6 +204,7 @@ fn live_file_stays(rt: HostRuntime) -> Result<(), Fail> {
     Ok(())
 }
 
+// LOCAL-1
 #[test]
 fn foreign_file_stays(rt: HostRuntime) -> Result<(), Fail> {
     let clock = Stopped::new(&rt);

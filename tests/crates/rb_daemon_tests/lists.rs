@@ -43,6 +43,7 @@ fn gives_full_fragments(rt: &HostRuntime, host: &mut Host<'_>) -> Option<bool> {
     Some(are_set && is_sent && is_whole && host.is_well())
 }
 
+// EVENT-2 OUTBOX-3
 #[test]
 fn list_of_full_fragments(rt: HostRuntime) -> Result<(), Fail> {
     let clock = Stopped::new(&rt);
@@ -69,6 +70,7 @@ fn leaves_a_greedy_client(rt: &HostRuntime, host: &mut Host<'_>) -> Option<bool>
     Some(are_set && is_sent && is_left && host.is_well())
 }
 
+// TURN-2 TURN-3 TURN-4
 #[test]
 fn greedy_client_is_left(rt: HostRuntime) -> Result<(), Fail> {
     let clock = Stopped::new(&rt);
@@ -104,6 +106,7 @@ fn evicts_the_reader(rt: &HostRuntime, host: &mut Host<'_>) -> Option<bool> {
     Some(are_set && is_sent && is_replaced && reader.is_closed() && answers_a_call(rt, host, 3)?)
 }
 
+// CLOSE-2
 #[test]
 fn set_evicts_a_reader(rt: HostRuntime) -> Result<(), Fail> {
     let clock = Stopped::new(&rt);
@@ -150,6 +153,7 @@ fn gives_the_longest_list(rt: &HostRuntime, host: &mut Host<'_>) -> Option<bool>
     Some(are_set && is_sent && is_whole && is_one_more_set && is_refused)
 }
 
+// LENGTH-1
 #[test]
 fn list_of_9000_bytes_is_a_datagram(rt: HostRuntime) -> Result<(), Fail> {
     let clock = Stopped::new(&rt);

@@ -49,6 +49,7 @@ fn count_answered(rt: &HostRuntime, host: &mut Host<'_>, clock: &Stopped) -> Opt
     Some(count)
 }
 
+// DUE-2 DUE-3 WAIT-3
 #[test]
 fn calls_are_read_after_a_pause(rt: HostRuntime) -> Result<(), Fail> {
     let clock = Stopped::new(&rt);
@@ -71,6 +72,7 @@ fn sleeps(rt: &HostRuntime, host: &mut Host<'_>, clock: &Stopped) -> Option<(u64
     Some((passed, clock.slept().saturating_sub(before)))
 }
 
+// WAIT-1
 #[test]
 fn interrupted_wait_is_slept(rt: HostRuntime) -> Result<(), Fail> {
     let clock = Stopped::new(&rt);
@@ -105,6 +107,7 @@ fn waits_for_a_deadline(rt: &HostRuntime, host: &mut Host<'_>, clock: &Stopped) 
     }
 }
 
+// WAIT-2
 #[test]
 fn turn_waits_until_a_deadline(rt: HostRuntime) -> Result<(), Fail> {
     let clock = Stopped::new(&rt);
@@ -142,6 +145,7 @@ fn waits_for_a_line(
     Some((wait, is_early, host.take_log()?.as_slice() == LEFT_OUT))
 }
 
+// WAIT-2
 #[test]
 fn turn_waits_until_a_line(rt: HostRuntime) -> Result<(), Fail> {
     let clock = Stopped::new(&rt);

@@ -79,6 +79,7 @@ fn serves_each(rt: &HostRuntime, host: &mut Host<'_>) -> Option<bool> {
     Some(false)
 }
 
+// TURN-3
 #[test]
 fn no_reader_starves(rt: HostRuntime) -> Result<(), Fail> {
     let clock = Stopped::new(&rt);
@@ -167,6 +168,7 @@ fn gives_up_who_reads_no_more(
     Some(are_set && stays && is_given_up(host)? && host.is_well())
 }
 
+// STUCK-1
 #[test]
 fn slow_reader_stays(rt: HostRuntime) -> Result<(), Fail> {
     let clock = Stopped::at(&rt, 1_000_001, 5_999);
@@ -192,6 +194,7 @@ fn gives_up_the_full(rt: &HostRuntime, host: &mut Host<'_>, clock: &Stopped) -> 
     Some(are_set && waits && stays && is_over && host.is_well())
 }
 
+// STUCK-1
 #[test]
 fn full_socket_is_given_up(rt: HostRuntime) -> Result<(), Fail> {
     let clock = Stopped::new(&rt);

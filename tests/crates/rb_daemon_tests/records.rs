@@ -18,6 +18,7 @@ fn answers(client: &mut Client, host: &mut Host<'_>, bytes: &[u8], reply: &[u8])
     is_sent && client.got_just(reply) && !client.is_closed() && host.is_well()
 }
 
+// ANSWER-2
 #[test]
 fn daemon_turns_serve(rt: HostRuntime) -> Result<(), Fail> {
     let clock = Stopped::new(&rt);
@@ -61,6 +62,7 @@ fn answers_forty_calls(rt: &HostRuntime, host: &mut Host<'_>) -> Option<bool> {
     Some(is_sent && client.got_just(&replies) && host.is_well())
 }
 
+// OUTBOX-1 INBOX-1
 #[test]
 fn forty_records_in_one(rt: HostRuntime) -> Result<(), Fail> {
     let clock = Stopped::new(&rt);
@@ -78,6 +80,7 @@ fn closes_no_call(rt: &HostRuntime, host: &mut Host<'_>) -> Option<bool> {
     Some(is_closed && answers_a_call(rt, host, 9)?)
 }
 
+// CLOSE-1
 #[test]
 fn record_that_is_no_call(rt: HostRuntime) -> Result<(), Fail> {
     let clock = Stopped::new(&rt);

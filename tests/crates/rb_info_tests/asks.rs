@@ -26,6 +26,7 @@ fn write_call_has_memory(rt: HostRuntime) -> Result<(), Fail> {
     Ok(())
 }
 
+// DATA-6
 /// A datagram is a whole record: the port of a GETPORT is read, and a byte less is no reply.
 #[test]
 fn datagram_is_a_record(rt: HostRuntime) -> Result<(), Fail> {

@@ -40,6 +40,7 @@ fn step(
     Some(next(course, stage, answer))
 }
 
+// COURSE-5
 /// The refusal of version 0 tells that versions 2 to 4 are there, and each is called.
 #[test]
 fn each_version_over_tcp(rt: HostRuntime) -> Result<(), Fail> {

@@ -49,6 +49,7 @@ fn shows(
     Some(shown == Ok(Shown::Rows(count)) && client.has_shown(text))
 }
 
+// JSON-3
 /// `--json -p HOST`.
 #[test]
 fn objects_of_a_table(rt: HostRuntime) -> Result<(), Fail> {
@@ -117,6 +118,7 @@ fn deletes(rt: &HostRuntime) -> Option<bool> {
     Some(is_so && client.has_shown(b"removed\nnot removed\nremoved\n"))
 }
 
+// QUESTION-1 QUESTION-3
 /// `-d -T tcp 200001 1` removes the row of TCP, and `-d 200001 1` the one that is left.
 #[test]
 fn row_of_a_netid_is_removed(rt: HostRuntime) -> Result<(), Fail> {
@@ -139,6 +141,7 @@ fn called_through(rt: &HostRuntime) -> Option<Shown> {
     show_datagram(rt.alloc(), &ask, Form::Plain, 1, &reply, &mut nothing).ok()
 }
 
+// QUESTION-2
 /// `-b 200001 1`, of one host: the daemon forwards the call, and its answer names the program's port.
 #[test]
 fn broadcast_reaches_a_program(rt: HostRuntime) -> Result<(), Fail> {

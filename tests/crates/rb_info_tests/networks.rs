@@ -12,6 +12,7 @@ v1\t800510AC\t00000000\t0001\t0\t0\t0\tC0FFFFFF\t0\t0\t0        \n\
 v1\t076433C6\t00000000\t0005\t0\t0\t0\tFFFFFFFF\t0\t0\t0        \n\
 v1\t007100CB\t810510AC\t0003\t0\t0\t0\t00FFFFFF\t0\t0\t0        \n";
 
+// BROADCAST-1
 /// `-b` asks the networks that the machine is on.
 #[test]
 fn networks_are_read(rt: HostRuntime) -> Result<(), Fail> {

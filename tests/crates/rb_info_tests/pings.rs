@@ -60,6 +60,7 @@ fn ends(
     Some(end == wanted && client.has_shown(text))
 }
 
+// COURSE-1
 /// `-t HOST 100000`, and `-u`: GETPORT finds each of the versions that the refusal of version 0 names.
 #[test]
 fn each_version_by_getport(rt: HostRuntime) -> Result<(), Fail> {

@@ -19,6 +19,7 @@ fn called(place: Place) -> Option<(u32, u16)> {
     }
 }
 
+// COURSE-7
 /// A port of the host, and an address of its link, are called by the scope by which the host was found.
 #[test]
 fn scope_stays(rt: HostRuntime) -> Result<(), Fail> {
@@ -32,6 +33,7 @@ fn scope_stays(rt: HostRuntime) -> Result<(), Fail> {
     Ok(())
 }
 
+// COURSE-7
 /// An address that is not of a link has no scope, nor has one of IPv4.
 #[test]
 fn other_addresses_have_none(rt: HostRuntime) -> Result<(), Fail> {

@@ -60,6 +60,7 @@ fn refusal_is_written(rt: HostRuntime) -> Result<(), Fail> {
     Ok(())
 }
 
+// NAMES-1
 /// The names of a line are those of its program, and the first of them is its name.
 #[test]
 fn names_are_read(rt: HostRuntime) -> Result<(), Fail> {

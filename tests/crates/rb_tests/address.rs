@@ -201,6 +201,7 @@ fn ipv6() -> Source {
     Source::Inet(Peer::new(Host::V6(OCTETS), 900))
 }
 
+// NETID-3
 #[test]
 fn sources_have_texts_and_netids(rt: HostRuntime) -> Result<(), Fail> {
     let source = ipv4();

@@ -25,6 +25,7 @@ fn arguments_are_refused(rt: HostRuntime) {
     );
 }
 
+// PROC-1
 #[test]
 fn procedures_are_found(rt: HostRuntime) {
     let getstat = Procedure::Void(VoidProcedure::Getstat);

@@ -19,6 +19,7 @@ fn row(netid: Netid, addr: AddressText) -> Row {
     }
 }
 
+// KEEPCHECK-1 KEEPCHECK-2
 #[test]
 fn silent_programs_are_found(rt: HostRuntime) -> Result<(), Fail> {
     let _listener = TcpListener::bind(&rt, SILENT)?;

@@ -59,6 +59,7 @@ fn null_is_answered(rt: &impl Abort, core: &mut Metered, call: &[u8]) {
     assert!(rt; core.held() <= core.bytes_bound());
 }
 
+// HELD-3 HELD-5
 #[test]
 fn new_core_has_memory(rt: HostRuntime) -> Result<(), Fail> {
     let call = words(rt.alloc(), &NULL)?;
@@ -127,6 +128,7 @@ fn connection_is_served(rt: &impl Abort, alloc: Global, core: &mut Metered) -> R
     Ok(())
 }
 
+// HELD-4
 #[test]
 fn connections_have_memory(rt: HostRuntime) -> Result<(), Fail> {
     let mut core = new_core(rt.alloc())?;
@@ -143,6 +145,7 @@ fn is_null_reply(outputs: &[Output]) -> bool {
     matches!(outputs, [Output::Replied(reply)] if reply.as_slice() == NULL_REPLY)
 }
 
+// HELD-5
 /// A NULL call and its reply, of which 24 bytes are held.
 #[test]
 fn null_reply_is_held(rt: HostRuntime) -> Result<(), Fail> {
@@ -209,6 +212,7 @@ fn record_ends(rt: &impl Abort, alloc: Global, core: &mut Metered) -> Result<(),
     Ok(())
 }
 
+// FEED-3 TAKE-4 HELD-4
 /// What is held while a record of 100,044 bytes comes in, in 101 pieces.
 #[test]
 fn overlong_record_is_kept_in_part(rt: HostRuntime) -> Result<(), Fail> {
@@ -259,6 +263,7 @@ fn waits_without_room(core: &mut Metered, record: &[u8]) -> bool {
         && core.pending(1) == Ok(NULL_MARKED.as_slice())
 }
 
+// EXCHANGE-2
 #[test]
 fn replies_are_given_at_once(rt: HostRuntime) -> Result<(), Fail> {
     let record = words(rt.alloc(), &NULL_RECORD)?;
@@ -304,6 +309,7 @@ fn greatest_callit(alloc: Global) -> Result<Vec<u8>, AllocError> {
     Ok(record)
 }
 
+// STEPS-3
 /// At limits of 4 connections a byte that ends no record takes at most 8 steps, 64 for each connection, and 64.
 #[test]
 fn single_bytes_are_cheap(rt: HostRuntime) -> Result<(), Fail> {
@@ -352,6 +358,7 @@ fn a_call_goes_on(core: &mut Metered, first: &[u8], second: &[u8]) -> bool {
         && giving_leaves(core, 40, 25, Standing::Idle, Some(300_040))
 }
 
+// STANDING-1 DEADLINE-3
 /// Where a connection stands after each call on it, and the next deadline then: a call and its reply, and a record that is
 /// no call.
 #[test]
@@ -395,6 +402,7 @@ fn waits_for_target(core: &mut Metered, now: u64, record: &[u8], standing: Stand
     bytes_leave(core, now, record, standing, Some(5_010))
 }
 
+// STANDING-2
 /// A call that is forwarded is told after its bytes, and not again; at its deadline the connection goes on.
 #[test]
 fn forwarded_calls_are_told_once(rt: HostRuntime) -> Result<(), Fail> {

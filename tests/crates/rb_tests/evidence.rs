@@ -211,6 +211,7 @@ fn ends_are_shown(rt: &impl Abort, table: &[u8], door: &Door, host: Host, our_ui
     assert_eq!(rt; uid_of(table, &ours, &fourth), None);
 }
 
+// EVIDENCE-1 EVIDENCE-3
 #[test]
 fn clients_over_ipv4_are_shown(rt: HostRuntime) -> Result<(), Fail> {
     for door in [AT_31111, AT_31112] {
@@ -220,6 +221,7 @@ fn clients_over_ipv4_are_shown(rt: HostRuntime) -> Result<(), Fail> {
     Ok(())
 }
 
+// EVIDENCE-1
 #[test]
 fn clients_over_ipv6_are_shown(rt: HostRuntime) -> Result<(), Fail> {
     for door in [AT_31113, AT_31114, AT_31116] {
@@ -244,6 +246,7 @@ fn clients_over_ipv4_of_every_host_are_shown(rt: HostRuntime) -> Result<(), Fail
     Ok(())
 }
 
+// EVIDENCE-4
 #[test]
 fn sockets_of_ipv6_are_shown_in_its_table(rt: HostRuntime) -> Result<(), Fail> {
     let table = table_of(rt.alloc(), HEAD, OVER_IPV6)?;
@@ -267,6 +270,7 @@ fn shown(
     Ok(uid_of(&table, &Peer::new(host, port), &Peer::new(V4, 31_122)))
 }
 
+// EVIDENCE-2
 #[test]
 fn clients_come_and_go(rt: HostRuntime) -> Result<(), Fail> {
     let other = Host::V4([127, 0, 0, 2]);

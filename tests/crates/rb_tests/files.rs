@@ -27,6 +27,7 @@ fn is_free(rt: &HostRuntime, path: &str) -> bool {
     fs::symlink_metadata(rt, path).is_err()
 }
 
+// FILE-4
 #[test]
 fn kept_file_is_replaced(rt: HostRuntime) -> Result<(), Fail> {
     let path = "rb_files_replaced.test";
@@ -47,6 +48,7 @@ fn kept_file_is_replaced(rt: HostRuntime) -> Result<(), Fail> {
     Ok(())
 }
 
+// FILE-4
 #[test]
 fn file_stays_where_a_step_fails(rt: HostRuntime) -> Result<(), Fail> {
     let path = "rb_files_stays.test";
@@ -66,6 +68,7 @@ fn file_stays_where_a_step_fails(rt: HostRuntime) -> Result<(), Fail> {
     Ok(())
 }
 
+// FILE-2 FILE-3 FILE-5
 #[test]
 fn files_of_others_are_not_read(rt: HostRuntime) -> Result<(), Fail> {
     let path = "rb_files_others.test";

@@ -21,6 +21,7 @@ datagram 8 127.0.0.1:0 \
 000000000000000000030d4200000003000000056c6f63616c0000000000000b2f72756e2f782e736f636b0000000000
 ";
 
+// LOOK-1 KEEP-2 KEEP-3 KEEP-5 KEEP-7
 #[test]
 fn kept_rows_are_written_again(rt: HostRuntime) -> Result<(), Fail> {
     let alloc = rt.alloc();
@@ -39,6 +40,7 @@ fn kept_rows_are_written_again(rt: HostRuntime) -> Result<(), Fail> {
     Ok(())
 }
 
+// KEEP-4 KEEP-5
 #[test]
 fn other_lines_are_named(rt: HostRuntime) -> Result<(), Fail> {
     let alloc = rt.alloc();

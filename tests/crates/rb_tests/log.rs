@@ -40,6 +40,7 @@ fn set(who: Who, owner: Owner, is_accepted: bool) -> ChangeLine<'static> {
     }
 }
 
+// LOG-3
 #[test]
 fn changes_are_told(rt: HostRuntime) -> Result<(), Fail> {
     let line = set(from_here(), Owner::Uid(0), true);
@@ -64,6 +65,7 @@ fn changes_are_told(rt: HostRuntime) -> Result<(), Fail> {
     Ok(())
 }
 
+// LOG-2
 // A caller writes no line break, no escape and no space into the log.
 #[test]
 fn texts_of_callers_are_shown(rt: HostRuntime) -> Result<(), Fail> {
@@ -79,6 +81,7 @@ fn texts_of_callers_are_shown(rt: HostRuntime) -> Result<(), Fail> {
     Ok(())
 }
 
+// LOG-3
 #[test]
 fn refusals_and_endings_are_told(rt: HostRuntime) -> Result<(), Fail> {
     let lines = [
@@ -143,6 +146,7 @@ fn count_at(rate: &mut LogRate, now: u64, lines: u32) -> u32 {
     count
 }
 
+// LOG-1
 #[test]
 fn lines_of_a_second_are_few(rt: HostRuntime) {
     let mut rate = LogRate::new();

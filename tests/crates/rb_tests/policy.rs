@@ -65,6 +65,7 @@ fn table_of_trust() -> [(Entrance, Trust); 12] {
     ]
 }
 
+// TRUST-6 TRUST-8 TRUST-9
 #[test]
 fn callers_are_trusted(rt: HostRuntime) {
     for (entrance, trust) in table_of_trust() {
@@ -73,6 +74,7 @@ fn callers_are_trusted(rt: HostRuntime) {
     }
 }
 
+// TRUST-2
 // Who may write to a socket's file may connect (unix(7)).
 #[test]
 fn modes_let_in_root_alone(rt: HostRuntime) {
@@ -84,6 +86,7 @@ fn modes_let_in_root_alone(rt: HostRuntime) {
     }
 }
 
+// TABLES-1
 #[test]
 fn tables_are_looked_at(rt: HostRuntime) {
     assert!(rt; is_shown(false, at(INET)) && is_shown(false, at(INET6)));
@@ -98,6 +101,7 @@ fn tables_are_looked_at(rt: HostRuntime) {
     assert!(rt; looks_in(Family::Inet6, Family::Inet6, nothing));
 }
 
+// TABLES-2
 /// What the kernel showed of two clients at 127.0.0.1, of uid 65534 and closed.
 #[test]
 fn tables_are_evidence(rt: HostRuntime) -> Result<(), Fail> {
@@ -126,6 +130,7 @@ fn tables_are_evidence(rt: HostRuntime) -> Result<(), Fail> {
     Ok(())
 }
 
+// TABLES-3
 /// A table of 1 MiB is read, and one of a byte more is not.
 #[test]
 fn long_tables_are_unread(rt: HostRuntime) -> Result<(), Fail> {
@@ -139,6 +144,7 @@ fn long_tables_are_unread(rt: HostRuntime) -> Result<(), Fail> {
     Ok(())
 }
 
+// TABLES-4
 /// Twenty milliseconds lie between two readings.
 #[test]
 fn readings_wait(rt: HostRuntime) {
@@ -151,6 +157,7 @@ fn readings_wait(rt: HostRuntime) {
     assert_eq!(rt; next_reading(Some(1000)), 1020);
 }
 
+// WAIT-2
 /// Until the next thing is due, and no longer than a turn may wait.
 #[test]
 fn turns_wait(rt: HostRuntime) {
@@ -163,6 +170,7 @@ fn turns_wait(rt: HostRuntime) {
     assert_eq!(rt; wait_of(false, 1000, None, None), None);
 }
 
+// BIND-1 BIND-2
 #[test]
 fn every_host_has_both_families(rt: HostRuntime) {
     let every = [ELSEWHERE, ANY6];
@@ -173,6 +181,7 @@ fn every_host_has_both_families(rt: HostRuntime) {
     assert!(rt; !binds_loopback6(&every, true) && !binds_loopback6(&[INET6], true));
 }
 
+// ANNOUNCE-1
 #[test]
 fn hosts_are_announced(rt: HostRuntime) {
     let hosts = [ELSEWHERE6, ELSEWHERE, INET];
@@ -194,6 +203,7 @@ fn hosts_are_announced(rt: HostRuntime) {
     assert!(rt; !is_no_address(ELSEWHERE) && !is_no_address(INET6));
 }
 
+// BIND-3
 #[test]
 fn calls_are_forwarded_from_hosts(rt: HostRuntime) {
     let hosts = [ELSEWHERE6, ELSEWHERE, INET];
@@ -205,6 +215,7 @@ fn calls_are_forwarded_from_hosts(rt: HostRuntime) {
     assert_eq!(rt; forwards_inet6(&[INET], false), None);
 }
 
+// ASKED-1
 #[test]
 fn hosts_are_asked(rt: HostRuntime) {
     assert_eq!(rt; host_asked(ELSEWHERE, Family::Inet), ELSEWHERE);
@@ -213,6 +224,7 @@ fn hosts_are_asked(rt: HostRuntime) {
     assert_eq!(rt; host_asked(ANY6, Family::Inet), ANY);
 }
 
+// WAYBACK-1
 /// Each call's end goes back to the socket on which it came, once; there is room for two.
 #[test]
 fn ends_go_back(rt: HostRuntime) -> Result<(), Fail> {
@@ -230,6 +242,7 @@ fn ends_go_back(rt: HostRuntime) -> Result<(), Fail> {
     Ok(())
 }
 
+// DOOR-5
 #[test]
 fn sources_have_origins(rt: HostRuntime) {
     let local = origin_of(Source::Local);
@@ -240,6 +253,7 @@ fn sources_have_origins(rt: HostRuntime) {
     assert!(rt; !elsewhere.is_local && elsewhere.host == ELSEWHERE);
 }
 
+// NOBODY-1
 #[test]
 fn peers_are_somebody(rt: HostRuntime) {
     for host in [INET, INET6, ELSEWHERE, ELSEWHERE6] {
@@ -251,6 +265,7 @@ fn peers_are_somebody(rt: HostRuntime) {
     }
 }
 
+// MAPPED-2
 /// A socket of IPv6 sends to 192.0.2.1 as ::ffff:192.0.2.1.
 #[test]
 fn peers_have_addresses(rt: HostRuntime) {
@@ -274,6 +289,7 @@ fn host_in(third: u8, last: u8) -> Host {
     Host::V4([192, 0, third, last])
 }
 
+// BRAKE-1 BRAKE-2
 /// What comes within a second of as many is dropped, and is not counted.
 #[test]
 fn datagrams_of_strangers_are_braked(rt: HostRuntime) -> Result<(), Fail> {
@@ -300,6 +316,7 @@ fn datagrams_of_strangers_are_braked(rt: HostRuntime) -> Result<(), Fail> {
     Ok(())
 }
 
+// BRAKE-1
 /// Hosts whose first seven bytes of sixteen are the same are of one network.
 #[test]
 fn networks_of_ipv6_are_braked(rt: HostRuntime) -> Result<(), Fail> {
@@ -320,6 +337,7 @@ fn networks_of_ipv6_are_braked(rt: HostRuntime) -> Result<(), Fail> {
     Ok(())
 }
 
+// BRAKE-3
 /// Strangers alone are counted.
 #[test]
 fn others_are_not_braked(rt: HostRuntime) -> Result<(), Fail> {

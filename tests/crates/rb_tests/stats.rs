@@ -59,6 +59,7 @@ fn stats_has_memory(rt: HostRuntime) -> Result<(), Fail> {
 // What they are when nothing was called: 17 numbers of each version.
 const NOTHING: &[u8] = &[0; 204];
 
+// STAT-7
 // They begin anew: nothing is held, zeros are put, and the same notes count as before.
 #[test]
 fn stats_begin_anew(rt: HostRuntime) -> Result<(), Fail> {

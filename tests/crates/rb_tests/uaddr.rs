@@ -70,6 +70,7 @@ fn other_texts_are_refused(rt: HostRuntime) -> Result<(), Fail> {
     Ok(())
 }
 
+// UADDR-4
 #[test]
 fn texts_are_kept(rt: HostRuntime) -> Result<(), Fail> {
     let text = AddressText::new(b"192.0.2.1.8.1");
@@ -203,6 +204,7 @@ fn transport_form(groups: &[u16; 8]) -> [u8; 28] {
     form
 }
 
+// UADDR-2 UADDR-3
 #[test]
 fn ipv6_hosts_are_printed(rt: HostRuntime) -> Result<(), Fail> {
     for host in &HOSTS {
@@ -234,6 +236,7 @@ fn ipv6_forms_have_28_bytes(rt: HostRuntime) -> Result<(), Fail> {
     Ok(())
 }
 
+// UADDR-2
 // Those of RFC 4291 section 2.2 that end in an IPv4 address are hosts of `inet_pton`, and not of a universal address; so
 // are the others of none.
 #[test]
@@ -272,6 +275,7 @@ fn other_ipv6_hosts_are_refused(rt: HostRuntime) -> Result<(), Fail> {
     Ok(())
 }
 
+// TADDR-1
 #[test]
 fn addresses_have_transport_forms(rt: HostRuntime) -> Result<(), Fail> {
     let form = [2, 0, 0, 0x6f, 0x7f, 0, 0, 1, 0, 0, 0, 0, 0, 0, 0, 0];
