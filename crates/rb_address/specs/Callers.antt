@@ -50,7 +50,7 @@ abbrev pub source_text : Source → List ℕ
 source_text (Inet peer) = peer_text peer
 source_text Local = codes "local"
 
--- `>` and the host that was asked, or nothing if it is not known
+-- `>` and the host that was asked; nothing for 0.0.0.0, which says that it is not known, as `::` does
 abbrev pub asked_text : Host → List ℕ
 asked_text asked = if is_same_host asked unknown_host then [] else codes ">" ++ bare_host_text asked
 

@@ -60,7 +60,7 @@ abbrev pub host_of : List ℕ → Option Host
 host_of text = option_or (option_map V4 (ipv4_host text)) (option_map V6 (ipv6_host text))
 
 -- HOST-1: An address of an option is dotted IPv4 without leading zeros, or IPv6 in any spelling,
--- except one of IPv4 in IPv6's form.
+-- except one of IPv4 in IPv6's form, ::ffff:a.b.c.d; another like ::1.2.3.4 is taken.
 unfoldable pub plain_host_of : List ℕ → Option Host
 plain_host_of text = do
   host ← host_of text

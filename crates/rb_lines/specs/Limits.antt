@@ -14,8 +14,8 @@ is_outside least most n = nat_lt n least || nat_lt most n
 abbrev pub least_rows : Listener → ℕ
 least_rows listener = length (own_rows listener) + 2
 
--- the first that is: connections, rows, forwarded calls
--- FAULT-2: Limits out of their ranges end `serve` with status 1, and a line says the first that is.
+-- FAULT-2: Limits out of their ranges end `serve` with status 1, and a line says the first that is,
+-- of connections, rows and forwarded calls.
 abbrev pub bad_limit : Limits → Listener → Option BadLimit
 bad_limit limits listener =
     if is_outside 1 256 limits.conns then Some (Conns limits.conns)

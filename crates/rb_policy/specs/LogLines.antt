@@ -74,7 +74,8 @@ abbrev pub address_part : Bool → List ℕ → List ℕ
 address_part true addr = codes " " ++ shown_text addr
 address_part false addr = []
 
--- the program, the version and the netid, and the address of a SET
+-- The program, the version and the netid, and the address of a SET. Of a SET of version 2 the netid is `-` if its
+-- protocol is none, and the address if its port is none; of an UNSET of version 2 the netid is `-`.
 abbrev pub row_part : ChangeLine → List ℕ
 row_part line =
     decimal line.prog ++ codes " " ++ decimal line.vers ++ codes " " ++ shown_text line.netid.now

@@ -157,8 +157,8 @@ unset_rows context head prog vers (Some which) l =
 -- ---- rows that are asked for
 
 -- the row's universal address as callers are told it: a host of its family stands in for 0.0.0.0 or ::
--- TOLD-2: GETADDR and GETVERSADDR tell a universal address with the host of TOLD-1, and the name of
--- a local socket as it was set.
+-- TOLD-2: GETADDR and GETVERSADDR tell a universal address with the host of TOLD-1, spelled anew (an
+-- IPv6 host as UADDR-3 says), and the name of a local socket as it was set.
 unfoldable pub shown_address : Hosts → Row → Option Uaddr
 shown_address hosts row = option_map (merged_address hosts) (address_in row.netid row.addr)
 

@@ -136,11 +136,12 @@ abbrev pub is_superuser : Owner → Bool
 is_superuser Unknown = false
 is_superuser (Uid uid) = uid == 0
 
--- the last quarter of the rows is for owner uid 0
+-- the last quarter of the rows, rounded down, is for owner uid 0: of 10 rows 8 are for all
 abbrev pub share_of : Owner → ℕ → ℕ
 share_of owner limit = if is_superuser owner then limit else limit - limit / 4
 
--- how many rows there may be with the one that a caller sets
+-- How many live rows there may be with the one that a caller sets; removed ones that lists need do not count. At the
+-- least limit of rows this leaves others than uid 0 none, or one if the daemon's own rows are four.
 -- QUOTA-1: The last quarter of the rows is for uid 0: if only that is left, a SET of a caller of
 -- another uid or of `unknown` is FALSE; one whose claims are believed may take all.
 abbrev pub share_by : Trust → ℕ → ℕ

@@ -84,7 +84,7 @@ address_to_forward netid prog vers rows =
 abbrev pub loopbacks : Hosts
 loopbacks = record { inet = 127 ∷ 0 ∷ 0 ∷ 1 ∷ []; inet6 = replicate 15 0 ++ 1 ∷ [] }
 
--- the peer at a universal address
+-- the peer at a universal address; a row at ::ffff:a.b.c.d is called at a.b.c.d, and shown so in the answer
 abbrev pub peer_of_address : Uaddr → Peer
 peer_of_address (V4 host port) = peer_at (hosts.V4 host) port
 peer_of_address (V6 host port) = peer_at (hosts.V6 host) port

@@ -63,7 +63,7 @@ is_exact vers (Some row) = row.vers == vers
 
 -- COUNT-2: A stranger's look-up counts only if the row that is found is of exactly the version that
 -- it names, and its forwarded call only if it passed: so strangers bring no key of what is not
--- registered.
+-- registered. Its calls are counted as all are (COUNT-6).
 abbrev pub counts_look_up : Who → ℕ → Option Row → Bool
 counts_look_up who vers found = not (is_stranger who) || is_exact vers found
 
