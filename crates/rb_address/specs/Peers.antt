@@ -33,7 +33,6 @@ abbrev pub host_text : Host → List ℕ
 host_text (V4 octets) = ipv4_text octets
 host_text (V6 octets) = codes "[" ++ ipv6_host_text octets ++ codes "]"
 
--- the host, a colon and the port in decimal
 -- PEER-1: A peer is `h1.h2.h3.h4:port` without leading zeros, or `[host]:port` with an IPv6 host as
 -- RFC 5952 section 4 prints it. An event line has the text that is printed of it, and no other.
 abbrev pub peer_text : Peer → List ℕ

@@ -47,7 +47,6 @@ abbrev pub head_of : ℕ → ℕ → Forward → CallHead
 head_of first_xid number asked =
     record { xid = xid_of first_xid number; prog = asked.prog; vers = asked.vers; proc = asked.proc; cred = credentials.None }
 
--- the datagram: a call by AUTH_NONE (RFC 5531 section 9), and the content of the arguments after it
 -- FORWARD-7: What is sent is a call with AUTH_NONE, and the content of args after it.
 unfoldable pub question : ℕ → Entry → List ℕ
 question first_xid e = call_bytes (head_of first_xid e.number e.forward) ++ e.args

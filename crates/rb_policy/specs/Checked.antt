@@ -10,7 +10,6 @@ abbrev pub loopback_of : Host → Host
 loopback_of (V4 octets) = V4 loopback
 loopback_of (V6 octets) = V6 loopback6
 
--- a row of every host is asked at the loopback, one of this machine at its own host, and no other one
 -- KEEPCHECK-1: With `--keep-check` the program of a kept row of 0.0.0.0 or `::` is asked at the
 -- loopback; of the loopback, of a host that is listened on and of one that is announced, at that
 -- host; and of any other host it is not asked.

@@ -97,7 +97,6 @@ listener_text listener =
     inet_text listener.announced.inet ++ (inet6_text listener.announced.inet6
     ++ (codes " --port " ++ (decimal listener.port ++ (local_text listener.local ++ terms_text listener.terms))))
 
--- the command that checks a record of a run from such an opening, in a comment
 -- LINE-4: The first line of a record is a comment with the command that checks it.
 abbrev pub options_text : Limits → Listener → ℕ → ℕ → List ℕ
 options_text limits listener first_xid now =

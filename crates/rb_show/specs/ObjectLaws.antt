@@ -27,7 +27,6 @@ has_objects (Entries prog vers) = true
 has_objects Stats = true
 has_objects question = false
 
--- One object of printable ASCII characters, so without a line feed, and then a line feed.
 -- JSON-3: With `--json` each line is one object of the grammar of RFC 8259 in printable ASCII.
 pub record IsObjectLine (line : List ℕ) : Type 0 where
   pub object : List ℕ
