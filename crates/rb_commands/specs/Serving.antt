@@ -20,8 +20,7 @@ use Rattle.rb_commands.specs.declared.serving.ServeTexts.{ServeTexts}
 use Rattle.rb_commands.specs.declared.serving.Serve.{Serve}
 use Rattle.rb_commands.specs.Options.{◌>>=◌, value_of, announced_of, read_local, port, limits_of, udp_lists, forward_for}
 
--- OPTION-10: What stands for an option of `serve` that is not given is the text that the help
--- shows.
+-- OPTION-10: An option of `serve` that is not given has the value that the help shows.
 abbrev pub default_of : Valued → List ℕ
 default_of (Bind place) = codes "127.0.0.1"
 default_of LocalMode = codes "0600"

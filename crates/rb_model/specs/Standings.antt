@@ -26,8 +26,8 @@ standing_of id s = standing_on (live_connection id s.connections.all)
 
 -- Where it stands after this many bytes that were taken of a piece: the call that was forwarded with the last of them waits
 -- to be sent.
--- STANDING-2: After bytes that brought a call which is forwarded a connection is told as Sends,
--- later as Awaiting: its call waits unsent, and `unsent` lends the first that does.
+-- STANDING-2: After bytes that brought a call which is forwarded the connection's standing is
+-- Sends, later Awaiting: its call waits unsent, and `unsent` lends the first that does.
 -- PROGRESS-1 EVENT-2
 abbrev pub standing_behind : ℕ → Standing → Standing
 standing_behind count stands.Idle = stands.Idle

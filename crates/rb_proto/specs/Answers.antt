@@ -130,8 +130,8 @@ adds context rows count (Some row) = accepts context rows count row
 unfoldable pub adds_row : Context → Call → List Row → ℕ → Bool
 adds_row context call rows count = adds context rows count (row_to_set context call)
 
--- ROOM-1: A call needs room exactly if it is a SET that is accepted; if live rows fill the table no
--- SET is.
+-- ROOM-1: A call needs room if and only if it is a SET that is accepted; if live rows fill the
+-- table no SET is.
 abbrev pub wants_room : Context → Call → Ledger → Bool
 wants_room context call l = adds_row context call (rows_in l) (length l.changes)
 

@@ -43,7 +43,7 @@ event_text ZeroStats = codes "zero\n"
 abbrev pub event_line : {B : Type 0} → (B → List ℕ) → event_type.Event B → List ℕ
 event_line bytes_of event = event_text (plain_event bytes_of event)
 
--- LINE-3: What an event gave stands in the line below it, after `#> `.
+-- LINE-3: What an event gave is in the line below it, after `#> `.
 abbrev pub entry_text : Event → Output → List ℕ
 entry_text event output = event_text event ++ (codes "#> " ++ output_text output)
 

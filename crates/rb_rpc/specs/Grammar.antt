@@ -179,8 +179,8 @@ IsReplyStatus GarbageArgs = ⊤
 IsReplyStatus SystemErr = ⊤
 
 -- The bytes begin with a reply that says this, with any verifier if it has one, and it ends at the place.
--- REPLY-2: A reply is read exactly if the bytes begin with one; its verifier may have any flavor
--- and at most 400 bytes.
+-- REPLY-2: A reply is read if and only if the bytes begin with one; its verifier may have any
+-- flavor and at most 400 bytes.
 pub record BeginsWithReply (xid : ℕ) (status : ReplyStatus) (place : ℕ) (bytes : List ℕ) : Type 0 where
   pub flavor : ℕ
   pub body : List ℕ
