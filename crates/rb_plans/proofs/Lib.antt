@@ -5,3 +5,5 @@ mod AddressesInOrder
 mod Several
 mod ObjectTexts
 pub mod Flushes
+pub mod Versions
+pub mod Pieces

@@ -8,7 +8,7 @@ use Rattle.std.proofs.lemmas.Bool.{cases_Bool, cases_lt, lt-ltb, le-ltb}
 use Rattle.std.proofs.lemmas.List.{append-nil}
 use Rattle.hex.specs.Hex.{decode_of}
 use Rattle.hex.proofs.HexLemmas.{decode_of-ok}
-use Rattle.rb_names.specs.declared.services.Service.{Service}
+use Rattle.rb_words.specs.declared.services.Service.{Service}
 use Rattle.rb_words.specs.declared.plan.Layout.{Layout}
 use Rattle.rb_words.specs.declared.plan.Layout.TheVariants as layouts
 use Rattle.rb_words.specs.declared.plan.Listing.{Listing}
@@ -32,7 +32,7 @@ use Rattle.rb_show.specs.declared.form.Form.TheVariants.{Json}
 use Rattle.rb_show.specs.declared.show.Shown.{Shown}
 use Rattle.rb_show.specs.ObjectLaws.{has_objects, IsObjectLine, WritesObjects}
 use Rattle.rb_show.proofs.ObjectTellers.{each_is_an_object, written}
-use Rattle.rb_course.specs.Fallback.{has_two, old_of}
+use Rattle.rb_plans.specs.Fallback.{has_two, old_of}
 use Rattle.rb_plans.specs.declared.fault.Fault.TheVariants.{Info, NoConnection, NoSocket, NoReply, NoHost, NoAddress, NotAvailable, NoProgram, TooManyVersions, TooManyRoutes, SomeLack}
 use Rattle.rb_plans.specs.Input.{digits_of, read_hex, bytes_of, longest_text, first_xid, tell_read, tell_text, IsTold, IsToldOr}
 use Rattle.rb_plans.specs.ObjectLaws.{AsksForObjects, ObjectsAreAskedFor, VersionTwoHasObjects, TextsAreShownAsObjects}

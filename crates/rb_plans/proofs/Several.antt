@@ -6,19 +6,19 @@ use Rattle.rb_uaddr.specs.Uaddr.{port_of}
 use Rattle.rb_rpc.specs.declared.reply.ReplyStatus.{ReplyStatus}
 use Rattle.rb_rpc.specs.declared.reply.ReplyStatus.TheVariants as statuses
 use Rattle.rb_ask.specs.declared.fault.InfoFault.TheVariants.{Read, Write, Unreadable, CutOff, TooLong, Refused, TooMany, Memory}
-use Rattle.rb_course.specs.declared.course.Aim.TheVariants as aims
-use Rattle.rb_course.specs.declared.course.Answer.{Answer}
-use Rattle.rb_course.specs.declared.course.Answer.TheVariants as answers
-use Rattle.rb_course.specs.declared.course.Course.{Course}
-use Rattle.rb_course.specs.declared.course.End.TheVariants as ends
-use Rattle.rb_course.specs.declared.course.Place.{Place}
-use Rattle.rb_course.specs.declared.course.Place.TheVariants as places
-use Rattle.rb_course.specs.declared.course.Stage.{Stage}
-use Rattle.rb_course.specs.declared.course.Stage.TheVariants.{Find, FindOld, Call, End}
-use Rattle.rb_course.specs.declared.course.Step.{Step}
+use Rattle.rb_plans.specs.declared.course.Aim.TheVariants as aims
+use Rattle.rb_plans.specs.declared.course.Answer.{Answer}
+use Rattle.rb_plans.specs.declared.course.Answer.TheVariants as answers
+use Rattle.rb_plans.specs.declared.course.Course.{Course}
+use Rattle.rb_plans.specs.declared.course.End.TheVariants as ends
+use Rattle.rb_plans.specs.declared.course.Place.{Place}
+use Rattle.rb_plans.specs.declared.course.Place.TheVariants as places
+use Rattle.rb_plans.specs.declared.course.Stage.{Stage}
+use Rattle.rb_plans.specs.declared.course.Stage.TheVariants.{Find, FindOld, Call, End}
+use Rattle.rb_plans.specs.declared.course.Step.{Step}
 use Rattle.rb_words.specs.declared.plan.Way.{Way}
 use Rattle.rb_words.specs.declared.plan.Way.TheVariants as ways
-use Rattle.rb_course.specs.Next.{place_of, begin_at, next_stage, step_to, after_lack, transport_at, after_port, is_of_teller, after_address, after_find_refusal_by, after_find, after_find_old, after_call}
+use Rattle.rb_plans.specs.Next.{place_of, begin_at, next_stage, step_to, after_lack, transport_at, after_port, is_of_teller, after_address, after_find_refusal_by, after_find, after_find_old, after_call}
 use Rattle.rb_plans.specs.declared.fault.Fault.{Fault}
 use Rattle.rb_plans.specs.declared.fault.Fault.TheVariants.{Info, NoConnection, NoSocket, NoReply, NoHost, NoAddress, NotAvailable, NoProgram, TooManyVersions, TooManyRoutes, SomeLack}
 use Rattle.rb_plans.specs.Addresses.{is_unanswered}

@@ -1,10 +1,10 @@
 -- A course that calls several versions does not go on at a further address.
 use Rattle.std.specs.Prelude.{◌≡◌, ℕ, ⊤, false, IfOk, IfErr, Result, Err}
-use Rattle.rb_course.specs.declared.course.Aim.{Aim}
-use Rattle.rb_course.specs.declared.course.Aim.TheVariants as aims
-use Rattle.rb_course.specs.declared.course.Course.{Course}
-use Rattle.rb_course.specs.declared.course.Stage.{Stage}
-use Rattle.rb_course.specs.declared.course.Stage.TheVariants.{Find, FindOld, Call, End}
+use Rattle.rb_plans.specs.declared.course.Aim.{Aim}
+use Rattle.rb_plans.specs.declared.course.Aim.TheVariants as aims
+use Rattle.rb_plans.specs.declared.course.Course.{Course}
+use Rattle.rb_plans.specs.declared.course.Stage.{Stage}
+use Rattle.rb_plans.specs.declared.course.Stage.TheVariants.{Find, FindOld, Call, End}
 use Rattle.rb_show.specs.declared.show.Shown.{Shown}
 use Rattle.rb_plans.specs.declared.fault.Fault.{Fault}
 use Rattle.rb_plans.specs.Addresses.{is_unanswered}

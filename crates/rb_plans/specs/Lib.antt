@@ -1,6 +1,12 @@
 pub mod Input
 pub mod InputLaws
 pub mod ObjectLaws
+pub mod Next
+pub mod WholeCourses
+pub mod Places
+pub mod Fallback
+pub mod Networks
+pub mod Lacks
 pub mod Plans
 pub mod Waits
 pub mod Addresses

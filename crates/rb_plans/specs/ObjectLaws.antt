@@ -2,7 +2,7 @@
 use Rattle.std.specs.Prelude.{◌≡◌, ◌≢◌, ℕ, true, List, Option, Some, Result, Ok, Err}
 use Rattle.std.specs.Borrow.{Bor}
 use Rattle.rb_rpc.specs.declared.reply.ReplyStatus.{ReplyStatus}
-use Rattle.rb_names.specs.declared.services.Service.{Service}
+use Rattle.rb_words.specs.declared.services.Service.{Service}
 use Rattle.rb_words.specs.declared.plan.Plan.{Plan}
 use Rattle.rb_words.specs.declared.plan.Request.{Request}
 use Rattle.rb_words.specs.declared.plan.Source.{Source}
@@ -14,7 +14,7 @@ use Rattle.rb_show.specs.declared.ask.Question.{Question}
 use Rattle.rb_show.specs.declared.form.Form.TheVariants.{Json}
 use Rattle.rb_show.specs.declared.show.Shown.{Shown}
 use Rattle.rb_show.specs.ObjectLaws.{has_objects, WritesObjects}
-use Rattle.rb_course.specs.Fallback.{fallback}
+use Rattle.rb_plans.specs.Fallback.{fallback}
 use Rattle.rb_plans.specs.declared.fault.Fault.{Fault}
 use Rattle.rb_plans.specs.declared.fault.Fault.TheVariants.{Info}
 use Rattle.rb_plans.specs.Input.{tell_text}

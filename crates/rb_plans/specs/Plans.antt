@@ -11,16 +11,16 @@ use Rattle.rb_show.specs.declared.ask.Question.{Question}
 use Rattle.rb_show.specs.declared.ask.Question.TheVariants as questions
 use Rattle.rb_show.specs.declared.show.Shown.{Shown}
 use Rattle.rb_show.specs.declared.show.Shown.TheVariants as shown
-use Rattle.rb_course.specs.declared.course.Aim.{Aim}
-use Rattle.rb_course.specs.declared.course.Aim.TheVariants as aims
-use Rattle.rb_course.specs.declared.course.Answer.{Answer}
-use Rattle.rb_course.specs.declared.course.Answer.TheVariants as answers
-use Rattle.rb_course.specs.declared.course.End.TheVariants as ends
-use Rattle.rb_course.specs.declared.course.Stage.{Stage}
-use Rattle.rb_course.specs.declared.course.Stage.TheVariants.{Find, FindOld, Call, End}
-use Rattle.rb_course.specs.declared.course.Course.{Course}
-use Rattle.rb_course.specs.declared.course.Step.{Step}
-use Rattle.rb_course.specs.Next.{next, unanswered}
+use Rattle.rb_plans.specs.declared.course.Aim.{Aim}
+use Rattle.rb_plans.specs.declared.course.Aim.TheVariants as aims
+use Rattle.rb_plans.specs.declared.course.Answer.{Answer}
+use Rattle.rb_plans.specs.declared.course.Answer.TheVariants as answers
+use Rattle.rb_plans.specs.declared.course.End.TheVariants as ends
+use Rattle.rb_plans.specs.declared.course.Stage.{Stage}
+use Rattle.rb_plans.specs.declared.course.Stage.TheVariants.{Find, FindOld, Call, End}
+use Rattle.rb_plans.specs.declared.course.Course.{Course}
+use Rattle.rb_plans.specs.declared.course.Step.{Step}
+use Rattle.rb_plans.specs.Next.{next, unanswered}
 use Rattle.rb_plans.specs.declared.fault.Fault.{Fault}
 use Rattle.rb_plans.specs.declared.fault.Fault.TheVariants.{Info, NotAvailable, NoProgram, TooManyVersions, TooManyRoutes, SomeLack}
 

@@ -5,11 +5,10 @@ ghost use Rattle.rb_plans.specs.Ending.{Says};
 ghost use Rattle.rb_plans.specs.Invocations.{ask_of, first_word, form_of, is_at_host, is_named, names_host, AreOf, IsNetworkOf, ReadsShape};
 
 use crate::ending::{Ending, UNREADABLE};
-use rb_names::Service;
 use rb_show::{Ask, Form, Question};
 use rb_words::{
-    Expected, Layout, Listing, Plan, Refusal, Request, Shape, Source, Spot, Way, read_words,
-    write_refusal,
+    Expected, Layout, Listing, Plan, Refusal, Request, Service, Shape, Source, Spot, Way,
+    read_words, write_refusal,
 };
 use std::io::Write;
 use std::net::Ipv4Addr;

@@ -3,6 +3,7 @@ ghost use Rattle.rb_plans.specs.AddressLaws.{AskedUpToAnAnswer, AllAreAsked};
 ghost use Rattle.rb_plans.specs.CourseLaws.{SeveralStay, FaultsAreLast, EndsAreLast};
 ghost use Rattle.rb_plans.specs.InputLaws.{HexTextsGiveBytes, OnlyHexTextsDo, OthersAreUnreadable, DigitsGiveTheirBytes, LongTextsAreNotRead, TheRestIsRead};
 ghost use Rattle.rb_plans.specs.ObjectLaws.{ObjectsAreAskedFor, VersionTwoHasObjects, TextsAreShownAsObjects};
+ghost use Rattle.rb_plans.specs.WholeCourses.{EachVersionIsCalled};
 
 /// A text gives bytes exactly if it is an even number of hexadecimal digits with white space anywhere, and bytes'
 /// own digits give them; any other text is unreadable. One of more than 67,108,864 bytes is not read at all.
@@ -36,4 +37,10 @@ pub fn objects_are_shown()
     ensures asked { ObjectsAreAskedFor }
     ensures old { VersionTwoHasObjects }
     ensures texts { TextsAreShownAsObjects }
+{}
+
+/// If a program's place is known, each of the versions that it has is called once, from the least to the greatest,
+/// whatever is answered, or not.
+pub fn courses_are_whole()
+    ensures { EachVersionIsCalled }
 {}

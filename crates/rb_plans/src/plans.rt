@@ -2,8 +2,9 @@
 ghost use Rattle.std.specs.Prelude.{◌≡◌};
 ghost use Rattle.rb_plans.specs.Plans.{question_of, plan_question, aim_of, answer_of, is_of_here, passed_over, follow, course_end};
 
+use crate::course::{Aim, Answer, Course, End, Stage, Step};
 use crate::fault::Fault;
-use rb_course::{Aim, Answer, Course, End, Stage, Step, next, unanswered};
+use crate::stages::{next, unanswered};
 use rb_rpc::ReplyHead;
 use rb_show::{InfoFault, Question, Shown};
 use rb_words::{Listing, Plan, Source};

@@ -13,7 +13,7 @@ use Rattle.rb_uaddr.specs.declared.address.Uaddr.{Uaddr}
 use Rattle.rb_uaddr.specs.Grammar.{Spells as SpellsAddress}
 use Rattle.rb_uaddr.specs.Uaddr.{parse}
 use Rattle.rb_uaddr.proofs.GrammarLaws.{read_is_spelled}
-use Rattle.rb_names.specs.Services.{borrowed_texts}
+use Rattle.rb_words.specs.Services.{borrowed_texts}
 use Rattle.rb_words.specs.declared.plan.Listing.{Listing}
 use Rattle.rb_words.specs.declared.plan.Listing.TheVariants as listings
 use Rattle.rb_words.specs.declared.plan.Plan.{Plan}

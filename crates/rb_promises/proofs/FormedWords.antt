@@ -12,9 +12,9 @@ use Rattle.std.proofs.lemmas.List.Elements.{All-nil, All-cons, All-head, All-tai
 use Rattle.std.proofs.lemmas.Option.{none-some, same_Some, cond_some, slice_get_cases}
 use Rattle.std.proofs.lemmas.Slice.Eq.{bytes_eq-Decides}
 use Rattle.std.proofs.lemmas.Str.Parse.{IsNumeralModel, numerals_by_value}
-use Rattle.rb_names.specs.declared.services.Service.{Service}
-use Rattle.rb_names.specs.Numbers.{is_digit, is_numeral, is_between, number_in}
-use Rattle.rb_names.specs.Services.{borrowed_texts, number_of}
+use Rattle.rb_words.specs.declared.services.Service.{Service}
+use Rattle.rb_words.specs.Numbers.{is_digit, is_numeral, is_between, number_in}
+use Rattle.rb_words.specs.Services.{borrowed_texts, number_of}
 use Rattle.rb_words.specs.declared.plan.Source.{Source}
 use Rattle.rb_words.specs.declared.plan.Source.TheVariants.{Here, Input, Named}
 use Rattle.rb_words.specs.declared.refusal.Refusal.{Refusal}

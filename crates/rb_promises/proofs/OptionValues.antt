@@ -23,7 +23,7 @@ use Rattle.rb_address.proofs.Words as words
 use Rattle.rb_proto.specs.declared.listener.Announced.{Announced}
 use Rattle.rb_proto.specs.declared.listener.Forwarding.{Forwarding}
 use Rattle.rb_proto.specs.declared.listener.Forwarding.TheVariants.{Anywhere, ForAll, ForLocal}
-use Rattle.rb_names.specs.Services.{borrowed_texts}
+use Rattle.rb_words.specs.Services.{borrowed_texts}
 use Rattle.rb_lines.specs.Paths.{is_quotable, is_path}
 use Rattle.rb_commands.specs.declared.options.Valued.{Valued}
 use Rattle.rb_commands.specs.declared.options.Valued.TheVariants.{Announce, Local}

@@ -8,7 +8,7 @@ use Rattle.rb_address.specs.declared.netid.Netid.TheVariants as netids
 use Rattle.rb_address.specs.declared.netid.Transport.{Transport}
 use Rattle.rb_address.specs.declared.netid.Transport.TheVariants as transports
 use Rattle.rb_uaddr.specs.declared.address.Uaddr.{Uaddr}
-use Rattle.rb_names.specs.Services.{borrowed_texts}
+use Rattle.rb_words.specs.Services.{borrowed_texts}
 use Rattle.rb_words.specs.declared.plan.Layout.{Layout}
 use Rattle.rb_words.specs.declared.plan.Layout.TheVariants.{Names, Json}
 use Rattle.rb_words.specs.declared.plan.Listing.{Listing}

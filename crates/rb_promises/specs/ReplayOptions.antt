@@ -1,6 +1,6 @@
 -- Which values of the options of `replay` give which beginning.
 use Rattle.std.specs.Prelude.{◌≡◌, ◌↔◌, Ok}
-use Rattle.rb_names.specs.Services.{borrowed_texts}
+use Rattle.rb_words.specs.Services.{borrowed_texts}
 use Rattle.rb_lines.specs.declared.beginning.Beginning.{Beginning}
 use Rattle.rb_commands.specs.declared.options.ReplayTexts.{ReplayTexts}
 use Rattle.rb_commands.specs.Options.{beginning_of}

@@ -1,7 +1,7 @@
 -- What the values of the options of `serve` ask for.
 use Rattle.std.specs.Prelude.{◌≡◌, ◌≢◌, ◌↔◌, ⊤, ℕ, ◌<◌, ◌≤◌, List, length, Option, Some, None, option_map, Ok}
 use Rattle.std.specs.Borrow.{Bor}
-use Rattle.rb_names.specs.Services.{borrowed_texts}
+use Rattle.rb_words.specs.Services.{borrowed_texts}
 use Rattle.rb_proto.specs.declared.listener.Forwarding.TheVariants.{Anywhere}
 use Rattle.rb_sockets.specs.declared.settings.Logged.{Logged}
 use Rattle.rb_sockets.specs.declared.settings.Logged.TheVariants.{Nothing}

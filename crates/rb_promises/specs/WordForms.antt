@@ -9,8 +9,8 @@ use Rattle.rb_address.specs.declared.netid.Transport.TheVariants.{Tcp, Udp}
 use Rattle.rb_address.specs.Netids.{netid_text}
 use Rattle.rb_uaddr.specs.declared.address.Uaddr.{Uaddr}
 use Rattle.rb_uaddr.specs.Grammar.{Spells as SpellsAddress}
-use Rattle.rb_names.specs.declared.services.Service.{Service}
-use Rattle.rb_names.specs.Services.{borrowed_texts}
+use Rattle.rb_words.specs.declared.services.Service.{Service}
+use Rattle.rb_words.specs.Services.{borrowed_texts}
 use Rattle.rb_words.specs.declared.plan.Layout.{Layout}
 use Rattle.rb_words.specs.declared.plan.Layout.TheVariants.{Names, Json}
 use Rattle.rb_words.specs.declared.plan.Listing.{Listing}

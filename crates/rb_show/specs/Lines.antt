@@ -1,7 +1,7 @@
 -- The lines that are printed.
 use Rattle.std.specs.Prelude.{ℕ, Bool, true, false, if◌then◌else◌, List, [], ◌++◌, codes, Option, Some, None}
 use Rattle.std.specs.Fmt.{decimal}
-use Rattle.rb_names.specs.Services.{name_of}
+use Rattle.rb_words.specs.Services.{name_of}
 use Rattle.rb_arguments.specs.declared.mapping.Mapping.{Mapping}
 use Rattle.rb_arguments.specs.declared.rpcb.Rpcb.{Rpcb}
 use Rattle.rb_arguments.specs.declared.entry.Entry.{Entry}

@@ -5,7 +5,7 @@ use Rattle.std.specs.List.{find, flat_map, fold, list_any}
 use Rattle.std.specs.Borrow.{Bor}
 use Rattle.std.specs.Str.{bytes_eq}
 use Rattle.std.specs.String.{string_bytes}
-use Rattle.rb_names.specs.Services.{name_of}
+use Rattle.rb_words.specs.Services.{name_of}
 use Rattle.rb_arguments.specs.declared.rpcb.Rpcb.{Rpcb}
 use Rattle.rb_show.specs.declared.form.Form.{Form}
 use Rattle.rb_show.specs.declared.form.Form.TheVariants.{Plain, Named, Json}

@@ -1,11 +1,11 @@
 //! In which form lists are shown.
 ghost use Rattle.std.specs.Prelude.{◌≡◌, IfOk};
-ghost use Rattle.rb_names.specs.Services.{name_of};
+ghost use Rattle.rb_words.specs.Services.{name_of};
 ghost use Rattle.rb_show.specs.Texts.{HasBytes};
 ghost use Rattle.rb_show.specs.Lines.{is_json, name_text, line_end};
 
 use crate::texts::shown_text;
-use rb_names::{Service, name_of};
+use rb_words::{Service, name_of};
 use std::alloc::{AllocError, Global};
 
 /// The form in which the lines of a list are written.

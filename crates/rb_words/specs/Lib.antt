@@ -1,2 +1,4 @@
+pub mod Numbers
+pub mod Services
 pub mod Refusals
 pub mod Words

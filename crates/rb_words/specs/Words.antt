@@ -23,15 +23,15 @@ use Rattle.rb_address.specs.declared.netid.Netid.TheVariants as netids
 use Rattle.rb_address.specs.declared.netid.Transport.{Transport}
 use Rattle.rb_address.specs.declared.netid.Transport.TheVariants as transports
 use Rattle.rb_address.specs.Netids.{netid_named}
-use Rattle.rb_names.specs.declared.services.Service.{Service}
-use Rattle.rb_names.specs.Services.{number_of}
+use Rattle.rb_words.specs.declared.services.Service.{Service}
+use Rattle.rb_words.specs.Services.{number_of}
 use Rattle.rb_words.specs.declared.plan.Plan.{Plan}
 use Rattle.rb_words.specs.declared.plan.Plan.TheVariants.{Show, Entries, Ping, Delete, Broadcast}
 use Rattle.rb_words.specs.declared.plan.Way.{Way}
 use Rattle.rb_words.specs.declared.plan.Way.TheVariants as ways
 use Rattle.rb_uaddr.specs.declared.address.Uaddr.{Uaddr}
 use Rattle.rb_uaddr.specs.Uaddr.{parse}
-use Rattle.rb_names.specs.Numbers.{number_in}
+use Rattle.rb_words.specs.Numbers.{number_in}
 
 -- ---- refusals
 

@@ -6,7 +6,8 @@ use crate::plan::{Layout, Listing, Plan, Request, Source, Way};
 use crate::refusal::{Expected, Refusal, Spot};
 use crate::shape::{Flag, Shape};
 use rb_address::{Netid, Transport};
-use rb_names::{Service, number_in, number_of};
+use crate::number::number_in;
+use crate::services::{Service, number_of};
 use rb_uaddr::Uaddr;
 
 /// The portmapper's port.

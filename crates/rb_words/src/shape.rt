@@ -2,7 +2,7 @@
 ghost use Rattle.std.specs.Prelude.{◌≡◌};
 
 use crate::plan::Layout;
-use rb_names::Service;
+use crate::services::Service;
 
 /// A flag names a form; at most one stands on a command line.
 #[derive(Clone, Copy, PartialEq, Eq)]

@@ -1,15 +1,15 @@
 //! Questions over sockets. No contract can say what they are answered with: what is asked, where, and what follows from
-//! an answer is decided in `rb_course` and `rb_plans`.
+//! an answer is decided in `rb_plans`.
 ghost use Rattle.std.specs.Prelude.{◌≡◌};
 ghost use Rattle.rpcinfo.specs.Running.{no_notices};
 
 use crate::hosts::{addresses_of, here};
 use crate::net::{Peer, ask_datagram, ask_stream};
 use rb_address::{Family, Transport};
-use rb_course::{Course, Place, Stage, asked, begin, called_at, fallback, show_lack};
 use rb_plans::{
-    FIRST_XID, Fault, Invocation, Notices, aim_of, course_end, falls_back, family_of, follow,
-    is_asked, is_unanswered, none_asked, notices_at,
+    Course, FIRST_XID, Fault, Invocation, Notices, Place, Stage, aim_of, asked, begin, called_at,
+    course_end, fallback, falls_back, family_of, follow, is_asked, is_unanswered, none_asked,
+    notices_at, show_lack,
 };
 use rb_show::{Ask, Form, InfoFault, Question, Shown};
 use rb_words::Way;

@@ -4,10 +4,9 @@ ghost use Rattle.rpcinfo.specs.Running.{EndsSaying, EndsUnread};
 
 use clap::error::ErrorKind;
 use clap::{Arg, ArgAction, ArgMatches, Command, Error};
-use rb_names::Service;
 use rb_plans::{Ending, Fault, Invocation, UNREADABLE, explain, read_invocation};
 use rb_show::InfoFault;
-use rb_words::{Flag, Layout, Shape};
+use rb_words::{Flag, Layout, Service, Shape};
 use std::alloc::{AllocError, Global};
 use std::convert::AsStr;
 use std::io::Write;

@@ -1,7 +1,6 @@
 //! Where a broadcast goes.
 use crate::files::text_of;
-use rb_course::{LONGEST_ROUTES, are_read_whole, read_networks};
-use rb_plans::Fault;
+use rb_plans::{Fault, LONGEST_ROUTES, are_read_whole, read_networks};
 use rb_show::InfoFault;
 use std::alloc::Global;
 use std::net::Ipv4Addr;

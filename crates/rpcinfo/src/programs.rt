@@ -1,6 +1,6 @@
 //! The file of names of programs.
 use crate::files::text_of;
-use rb_names::{LONGEST_SERVICES, Service, read_services};
+use rb_words::{LONGEST_SERVICES, Service, read_services};
 use rb_show::InfoFault;
 use std::alloc::Global;
 use std::rt::Files;

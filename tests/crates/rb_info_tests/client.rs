@@ -1,8 +1,8 @@
 //! A client that asks a daemon in the same process. Its sockets never wait, since the daemon's turns are taken by the same
 //! thread.
 use rb_address::{Host, Network, Transport};
-use rb_course::{Aim, Answer, Course, End, Stage, asked, begin, called_at, next};
 use rb_daemon::{Announced, Daemon, Few, Limits, LocalSocket, Logged, Settings, Terms};
+use rb_plans::{Aim, Answer, Course, End, Stage, asked, begin, called_at, next};
 use rb_show::{
     Ask, Form, HeldBytes, InfoFault, Shown, show_datagram, show_reply, write_call,
     write_marked_call,

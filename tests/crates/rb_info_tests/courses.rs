@@ -1,8 +1,8 @@
 //! A course of questions to a daemon in the same process, on port 20116 of 127.0.0.1.
 use crate::turns::{daemon_of, receive};
 use rb_address::Transport;
-use rb_course::{Aim, Answer, Course, End, Stage, Step, asked, begin, next};
 use rb_daemon::Daemon;
+use rb_plans::{Aim, Answer, Course, End, Stage, Step, asked, begin, next};
 use rb_show::{Form, HeldBytes, InfoFault, Shown, show_reply, write_marked_call};
 use rb_words::Way;
 use std::io::Write;

@@ -2,8 +2,8 @@
 use crate::client::{Caller, Client, LOCAL, daemon_everywhere, portmapper, portmapper6};
 use rb_address::Netid;
 use rb_daemon::Daemon;
-use rb_names::{Service, read_services};
 use rb_show::{Ask, Form, Question, Shown, show_datagram};
+use rb_words::{Service, read_services};
 use std::net::{Ipv4Addr, SocketAddr};
 use std::os::unix::net::UnixStream;
 use std::test::Fail;

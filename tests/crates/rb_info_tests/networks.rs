@@ -1,4 +1,4 @@
-use rb_course::read_networks;
+use rb_plans::read_networks;
 use std::test::Fail;
 
 /// What Linux listed on a machine that had 10.1.4.9/22 and 172.16.5.130/26, with routes to one host, through gateways,

@@ -1,10 +1,9 @@
 //! The forms of rpcinfo that call procedure 0 of a program: their words are read, and what they ask for is asked of a
 //! daemon by turns.
 use crate::client::{Client, PORT, daemon_everywhere, portmapper, portmapper6};
-use rb_course::{Aim, Course, End};
-use rb_names::{Service, read_services};
+use rb_plans::{Aim, Course, End};
 use rb_show::Form;
-use rb_words::{Flag, Plan, Shape, read_words};
+use rb_words::{Flag, Plan, Service, Shape, read_services, read_words};
 use std::net::SocketAddr;
 use std::test::Fail;
 

@@ -1,6 +1,6 @@
 //! Where a question goes, of a portmapper that was found by a scope of IPv6, as fe80::1%eth0 is.
 use rb_address::Transport;
-use rb_course::{Place, called_at};
+use rb_plans::{Place, called_at};
 use rb_uaddr::Uaddr;
 use std::net::{Ipv4Addr, Ipv6Addr, SocketAddr, SocketAddrV6};
 use std::test::Fail;

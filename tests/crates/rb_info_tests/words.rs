@@ -1,6 +1,8 @@
 use rb_address::{Netid, Transport};
-use rb_names::{name_of, number_of, read_services};
-use rb_words::{Expected, Flag, Plan, Refusal, Shape, Spot, Way, read_words, write_refusal};
+use rb_words::{
+    Expected, Flag, Plan, Refusal, Shape, Spot, Way, name_of, number_of, read_services, read_words,
+    write_refusal,
+};
 use std::test::Fail;
 
 /// `--uid 7 -u HOST 100000` is read with each of its parts.

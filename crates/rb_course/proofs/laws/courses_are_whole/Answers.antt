@@ -1,5 +1,0 @@
-use Rattle.rb_course.proofs.Versions.{each_is_called}
-use Rattle.rb_course.proofs.laws.courses_are_whole.Goals as goal
-
-pub returns : goal.returns
-returns c = each_is_called

@@ -1,6 +1,0 @@
-pub mod Fallback
-pub mod Lacks
-pub mod Next
-pub mod Places
-pub mod Laws
-pub mod Networks
