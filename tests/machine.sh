@@ -69,11 +69,35 @@ in_minutes() {
     fi
 }
 
-# About how many minutes `make` takes from nothing on this many processors, and `make test`.
-minutes_of_make() {
-    echo $((25 + 80 / $1))
+# What a minute of docs/TIMINGS.md is here, by a fixed loop that was timed beside that gate too: the middle of three runs.
+measure_pace() {
+    local here there
+    here=$(for _ in 1 2 3; do tests/fixed-loop.py; done | sort -n | sed -n 2p)
+    there=$(sed -nE 's/.*processor seconds, ([0-9.]+) on average.*/\1/p' docs/TIMINGS.md)
+    awk -v here="${here:-1}" -v there="${there:-${here:-1}}" 'BEGIN { print here / there }'
 }
 
+# A number of docs/TIMINGS.md: what the brackets of a pattern of sed find there.
+told_number() {
+    sed -nE "s/$1/\\1/p" docs/TIMINGS.md | head -n 1 | tr -d ,
+}
+
+# About how many minutes `make` takes from nothing on this many processors at this pace. What nobody waits for is proved
+# beside the longest chain, which four processes prove in three quarters of its time.
+minutes_of_make() {
+    awk -v cores="$1" -v pace="$2" -v proofs="$(told_number '^\| all \|[^|]*\|[^|]*\| ([0-9,]+) min .*')" \
+        -v chain="$(told_number '^The longest chain of proofs has ([0-9,]+) minutes.*')" 'BEGIN {
+            chain *= cores < 4 ? 1 : 0.75
+            all = 1.1 * proofs / cores
+            printf "%.0f\n", pace * (all > chain ? all : chain) + 0.5
+        }'
+}
+
+# The same of `make test`, in which each proof works on one processor, and edits fill the others.
 minutes_of_test() {
-    echo $((46 + 268 / $1))
+    awk -v cores="$1" -v pace="$2" -v all="$(told_number '^All together are ([0-9,]+) processor minutes.*')" \
+        -v chain="$(told_number '^The longest chain of proofs has ([0-9,]+) minutes.*')" 'BEGIN {
+            all *= 1.1 / cores
+            printf "%.0f\n", pace * (all > chain ? all : chain) + 0.5
+        }'
 }

@@ -2,9 +2,9 @@
 # Proves each crate of crates.txt and builds the programs, as many crates side by side as processors and memory allow.
 #
 # A crate begins as soon as those that it stands on are proved, the one with the longest chain of others above it first, and
-# no more crates at a time than there are processors. The crate of the longest chain works in up to four processes, however
-# many others work beside it, and these give way to it (nice): nothing else decides when all is proved. Each other crate works
-# in one, since a proof in several takes more processor time.
+# no more crates at a time than there are processors. The crate of the longest chain works in two processes, and others give
+# way to it (nice): nothing else decides when all is proved. Each other crate works in one, since a proof in four processes
+# takes half more processor time. Processors that nothing else waits for go to the crate that begins, four at most.
 #
 # `rt` lets one command at a time work in a crate's folder or in one below it. So each crate is proved in a room
 # of its own: a folder with links to its files and to the libraries below it, which has its out/ meanwhile. The crates'
@@ -25,6 +25,7 @@ declare -A costs # its seconds by docs/TIMINGS.md, or a guess by its lines of co
 declare -A chain # its seconds and those of the longest chain of crates above it
 declare -A state # waiting, running, proved, failed or skipped
 declare -A since # when it began
+declare -A share # in how many processes
 declare -A pids  # its process
 
 # ---- crates
@@ -176,35 +177,51 @@ longest_to_come() {
     echo "$longest"
 }
 
-# The longest chain above a crate that is being proved.
+# What is left of the longest chain that begins with a crate that is being proved, as far as its seconds tell.
 longest_running() {
-    local name longest=0
+    local name done left longest=0
     for name in "${names[@]}"; do
         [ "${state[$name]}" = running ] || continue
-        [ "${chain[$name]}" -le "$longest" ] || longest=${chain[$name]}
+        done=$((SECONDS - since[$name]))
+        left=$((chain[$name] - (done < costs[$name] ? done : costs[$name])))
+        [ "$left" -le "$longest" ] || longest=$left
     done
     echo "$longest"
 }
 
+# The processors, less the processes that work.
+count_idle() {
+    local name idle=$slots
+    for name in "${names[@]}"; do
+        [ "${state[$name]}" != running ] || idle=$((idle - share[$name]))
+    done
+    echo "$idle"
+}
+
 # Begins the crates that are ready, as far as there are processors.
 start_ready() {
-    local ready name share way longest
+    local ready name way longest spare waiting
     mapfile -t ready < <(list_ready)
+    waiting=${#ready[@]}
     longest=$(longest_to_come "${ready[@]}")
     for name in "${ready[@]}"; do
         [ "$free" -gt 0 ] || return 0
-        share=1
+        share[$name]=1
         way=10
         if [ "${chain[$name]}" -ge "$longest" ] && [ "${chain[$name]}" -gt "$(longest_running)" ]; then
-            share=$((slots < 4 ? slots : 4))
+            share[$name]=$((slots < 2 ? slots : 2))
             way=0
         fi
-        prove "$name" "$share" "$way" > "$logs/$name" 2>&1 &
+        spare=$(($(count_idle) / waiting))
+        spare=$((spare < 4 ? spare : 4))
+        [ "$spare" -le "${share[$name]}" ] || share[$name]=$spare
+        prove "$name" "${share[$name]}" "$way" > "$logs/$name" 2>&1 &
         pids[$name]=$!
         state[$name]=running
         since[$name]=$SECONDS
         free=$((free - 1))
-        say "$name begins, in $share processes"
+        waiting=$((waiting - 1))
+        say "$name begins, in ${share[$name]} processes"
     done
 }
 
@@ -287,7 +304,7 @@ mkfifo "$logs/ended" && exec {ended}<> "$logs/ended" || exit 1
 
 SECONDS=0
 echo "make: ${#names[@]} crates on $slots of $cores cores ($memory_of_one MiB of free memory for each):" \
-    "from nothing about $(minutes_of_make "$slots") minutes"
+    "from nothing about $(minutes_of_make "$slots" "$(measure_pace)") minutes"
 start_ready
 while [ "$(count running)" -gt 0 ]; do
     await_one

@@ -1,6 +1,6 @@
 #!/usr/bin/env bash
-# The whole test: the tests without proof, `rt ci` (every proof from nothing, the edits that must be refused, and each
-# program), the rows, and two hosts. The last line is 'N passed, N failed' over all; the status is 1 if one failed. With
+# The whole test: the tests without proof, `rt ci` (every proof from nothing, the edits of must-fail/, and each program), the
+# edits of refused/ over what that built, the rows, and two hosts. The last line is 'N passed, N failed' over all; the status is 1 if one failed. With
 # --anew, nothing that this machine passed before is kept. With --quick nothing is proved: the rows run programs that
 # were built without proof.
 set -u
@@ -10,7 +10,7 @@ cd "$(dirname "$0")/.." || exit 1
 memory_of_one=3000 # in MiB, for a check
 
 work=$(mktemp -d) || exit 1
-trap 'rm -rf "$work"' EXIT
+trap 'put_back_libraries; rm -rf "$work"' EXIT
 passed=0
 failed=0
 
@@ -46,6 +46,32 @@ show_progress() {
     done
 }
 
+# Moves away the libraries that checks left here, which `rt ci` would put back in the place of those that it builds, over
+# which the edits are tried; and what an earlier `rt ci` left, which nothing else takes (they have no stamp).
+set_aside_libraries() {
+    local crate
+    for crate in $(list_crates); do
+        if [ -f "crates/$crate/out/rlib/stamp" ] && [ -d .git ]; then
+            mkdir -p "$aside/$crate" && mv "crates/$crate/out/rlib" "$aside/$crate"
+        else
+            rm -rf "crates/$crate/out/rlib"
+        fi
+    done
+}
+
+put_back_libraries() {
+    local library crate
+    for library in "$aside"/*/rlib; do
+        crate=$(basename "$(dirname "$library")")
+        if [ -d "$library" ] && [ -d "crates/$crate" ]; then
+            rm -rf "crates/$crate/out/rlib"
+            mkdir -p "crates/$crate/out" && mv "$library" "crates/$crate/out"
+        fi
+    done
+    rm -rf "$aside"
+}
+
+aside=$PWD/.git/libraries
 crates=$(list_crates | wc -l)
 with_edits=$(find crates/*/must-fail -name '*.edit' -printf '%h\n' | sort -u | wc -l)
 cores=$(count_cores)
@@ -56,15 +82,21 @@ if [ "${1:-}" = --quick ]; then
     add tests/run-rows.sh "$work/rpcbind" "$work/rpcinfo"
     add tests/two-hosts.sh "$work/rpcbind" "$work/rpcinfo"
 else
-    echo "make test: $crates crates on $cores cores: from nothing about $(minutes_of_test "$cores") minutes;" \
+    echo "make test: $crates crates on $cores cores: from nothing about $(minutes_of_test "$cores" "$(measure_pace)") minutes;" \
         "what this machine passed before is not proved again"
+    put_back_libraries # that a run which was killed outright left
+    slots=$(count_slots "$memory_of_one")
+    add tests/run-tests.sh
+    set_aside_libraries
+    words=("$@")
     # Kits that keep nothing prove all anew, and know no such word.
     if [ "${1:-}" = --anew ] && ! rt help 2>&1 | grep -q -e --anew; then
         shift
     fi
-    add tests/run-tests.sh
     # With a number given, `rt` has each check work on one core: on several, each loads all that the crate stands on.
-    add env RT_JOBS="$(count_slots "$memory_of_one")" rt ci "$@"
+    add env RT_JOBS="$slots" rt ci "$@"
+    add env RT_JOBS="$slots" tests/try-edits.py "${words[@]}"
+    put_back_libraries
     add tests/run-rows.sh
     add tests/two-hosts.sh
 fi

@@ -1,0 +1,385 @@
+#!/usr/bin/env python3
+"""Tries the edits crates/NAME/refused/*.edit, after `rt ci`: the prover must refuse each. With names it tries those of these
+crates alone, and with --anew also what it refused before. The last line is 'N passed, M failed'.
+
+An edit is written as one of must-fail/, which `rt` describes, and changes src/ alone. It may have a line '# by FUNCTION':
+the function that must be refused, by its path below the crate, if that is not the first one whose body it changes.
+
+Several edits of a crate are tried by one check, over the libraries that stand in crates/*/out/rlib: each changes the bodies
+of other functions, whose contracts stay, so none changes what is to be proved of the others'. The check proves the edited
+functions with what they call (`rattle check --only`). An edit is refused if the prover says that its function is not proved
+and that all which this function calls is: so its own goals are what fails, and not another edit. What a check does not
+decide is tried in the next one, and in the end alone, as is from the start what changes more than bodies.
+
+What was refused is kept on this machine, where `rt ci` keeps its own work, under a sum of all that it was tried on. As many
+crates are worked on side by side as RT_JOBS says.
+"""
+
+import collections, concurrent.futures, dataclasses, fcntl, functools, glob, hashlib, os, re, shutil, subprocess, sys
+import tempfile, threading, time
+
+KIT = os.path.dirname(os.path.dirname(os.path.realpath(shutil.which("rt") or "rt")))
+PARTS = "src", "specs", "proofs"
+TICKS = os.sysconf("SC_CLK_TCK")
+KEPT_DAYS = 30  # since it was last asked for
+
+FUNCTION = re.compile(r"( *)(?:pub(?:\([^)]*\))? )?(?:(?:const|final|unsafe) )*fn (\w+)")
+OWNER = re.compile(r"(?:pub(?:\([^)]*\))? )?(?:impl\b(?:<.*?>)? (?:.* for )?|trait )(\w+)")
+TYPE = re.compile(r"^(?:pub(?:\([^)]*\))? )?(?:struct|enum|trait) (\w+)", re.M)
+# What the prover says of a text that it cannot read, where an edit that only makes a statement false reads well.
+UNREAD = re.compile(r"^(?:\./)?(?:src|specs)/\S+: error|\berror\[[\w-]+\]", re.M)
+GONE = re.compile(r"is not in scope|has no (?:field|`)|was not admitted")
+
+
+def read(path):
+    with open(path, encoding="utf-8") as file:
+        return file.read()
+
+
+# ---- crates
+
+
+def read_uses():
+    """Of each crate what it stands on, as crates.txt has it."""
+    found = {}
+    for line in read("crates.txt").split("\n"):
+        name, colon, uses = line.partition("#")[0].partition(":")
+        if colon:
+            found[name.split()[0]] = uses.split()
+    return found
+
+
+def below(uses, crate):
+    """The repository's crates below a crate, each after those that it stands on."""
+    found = []
+    for it in uses[crate]:
+        if it in uses:
+            found += [*below(uses, it), it]
+    return list(dict.fromkeys(found))
+
+
+def rlib(crate):
+    return f"{os.getcwd()}/crates/{crate}/out/rlib/{crate}.rlib"
+
+
+def words_of(uses, crate):
+    """What `rt` hands to rattle for a check of the crate."""
+    words = ["--crate-name", crate, "src/main.rt" if os.path.isfile(f"crates/{crate}/src/main.rt") else "src/lib.rt"]
+    for it in ["std", *uses[crate]]:
+        words += ["--extern", f"{it}={rlib(it) if it in uses else f'{KIT}/rlibs/{it}.rlib'}"]
+    for folder in [f"{KIT}/rlibs", *(os.path.dirname(rlib(it)) for it in below(uses, crate))]:
+        words += ["-L", f"dependency={folder}"]
+    words += ["--antt-project", f"{KIT}/rattle/logic/antt-project.json", "--logic-built", f"{KIT}/logic_built"]
+    return [*words, "--links", f"{crate}=", "--jobs", "1"]
+
+
+def files_of(crate):
+    files = [it for part in PARTS for it in glob.glob(f"crates/{crate}/{part}/**", recursive=True)]
+    return sorted(it for it in files if os.path.isfile(it))
+
+
+@functools.lru_cache(maxsize=None)
+def kit_sum():
+    """Of what judges: the kit, its prover and this file."""
+    found = os.stat(f"{KIT}/bin/rattle")
+    return repr((read(f"{KIT}/KIT-ID"), read(f"{KIT}/WHAT"), found.st_size, found.st_mtime_ns, read("tests/try-edits.py")))
+
+
+def stand_of(uses, crate):
+    """A sum of all that an edit of the crate is tried on. The format of a library holds the sums of its files."""
+    texts = [(it, read(it)) for it in files_of(crate)]
+    libraries = [(it, read(f"{rlib(it)}/format")) for it in below(uses, crate)]
+    return hashlib.sha256(repr((kit_sum(), uses[crate], texts, libraries)).encode()).hexdigest()
+
+
+# ---- edits
+
+
+@dataclasses.dataclass
+class Edit:
+    path: str
+    text: str
+    lines: dict  # of each file the new lines, by their place
+    functions: list  # whose bodies it changes
+    judged: str  # the function that must be refused
+    is_apart: bool  # whether it changes more than bodies
+
+    @property
+    def label(self):
+        return f"{self.path.split('/')[1]}/{os.path.basename(self.path)}"
+
+
+def module_of(path):
+    return [it for it in path[len("src/") : -len(".rt")].split("/") if it not in ("lib", "main", "mod")]
+
+
+@functools.lru_cache(maxsize=None)
+def types_of(folder):
+    """The path of each type of a crate: methods are named by it, wherever their `impl` stands."""
+    files = [it[len(folder) + 1 :] for it in glob.glob(f"{folder}/src/**/*.rt", recursive=True)]
+    return {name: [*module_of(it), name] for it in files for name in TYPE.findall(read(f"{folder}/{it}"))}
+
+
+def bodies_of(path, lines, types):
+    """The functions of a file that `rt fmt` has laid out, each with the first and the last line of its body."""
+    owner = module_of(path)
+    for at, line in enumerate(lines):
+        if found := OWNER.match(line):
+            owner = types.get(found[1], [*module_of(path), found[1]])
+        elif line == "}":
+            owner = module_of(path)
+        if not (found := FUNCTION.match(line)):
+            continue
+        indent, name = found.groups()
+        if f"{indent}}}" in lines[at:]:
+            last = lines.index(f"{indent}}}", at)
+            begins = [it for it in range(at, last) if lines[it] == f"{indent}{{"]  # below its clauses
+            begins += [it for it in range(at, last) if lines[it].endswith(" {")]
+            yield "::".join([*owner, name]), begins[0] + 1 if begins else last, last
+
+
+def apply_pairs(text, folder):
+    """The files that an edit changes, as they are and as it makes them, and the function that it names."""
+    was, made, path, old, named = {}, {}, None, None, None
+    for line in text.split("\n"):
+        if line.startswith("file: "):
+            path = line[len("file: ") :].strip()
+            if not re.fullmatch(r"src/[\w/]+\.rt", path):
+                raise ValueError(f"{path} is no file of src/")
+        elif line.startswith("# by "):
+            named = line[len("# by ") :].strip()
+        elif line.startswith("old: "):
+            old = line[len("old: ") :]
+        elif line.startswith("new:"):
+            if not path or not old:
+                raise ValueError("a line 'new:' stands before 'file:' or 'old:'")
+            text = made.setdefault(path, was.setdefault(path, read(f"{folder}/{path}")))
+            if text.count(old) != 1:
+                raise ValueError(f"an 'old:' text is in {path} {text.count(old)} times, and not once")
+            made[path] = text.replace(old, line[len("new:") :].removeprefix(" "))
+            old = None
+    return was, made, named
+
+
+def read_edit(path):
+    text, folder = read(path), os.path.dirname(os.path.dirname(path))
+    was, made, named = apply_pairs(text, folder)
+    lines, functions, is_apart = {}, [], False
+    for file, text_was in was.items():
+        before, after = text_was.split("\n"), made[file].split("\n")
+        lines[file] = {at: new for at, (old, new) in enumerate(zip(before, after)) if old != new}
+        bodies = list(bodies_of(file, before, types_of(folder)))
+        for at in lines[file]:
+            inside = [name for name, first, last in bodies if first <= at < last]
+            functions += inside
+            is_apart = is_apart or not inside
+    if not any(lines.values()):
+        raise ValueError("it changes nothing")
+    if not named and not functions:
+        raise ValueError("it changes no body, and no line '# by FUNCTION' says which function must be refused")
+    return Edit(path, text, lines, list(dict.fromkeys(functions)), named or functions[0], is_apart)
+
+
+# ---- checks
+
+
+@dataclasses.dataclass
+class Said:
+    status: int
+    lines: list
+    seconds: dict  # of each function that was proved or tried: processor seconds
+
+    @property
+    def has_ended(self):
+        return self.lines[-1].startswith("only=")
+
+    def of(self, crate, function):
+        """What the prover says of a function."""
+        start = f"fn {crate}::{function}: "
+        return next((it[len(start) :] for it in self.lines if it.startswith(start)), "")
+
+    def reason(self, function):
+        """The first answer of the function that the prover refuses, or one that names what is gone if there is no other."""
+        proofs = f"proofs/{function.replace('::', '/')}/"
+        refused = [it for it in self.lines if proofs in it.partition(": error")[0] and ": error" in it]
+        refused.sort(key=lambda it: bool(GONE.search(it)))
+        return refused[0].removeprefix("./") if refused else ""
+
+
+def processor_seconds(process):
+    """What a process has taken, with its children that have ended."""
+    fields = read(f"/proc/{process}/stat").rpartition(") ")[2].split()
+    return sum(map(int, fields[11:15])) / TICKS
+
+
+def furnish(room, crate, batch):
+    """Makes a copy of the crate with the edits in it."""
+    for part in PARTS:
+        if os.path.isdir(f"crates/{crate}/{part}"):
+            shutil.copytree(f"crates/{crate}/{part}", f"{room}/{part}")
+    for edit in batch:
+        for path, changed in edit.lines.items():
+            lines = read(f"{room}/{path}").split("\n")
+            for at, line in changed.items():
+                lines[at] = line
+            with open(f"{room}/{path}", "w", encoding="utf-8") as file:
+                file.write("\n".join(lines))
+
+
+def check(uses, crate, batch, kept):
+    """Checks the functions of edits, all of which are in the text."""
+    with tempfile.TemporaryDirectory(prefix="try-edits-") as room:
+        furnish(room, crate, batch)
+        words = [f"{KIT}/bin/rattle", "check", *words_of(uses, crate), "--incremental", kept, "--progress"]
+        words += [word for edit in batch for word in ("--only", edit.judged)]
+        how = {"stdin": subprocess.DEVNULL, "stdout": subprocess.PIPE, "stderr": subprocess.STDOUT}
+        lines, seconds, before = [], {}, 0
+        with subprocess.Popen(words, cwd=room, **how, text=True, errors="replace") as process:
+            for line in process.stdout:
+                lines.append(line.rstrip("\n"))
+                if found := re.match(r"checked (\S+), \d+ of", line):
+                    now = processor_seconds(process.pid)
+                    seconds[found[1]], before = now - before, now
+        return Said(process.returncode, lines or [""], seconds)
+
+
+def judge(crate, edit, said):
+    """Whether the prover refused the edit or proved its function, and what it said; None if that is not known."""
+    line = said.of(crate, edit.judged)
+    if not said.has_ended or UNREAD.search("\n".join(said.lines)):
+        return None, next((it for it in said.lines if UNREAD.search(it)), said.lines[-1])
+    if line == "proved":
+        return False, "the function is still proved"
+    if not line.startswith(("not proved", "no proof")) or "it calls `" in line:
+        return None, line or f"there is no function {edit.judged}"
+    goals, reason = re.search(r"`search` did not prove (.*)", line), said.reason(edit.judged)
+    why = goals[1] if goals else reason or line
+    if GONE.search(why):
+        why = f"only because a proof file names what the edit takes away, so change a value and keep the names: {why}"
+    taken = said.seconds.get(f"{crate}::{edit.judged}", 0)
+    return True, f"refused, as it must be, in {taken:.0f} s: {why}"[:240]
+
+
+def next_batch(waiting):
+    """The first edit, and those that go with it."""
+    if waiting[0].is_apart:
+        return waiting[:1]
+    batch, taken = [], set()
+    for edit in waiting:
+        if not edit.is_apart and taken.isdisjoint(edit.functions):
+            batch.append(edit)
+            taken.update(edit.functions)
+    return batch
+
+
+def try_edits(uses, crate, edits, tell):
+    """Tries edits of a crate, and hands each to `tell`, with whether it is refused and what was said."""
+    with tempfile.TemporaryDirectory(prefix="try-edits-kept-") as kept:
+        waiting = sorted(edits, key=lambda it: it.is_apart)
+        while waiting:
+            batch = next_batch(waiting)
+            said = check(uses, crate, batch, kept)
+            settled = []
+            for edit in batch:
+                is_refused, why = judge(crate, edit, said)
+                if is_refused is not None or len(batch) == 1:
+                    settled.append(edit)
+                    tell(edit, bool(is_refused), why)
+            for edit in [] if settled else batch:
+                edit.is_apart = True
+            waiting = sorted((it for it in waiting if it not in settled), key=lambda it: it.is_apart)
+
+
+# ---- all of them
+
+
+class Store:
+    """What was refused on this machine: beside what `rt ci` keeps. Where that is not, nothing is kept."""
+
+    def __init__(self, is_anew):
+        own = f"{os.path.dirname(KIT)}/rattle-kept"
+        self.at = f"{own}/rpcbind-edits" if os.path.isdir(own) and os.stat(own).st_uid == os.geteuid() else None
+        self.is_anew = is_anew
+        if self.at:
+            os.makedirs(self.at, 0o700, exist_ok=True)
+            for it in os.scandir(self.at):
+                if it.stat().st_mtime < time.time() - 86400 * KEPT_DAYS:
+                    os.unlink(it.path)
+
+    def place(self, stand, edit):
+        return f"{self.at}/{hashlib.sha256(repr((stand, edit.label, edit.text)).encode()).hexdigest()}"
+
+    def knows(self, stand, edit):
+        if not self.at or self.is_anew or not os.path.isfile(self.place(stand, edit)):
+            return False
+        os.utime(self.place(stand, edit))
+        return True
+
+    def keep(self, stand, edit):
+        if self.at:
+            open(self.place(stand, edit), "w").close()
+
+
+class Count:
+    """What has passed and failed of all crates, and the lines that say so."""
+
+    def __init__(self, crates):
+        self.passed, self.failed, self.done, self.crates, self.lock = 0, 0, 0, crates, threading.Lock()
+
+    def tell(self, is_refused, line):
+        with self.lock:
+            self.passed += is_refused
+            self.failed += not is_refused
+            print(line, flush=True)
+
+    def end(self, line):
+        with self.lock:
+            self.done += 1
+            print(f"{line}: {self.done} of {self.crates} crates", flush=True)
+
+
+def try_crate(uses, crate, store, count):
+    edits, begun = [], time.monotonic()
+    for path in sorted(glob.glob(f"crates/{crate}/refused/*.edit")):
+        try:
+            edits.append(read_edit(path))
+        except (OSError, ValueError) as error:
+            count.tell(False, f"{path}: BAD EDIT: {error}")
+    lacking = [it for it in below(uses, crate) if not os.path.isfile(f"{rlib(it)}/format")]
+    if lacking:
+        for edit in edits:
+            count.tell(False, f"{edit.label}: NOT TRIED: crates/{lacking[0]}/out has no library")
+        return
+    stand = stand_of(uses, crate)
+    known = [it for it in edits if store.knows(stand, it)]
+    for edit in known:
+        count.tell(True, f"{edit.label}: refused by an earlier run on this machine")
+
+    def tell(edit, is_refused, why):
+        count.tell(is_refused, f"{edit.label}: {'' if is_refused else 'NOT REFUSED: '}{why}")
+        if is_refused and stand_of(uses, crate) == stand:
+            store.keep(stand, edit)
+
+    try_edits(uses, crate, [it for it in edits if it not in known], tell)
+    count.end(f"{crate}: its {len(edits)} edits are tried, in {time.monotonic() - begun:.0f} s")
+
+
+def main():
+    os.chdir(os.path.dirname(os.path.abspath(__file__)) + "/..")
+    uses, words = read_uses(), [it for it in sys.argv[1:] if it != "--anew"]
+    crates = [it for it in words or uses if glob.glob(f"crates/{it}/refused/*.edit")]
+    crates.sort(key=lambda it: -sum(map(os.path.getsize, files_of(it))))
+    # No `rt` changes a library meanwhile.
+    folders = [os.open(f"crates/{it}", os.O_RDONLY) for it in uses]
+    for folder in folders:
+        fcntl.flock(folder, fcntl.LOCK_SH)
+    store, count = Store("--anew" in sys.argv), Count(len(crates))
+    with concurrent.futures.ThreadPoolExecutor(int(os.environ.get("RT_JOBS") or 1)) as pool:
+        for it in [pool.submit(try_crate, uses, crate, store, count) for crate in crates]:
+            it.result()
+    print(f"{count.passed} passed, {count.failed} failed")
+    return count.failed > 0
+
+
+if __name__ == "__main__":
+    sys.exit(main())
