@@ -7,10 +7,12 @@
 # tests/hostile/attacks.py has them. A daemon beside them stands still for 34 seconds, and must answer all 200 calls then
 # that were half sent before and whole in time.
 #
-# Three attacks need strangers, and so root; tests/hostile/strangers.py has them. `reflector` fails if more than twice
-# the bytes of a stranger's datagram come back to it, `primed_statistics` if a stranger's look-ups of what is not there
-# are in the statistics, and `flood_of_one_network`, beside which a good client calls too, if in any second more of a
-# network's or of a host's calls are answered than --udp-rate says.
+# Some attacks need strangers, and so root; tests/hostile/strangers.py has them. `reflector` fails if more than twice the
+# bytes of a stranger's datagram come back to it, `primed_statistics` if a stranger's look-ups of what is not there are in
+# the statistics, and `flood_of_one_network`, beside which a good client calls too, and `flood_of_48_bits` if in any second
+# more of a network's or of a host's calls are answered than --udp-rate says; `flood_of_chosen_places` if others can choose
+# whose share of that they take; `guessed_numbers` and `forged_answers` if the number of a forwarded call can be told, or a
+# datagram from where nothing was called is taken for its answer.
 #
 # `kills_40` kills a daemon that keeps its rows 40 times by SIGKILL, each time under a load of SETs and UNSETs over TCP and
 # UDP, and starts it with the same file. It fails if a change that was answered TRUE is not there then, a row that was

@@ -84,7 +84,7 @@ class Daemon:
         self.process = subprocess.Popen(command, stdout=self.written, stderr=self.written)
         for _ in range(200):
             self.written.seek(0)
-            if self.written.read().count(b"listening") == len(addresses):
+            if self.written.read().count(b"listening") >= len(addresses):
                 return
             time.sleep(0.1)
         raise SystemExit("the daemon does not listen")
