@@ -1,7 +1,7 @@
 #!/usr/bin/env bash
 # Runs real clients and services against the built daemon, in a network, mount and process namespace of its own: a loopback
-# alone, an empty /run, and nothing of the machine is touched. First with /etc/netconfig as it is, then with one of IPv4
-# alone. Needs root, `unshare` and `ip`. What is not installed is skipped, and said so. The word, if there is one, is the
+# alone, an empty /run, and nothing of the machine is touched. First with /etc/netconfig as it is, then so at every address,
+# then with one of IPv4 alone. Needs root, `unshare` and `ip`. What is not installed is skipped, and said so. The word, if there is one, is the
 # path of another built program. With RECORD=1 in the environment the daemon records its events, and its record is checked
 # at its end. The last line is 'N passed, N failed, N skipped'; the status is 1 if one failed.
 #
@@ -314,9 +314,9 @@ run_check() {
     judge $? "a reply that a client got is in the record"
 }
 
-# All clients and services, with /etc/netconfig as it stands.
+# All clients and services, with /etc/netconfig as it stands, and a daemon with these words too.
 run_all() {
-    local words=(--local /run/rpcbind.sock --loopback6)
+    local words=(--local /run/rpcbind.sock --loopback6 "${@:2}")
     echo "== $1"
     [ -z "${RECORD:-}" ] || words+=(--record "$work/record")
     start_daemon "$work/daemon" "${words[@]}" || exit 1
@@ -339,8 +339,9 @@ run_all() {
 prepare
 [ ! -x "$rpcinfo" ] || ask_debians
 run_all "/etc/netconfig as it is"
+# The file of the local socket was left behind: the next start mends it.
+run_all "every address, /etc/netconfig as it is" --bind :: --announce 127.0.0.1 --announce ::1
 if [ -e /etc/netconfig ]; then
-    # The file of the local socket was left behind: the next start mends it.
     mount --bind "$work/netconfig" /etc/netconfig && run_all "/etc/netconfig with IPv4 alone"
 fi
 echo "$passed passed, $failed failed, $skipped skipped"
