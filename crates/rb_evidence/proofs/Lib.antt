@@ -1,3 +1,4 @@
 pub mod Cuts
 pub mod TableLaws
 pub mod OnLiterals
+pub mod WalkLaws

@@ -1,5 +1,6 @@
 //! What holds of each table, and worked examples.
 ghost use Rattle.rb_evidence.specs.Laws.{EndpointsDiffer, MappedDiffer, UidIsOfOneLine, TwoLinesAreNone};
+ghost use Rattle.rb_evidence.specs.Walks.{CutLinesAreOne, WalksSeeTheWhole};
 ghost use Rattle.rb_evidence.specs.Worked.{OverIpv4, OverIpv6, OverIpv4InIpv6};
 
 /// The uid is of one line, which is of this connection and no other.
@@ -8,6 +9,12 @@ pub fn table_laws()
     ensures mapped_differ { MappedDiffer }
     ensures uid_is_of_one_line { UidIsOfOneLine }
     ensures two_lines_are_none { TwoLinesAreNone }
+{}
+
+/// However a table is cut into slices, its lines are looked at once, and show of a connection what the whole table shows.
+pub fn walk_laws()
+    ensures lines { CutLinesAreOne }
+    ensures whole { WalksSeeTheWhole }
 {}
 
 /// Worked examples, of tables that Linux 6.18 showed.

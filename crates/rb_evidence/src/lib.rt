@@ -4,7 +4,10 @@
 mod endpoint;
 mod fields;
 mod laws;
+mod lines;
+mod sight;
 mod table;
 
-pub use laws::{table_laws, worked_examples};
-pub use table::{uid_of, uid_of_mapped};
+pub use laws::{table_laws, walk_laws, worked_examples};
+pub use lines::{Lines, SLICE};
+pub use sight::{Seen, Sight};
