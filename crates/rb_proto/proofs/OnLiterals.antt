@@ -8,6 +8,7 @@ use Rattle.rb_proto.specs.Forwarding.{outcome_note, address_to_forward, forward_
 use Rattle.rb_proto.specs.Ledger.{version_of, with_call_noted}
 use Rattle.rb_proto.specs.ListReplies.{rest_of}
 use Rattle.rb_proto.specs.Netids.{which_of, address_in, is_address}
+use Rattle.rb_proto.specs.Reserved.{may_own}
 use Rattle.rb_proto.specs.Results.{result_bytes, row_bytes}
 use Rattle.rb_proto.specs.Terms.{may_go, goes_by_host, is_this_host}
 
@@ -23,6 +24,7 @@ unfolding rb_stats_on_literals rb_forward_on_literals rb_arguments_on_literals
     version_of with_call_noted
     rest_of
     which_of address_in is_address
+    may_own
     result_bytes row_bytes
     may_go goes_by_host is_this_host
 rb_proto_on_literals = tt

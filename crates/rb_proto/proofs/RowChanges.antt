@@ -1,7 +1,8 @@
 -- Rows that are set and removed in books.
-use Rattle.std.proofs.Common.{◌≡◌, ℕ, ◌+◌, ◌<◌, ◌≤◌, Bool, true, false, cond, ◌&&◌, List, [], ◌∷◌, ◌++◌, length, Some, refl, sym, ap, ◌∙◌, subst, length-append, arith}
-use Rattle.std.specs.Prelude.{◌-◌, ◌/◌, nat_lt}
+use Rattle.std.proofs.Common.{◌≡◌, ℕ, ◌+◌, ◌<◌, ◌≤◌, Bool, true, false, cond, ◌&&◌, List, [], ◌∷◌, ◌++◌, length, Option, Some, None, refl, sym, ap, ◌∙◌, subst, length-append, arith}
+use Rattle.std.specs.Prelude.{◌-◌, ◌/◌, ◌==◌, nat_lt, not, is_some}
 use Rattle.std.specs.List.{list_any}
+use Rattle.std.specs.Option.{option_or}
 use Rattle.std.proofs.lemmas.Bool.{lt-ltb, ltb-true}
 use Rattle.rb_rpc.specs.declared.call.CallHead.{CallHead}
 use Rattle.rb_address.specs.declared.who.Owner.{Owner}
@@ -9,7 +10,7 @@ use Rattle.rb_address.specs.declared.who.Trust.{Trust}
 use Rattle.rb_address.specs.declared.who.Trust.TheVariants.{Claims, Local, Stranger}
 use Rattle.rb_registry.specs.declared.row.Row.{Row}
 use Rattle.rb_registry.specs.declared.row.Which.{Which}
-use Rattle.rb_registry.specs.Rows.{Change, has_place, removes_some, is_of_key, is_change_left}
+use Rattle.rb_registry.specs.Rows.{Change, rpcb_prog, has_place, removes_some, is_of_key, is_change_left}
 use Rattle.rb_registry.specs.Rows.Change.{Added}
 use Rattle.rb_registry.specs.Registry.{Registry, rows_of, retained_count}
 use Rattle.rb_registry.specs.Table.{takes, StandsForMore}
@@ -18,6 +19,11 @@ use Rattle.rb_stats.specs.Counting.{HasNoted}
 use Rattle.rb_proto.specs.Callers.{who_of, is_superuser, share_of, share_by}
 use Rattle.rb_proto.specs.Ledger.{Books, Ledger, StandsForLedger, rows_in, version_of}
 use Rattle.rb_proto.specs.Books.{ActsAs, HasRoomFor}
+use Rattle.rb_proto.specs.declared.reasons.Refusal.{Refusal}
+use Rattle.rb_proto.specs.declared.reasons.Refusal.TheVariants as reasons
+use Rattle.rb_proto.specs.Netids.{is_address}
+use Rattle.rb_proto.specs.Reserved.{may_own}
+use Rattle.rb_proto.specs.Reasons.{refusal_before, refusal_beside}
 use Rattle.rb_proto.specs.Answers.{Context, accepts, comes_from_here, can_be_set, has_share, accepts_row, set_row, accepts_removal, removal_of, unset_rows}
 
 one_more : (changes : List Change) (change : Change) → changes ++ change ∷ [] ≡ changes → ⊥
@@ -49,22 +55,97 @@ few_enough context rows share =
     let few = ltb-true _ _ share in
     omega (arith, within, few)
 
-module _ (context : Context) (rows : List Row) (count : ℕ) (row : Row) (here : comes_from_here context ≡ true) (can : can_be_set row ≡ true) where
+-- the caller may set the row, whatever rows there are
+abbrev pub may_set : Context → Row → Bool
+may_set context row = comes_from_here context && can_be_set row && may_own context.reserved row
+
+-- if nothing speaks against it before
+pub nothing_before : (context : Context) (row : Row) → is_some (refusal_before context row) ≡ false → may_set context row ≡ true
+unfolding can_be_set
+nothing_before context row = by_parts (comes_from_here context) (row.prog == rpcb_prog) (is_address row.netid row.addr) (may_own context.reserved row)
+  where
+    by_parts : (here own settable may : Bool)
+        → is_some (cond (not here) (Some reasons.MayNotRegister) (cond own (Some reasons.OwnProgram) (cond (not settable) (Some reasons.NoAddress) (cond (not may) (Some reasons.Reserved) None)))) ≡ false
+        → (here && (not own && settable) && may) ≡ true
+    by_parts here own settable may e = grind arith
+
+pub something_before : (context : Context) (row : Row) → is_some (refusal_before context row) ≡ true → may_set context row ≡ false
+unfolding can_be_set
+something_before context row = by_parts (comes_from_here context) (row.prog == rpcb_prog) (is_address row.netid row.addr) (may_own context.reserved row)
+  where
+    by_parts : (here own settable may : Bool)
+        → is_some (cond (not here) (Some reasons.MayNotRegister) (cond own (Some reasons.OwnProgram) (cond (not settable) (Some reasons.NoAddress) (cond (not may) (Some reasons.Reserved) None)))) ≡ true
+        → (here && (not own && settable) && may) ≡ false
+    by_parts here own settable may e = grind arith
+
+-- then what comes after it counts
+pub reason_after : (context : Context) (row : Row) (after : Option Refusal) → is_some (refusal_before context row) ≡ false → after ≡ option_or (refusal_before context row) after
+reason_after context row after e = by_reason (refusal_before context row) e
+  where
+    by_reason : (r : Option Refusal) → is_some r ≡ false → after ≡ option_or r after
+    by_reason None e = refl
+    by_reason (Some r) e = absurd cc
+
+pub reason_before : (r after : Option Refusal) → is_some r ≡ true → r ≡ option_or r after
+reason_before None after e = absurd cc
+reason_before (Some r) after e = refl
+
+-- what may not be set is not accepted
+pub is_not_accepted : (context : Context) (rows : List Row) (count : ℕ) (row : Row) → may_set context row ≡ false → accepts context rows count row ≡ false
+is_not_accepted context rows count row e = rw e refl
+
+module _ (context : Context) (rows : List Row) (count : ℕ) (row : Row) (may : may_set context row ≡ true) where
   pub share_is_used : has_share context rows ≡ false → false ≡ accepts context rows count row
-  share_is_used used = rw (here, can, used) refl
+  share_is_used used = rw (may, used) refl
 
   pub key_is_there : has_share context rows ≡ true → list_any (is_of_key row) rows ≡ true → false ≡ accepts context rows count row
   unfolding has_place
-  key_is_there share there = rw (here, can, share, there) refl
+  key_is_there share there = rw (may, share, there) refl
 
   pub number_is_left : has_share context rows ≡ true → list_any (is_of_key row) rows ≡ false
       → nat_lt count 18446744073709551615 ≡ accepts context rows count row
   unfolding has_place is_change_left
-  number_is_left share new = rw (here, can, share, new, lt-ltb _ _ (few_enough context rows share)) refl
+  number_is_left share new = rw (may, share, new, lt-ltb _ _ (few_enough context rows share)) refl
 
 -- ---- SET
 
-module _ (context : Context) (row : Row) (kept : Registry) (here : comes_from_here context ≡ true) (can : can_be_set row ≡ true)
+-- books with another reason of the last refusal
+abbrev pub with_refusal : Option Refusal → Books → Books
+with_refusal r books = record books { refusal = r }
+
+stands_too : (r : Option Refusal) (books : Books) (l : Ledger) → StandsForLedger books l → StandsForLedger (with_refusal r books) l
+stands_too r books l h = record { registry = h.registry; stats = h.stats; forwards = h.forwards }
+
+-- a row that no ledger accepts is refused
+module _ (context : Context) (head : CallHead) (row : Row) (books : Books) (r : Option Refusal)
+    (refused : (l : Ledger) → StandsForLedger books l → accepts_row context l row ≡ false) where
+  pub refuses : ActsAs (set_row context head (Some row)) books (with_refusal r books) false
+  unfolding set_row
+  refuses = record {
+    gives = λ l h. sym (refused l h);
+    stands = λ l h. rw (refused l h) (stands_too r books l h);
+    kept = λ l h e. refl;
+  }
+
+-- so is one that the caller may not set
+pub may_not_set : (context : Context) (head : CallHead) (row : Row) (books : Books) (r : Option Refusal) → may_set context row ≡ false
+    → ActsAs (set_row context head (Some row)) books (with_refusal r books) false
+unfolding accepts_row
+may_not_set context head row books r may_not = refuses context head row books r refused
+  where
+    refused : (l : Ledger) → StandsForLedger books l → accepts_row context l row ≡ false
+    refused l h = is_not_accepted context (rows_in l) (length l.changes) row may_not
+
+-- and one that it has no share for
+pub no_share : (context : Context) (head : CallHead) (row : Row) (books : Books) (r : Option Refusal) → may_set context row ≡ true → has_share context (rows_of books.registry) ≡ false
+    → ActsAs (set_row context head (Some row)) books (with_refusal r books) false
+unfolding accepts_row
+no_share context head row books r may used = refuses context head row books r refused
+  where
+    refused : (l : Ledger) → StandsForLedger books l → accepts_row context l row ≡ false
+    refused l h = sym (share_is_used context (rows_in l) (length l.changes) row may (subst (λ (rows : List Row). has_share context rows ≡ false) h.registry.rows used))
+
+module _ (context : Context) (row : Row) (kept : Registry) (may : may_set context row ≡ true)
     (share : has_share context (rows_of kept) ≡ true) (limit : kept.limit ≡ context.limit) (room : HasRoomFor context (Some row) kept) where
   abbrev has_row_place : Bool
   has_row_place = has_place kept.limit (rows_of kept) kept.stamp row
@@ -74,21 +155,35 @@ module _ (context : Context) (row : Row) (kept : Registry) (here : comes_from_he
   takes_what_has_place = by_place has_row_place refl
     where
       by_place : (b : Bool) → has_row_place ≡ b → (b && nat_lt (length (rows_of kept) + retained_count kept) kept.limit) ≡ b
-      by_place true e = lt-ltb _ _ (room (rw (here, can, share, ← limit) e))
+      by_place true e = lt-ltb _ _ (room (rw (may, share, ← limit) e))
       by_place false e = refl
 
   -- so the ledger says whether it is
   pub takes_as_ledger : (books : Books) → books.registry ≡ kept → (l : Ledger) → StandsForLedger books l → takes kept row ≡ accepts_row context l row
   unfolding accepts_row
   takes_as_ledger books same l h =
-      takes_what_has_place ∙ rw (here, can, ← h.registry.rows, same, share, ← limit, ← h.registry.stamp, same) refl
+      takes_what_has_place ∙ rw (may, ← h.registry.rows, same, share, ← limit, ← h.registry.stamp, same) refl
+
+  -- why it is not
+  pub reason_is : (b : Bool) → takes kept row ≡ b
+      → cond b None (Some (cond (is_change_left kept.stamp) reasons.Taken reasons.NoPlace)) ≡ refusal_beside context (rows_of kept) kept.stamp row
+  unfolding has_place
+  reason_is b taken =
+      rw share
+      (by_parts (list_any (is_of_key row) (rows_of kept)) (nat_lt (length (rows_of kept)) kept.limit) (is_change_left kept.stamp) b
+      (rw limit (lt-ltb _ _ (few_enough context (rows_of kept) share)))
+      (sym takes_what_has_place ∙ taken))
+    where
+      by_parts : (there few left b : Bool) → few ≡ true → (not there && few && left) ≡ b
+          → cond b None (Some (cond left reasons.Taken reasons.NoPlace)) ≡ cond (not left) (Some reasons.NoPlace) (cond there (Some reasons.Taken) None)
+      by_parts there few left b e f = grind arith
 
 module _ (context : Context) (head : CallHead) (row : Row) (old new : Books)
-    (here : comes_from_here context ≡ true) (can : can_be_set row ≡ true) (share : has_share context (rows_of old.registry) ≡ true)
+    (may : may_set context row ≡ true) (share : has_share context (rows_of old.registry) ≡ true)
     (limit : old.registry.limit ≡ context.limit)
     (room : HasRoomFor context (Some row) old.registry) where
   asked : (b : Bool) → takes old.registry row ≡ b → (l : Ledger) → StandsForLedger old l → accepts_row context l row ≡ b
-  asked b taken l h = sym (takes_as_ledger context row old.registry here can share limit room old refl l h) ∙ taken
+  asked b taken l h = sym (takes_as_ledger context row old.registry may share limit room old refl l h) ∙ taken
 
   pub set_acts : (taken : takes old.registry row ≡ true) → StandsForMore old.registry new.registry true (Added row) → HasNoted (WasSet (version_of head.vers)) old.stats new.stats
       → new.forwards ≡ old.forwards → ActsAs (set_row context head (Some row)) old new true
@@ -99,33 +194,8 @@ module _ (context : Context) (head : CallHead) (row : Row) (old new : Books)
     kept = λ l h e. absurd (one_more l.changes (Added row) (rw (asked true taken l h) at e));
   }
 
-  pub set_refused : (taken : takes old.registry row ≡ false) → new ≡ old → ActsAs (set_row context head (Some row)) old new false
-  unfolding set_row
-  set_refused taken same = rw same (record {
-    gives = λ l h. sym (asked false taken l h);
-    stands = λ l h. rw (asked false taken l h) h;
-    kept = λ l h e. refl;
-  })
-
--- a row that the caller has no share for is refused
-pub no_share : (context : Context) (head : CallHead) (row : Row) (books : Books) → has_share context (rows_of books.registry) ≡ false
-    → ActsAs (set_row context head (Some row)) books books false
-unfolding set_row accepts_row
-no_share context head row books used = record {
-  gives = λ l h. sym (refused l h);
-  stands = λ l h. rw (refused l h) h;
-  kept = λ l h e. refl;
-}
-  where
-    by_both : (here can place : Bool) → (here && can && false && place) ≡ false
-    by_both true true place = refl
-    by_both true false place = refl
-    by_both false can place = refl
-
-    refused : (l : Ledger) → StandsForLedger books l → accepts_row context l row ≡ false
-    refused l h =
-        rw (← h.registry.rows, used)
-        (by_both (comes_from_here context) (can_be_set row) (has_place context.limit (rows_of books.registry) (length l.changes) row))
+  pub set_refused : (taken : takes old.registry row ≡ false) (r : Option Refusal) → new ≡ with_refusal r old → ActsAs (set_row context head (Some row)) old new false
+  set_refused taken r same = rw same (refuses context head row old r (asked false taken))
 
 -- ---- UNSET
 

@@ -34,6 +34,7 @@ use Rattle.rb_arguments.specs.declared.procedure.VoidProcedure.TheVariants as vo
 use Rattle.rb_proto.specs.declared.answers.Listing.TheVariants.{Mappings, Rpcbs, Entries}
 use Rattle.rb_proto.specs.declared.answers.Value.TheVariants as values
 use Rattle.rb_proto.specs.Callers.{who_of, netid_of_caller, may_register, owner_of, share_in, hosts_in}
+use Rattle.rb_proto.specs.Reserved.{may_own}
 use Rattle.rb_proto.specs.Ledger.{Ledger, rows_in, version_of, note_where}
 use Rattle.rb_proto.specs.Netids.{which_of, address_in, is_address}
 use Rattle.rb_proto.specs.Terms.{counts_look_up}
@@ -94,10 +95,12 @@ can_be_set row = not (row.prog == rpcb_prog) && is_address row.netid row.addr
 unfoldable pub has_share : Context → List Row → Bool
 has_share context rows = nat_lt (length rows) (share_in context)
 
--- a caller on this machine may set the row, and there is a place for it beside these live rows, after this many changes
+-- A caller on this machine may set the row, its program is reserved for no other owner, and there is a place for it beside
+-- these live rows, after this many changes.
 abbrev pub accepts : Context → List Row → ℕ → Row → Bool
 accepts context rows count row =
-    comes_from_here context && can_be_set row && has_share context rows && has_place context.limit rows count row
+    comes_from_here context && can_be_set row && may_own context.reserved row && has_share context rows
+    && has_place context.limit rows count row
 
 -- SET-2: SET of a caller that may not register is FALSE.
 unfoldable pub accepts_row : Context → Ledger → Row → Bool

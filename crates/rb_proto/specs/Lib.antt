@@ -1,5 +1,7 @@
 pub mod Netids
 pub mod Callers
+pub mod Reserved
+pub mod Reasons
 pub mod Terms
 pub mod Ledger
 pub mod Books

@@ -1,5 +1,5 @@
 -- Worked examples. The listener is 192.0.2.1, port 111; callers are at 127.0.0.1 and come by UDP unless it says otherwise.
-use Rattle.std.specs.Prelude.{◌≡◌, ℕ, zero, suc, ◌+◌, List, [], ◌∷◌, ◌++◌, length, map, drop, replicate, Some, None, Result, Ok, Err, codes}
+use Rattle.std.specs.Prelude.{◌≡◌, ℕ, Bool, true, false, zero, suc, ◌+◌, List, [], ◌∷◌, ◌++◌, length, map, drop, replicate, Some, None, Result, Ok, Err, codes}
 use Rattle.rb_xdr.specs.Xdr.{words, opaque}
 use Rattle.rb_rpc.specs.declared.call.CallHead.{CallHead}
 use Rattle.rb_rpc.specs.declared.call.Credential.{Credential}
@@ -8,6 +8,7 @@ use Rattle.rb_rpc.specs.declared.caller.Caller.{Caller}
 use Rattle.rb_rpc.specs.declared.caller.Caller.TheVariants.{Tcp, Udp}
 use Rattle.rb_address.specs.declared.host.Host.TheVariants.{V4}
 use Rattle.rb_address.specs.declared.netid.Netid.TheVariants as netids
+use Rattle.rb_address.specs.declared.who.Owner.{Owner}
 use Rattle.rb_address.specs.declared.who.Owner.TheVariants as owners
 use Rattle.rb_address.specs.declared.who.Source.TheVariants.{Inet}
 use Rattle.rb_address.specs.declared.who.Trust.TheVariants.{Claims}
@@ -21,6 +22,8 @@ use Rattle.rb_proto.specs.declared.answers.Answer.TheVariants as answers
 use Rattle.rb_proto.specs.declared.answers.Listing.TheVariants.{Mappings}
 use Rattle.rb_arguments.specs.declared.request.Request.{Request}
 use Rattle.rb_arguments.specs.Arguments.{read_request}
+use Rattle.rb_proto.specs.declared.reserved.Reservation.{Reservation}
+use Rattle.rb_proto.specs.Reserved.{may_own}
 use Rattle.rb_proto.specs.Callers.{own_rows}
 use Rattle.rb_proto.specs.Ledger.{Ledger, fresh_ledger, with_call_noted}
 use Rattle.rb_proto.specs.Answers.{Answer, Call, Context, answer}
@@ -42,7 +45,7 @@ abbrev pub listener_host : List ℕ
 listener_host = 192 ∷ 0 ∷ 2 ∷ 1 ∷ []
 
 abbrev pub listener : Listener
-listener = record { announced = record { inet = Some listener_host; inet6 = None }; port = 111; local = None; terms = open_terms }
+listener = record { announced = record { inet = Some listener_host; inet6 = None }; port = 111; local = None; terms = open_terms; reserved = [] }
 
 -- at this host, of which nothing is known but what it says
 abbrev pub who_at : List ℕ → Who
@@ -71,7 +74,7 @@ abbrev pub call_as : ℕ → ℕ → ℕ → List ℕ → Message
 call_as uid vers proc numbers = call_with (credentials.Sys uid) vers proc (words numbers)
 
 abbrev pub context_of : ℕ → Message → Context
-context_of limit m = record { announced = listener.announced; terms = open_terms; limit = limit; forwards = 4; clock = m.clock; caller = m.caller }
+context_of limit m = record { announced = listener.announced; terms = open_terms; reserved = listener.reserved; limit = limit; forwards = 4; clock = m.clock; caller = m.caller }
 
 abbrev pub head_of : Message → CallHead
 head_of m = record { xid = 1; prog = rpcb_prog; vers = m.vers; proc = m.proc; cred = m.cred }
@@ -126,6 +129,24 @@ no_ = says (0 ∷ [])
 abbrev pub size : Result (List ℕ) ArgumentFault → ℕ
 size (Ok bytes) = length bytes
 size (Err fault) = 0
+
+-- ---- reserved programs
+
+-- 100003 to 100005 are of uid 0, 100020 to 100030 of uid 120, and 100024 of uid 110 too
+abbrev pub some_reserved : List Reservation
+some_reserved =
+    record { first = 100003; last = 100005; uid = 0 } ∷ record { first = 100020; last = 100030; uid = 120 }
+    ∷ record { first = 100024; last = 100024; uid = 110 } ∷ []
+
+abbrev pub may_set : Owner → ℕ → Bool
+may_set owner prog = may_own some_reserved (record { prog = prog; vers = 1; netid = netids.Tcp; owner = owner; addr = [] })
+
+-- RESERVE-1
+abbrev pub ReservedRows : Type 0
+ReservedRows =
+    (map (may_set (owners.Uid 1000)) (100002 ∷ 100003 ∷ 100005 ∷ 100006 ∷ 100024 ∷ 100030 ∷ 100031 ∷ [])
+    ≡ true ∷ false ∷ false ∷ true ∷ false ∷ false ∷ true ∷ [])
+    × (map (λ owner. may_set owner 100024) (owners.Uid 110 ∷ owners.Uid 120 ∷ owners.Uid 0 ∷ owners.Unknown ∷ []) ≡ true ∷ true ∷ true ∷ false ∷ [])
 
 -- ---- version 2
 

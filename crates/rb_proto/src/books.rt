@@ -6,6 +6,7 @@ use crate::call::Call;
 use crate::context::Context;
 use crate::forwarding::note_end;
 use crate::listener::{Listener, own_rows};
+use crate::reasons::Refusal;
 use crate::sets::{accepts, row_to_set};
 use rb_address::Peer;
 use rb_forward::{Ended, ForwardEnd, Forwards, FwdId, Gone, Unsent};
@@ -25,6 +26,8 @@ pub struct Books {
     pub stats: Stats,
     /// The calls that wait for their targets.
     pub forwards: Forwards,
+    /// Why the last SET or UNSET changed nothing; `None` if it did. No answer depends on it.
+    pub refusal: Option<Refusal>,
 }
 
 /// Names each field, so that a further one does not compile until it stands here. It belongs in the table of
@@ -34,10 +37,12 @@ fn layout(books: &Books) {
         registry,
         stats,
         forwards,
+        refusal,
     } = books;
     let _: &Registry = registry;
     let _: &Stats = stats;
     let _: &Forwards = forwards;
+    let _: Option<Refusal> = *refusal;
 }
 
 /// The version that counts a call. One of another number than 2, 3 and 4 has no procedures.
@@ -101,6 +106,7 @@ impl Books {
             registry,
             stats,
             forwards,
+            refusal: None,
         })
     }
 

@@ -4,18 +4,21 @@ ghost use Rattle.rb_proto.specs.Callers.{who_of, netid_of_caller, is_stranger, i
 ghost use Rattle.rb_proto.specs.Answers.{comes_from_here, owner_in, netid_asked};
 
 use crate::listener::{Announced, Terms};
+use crate::reserved::LentReserved;
 use rb_address::{Netid, Owner, Source, Transport, Trust, Who};
 use rb_rpc::{CallHead, Caller, Credential};
 use rb_uaddr::Hosts;
 
 /// What the answer to a call depends on beside the books: the announced hosts and the terms, the limits, the moment and
 /// the caller.
-#[derive(Clone, Copy)]
-pub struct Context {
+#[derive(Drop)]
+pub struct Context<'a> {
     /// The families that are served, and the host of each.
     pub announced: Announced,
     /// On which terms callers are served.
     pub terms: Terms,
+    /// Whose programs are.
+    pub reserved: LentReserved<'a>,
     /// The greatest number of rows.
     pub limit: usize,
     /// The greatest number of forwarded calls.
@@ -85,7 +88,7 @@ fn share_of(owner: Owner, limit: usize) -> usize
     }
 }
 
-impl Context {
+impl<'a> Context<'a> {
     /// Who called.
     pub(crate) fn who(&self) -> Who
         ensures { result ≡ who_of self.now.caller }

@@ -4,6 +4,7 @@ ghost use Rattle.rb_registry.specs.Registry.{AreOwn};
 ghost use Rattle.rb_registry.specs.Rows.{are_distinct};
 ghost use Rattle.rb_proto.specs.Callers.{own_row, own_pair, own_three, inet6_rows, inet_rows, own_local, own_rows, is_local, announced_hosts, hosts_told};
 
+use crate::reserved::{Reservation, Reserved};
 use arrayvec::ArrayVec;
 use rb_address::{Host, Netid, Owner};
 use rb_registry::{MOST_OWN_ROWS, RPCB_PROG, Row};
@@ -48,7 +49,7 @@ impl Terms {
 }
 
 /// Where the daemon listens, and on which terms it serves there.
-#[derive(Clone, Drop)]
+#[derive(Drop)]
 pub struct Listener {
     /// The families over which it is reached.
     pub announced: Announced,
@@ -58,6 +59,8 @@ pub struct Listener {
     pub local: Option<AddressText>,
     /// On which terms callers are served.
     pub terms: Terms,
+    /// Whose programs are.
+    pub reserved: Reserved,
 }
 
 /// Names each field, so that a further one does not compile until it stands here. It belongs in the table of
@@ -68,6 +71,7 @@ fn layout(listener: &Listener) {
         port,
         local,
         terms,
+        reserved,
     } = listener;
     let Announced { inet, inet6 } = *announced;
     let Terms {
@@ -78,6 +82,7 @@ fn layout(listener: &Listener) {
     let _: (Option<[u8; 4]>, Option<[u8; 16]>) = (inet, inet6);
     let _: u16 = *port;
     let _: &Option<AddressText> = local;
+    let _: &[Reservation] = reserved.as_slice();
 }
 
 /// The row of the portmapper's own version on a netid.

@@ -1,7 +1,7 @@
 //! Worked examples of the definitions.
 #![tactic(auto, unfolding(crate::proofs::OnLiterals::rb_proto_on_literals))]
 
-ghost use Rattle.rb_proto.specs.Worked.{DumpOwnRows, SetGetportSetAgain, GetportGreatestVersion, SetAtRowLimit, VersionTwoRefuses, OwnersRemove, UnsetByOwner, OtherAddressesRefused, GetaddrByTransport, Getaddrlist, AddressTransportForm, LocalityAndGettime, RefusalsOfAcceptedCalls, GetstatFirstCall, GetstatAfterCalls, GetstatOfOtherCalls, GetstatFirstKeys, LongDump, LongPmapDump};
+ghost use Rattle.rb_proto.specs.Worked.{DumpOwnRows, SetGetportSetAgain, GetportGreatestVersion, SetAtRowLimit, VersionTwoRefuses, OwnersRemove, UnsetByOwner, OtherAddressesRefused, GetaddrByTransport, Getaddrlist, AddressTransportForm, LocalityAndGettime, RefusalsOfAcceptedCalls, GetstatFirstCall, GetstatAfterCalls, GetstatOfOtherCalls, GetstatFirstKeys, LongDump, LongPmapDump, ReservedRows};
 ghost use Rattle.rb_proto.specs.WorkedForwards.{WithoutRow, WithOtherRows, PortmapperIsNotCalled, TableIsFull, FailuresAreCounted, AnyHostIsThisMachine, OtherHostsStay, EndsAreNoted, OthersAreNotNoted, PlacesAreShown};
 ghost use Rattle.rb_proto.specs.WorkedNetids.{AddressesGoByNetid, TextsStay, OthersAreNotSeen, VersionTwoListsNone, Ipv6TransportForm};
 ghost use Rattle.rb_proto.specs.WorkedLists.{SetsWantRoom, FullTableWantsNone, PartsCrossRows, ListsAreAsOfTheirCall};
@@ -27,6 +27,7 @@ pub fn worked_examples()
     ensures getstat_first_keys { GetstatFirstKeys }
     ensures long_dump { LongDump }
     ensures long_pmap_dump { LongPmapDump }
+    ensures reserved_rows { ReservedRows }
 {}
 
 /// So they do of calls that are forwarded.
