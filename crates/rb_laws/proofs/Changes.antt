@@ -35,6 +35,7 @@ use Rattle.rb_proto.specs.declared.answers.Value.TheVariants as values
 use Rattle.rb_proto.specs.declared.context.Context.{Context}
 use Rattle.rb_proto.specs.Ledger.{Ledger, rows_in, version_of, with_call_noted}
 use Rattle.rb_proto.specs.Results.{result_bytes}
+use Rattle.rb_proto.specs.Reserved.{may_own}
 use Rattle.rb_proto.specs.Answers.{comes_from_here, can_be_set, has_share, accepts_row, set_row, accepts_removal, removal_of, unset_rows, change_if, getport, getaddr, getversaddr, answer_to, answer, tell_done}
 use Rattle.rb_model.specs.declared.message.Message.{Message}
 use Rattle.rb_model.specs.declared.message.Message.TheVariants as says
@@ -148,11 +149,13 @@ brought-hears s ZeroStats m brings = absurd cc
 
 -- a SET or an UNSET is TRUE only if its caller may register
 
-accepted-here : (context : Context) (l : Ledger) (row : Row) → accepts_row context l row ≡ true → (comes_from_here context ≡ true) × (can_be_set row ≡ true)
+accepted-here : (context : Context) (l : Ledger) (row : Row) → accepts_row context l row ≡ true → (comes_from_here context ≡ true) × MayBeMade context.reserved (Added row)
 unfolding accepts_row
 accepted-here context l row e =
-    let shared = (and_parts (comes_from_here context && can_be_set row && has_share context (rows_in l)) _ e).0 in
-    and_parts (comes_from_here context) (can_be_set row) (and_parts (comes_from_here context && can_be_set row) _ shared).0
+    let shared = (and_parts (comes_from_here context && can_be_set row && may_own context.reserved row && has_share context (rows_in l)) _ e).0 in
+    let owned = and_parts (comes_from_here context && can_be_set row) (may_own context.reserved row) (and_parts (comes_from_here context && can_be_set row && may_own context.reserved row) _ shared).0 in
+    let may = and_parts (comes_from_here context) (can_be_set row) owned.0 in
+    (may.0, (may.1, owned.1))
 
 pub set-here : (context : Context) (head : CallHead) (o : Option Row) (l : Ledger) → (set_row context head o l).0 ≡ true → comes_from_here context ≡ true
 unfolding set_row
@@ -286,7 +289,7 @@ record Decided (context : Context) (xid : ℕ) (change : Change) (said : Outcome
   accepted : Bool
   says : said ≡ outcomes.Reply (success context.caller xid (boolean accepted)) None
   here : accepted ≡ true → comes_from_here context ≡ true
-  may : accepted ≡ true → MayBeMade change
+  may : accepted ≡ true → MayBeMade context.reserved change
 
 set-decided : (context : Context) (head : CallHead) (xid : ℕ) (o : Option Row) (l : Ledger) (change : Change) → option_map Added o ≡ Some change
     → Decided context xid change (reply_with context xid (tell_done values.Bool (set_row context head o l))).0
@@ -296,7 +299,7 @@ set-decided context head xid (Some row) l change is = record {
   accepted = accepts_row context l row;
   says = refl;
   here = λ e. (accepted-here context l row e).0;
-  may = λ e. subst MayBeMade (same_Some (Added row) change is) (accepted-here context l row e).1;
+  may = λ e. subst (MayBeMade context.reserved) (same_Some (Added row) change is) (accepted-here context l row e).1;
 }
 
 unset-decided : (context : Context) (head : CallHead) (xid prog vers : ℕ) (o : Option Which) (l : Ledger) (change : Change) → option_map (removal_of context head prog vers) o ≡ Some change
@@ -307,7 +310,7 @@ unset-decided context head xid prog vers (Some which) l change is = record {
   accepted = accepts_removal context l (removal_of context head prog vers which);
   says = refl;
   here = λ e. (and_parts (comes_from_here context) _ e).0;
-  may = λ e. subst MayBeMade (same_Some (removal_of context head prog vers which) change is) tt;
+  may = λ e. subst (MayBeMade context.reserved) (same_Some (removal_of context head prog vers which) change is) tt;
 }
 
 answer-decided : (context : Context) (head : CallHead) (request : Request) (arguments : List ℕ) (l : Ledger) (change : Change) → change_asked context.caller head request ≡ Some change

@@ -32,6 +32,7 @@ use Rattle.rb_proto.specs.Callers.{own_inet6, own_inet, own_local, own_rows}
 use Rattle.rb_proto.specs.Ledger.{Ledger, rows_in, version_of, with_call_noted}
 use Rattle.rb_arguments.specs.declared.mapping.Mapping.{Mapping}
 use Rattle.rb_proto.specs.Netids.{is_address}
+use Rattle.rb_proto.specs.Reserved.{may_own}
 use Rattle.rb_proto.specs.Answers.{comes_from_here, can_be_set, has_share, accepts_row, set_row, accepts_removal, removal_of, unset_rows, change_if, getport, getaddr, getversaddr, answer_to, answer}
 use Rattle.rb_proto.proofs.Addresses.{address_short}
 use Rattle.rb_model.specs.declared.types.Told.{Told}
@@ -82,13 +83,13 @@ settable-short row e = address_short row.netid row.addr (both _ (is_address row.
 set-grows : (context : Context) (head : CallHead) (o : Option Row) (l : Ledger) → Grows context.limit l (set_row context head o l).1
 unfolding set_row accepts_row
 set-grows context head None l = Same refl refl
-set-grows context head (Some row) l = change-grows context.limit (Added row) (WasSet (version_of head.vers)) l (accepts_row context l row) (λ e. (both (comes_from_here context && can_be_set row && has_share context (rows_in l)) _ e).1)
-    (λ e. settable-short row (middle (comes_from_here context) (can_be_set row) (has_share context (rows_in l)) (both _ (has_place context.limit (rows_in l) (length l.changes) row) e).0))
+set-grows context head (Some row) l = change-grows context.limit (Added row) (WasSet (version_of head.vers)) l (accepts_row context l row) (λ e. (both (comes_from_here context && can_be_set row && may_own context.reserved row && has_share context (rows_in l)) _ e).1)
+    (λ e. settable-short row (middle (comes_from_here context) (can_be_set row) (may_own context.reserved row) (has_share context (rows_in l)) (both _ (has_place context.limit (rows_in l) (length l.changes) row) e).0))
   where
-    middle : (a b c : Bool) → (a && b && c) ≡ true → b ≡ true
-    middle true true c e = refl
-    middle true false c e = absurd cc
-    middle false b c e = absurd cc
+    middle : (a b c d : Bool) → (a && b && c && d) ≡ true → b ≡ true
+    middle true true c d e = refl
+    middle true false c d e = absurd cc
+    middle false b c d e = absurd cc
 
 unset-grows : (context : Context) (head : CallHead) (prog vers : ℕ) (o : Option Which) (l : Ledger) → Grows context.limit l (unset_rows context head prog vers o l).1
 unfolding unset_rows accepts_removal

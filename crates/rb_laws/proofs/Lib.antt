@@ -42,6 +42,7 @@ pub mod Changes
 pub mod Callers
 pub mod History
 pub mod Restoring
+pub mod Reserving
 pub mod Strangers
 pub mod Reflections
 pub mod Spelling

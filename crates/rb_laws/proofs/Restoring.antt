@@ -38,6 +38,8 @@ use Rattle.rb_proto.specs.Callers.{is_local, owner_named, own_rows}
 use Rattle.rb_proto.specs.Results.{result_bytes}
 use Rattle.rb_proto.specs.declared.listener.Listener.{Listener}
 use Rattle.rb_proto.specs.Ledger.{Ledger, rows_in, with_call_noted}
+use Rattle.rb_proto.specs.declared.reserved.Reservation.{Reservation}
+use Rattle.rb_proto.specs.Reserved.{may_own}
 use Rattle.rb_proto.specs.Answers.{comes_from_here, owner_in, can_be_set, has_share, accepts_row, set_row, row_of_rpcb, answer}
 use Rattle.rb_model.specs.declared.message.Message.{Message}
 use Rattle.rb_model.specs.declared.message.Message.TheVariants as says
@@ -133,15 +135,15 @@ shared context rows count row longest e place =
     let free = (and_parts (not (list_any (is_of_key row) rows) && nat_lt (length rows) context.limit) (is_change_left count) place).0 in
     rw e (and_parts (not (list_any (is_of_key row) rows)) (nat_lt (length rows) context.limit) free).1
 
-sets : (context : Context) (row : Row) (arguments : List ℕ) (l : Ledger) (longest : ℕ) → context.caller ≡ Udp this_machine longest → can_be_set row ≡ true → has_place context.limit (rows_in l) (length l.changes) row ≡ true
+sets : (context : Context) (row : Row) (arguments : List ℕ) (l : Ledger) (longest : ℕ) → context.caller ≡ Udp this_machine longest → can_be_set row ≡ true → may_own context.reserved row ≡ true → has_place context.limit (rows_in l) (length l.changes) row ≡ true
     → (outcome context (says.Asked (call_for row)) arguments l).1.changes ≡ l.changes ++ Added row ∷ []
 unfolding outcome answer with_call_noted set_row accepts_row
-sets context row arguments l longest here may place = rw (row-again context row longest here, from-here context longest here, may, shared context (rows_in l) (length l.changes) row longest here place, place) refl
+sets context row arguments l longest here may own place = rw (row-again context row longest here, from-here context longest here, may, own, shared context (rows_in l) (length l.changes) row longest here place, place) refl
 
-told-true : (context : Context) (row : Row) (arguments : List ℕ) (l : Ledger) (longest : ℕ) → context.caller ≡ Udp this_machine longest → can_be_set row ≡ true → has_place context.limit (rows_in l) (length l.changes) row ≡ true
+told-true : (context : Context) (row : Row) (arguments : List ℕ) (l : Ledger) (longest : ℕ) → context.caller ≡ Udp this_machine longest → can_be_set row ≡ true → may_own context.reserved row ≡ true → has_place context.limit (rows_in l) (length l.changes) row ≡ true
     → (outcome context (says.Asked (call_for row)) arguments l).0 ≡ outcomes.Reply (success context.caller 0 (boolean true)) None
 unfolding outcome answer with_call_noted set_row accepts_row result_bytes
-told-true context row arguments l longest here may place = rw (row-again context row longest here, from-here context longest here, may, shared context (rows_in l) (length l.changes) row longest here place, place) refl
+told-true context row arguments l longest here may own place = rw (row-again context row longest here, from-here context longest here, may, own, shared context (rows_in l) (length l.changes) row longest here place, place) refl
 
 -- from whom it comes
 abbrev set_caller : State → Row → Caller
@@ -152,21 +154,21 @@ unfolding comes_from_here
 set-hears t row =
     sender-hears t this_machine (set_bytes row) (from-here (context_in t (set_caller t row)) (longest_to t.setting.listener.terms this_machine (length (set_bytes row))) refl)
 
-set-step : (t : State) (now : ℕ) (row : Row) → IsSpelled row → can_be_set row ≡ true → has_place t.setting.limits.rows (rows_in t.ledger) (length t.ledger.changes) row ≡ true
+set-step : (t : State) (now : ℕ) (row : Row) → IsSpelled row → can_be_set row ≡ true → may_own t.setting.listener.reserved row ≡ true → has_place t.setting.limits.rows (rows_in t.ledger) (length t.ledger.changes) row ≡ true
     → (step t (set_call now row)).1.ledger.changes ≡ t.ledger.changes ++ Added row ∷ []
-set-step t now row is may place =
+set-step t now row is may owned place =
     ap (λ (l : Ledger). l.changes) (step-ledger t (set_call now row))
     ∙ ap (λ (m : Message). (outcome (context_in (at_moment now t) (set_caller t row)) m (arguments_of (set_bytes row)) t.ledger).1.changes) (read-again row is may)
-    ∙ sets (context_in (at_moment now t) (set_caller t row)) row (arguments_of (set_bytes row)) t.ledger (longest_to t.setting.listener.terms this_machine (length (set_bytes row))) refl may place
+    ∙ sets (context_in (at_moment now t) (set_caller t row)) row (arguments_of (set_bytes row)) t.ledger (longest_to t.setting.listener.terms this_machine (length (set_bytes row))) refl may owned place
 
-set-says : (t : State) (now : ℕ) (row : Row) → IsSpelled row → can_be_set row ≡ true → has_place t.setting.limits.rows (rows_in t.ledger) (length t.ledger.changes) row ≡ true
+set-says : (t : State) (now : ℕ) (row : Row) → IsSpelled row → can_be_set row ≡ true → may_own t.setting.listener.reserved row ≡ true → has_place t.setting.limits.rows (rows_in t.ledger) (length t.ledger.changes) row ≡ true
     → SaysTrue (step t (set_call now row)).0
 unfolding step datagram serve
-set-says t now row is may place =
+set-says t now row is may owned place =
     shown-replied (true_reply 0) (serve (at_moment now t) (set_caller t row) (set_bytes row))
     (
     ap (λ (m : Message). (outcome (context_in (at_moment now t) (set_caller t row)) m (arguments_of (set_bytes row)) t.ledger).0) (read-again row is may)
-    ∙ told-true (context_in (at_moment now t) (set_caller t row)) row (arguments_of (set_bytes row)) t.ledger (longest_to t.setting.listener.terms this_machine (length (set_bytes row))) refl may place
+    ∙ told-true (context_in (at_moment now t) (set_caller t row)) row (arguments_of (set_bytes row)) t.ledger (longest_to t.setting.listener.terms this_machine (length (set_bytes row))) refl may owned place
     ∙ ap (λ (reply : List ℕ). outcomes.Reply reply None) (true-fits (set_caller t row) 0 (set-hears t row)))
 
 -- ---- all of them
@@ -180,17 +182,23 @@ record Leaves (t : State) (events : List Event) (own : List Row) (changes : List
 still : (a b : ℕ) (own before : List Row) (changes old more : List Change) → a ≡ b → own ≡ before → changes ≡ old → are_accepted b before old more ≡ true → are_accepted a own changes more ≡ true
 still a b own before changes old more e f g h = rw (e, f, g) h
 
-sets-all : (t : State) (now : ℕ) (rows : List Row) → All IsSpelled rows → All (λ row. can_be_set row ≡ true) rows → are_accepted t.setting.limits.rows t.ledger.own t.ledger.changes (map Added rows) ≡ true
+-- what holds of rows whatever is reserved, if it is reserved so
+still-owned : (a b : List Reservation) (rows : List Row) → a ≡ b → All (λ row. may_own b row ≡ true) rows → All (λ row. may_own a row ≡ true) rows
+still-owned a b rows e all = rw e all
+
+sets-all : (t : State) (now : ℕ) (rows : List Row) → All IsSpelled rows → All (λ row. can_be_set row ≡ true) rows → All (λ row. may_own t.setting.listener.reserved row ≡ true) rows
+    → are_accepted t.setting.limits.rows t.ledger.own t.ledger.changes (map Added rows) ≡ true
     → Leaves t (set_calls now rows) t.ledger.own (t.ledger.changes ++ map Added rows)
-sets-all t now [] are may accepted = record { own_is = refl; changes_are = sym (append-nil t.ledger.changes); told = All-nil SaysTrue }
-sets-all t now (row ∷ rows) are may accepted =
+sets-all t now [] are may owned accepted = record { own_is = refl; changes_are = sym (append-nil t.ledger.changes); told = All-nil SaysTrue }
+sets-all t now (row ∷ rows) are may owned accepted =
     let parts = and_parts (is_accepted t.setting.limits.rows t.ledger.own t.ledger.changes (Added row)) _ accepted in
     let u : State = (step t (set_call now row)).1 in
-    let more : u.ledger.changes ≡ t.ledger.changes ++ Added row ∷ [] = set-step t now row (All-head IsSpelled row rows are) (All-head (λ r. can_be_set r ≡ true) row rows may) parts.0 in
-    let says : SaysTrue (step t (set_call now row)).0 = set-says t now row (All-head IsSpelled row rows are) (All-head (λ r. can_be_set r ≡ true) row rows may) parts.0 in
+    let more : u.ledger.changes ≡ t.ledger.changes ++ Added row ∷ [] = set-step t now row (All-head IsSpelled row rows are) (All-head (λ r. can_be_set r ≡ true) row rows may) (All-head (λ r. may_own t.setting.listener.reserved r ≡ true) row rows owned) parts.0 in
+    let says : SaysTrue (step t (set_call now row)).0 = set-says t now row (All-head IsSpelled row rows are) (All-head (λ r. can_be_set r ≡ true) row rows may) (All-head (λ r. may_own t.setting.listener.reserved r ≡ true) row rows owned) parts.0 in
     let own : u.ledger.own ≡ t.ledger.own = step-own t (set_call now row) in
+    let reserved : u.setting.listener.reserved ≡ t.setting.listener.reserved = ap (λ s. s.listener.reserved) (step-setting t (set_call now row)) in
     let limit : u.setting.limits.rows ≡ t.setting.limits.rows = ap (λ s. s.limits.rows) (step-setting t (set_call now row)) in
-    let rest = sets-all u now rows (All-tail IsSpelled row rows are) (All-tail (λ r. can_be_set r ≡ true) row rows may) (still _ _ _ _ _ _ (map Added rows) limit own more parts.1) in
+    let rest = sets-all u now rows (All-tail IsSpelled row rows are) (All-tail (λ r. can_be_set r ≡ true) row rows may) (still-owned _ _ rows reserved (All-tail (λ r. may_own t.setting.listener.reserved r ≡ true) row rows owned)) (still _ _ _ _ _ _ (map Added rows) limit own more parts.1) in
     record {
       own_is = rest.own_is ∙ own;
       changes_are = rest.changes_are ∙ ap (λ (changes : List Change). changes ++ map Added rows) more ∙ append_assoc t.ledger.changes (Added row ∷ []) (map Added rows);
@@ -209,25 +217,33 @@ all-left P Q gives (Added row ∷ later) all = by_test (list_any (covers row) la
     by_test true rest = rest
     by_test false rest = All-cons P row (left_by later) (gives row (All-head Q (Added row) later all)) rest
 
-abbrev AreMade : State → Type 0
-AreMade s = All MayBeMade s.ledger.changes
+abbrev AreMade : List Reservation → State → Type 0
+AreMade reserved s = (s.setting.listener.reserved ≡ reserved) × All (MayBeMade reserved) s.ledger.changes
 
-step-made : (s : State) (event : Event) → AreMade s → AreMade (step s event).1
-step-made s event all = by_change (at-most-once s event)
+step-made : (reserved : List Reservation) (s : State) (event : Event) → AreMade reserved s → AreMade reserved (step s event).1
+step-made reserved s event made = (ap (λ setting. setting.listener.reserved) (step-setting s event) ∙ made.0, by_change (at-most-once s event))
   where
-    by_change : ChangesAtMostOnce s event → AreMade (step s event).1
-    by_change (Same e) = All-same MayBeMade (step s event).1.ledger.changes s.ledger.changes e all
-    by_change (OneMore change a) = All-same MayBeMade (step s event).1.ledger.changes (s.ledger.changes ++ change ∷ []) a.appends (All-push MayBeMade s.ledger.changes change all a.may)
+    by_change : ChangesAtMostOnce s event → All (MayBeMade reserved) (step s event).1.ledger.changes
+    by_change (Same e) = All-same (MayBeMade reserved) (step s event).1.ledger.changes s.ledger.changes e made.1
+    by_change (OneMore change a) =
+        All-same (MayBeMade reserved) (step s event).1.ledger.changes (s.ledger.changes ++ change ∷ []) a.appends
+        (All-push (MayBeMade reserved) s.ledger.changes change made.1 (subst (λ (r : List Reservation). MayBeMade r change) made.0 a.may))
 
-after-made : (s : State) (events : List Event) → AreMade s → AreMade (after s events)
-after-made s [] all = all
-after-made s (event ∷ events) all = after-made (step s event).1 events (step-made s event all)
+after-made : (reserved : List Reservation) (s : State) (events : List Event) → AreMade reserved s → AreMade reserved (after s events)
+after-made reserved s [] made = made
+after-made reserved s (event ∷ events) made = after-made reserved (step s event).1 events (step-made reserved s event made)
+
+reached-made : (s : State) → IsReached s → All (MayBeMade s.setting.listener.reserved) s.ledger.changes
+reached-made s r =
+    let start : State = opening r.limits r.listener r.first_xid r.now in
+    let made : AreMade r.listener.reserved s = subst (AreMade r.listener.reserved) (sym r.is) (after-made r.listener.reserved start r.events (refl, All-nil (MayBeMade r.listener.reserved))) in
+    subst (λ (reserved : List Reservation). All (MayBeMade reserved) s.ledger.changes) (sym made.0) made.1
 
 pub rows_can_be_set : RowsCanBeSet
-rows_can_be_set s r =
-    let start : State = opening r.limits r.listener r.first_xid r.now in
-    let made : AreMade s = subst AreMade (sym r.is) (after-made start r.events (All-nil MayBeMade)) in
-    all-left (λ row. can_be_set row ≡ true) MayBeMade (λ row may. may) s.ledger.changes made
+rows_can_be_set s r = all-left (λ row. can_be_set row ≡ true) (MayBeMade s.setting.listener.reserved) (λ row may. may.0) s.ledger.changes (reached-made s r)
+
+pub set_rows_are_owned : (s : State) → IsReached s → All (λ row. may_own s.setting.listener.reserved row ≡ true) (set_rows s)
+set_rows_are_owned s r = all-left (λ row. may_own s.setting.listener.reserved row ≡ true) (MayBeMade s.setting.listener.reserved) (λ row may. may.1) s.ledger.changes (reached-made s r)
 
 -- ---- from any opening
 
@@ -261,24 +277,24 @@ beside s r listener =
     let k = ledgers_are_well_kept s r in
     distinct-beside (own_rows listener) (set_rows s) (are-own listener) (own-distinct listener) (rows_can_be_set s r) (distinct-behind s.ledger.own (set_rows s) k.distinct)
 
-leaves-rows : (s : State) → IsReached s → All IsSpelled (set_rows s) → (limits : Limits) (listener : Listener) → are_good limits listener ≡ true → length (own_rows listener) + length (set_rows s) ≤ limits.rows → (first_xid opened now : ℕ)
+leaves-rows : (s : State) → IsReached s → All IsSpelled (set_rows s) → (limits : Limits) (listener : Listener) → are_good limits listener ≡ true → length (own_rows listener) + length (set_rows s) ≤ limits.rows → All (λ row. may_own listener.reserved row ≡ true) (set_rows s) → (first_xid opened now : ℕ)
     → Leaves (opening limits listener first_xid opened) (set_calls now (set_rows s)) (own_rows listener) (map Added (set_rows s))
-leaves-rows s r are limits listener good room first_xid opened now =
+leaves-rows s r are limits listener good room owned first_xid opened now =
     let limit = good-limit limits listener good in
     let again = rows_are_set_again limits.rows (own_rows listener) (set_rows s) (beside s r listener) (omega (arith, room, length-append (own_rows listener) (set_rows s))) (omega (arith, limit)) in
-    sets-all (opening limits listener first_xid opened) now (set_rows s) are (rows_can_be_set s r) again.0
+    sets-all (opening limits listener first_xid opened) now (set_rows s) are (rows_can_be_set s r) owned again.0
 
-pub sets-again : (s : State) → IsReached s → All IsSpelled (set_rows s) → (limits : Limits) (listener : Listener) → are_good limits listener ≡ true → length (own_rows listener) + length (set_rows s) ≤ limits.rows → (first_xid opened now : ℕ)
+pub sets-again : (s : State) → IsReached s → All IsSpelled (set_rows s) → (limits : Limits) (listener : Listener) → are_good limits listener ≡ true → length (own_rows listener) + length (set_rows s) ≤ limits.rows → All (λ row. may_own listener.reserved row ≡ true) (set_rows s) → (first_xid opened now : ℕ)
     → Sets (opening limits listener first_xid opened) (set_calls now (set_rows s)) (set_rows s)
-sets-again s r are limits listener good room first_xid opened now =
-    let end = leaves-rows s r are limits listener good room first_xid opened now in
+sets-again s r are limits listener good room owned first_xid opened now =
+    let end = leaves-rows s r are limits listener good room owned first_xid opened now in
     record { told = end.told; are_set = ap left_by end.changes_are ∙ all_left (set_rows s) }
 
 pub restored : (s : State) → IsReached s → are_good s.setting.limits s.setting.listener ≡ true → All IsSpelled (set_rows s) → rows_in (after (opened_again s) (kept_calls s)).ledger ≡ rows_in s.ledger
 restored s r good are =
     let k = ledgers_are_well_kept s r in
     let room : length (own_rows s.setting.listener) + length (set_rows s) ≤ s.setting.limits.rows = omega (arith, k.fit good, length-append s.ledger.own (set_rows s), ap (λ (own : List Row). length own) k.own) in
-    let end = leaves-rows s r are s.setting.limits s.setting.listener good room s.setting.first_xid s.clock s.clock in
+    let end = leaves-rows s r are s.setting.limits s.setting.listener good room (set_rows_are_owned s r) s.setting.first_xid s.clock s.clock in
     ap (λ (own : List Row). live own (after (opened_again s) (kept_calls s)).ledger.changes) end.own_is
     ∙ ap (live (own_rows s.setting.listener)) end.changes_are
     ∙ ap (λ (rows : List Row). own_rows s.setting.listener ++ rows) (all_left (set_rows s))

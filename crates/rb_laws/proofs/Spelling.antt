@@ -431,7 +431,7 @@ pub kept_calls_are_short : KeptCallsAreShort
 kept_calls_are_short s r = λ k d lt. short-call (get_or (set_rows s) k d) (rows_are_spelled s r k d lt) (rows_can_be_set s r.reached k d lt)
 
 pub rows_can_be_set_again : RowsCanBeSetAgain
-rows_can_be_set_again s r limits listener good room first_xid opened now = sets-again s r.reached (rows_are_spelled s r) limits listener good room first_xid opened now
+rows_can_be_set_again s r limits listener good room owned first_xid opened now = sets-again s r.reached (rows_are_spelled s r) limits listener good room owned first_xid opened now
 
 pub kept_rows_are_restored : KeptRowsAreRestored
 kept_rows_are_restored s r good = restored s r.reached good (rows_are_spelled s r)

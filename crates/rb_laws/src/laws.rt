@@ -2,7 +2,7 @@
 ghost use Rattle.rb_model.specs.Grammar.{AskedMessagesAreOfTheGrammar, RefusedMessagesAreOfTheGrammar, GarbageMessagesAreOfTheGrammar, NoCallsAreOfTheGrammar};
 ghost use Rattle.rb_model.specs.State.{State};
 ghost use Rattle.rb_model.specs.Laws.{RunsAppend, StatesAppend, RefusedEventsChangeNothing, NumbersNeverRecur, CutsDoNotMatter, NextLostIsLeast, BytesAreTakenExactly, RepliesAreGivenWhole, OwedRepliesStay, LedgersAreWellKept};
-ghost use Rattle.rb_model.specs.ChangeLaws.{ChangesAreAccepted, ChangesAreThoseAccepted, RowsCanBeSet, RowsAreSpelled, KeptCallsAreShort, RowsCanBeSetAgain, KeptRowsAreRestored, KeptRowsAreInNoStatistics};
+ghost use Rattle.rb_model.specs.ChangeLaws.{ChangesAreAccepted, ChangesAreThoseAccepted, ReservedRowsAreSetByTheirOwners, ReservedRowsAreOwned, RowsCanBeSet, RowsAreSpelled, KeptCallsAreShort, RowsCanBeSetAgain, KeptRowsAreRestored, KeptRowsAreInNoStatistics};
 ghost use Rattle.rb_model.specs.Reflections.{RepliesAreAtMostTwice, StrangersAreSentAtMostTwice};
 ghost use Rattle.rb_model.specs.CallerLaws.{StrangersChangeNothing, StrangersBringNoKeys, LocalOwnersKeepTheirs};
 ghost use Rattle.rb_model.specs.HistoryLaws.{EventsAreNoted, HistoryIsOfItsEvents};
@@ -177,6 +177,13 @@ pub fn changes_are_accepted()
     ensures runs { ChangesAreThoseAccepted }
 {}
 
+/// From every state, a row of a reserved program that an event adds is of uid 0, or of a uid for which the program is
+/// reserved. In each state that a run reaches, so is each live row of a reserved program.
+pub fn reserved_rows_are_owned()
+    ensures events { ReservedRowsAreSetByTheirOwners }
+    ensures rows { ReservedRowsAreOwned }
+{}
+
 /// From every state, a call of a stranger's leaves the accepted changes, and brings no key into the statistics but those
 /// of live rows. In each state that a run reaches, a call of a caller that is known as an owner other than uid 0 leaves
 /// the rows of all other owners, whatever its credential says.
@@ -206,7 +213,7 @@ pub fn calls_are_noted()
 /// In each state that a run reaches, each row that was set may be set: it is of another program than the portmapper, at
 /// an address of its netid. If the run is of bytes and of uids of 32 bits, bytes can spell each, in a SET of at most
 /// 368 bytes. These SETs, from this machine and by the owners of the rows, are all answered TRUE in a run from any
-/// opening with room for them, and set just these rows, in their order. From the opening of the same setting, at good
+/// opening with room for them that reserves their programs for no other owners, and set just these rows, in their order. From the opening of the same setting, at good
 /// limits, the live rows are then the same; and if statistics begin anew after these SETs, they stay so, and nothing
 /// was called.
 pub fn kept_rows_are_restored()

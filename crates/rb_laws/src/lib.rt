@@ -12,7 +12,7 @@ pub use laws::{
     entries_end_once, expire_does_one_thing, gives_are_steps, kept_rows_are_restored,
     ledgers_are_well_kept, messages_are_of_the_grammar, next_deadlines_are_exact,
     next_lost_is_least, nothing_is_due_soon, numbers_never_recur, outsiders_cost_few,
-    owed_replies_stay, refused_events_change_nothing, replies_are_given_whole, runs_append,
-    sends_are_unsent, sessions_are_whole, steps_are_bounded, strangers_are_sent_at_most_twice,
-    whole_runs_are_bounded,
+    owed_replies_stay, refused_events_change_nothing, replies_are_given_whole,
+    reserved_rows_are_owned, runs_append, sends_are_unsent, sessions_are_whole, steps_are_bounded,
+    strangers_are_sent_at_most_twice, whole_runs_are_bounded,
 };

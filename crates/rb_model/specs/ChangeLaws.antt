@@ -31,6 +31,8 @@ use Rattle.rb_arguments.specs.Types.{rpcb_spelling}
 use Rattle.rb_proto.specs.declared.call.Call.{Call}
 use Rattle.rb_proto.specs.declared.listener.Listener.{Listener}
 use Rattle.rb_proto.specs.Callers.{may_register, own_rows, owner_of, who_of}
+use Rattle.rb_proto.specs.declared.reserved.Reservation.{Reservation}
+use Rattle.rb_proto.specs.Reserved.{may_own}
 use Rattle.rb_proto.specs.Ledger.{rows_in}
 use Rattle.rb_proto.specs.Netids.{which_of}
 use Rattle.rb_proto.specs.Answers.{row_of_mapping, row_of_rpcb, can_be_set}
@@ -160,10 +162,10 @@ abbrev pub GetsReply : State → Event → Caller → List ℕ → Type 0
 GetsReply s event (Udp who longest) reply = (step s event).0 ≡ Replied reply
 GetsReply s event (Tcp id who) reply = Owes (step s event).1 id reply
 
--- the row that it adds may be set
-abbrev pub MayBeMade : Change → Type 0
-MayBeMade (Added row) = can_be_set row ≡ true
-MayBeMade (Removed prog vers which owner) = ⊤
+-- the row that it adds may be set, and its program is reserved for no other owner
+abbrev pub MayBeMade : List Reservation → Change → Type 0
+MayBeMade reserved (Added row) = (can_be_set row ≡ true) × (may_own reserved row ≡ true)
+MayBeMade reserved (Removed prog vers which owner) = ⊤
 
 -- the changes after the event are those before it, and this one
 abbrev pub IsAppended : State → Event → Change → Type 0
@@ -173,7 +175,7 @@ IsAppended s event change = (step s event).1.ledger.changes ≡ s.ledger.changes
 pub record Accepts (s : State) (event : Event) (change : Change) : Type 0 where
   pub asked : Asks s event change
   pub registers : may_register s.setting.listener.announced (who_of asked.message.caller) ≡ true
-  pub may : MayBeMade change
+  pub may : MayBeMade s.setting.listener.reserved change
   pub gets : GetsReply s event asked.message.caller (true_reply asked.call.head.xid)
   pub appends : IsAppended s event change
 
@@ -199,6 +201,17 @@ ChangesAreThoseAccepted =
     (limits : Limits) (listener : Listener) (first_xid now : ℕ) (events : List Event)
     → let start : State = opening limits listener first_xid now in
     (after start events).ledger.changes ≡ changes_by start events
+
+-- From every state, a row that an event adds is its program's owner's or uid 0's, if the program is reserved.
+-- RESERVE-1
+abbrev pub ReservedRowsAreSetByTheirOwners : Type 0
+ReservedRowsAreSetByTheirOwners =
+    (s : State) (event : Event) (row : Row) → IsAppended s event (Added row) → may_own s.setting.listener.reserved row ≡ true
+
+-- So is each live row, in each state that a run reaches.
+-- RESERVE-1
+abbrev pub ReservedRowsAreOwned : Type 0
+ReservedRowsAreOwned = (s : State) → IsReached s → All (λ row. may_own s.setting.listener.reserved row ≡ true) (rows_in s.ledger)
 
 -- ---- the rows that were set
 
@@ -280,14 +293,15 @@ pub record Sets (start : State) (calls : List Event) (rows : List Row) : Type 0 
   pub are_set : set_rows (after start calls) ≡ rows
 
 -- The rows of a state that a run of bytes reaches can be set again from any opening with room for them, whatever its
--- listener, its first xid, its moment and that of the calls.
+-- listener, its first xid, its moment and that of the calls, if it reserves their programs for no other owners.
 -- KEEP-1: One SET of version 4 from 127.0.0.1 for each row, by its owner, sets all rows of a run of
--- bytes again, in their order, from an opening with room for them; if statistics then begin anew,
--- these SETs are in none.
+-- bytes again, in their order, from an opening with room for them that reserves their programs for
+-- no other owners; if statistics then begin anew, these SETs are in none.
 abbrev pub RowsCanBeSetAgain : Type 0
 RowsCanBeSetAgain =
     (s : State) → IsReachedByBytes s → (limits : Limits) (listener : Listener) → are_good limits listener ≡ true
-    → length (own_rows listener) + length (set_rows s) ≤ limits.rows → (first_xid opened now : ℕ)
+    → length (own_rows listener) + length (set_rows s) ≤ limits.rows
+    → All (λ row. may_own listener.reserved row ≡ true) (set_rows s) → (first_xid opened now : ℕ)
     → Sets (opening limits listener first_xid opened) (set_calls now (set_rows s)) (set_rows s)
 
 -- a call of at most 368 bytes sets the row

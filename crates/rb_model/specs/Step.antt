@@ -36,6 +36,7 @@ abbrev pub context_in : State → Caller → Context
 context_in s caller = record {
   announced = s.setting.listener.announced;
   terms = s.setting.listener.terms;
+  reserved = s.setting.listener.reserved;
   limit = s.setting.limits.rows;
   forwards = s.setting.limits.forwards;
   clock = s.clock;

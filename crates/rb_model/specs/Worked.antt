@@ -27,6 +27,7 @@ listener = record {
   port = 111;
   local = None;
   terms = open_terms;
+  reserved = [];
 }
 
 abbrev pub fresh : State

@@ -78,6 +78,7 @@ everywhere = record {
   port = 111;
   local = Some (codes "/run/rpcbind.sock");
   terms = open_terms;
+  reserved = [];
 }
 
 -- 2001:db8::1, or with another last byte

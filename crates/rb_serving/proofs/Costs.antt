@@ -21,6 +21,7 @@ use Rattle.rb_proto.specs.declared.answers.Results.TheVariants as results
 use Rattle.rb_proto.specs.declared.books.Books.{Books}
 use Rattle.rb_proto.specs.declared.call.Call.{Call}
 use Rattle.rb_proto.specs.declared.context.Context.{Context}
+use Rattle.rb_proto.specs.Reserved.{may_own}
 use Rattle.rb_proto.specs.Answers.{comes_from_here, owner_in, row_of_mapping, row_of_rpcb, can_be_set, has_share, row_asked, adds, adds_row, row_to_set}
 use Rattle.rb_proto.specs.Netids.{which_of}
 use Rattle.rb_proto.specs.Costs.{note_cost, forward_cost, statistics_cost}
@@ -116,8 +117,9 @@ adding_asks context call rows count is = by_request call.request is
     by_row : (row : Option Row) → adds context rows count row ≡ true → (comes_from_here context && true) ≡ true
     by_row None t = absurd cc
     by_row (Some row) t =
-        let shared = (and_parts (comes_from_here context && can_be_set row && has_share context rows) _ t).0 in
-        let here = (and_parts (comes_from_here context) _ (and_parts (comes_from_here context && can_be_set row) _ shared).0).0 in
+        let shared = (and_parts (comes_from_here context && can_be_set row && may_own context.reserved row && has_share context rows) _ t).0 in
+        let owned = (and_parts (comes_from_here context && can_be_set row && may_own context.reserved row) _ shared).0 in
+        let here = (and_parts (comes_from_here context) _ (and_parts (comes_from_here context && can_be_set row) _ owned).0).0 in
         rw here refl
 
     by_request : (request : Request) → adds context rows count (row_asked context call.head request) ≡ true → walks_rows (comes_from_here context) request ≡ true
