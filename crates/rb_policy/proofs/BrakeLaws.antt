@@ -1,5 +1,5 @@
 -- What follows of how many datagrams are served.
-use Rattle.std.proofs.Common.{◌≡◌, ◌<◌, ◌≤◌, ◌+◌, ◌⊎◌, ◌*◌, inl, inr, ℕ, zero, suc, Bool, true, false, cond, if◌then◌else◌, nat_lt, nat_le, nat_eq, eqb, ◌&&◌, List, [], ◌∷◌, ◌++◌, length, take, Some, None, refl, sym, ap, ◌∙◌, subst, arith}
+use Rattle.std.proofs.Common.{◌≡◌, ◌<◌, ◌≤◌, ◌+◌, ◌⊎◌, ◌*◌, inl, inr, ℕ, zero, suc, Bool, true, false, cond, if◌then◌else◌, nat_lt, nat_le, nat_eq, eqb, ◌&&◌, ◌||◌, List, [], ◌∷◌, ◌++◌, length, take, Some, None, refl, sym, ap, ◌∙◌, subst, arith}
 use Rattle.std.specs.Prelude.{bytes_eq}
 use Rattle.std.specs.List.{All}
 use Rattle.std.proofs.lemmas.Bool.Decides.{nat_tests}
@@ -8,14 +8,16 @@ use Rattle.std.proofs.lemmas.List.Elements.{All-head, All-tail}
 use Rattle.std.proofs.lemmas.List.Sums.{sum_by_push, sum_by-le-sum_by}
 use Rattle.rb_address.specs.declared.host.Host.{Host}
 use Rattle.rb_address.specs.declared.host.Host.TheVariants.{V4, V6}
+use Rattle.rb_address.specs.declared.peer.Peer.{Peer}
 use Rattle.rb_address.specs.declared.who.Owner.TheVariants.{Unknown}
 use Rattle.rb_address.specs.declared.who.Source.TheVariants.{Inet}
-use Rattle.rb_address.specs.declared.who.Trust.TheVariants.{Local, Stranger}
-use Rattle.rb_address.specs.Hosts.{is_same_host, is_loopback}
+use Rattle.rb_address.specs.declared.who.Trust.TheVariants.{Claims, Local, Stranger}
+use Rattle.rb_address.specs.Hosts.{is_same_host}
 use Rattle.rb_address.specs.Networks.{octet_bits, bits_of, is_same_front}
 use Rattle.rb_policy.specs.declared.brake.Rate.{Rate}
 use Rattle.rb_policy.specs.Recents.{one_second}
 use Rattle.rb_policy.specs.Brake.{Datagram, place_by, network_place, host_place, moment_of, served_within, has_room_at, admits, admit, host_counted}
+use Rattle.rb_policy.specs.Trusts.{is_home}
 use Rattle.rb_policy.specs.BrakeLaws.{serve_after, serve, is_same_network, served_in_second, NeverMore, NeverHeldBack, HaveOnePlace, AreNetworks, StrangersCount}
 
 -- ---- one place
@@ -198,10 +200,12 @@ are_networks (V6 a) (V4 b) is_a is_b = refl
 
 -- ---- whose count
 
+counted : (claims is_local : Bool) (peer : Peer)
+    → host_counted (if claims then Claims else if is_local then Local Unknown else Stranger) (Inet peer)
+    ≡ (if claims || is_local then None else Some peer.host)
+counted true is_local peer = refl
+counted false true peer = refl
+counted false false peer = refl
+
 pub strangers_count : StrangersCount
-strangers_count true peer = refl
-strangers_count false peer = split (is_loopback peer.host)
-  where
-    split : (b : Bool) → host_counted (if b then Local Unknown else Stranger) (Inet peer) ≡ (if b then None else Some peer.host)
-    split true = refl
-    split false = refl
+strangers_count beliefs bound peer = counted beliefs.claims (is_home bound && is_same_host bound peer.host) peer

@@ -1,5 +1,5 @@
 -- The hosts that the daemon is given, which of them it binds, and what it announces and forwards from.
-use Rattle.std.specs.Prelude.{ℕ, Bool, true, false, not, ◌&&◌, List, [], ◌∷◌, Option, Some, None}
+use Rattle.std.specs.Prelude.{ℕ, Bool, true, false, not, ◌&&◌, ◌||◌, List, [], ◌∷◌, Option, Some, None}
 use Rattle.std.specs.List.{list_any}
 use Rattle.rb_address.specs.declared.host.Host.{Host}
 use Rattle.rb_address.specs.declared.host.Host.TheVariants.{V4, V6}
@@ -29,17 +29,18 @@ is_same a b = is_same_host a b
 abbrev pub has_host : Host → List Host → Bool
 has_host wanted hosts = list_any (λ host. is_same host wanted) hosts
 
--- BIND-1: `::` is every host of both families: a 0.0.0.0 that is given beside it is passed over.
--- After all others 0.0.0.0 is tried once; an address in use counts as one that `::` has.
+-- BIND-1: `::` is every host of both families: it gets sockets of IPv6 alone, and 0.0.0.0 is bound beside it.
 abbrev pub has_every_host : List Host → Bool
 has_every_host hosts = list_any is_any6 hosts
 
--- 0.0.0.0 is not bound by itself if :: is bound, which includes it
 -- BIND-1
-abbrev pub is_bound : List Host → Host → Bool
-is_bound hosts host = not (has_every_host hosts && is_same_host host (V4 every_inet))
+abbrev pub binds_every_inet : List Host → Bool
+binds_every_inet hosts = has_every_host hosts && not (has_host (V4 every_inet) hosts)
 
--- ::1 is bound as well, if that is asked for, it is none of them, and :: is none
+-- BIND-4: Beside 0.0.0.0 there is a UDP socket at 127.0.0.1, and beside `::` one at ::1 too.
+abbrev pub has_every_inet : List Host → Bool
+has_every_inet hosts = has_every_host hosts || has_host (V4 every_inet) hosts
+
 -- BIND-2: `--loopback6` also binds `::1`, unless it is given already, or `::` is.
 abbrev pub binds_loopback6 : List Host → Bool → Bool
 binds_loopback6 hosts wanted = wanted && not (has_every_host hosts) && not (has_host (V6 loopback6) hosts)
@@ -78,9 +79,7 @@ announced_for None given = None
 announced_for (Some first) None = Some first
 announced_for (Some first) (Some given) = Some given
 
--- ANNOUNCE-1: A family is served if a host of it is listened on, and both are if `::` is. What is
--- announced of one that is served is the host that is given, or the first that is listened on; of
--- another one nothing.
+-- ANNOUNCE-1
 abbrev pub announced_inet : Option (List ℕ) → List Host → Option (List ℕ)
 announced_inet given hosts = announced_for (served_inet hosts) given
 
@@ -92,8 +91,7 @@ abbrev pub inet_or_loopback : Option (List ℕ) → Host
 inet_or_loopback (Some octets) = V4 octets
 inet_or_loopback None = V4 loopback
 
--- BIND-3: Calls are forwarded to a target from the first host of its family that is listened on; to
--- one of IPv4 from 127.0.0.1 if there is none.
+-- BIND-3
 abbrev pub forwards_inet : List Host → Host
 forwards_inet hosts = inet_or_loopback (served_inet hosts)
 

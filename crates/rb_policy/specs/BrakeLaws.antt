@@ -5,10 +5,11 @@ use Rattle.rb_address.specs.declared.host.Host.{Host}
 use Rattle.rb_address.specs.declared.host.Host.TheVariants.{V4, V6}
 use Rattle.rb_address.specs.declared.peer.Peer.{Peer}
 use Rattle.rb_address.specs.declared.who.Source.TheVariants.{Inet}
-use Rattle.rb_address.specs.Hosts.{is_same_host, is_loopback, IsBytesOf}
+use Rattle.rb_address.specs.Hosts.{is_same_host, IsBytesOf}
 use Rattle.rb_address.specs.Networks.{has_front}
 use Rattle.rb_policy.specs.declared.trust.Entrance.TheVariants.{Udp}
-use Rattle.rb_policy.specs.Trusts.{trust_of}
+use Rattle.rb_policy.specs.declared.trust.Beliefs.{Beliefs}
+use Rattle.rb_policy.specs.Trusts.{trust_of, is_home}
 use Rattle.rb_policy.specs.declared.brake.Rate.{Rate}
 use Rattle.rb_policy.specs.Recents.{one_second}
 use Rattle.rb_policy.specs.Brake.{Datagram, network_place, host_place, moment_of, served_within, admits, admit, host_counted}
@@ -71,12 +72,14 @@ network_bits (V6 octets) = 56
 abbrev pub AreNetworks : Type 0
 AreNetworks = (a b : Host) → IsBytesOf a → IsBytesOf b → has_front a (network_bits a) b ≡ is_same_network a b
 
--- Over UDP those count whose claims are not believed and who are not of this machine, and nobody else.
+-- Over UDP those count whose claims are not believed and who do not come from 127.0.0.1 or ::1 to a socket that is bound there,
+-- and nobody else.
 -- BRAKE-3
 abbrev pub StrangersCount : Type 0
 StrangersCount =
-    (claims : Bool) (peer : Peer)
-    → host_counted (trust_of claims (Udp peer)) (Inet peer) ≡ (if claims || is_loopback peer.host then None else Some peer.host)
+    (beliefs : Beliefs) (bound : Host) (peer : Peer)
+    → host_counted (trust_of beliefs (Udp bound peer)) (Inet peer)
+    ≡ (if beliefs.claims || (is_home bound && is_same_host bound peer.host) then None else Some peer.host)
 
 -- ---- worked
 

@@ -9,10 +9,10 @@ pub mod RecordFile
 pub mod KeepFile
 pub mod Addresses
 pub mod Checked
-pub mod Asked
 pub mod WaysBack
 pub mod Evidence
 pub mod Trusts
+pub mod UserNamespace
 pub mod Recents
 pub mod Brake
 pub mod BrakeLaws

@@ -1,17 +1,20 @@
 //! The hosts that the daemon is given, which of them it binds, and what it announces and forwards from.
 ghost use Rattle.std.specs.Prelude.{◌≡◌};
 ghost use Rattle.rb_address.specs.Hosts.{is_any};
-ghost use Rattle.rb_policy.specs.Addresses.{is_any6, is_same, has_host, has_every_host, is_bound, binds_loopback6, first_inet, first_inet6, announced_inet, announced_inet6, forwards_inet, forwards_inet6, served_inet, served_inet6};
+ghost use Rattle.rb_policy.specs.Addresses.{is_any6, is_same, has_host, has_every_host, has_every_inet, binds_every_inet, binds_loopback6, first_inet, first_inet6, announced_inet, announced_inet6, forwards_inet, forwards_inet6, served_inet, served_inet6};
 
 use rb_address::Host;
 
 /// The host 0.0.0.0, which is every one of IPv4.
 pub const ANY: [u8; 4] = [0, 0, 0, 0];
 
+/// The host 127.0.0.1.
+pub const LOOPBACK: [u8; 4] = [127, 0, 0, 1];
+
 /// The host ::1.
 pub const LOOPBACK6: [u8; 16] = [0, 0, 0, 0, 0, 0, 0, 0, 0, 0, 0, 0, 0, 0, 0, 1];
 
-/// Whether it is ::, which is every host of both families.
+/// Whether it is ::.
 fn is_any6(host: Host) -> bool
     ensures { result ≡ is_any6 host }
 {
@@ -33,18 +36,25 @@ pub(crate) fn has_host(hosts: &[Host], wanted: Host) -> bool
     hosts.iter().any(|host| is_same(*host, wanted))
 }
 
-/// Whether every host of both families is listened on: :: is one of these.
+/// Whether every host of both families is listened on: :: is one of these. Then ::1 has a UDP socket of its own beside it.
 pub fn has_every_host(hosts: &[Host]) -> bool
     ensures { result ≡ has_every_host hosts.now }
 {
     hosts.iter().any(|host| is_any6(*host))
 }
 
-/// Whether one of these hosts is bound by itself: 0.0.0.0 is not if :: is one of them.
-pub fn is_bound(hosts: &[Host], host: Host) -> bool
-    ensures { result ≡ is_bound hosts.now host }
+/// Whether 0.0.0.0 is bound as well as these hosts: if :: is one of them, and 0.0.0.0 is not.
+pub fn binds_every_inet(hosts: &[Host]) -> bool
+    ensures { result ≡ binds_every_inet hosts.now }
 {
-    !(has_every_host(hosts) && host == Host::V4(ANY))
+    has_every_host(hosts) && !has_host(hosts, Host::V4(ANY))
+}
+
+/// Whether every host of IPv4 is listened on, so that 127.0.0.1 has a UDP socket of its own beside it.
+pub fn has_every_inet(hosts: &[Host]) -> bool
+    ensures { result ≡ has_every_inet hosts.now }
+{
+    has_every_host(hosts) || has_host(hosts, Host::V4(ANY))
 }
 
 /// Whether ::1 is bound as well as these hosts, if that is asked for: not if it is one of them, or :: is.
@@ -131,7 +141,7 @@ pub fn forwards_inet(hosts: &[Host]) -> Host
 {
     match served_inet(hosts) {
         Some(first) => Host::V4(first),
-        None => Host::V4([127, 0, 0, 1]),
+        None => Host::V4(LOOPBACK),
     }
 }
 

@@ -1,6 +1,6 @@
 //! Laws of who has a place, of who may ask and is believed, of where the ends of forwarded calls go, of how many
 //! datagrams are served, and of how many lines a log gets.
-ghost use Rattle.rb_policy.specs.Trusts.{OthersNeedNoTable, OthersAreStrangers};
+ghost use Rattle.rb_policy.specs.Trusts.{OthersNeedNoTable, OthersAreStrangers, OthersAreStrangersOverUdp};
 ghost use Rattle.rb_policy.specs.BrakeLaws.{NeverMore, NeverHeldBack, HaveOnePlace, AreNetworks, StrangersCount, OneSecondIsServed};
 ghost use Rattle.rb_policy.specs.DoorLaws.{SharesAreKept, OneIsGivenUp};
 ghost use Rattle.rb_policy.specs.LogLaws.{FewOfASecond, NoneIsLost, TheyAreToldThen};
@@ -27,9 +27,11 @@ pub fn way_laws()
     ensures others { OthersStay }
 {}
 
-/// Nobody but this machine may register, and the kernel's tables are asked of it alone.
+/// Over TCP nobody registers but from 127.0.0.0/8 or ::1, and over UDP nobody but at a socket bound to 127.0.0.1 or ::1, from
+/// exactly 127.0.0.1 or ::1. The kernel's tables are asked of this machine alone.
 pub fn trust_laws()
     ensures others { OthersAreStrangers }
+    ensures over_udp { OthersAreStrangersOverUdp }
     ensures tables { OthersNeedNoTable }
 {}
 

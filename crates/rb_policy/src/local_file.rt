@@ -1,7 +1,8 @@
-//! What is done about a file at the path of the local socket, as the daemon starts.
+//! What is done about a file at the path of the local socket as the daemon starts, and whether the socket is root's; and when
+//! its abstract name is tried again.
 ghost use Rattle.std.specs.Prelude.{◌≡◌};
 ghost use Rattle.std.specs.IoError.{error_kind};
-ghost use Rattle.rb_policy.specs.LocalFile.{is_nothing_there, state_by_connect, file_action, obstacle_text, lets_in_root_by, entrance_of, takes_abstract_name};
+ghost use Rattle.rb_policy.specs.LocalFile.{is_nothing_there, state_by_connect, file_action, obstacle_text, lets_in_root_by, entrance_of, is_roots_still, entrance_now, takes_abstract_name, next_try};
 
 use crate::trust::{Entrance, lets_in_root_alone};
 use std::io;
@@ -96,6 +97,44 @@ fn lets_in_root_by(made: Option<u32>) -> bool
     }
 }
 
+/// A file at the path of the local socket, as far as it counts.
+#[derive(Clone, Copy)]
+pub struct SeenFile {
+    /// The device and the inode, by which the system tells files apart.
+    pub device: u64,
+    /// See `device`.
+    pub inode: u64,
+    /// The user that it belongs to.
+    pub uid: u32,
+    /// Its mode.
+    pub mode: u32,
+}
+
+/// Where callers of the local socket come in from now on, who came in so before: the file was made so, and this one is at the
+/// path now, if there is one. A socket that was opened stays open for good, as somebody may have come and still wait.
+pub fn entrance_now(was: Entrance, made: SeenFile, found: Option<SeenFile>) -> Entrance
+    ensures { result ≡ entrance_now was made found }
+{
+    match was {
+        Entrance::RootSocket if !is_roots_still(made, found) => Entrance::OpenSocket,
+        other => other,
+    }
+}
+
+fn is_roots_still(made: SeenFile, found: Option<SeenFile>) -> bool
+    ensures { result ≡ is_roots_still made found }
+{
+    match found {
+        Some(found) => {
+            made.device == found.device
+                && made.inode == found.inode
+                && made.uid == found.uid
+                && lets_in_root_alone(found.mode)
+        }
+        None => false,
+    }
+}
+
 /// Whether a daemon on this port takes the abstract name of the local socket too: the port of the portmapper, which clients
 /// look for.
 pub fn takes_abstract_name(port: u16) -> bool
@@ -106,3 +145,14 @@ pub fn takes_abstract_name(port: u16) -> bool
 
 /// The port of the portmapper (RFC 1833 section 3.1).
 const PORTMAPPER: u16 = 111;
+
+/// The fewest milliseconds between two tries to take the abstract name.
+const BETWEEN_TRIES: u64 = 10_000;
+
+/// The moment at which the abstract name is tried again, which was tried at this one. In milliseconds.
+#[tactic(auto, unfolding(rb_forward::specs::Forwards::later))]
+pub fn next_try(last: u64) -> u64
+    ensures { result ≡ next_try last }
+{
+    last.saturating_add(BETWEEN_TRIES)
+}

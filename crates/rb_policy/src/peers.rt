@@ -1,13 +1,35 @@
-//! Which peers are somebody, and the socket address to which a peer is sent something.
+//! Which senders are somebody, and the socket address to which a peer is sent something.
 ghost use Rattle.std.specs.Prelude.{◌≡◌};
 ghost use Rattle.std.specs.Net.Socket.{socket_ip, IsPlainSocket};
-ghost use Rattle.rb_policy.specs.Peers.{somebody, is_nobody, is_no_host, host_for, IsIpOf};
+ghost use Rattle.rb_policy.specs.Peers.{sender, is_mapped_source, somebody, is_nobody, is_no_host, IsIpOf};
 
-use rb_address::{Host, Peer};
+use rb_address::{Family, Host, Peer};
 use std::net::{IpAddr, Ipv4Addr, Ipv6Addr, SocketAddr};
 
 /// The peer that something came from, if that is somebody.
-pub fn somebody(peer: Peer) -> Option<Peer>
+pub fn sender(from: SocketAddr) -> Option<Peer>
+    ensures { result ≡ sender from }
+{
+    if is_mapped_source(from) {
+        None
+    } else {
+        somebody(Peer::of(from))
+    }
+}
+
+/// Whether it is ::ffff:a.b.c.d. A socket of IPv6 alone has no callers of IPv4: whoever sends so from outside would pass for any
+/// of them, for 127.0.0.1 too.
+#[tactic(auto, unfolding(rb_address::specs::Hosts::plain_host))]
+fn is_mapped_source(from: SocketAddr) -> bool
+    ensures { result ≡ is_mapped_source from }
+{
+    match from {
+        SocketAddr::V4(_) => false,
+        SocketAddr::V6(from) => Host::V6(from.ip().octets()).plain().family() == Family::Inet,
+    }
+}
+
+fn somebody(peer: Peer) -> Option<Peer>
     ensures { result ≡ somebody peer }
 {
     if is_nobody(peer) { None } else { Some(peer) }
@@ -31,22 +53,12 @@ fn is_no_host(host: Host) -> bool
     }
 }
 
-/// The socket address of a peer for a socket that is bound to a host: with its host and port, of IPv6 with no flow and
-/// no zone. A socket of IPv6 has hosts of IPv4 in IPv6's form.
-pub fn address_for(bound: Host, peer: Peer) -> SocketAddr
-    ensures ip { IsIpOf (host_for bound peer.host) (socket_ip result) }
+/// The socket address of a peer: its host and port, of IPv6 with no flow and no zone.
+pub fn address_of(peer: Peer) -> SocketAddr
+    ensures ip { IsIpOf peer.host (socket_ip result) }
     ensures plain { IsPlainSocket result peer.port }
 {
-    SocketAddr::new(ip_of(host_for(bound, peer.host())), peer.port())
-}
-
-fn host_for(bound: Host, host: Host) -> Host
-    ensures { result ≡ host_for bound host }
-{
-    match bound {
-        Host::V4(_) => host,
-        Host::V6(_) => host.mapped(),
-    }
+    SocketAddr::new(ip_of(peer.host()), peer.port())
 }
 
 /// The address of a host, to which a socket is bound.
