@@ -79,7 +79,9 @@ announced_for None given = None
 announced_for (Some first) None = Some first
 announced_for (Some first) (Some given) = Some given
 
--- ANNOUNCE-1
+-- ANNOUNCE-1: A family is served if a host of it is listened on, and both are if `::` is. What is
+-- announced of one that is served is the host that is given, or the first that is listened on; of
+-- another one nothing.
 abbrev pub announced_inet : Option (List ℕ) → List Host → Option (List ℕ)
 announced_inet given hosts = announced_for (served_inet hosts) given
 
@@ -91,7 +93,8 @@ abbrev pub inet_or_loopback : Option (List ℕ) → Host
 inet_or_loopback (Some octets) = V4 octets
 inet_or_loopback None = V4 loopback
 
--- BIND-3
+-- BIND-3: Calls are forwarded to a target from the first host of its family that is listened on; to
+-- one of IPv4 from 127.0.0.1 if there is none.
 abbrev pub forwards_inet : List Host → Host
 forwards_inet hosts = inet_or_loopback (served_inet hosts)
 

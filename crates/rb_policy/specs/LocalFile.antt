@@ -21,9 +21,9 @@ abbrev pub is_nothing_there : ErrorKind → Bool
 is_nothing_there kinds.NotFound = true
 is_nothing_there _ = false
 
--- what a try to connect says of a socket there: ECONNREFUSED that nobody listens, and EAGAIN that somebody does who has no
--- room for one more (connect(2))
--- LOCAL-2
+-- LOCAL-2: Nothing is at a path exactly if a look at it ends with ENOENT. A socket there refuses
+-- exactly if a try to connect ends with ECONNREFUSED, and answers if it is taken, or ends with
+-- EAGAIN: its listener has no room for one more. Any other error is told, and the file stays.
 abbrev pub state_by_connect : ErrorKind → Option FileState
 state_by_connect kinds.ConnectionRefused = Some Refuses
 state_by_connect kinds.WouldBlock = Some Answers
@@ -32,7 +32,9 @@ state_by_connect _ = None
 -- ---- what is done about it
 
 -- a file is removed if it is a socket that nobody listens on any more, and in no other case
--- LOCAL-1
+-- LOCAL-1: A file at the path of the local socket is stale, and removed, if it is a socket that
+-- refuses a connection; one that answers, and one that is no socket, stay, and the daemon does not
+-- start. A line says which of the two it is.
 abbrev pub file_action : FileState → FileAction
 file_action Absent = Bind
 file_action NotASocket = GiveUp
