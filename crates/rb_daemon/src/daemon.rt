@@ -24,31 +24,31 @@ const EVENTS: usize = 64;
 
 /// A core and the sockets around it. What it takes of memory it takes in `new`; `tests/run-memory.sh` shows so.
 #[derive(Drop)]
-pub struct Daemon<'a, R: Clock> {
+pub struct Daemon<'a, R: Clock, H: Files> {
     clock: &'a R,
     moments: Moments,
     poll: Poll,
     events: Events,
-    serving: Serving,
+    serving: Serving<H>,
     shortage: Option<Shortage>,
     /// Which of the rows that were kept are not set again.
     left_out: Vec<usize>,
 }
 
-impl<'a, R: Clock> Daemon<'a, R> {
     // LIMITS-2: The fault is `Limits` if and only if a limit is out of its range: before memory is
     // taken and sockets are bound.
+impl<'a, R: Clock, H: Files> Daemon<'a, R, H> {
     /// A daemon that listens where the settings say: over TCP and UDP on each of their hosts, and also on ::1 and on a
     /// local socket if they are asked for. Before that it sets the rows again that were kept. `Limits` if a limit is
     /// out of its range, or the rows have no room for the own ones and two more; else `Memory` or `Socket`, whichever
     /// occurs first.
-    pub fn new<H: Files + Net>(
+    pub fn new<B: Files + Net>(
         alloc: Global,
-        host: &H,
+        host: &B,
         clock: &'a R,
         settings: &Settings<'_>,
         kept: &[Row],
-    ) -> Result<Daemon<'a, R>, DaemonFault>
+    ) -> Result<Daemon<'a, R, H>, DaemonFault>
         ensures bad { IsErrOf result DaemonFault.Limits
             ↔ IsTrue (not (has_good_limits settings.now)) }
         ensures good { OnOk result (IsTrue (has_good_limits settings.now)) }
@@ -119,7 +119,8 @@ impl<'a, R: Clock> Daemon<'a, R> {
     /// connections, and accepts connections as far as there are free places. Those from this host over TCP it opens by
     /// what the kernel's tables, which are files of `host`, show of them. After a fault, `Socket` of the wait or the
     /// clock, what was handed to the core stands, and the daemon can do no more.
-    pub fn turn<H: Files>(&mut self, host: &H, longest: Option<u64>) -> Result<(), DaemonFault> {
+    pub fn turn(&mut self, host: &H, longest: Option<u64>) -> Result<(), DaemonFault> {
+        let is_work_left = self.serving.is_work_left();
         let deadline = self.serving.next_deadline();
         let wait = wait_of(
             self.serving.is_something_left(),
@@ -142,7 +143,8 @@ impl<'a, R: Clock> Daemon<'a, R> {
         self.serving.expire(deadline, is_fresh, shown, EVENTS);
         self.serving.close_lost();
         self.serving.accept_all(self.poll.registry());
-        self.serving.open_held(host, self.poll.registry());
+        self.serving
+            .look_in_tables(host, !is_work_left && shown == 0);
         self.serving.keep(host);
         Ok(())
     }

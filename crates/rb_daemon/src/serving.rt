@@ -11,11 +11,10 @@ use rb_address::{Family, Peer, Source, Who};
 use rb_forward::sooner;
 use rb_links::{Places, Turn};
 use rb_policy::{
-    Admission, Again, Brake, Deadlines, Next, RETRY, Rate, Round, SOCKET_CALLS, after_accept,
-    after_all_calls, after_receive, is_behind, may_read, next_reading, origin_of, outcome_of,
-    serves_another,
+    Admission, Again, Brake, Deadlines, Evidence, Next, RETRY, Rate, Round, SOCKET_CALLS, Share,
+    after_accept, after_all_calls, after_receive, is_behind, origin_of, outcome_of, serves_another,
 };
-use rb_sockets::{Shown, SocketFault, Sockets, Step, Stream, Table, Visitor};
+use rb_sockets::{Shown, Slice, SocketFault, Sockets, Step, Stream, Table, Visitor};
 use std::alloc::{AllocError, Global};
 use std::fs::Files;
 use std::io;
@@ -29,7 +28,7 @@ const DATAGRAMS: usize = SOCKET_CALLS / 2;
 
 /// The core with its sockets, the places of connections, and what is left for the next turn.
 #[derive(Drop)]
-pub(crate) struct Serving {
+pub(crate) struct Serving<H: Files> {
     engine: Engine,
     /// Where the rows are kept that were set.
     keeper: Keeper,
@@ -43,9 +42,11 @@ pub(crate) struct Serving {
     /// What drops datagrams of strangers that come too often, if that is asked for.
     brake: Option<Brake>,
     /// The kernel's tables of connections, which show whose those from this host are.
-    table: Table,
-    /// The moment at which they were last read, in milliseconds, if they were.
-    last_reading: Option<u64>,
+    table: Table<H>,
+    /// The family of the one that is walked through, if a pass through them goes on.
+    walk: Option<Family>,
+    /// How much of the time they are read.
+    share: Share,
     turn: Turn,
     deadlines: Deadlines,
     /// How many changes had been accepted when connections were last closed that the core had given up for one.
@@ -70,7 +71,7 @@ fn passes(brake: &mut Option<Brake>, now: u64, who: &Who) -> bool {
     }
 }
 
-impl Serving {
+impl<H: Files> Serving<H> {
     /// With this many places for connections, and this many datagrams of strangers in a second if that is limited. An
     /// error if an allocation is refused.
     pub(crate) fn new(
@@ -81,7 +82,7 @@ impl Serving {
         places: usize,
         most_due: usize,
         udp_rate: Option<Rate>,
-    ) -> Result<Serving, AllocError> {
+    ) -> Result<Serving<H>, AllocError> {
         let mut datagram = Vec::with_capacity(alloc, LONGEST_DATAGRAM)?;
         datagram.resize(LONGEST_DATAGRAM, 0)?;
         let mut sources = Vec::with_capacity(alloc, places)?;
@@ -97,7 +98,8 @@ impl Serving {
             datagram,
             brake: brake_of(alloc, udp_rate)?,
             table,
-            last_reading: None,
+            walk: None,
+            share: Share::new(),
             turn: Turn {
                 number: 0,
                 moment: 0,
@@ -119,7 +121,7 @@ impl Serving {
     }
 
     /// Keeps what changed and is not kept yet.
-    pub(crate) fn keep<H: Files>(&mut self, host: &H) {
+    pub(crate) fn keep(&mut self, host: &H) {
         self.keeper.keep(host, &mut self.engine);
     }
 
@@ -133,9 +135,14 @@ impl Serving {
         self.engine.write_log(writer)
     }
 
-    /// Whether the next turn has something to serve at once.
-    pub(crate) fn is_something_left(&self) -> bool {
+    /// Whether the next turn has something to serve at once, beside the kernel's tables.
+    pub(crate) fn is_work_left(&self) -> bool {
         self.places.are_left() || self.sockets.is_something_left()
+    }
+
+    /// Whether the next turn does not wait: it has something to serve, or a slice of the kernel's tables to read.
+    pub(crate) fn is_something_left(&self) -> bool {
+        self.is_work_left() || self.walk.is_some() || self.places.are_held()
     }
 
     /// The next deadline, in milliseconds since the start of 1970, if anything has one: of a connection or a forwarded call,
@@ -145,13 +152,9 @@ impl Serving {
     }
 
     /// The moment at which the next turn comes though nothing shows it, given that it would otherwise come at this
-    /// deadline, if there is one: for connections that wait to be opened, when the kernel's tables may be read; for a
-    /// line of the log on those that were left out; for a socket that failed.
+    /// deadline, if there is one: for a line of the log on those that were left out; for a socket that failed.
     pub(crate) fn next_turn(&self, deadline: Option<u64>) -> Option<u64> {
         let mut next = sooner(deadline, self.engine.next_log_line());
-        if self.places.are_held() {
-            next = sooner(next, Some(next_reading(self.last_reading)));
-        }
         if self.sockets.is_tried_again() {
             next = sooner(next, Some(self.turn.moment.saturating_add(RETRY)));
         }
@@ -161,6 +164,7 @@ impl Serving {
     /// A turn at this moment, in milliseconds since the start of 1970.
     pub(crate) fn begin_turn(&mut self, now: u64) {
         self.engine.set_moment(now);
+        self.share.begin_turn(now);
         self.turn = Turn {
             number: self.turn.number.wrapping_add(1),
             moment: now,
@@ -173,7 +177,7 @@ impl Serving {
     }
 
     /// Serves the connection that an event shows, or leaves it for the last round.
-    pub(crate) fn serve<H: Files>(&mut self, host: &H, event: &Event) {
+    pub(crate) fn serve(&mut self, host: &H, event: &Event) {
         let Shown::Connection(key) = Sockets::shown_by(event.token()) else {
             return;
         };
@@ -186,7 +190,7 @@ impl Serving {
 
     /// The last round: serves connections that were left, by events of this turn or by the last turn, and those whose
     /// forwarded calls have ended. Those that are too many for it are the first of the next turn's.
-    pub(crate) fn serve_left<H: Files>(&mut self, host: &H) {
+    pub(crate) fn serve_left(&mut self, host: &H) {
         let Some(first) = self.places.begin_last_round() else {
             return;
         };
@@ -207,7 +211,7 @@ impl Serving {
     // CLOSE-1: A fault on one connection closes that connection, and its place is free.
     /// Serves the connection at a place, at most once in a turn. `may_end` is whether its peer may have ended what it
     /// sends.
-    fn serve_at<H: Files>(&mut self, host: &H, key: usize, may_end: bool) {
+    fn serve_at(&mut self, host: &H, key: usize, may_end: bool) {
         if !self.places.is_served_by(self.turn, key) {
             return;
         }
@@ -247,7 +251,7 @@ impl Serving {
     }
 
     /// Answers datagrams on each socket where calls come in.
-    pub(crate) fn answer_calls<H: Files>(&mut self, host: &H) {
+    pub(crate) fn answer_calls(&mut self, host: &H) {
         for i in 0..self.sockets.calls.all.len() {
             let is_ready = self
                 .sockets
@@ -265,7 +269,7 @@ impl Serving {
     }
 
     /// Answers datagrams on the socket of this number, and says when it is served again.
-    fn answer_calls_on<H: Files>(&mut self, host: &H, i: usize) -> Again {
+    fn answer_calls_on(&mut self, host: &H, i: usize) -> Again {
         let mut got_some = false;
         for _ in 0..DATAGRAMS {
             let Some(calls) = self.sockets.calls.all.get(i) else {
@@ -291,7 +295,7 @@ impl Serving {
 
     /// Answers the datagram of the first `len` bytes, which came on the socket of this number, unless the brake drops it:
     /// what it changed is kept first. A call that is forwarded is sent at once.
-    fn answer<H: Files>(&mut self, host: &H, i: usize, len: usize, from: Option<Who>)
+    fn answer(&mut self, host: &H, i: usize, len: usize, from: Option<Who>)
         requires { len ≤ length self.old.datagram.items }
     {
         let (Some(who), Some(calls)) = (from, self.sockets.calls.all.get(i)) else {
@@ -509,8 +513,8 @@ impl Serving {
     // for none.
     // DOOR-7: The connection that is given up is closed for the core before the one that takes its
     // place is opened.
-    /// Gives a connection a free place, or that of one that is given up for it, and opens it, unless the kernel's
-    /// tables must show first whose it is. One that is nobody's is closed at once.
+    /// Gives a connection a free place, or that of one that is given up for it, and opens it. If the kernel's tables
+    /// must show whose it is, it is nobody's known until a call needs more. One that may not ask is closed at once.
     fn open(&mut self, registry: &Registry, stream: Stream, from: Option<Visitor>) {
         let Some(visitor) = from else {
             return;
@@ -530,7 +534,10 @@ impl Serving {
         }
         match visitor {
             Visitor::Known(who) => self.open_at(registry, key, who),
-            Visitor::Unknown(ends) => self.places.hold(key, ends),
+            Visitor::Unknown(ends) => {
+                self.open_at(registry, key, ends.who(false, Evidence::NotFound));
+                self.places.note_unknown(key, ends);
+            }
         }
     }
 
@@ -546,28 +553,86 @@ impl Serving {
         }
     }
 
-    /// Opens the connections from this host that wait for it, by what the kernel's tables show now, if they may be read in
-    /// this turn: one reading serves all of them.
-    pub(crate) fn open_held<R: Files>(&mut self, rt: &R, registry: &Registry) {
-        if !self.places.are_held() || !may_read(self.turn.moment, self.last_reading) {
-            return;
+    /// The connection at a place, of which the core has no part of a record and owes nothing, goes on as one of this
+    /// caller.
+    fn open_again(&mut self, key: usize, who: Who) {
+        if let Some(id) = self.places.take_id(key) {
+            self.engine.closed(id);
         }
-        self.last_reading = Some(self.turn.moment);
-        self.look_in(rt, Family::Inet);
-        self.look_in(rt, Family::Inet6);
-        self.places.end_looking();
-        for key in 0..self.places.count() {
-            if let Some(who) = self.places.shown(key) {
-                self.open_at(registry, key, who);
-            }
+        match self.engine.open(Caller::of(who)) {
+            Ok(id) => self.places.renumber(key, id),
+            Err(_) => self.close(key),
         }
     }
 
-    /// Reads the table of a family, if it must be looked at for one that waits.
-    fn look_in<R: Files>(&mut self, rt: &R, table: Family) {
-        if self.places.looks_in(table) {
-            let text = self.table.read(rt, table);
-            self.places.look_in(table, text);
+    /// Reads a slice of the kernel's tables, if a call waits for them and this turn may: each turn may in which nothing
+    /// else was to be done. A pass begins at once, unless one goes on, and is for all that wait then.
+    pub(crate) fn look_in_tables(&mut self, rt: &H, is_idle: bool) {
+        let now = self.turn.moment;
+        if self.walk.is_none() && !self.places.are_held() || !self.share.may_read(now, is_idle) {
+            return;
+        }
+        self.share.note_read(now);
+        if self.walk.is_none() {
+            self.places.begin_pass();
+            self.begin_walk(rt);
+        }
+        let Some(table) = self.walk else {
+            return;
+        };
+        match self.table.read(self.places.sights()) {
+            Slice::More => {}
+            Slice::End => self.end_walk(rt, table, true),
+            Slice::Fault => self.end_walk(rt, table, false),
+        }
+    }
+
+    /// A pass begins in the first table in which something is looked for.
+    fn begin_walk(&mut self, rt: &H) {
+        if self.walks_in(rt, Family::Inet) {
+            self.walk = Some(Family::Inet);
+        } else {
+            self.begin_last_walk(rt);
+        }
+    }
+
+    /// A pass goes on in the table of IPv6, or ends, if nothing is looked for there.
+    fn begin_last_walk(&mut self, rt: &H) {
+        if self.walks_in(rt, Family::Inet6) {
+            self.walk = Some(Family::Inet6);
+        } else {
+            self.end_pass();
+        }
+    }
+
+    /// Opens the table of a family, if something is looked for there. Whether it is open.
+    fn walks_in(&mut self, rt: &H, table: Family) -> bool {
+        if !self.places.begin_walk(table) {
+            return false;
+        }
+        let is_open = self.table.open(rt, table);
+        if !is_open {
+            self.places.end_walk(false);
+        }
+        is_open
+    }
+
+    /// The walk through a table is over, which came to its end or could not go on.
+    fn end_walk(&mut self, rt: &H, table: Family, is_whole: bool) {
+        self.places.end_walk(is_whole);
+        match table {
+            Family::Inet => self.begin_last_walk(rt),
+            Family::Inet6 => self.end_pass(),
+        }
+    }
+
+    /// All tables were looked at: those that waited for it go on, each as who it is.
+    fn end_pass(&mut self) {
+        self.walk = None;
+        for key in 0..self.places.count() {
+            if let Some(who) = self.places.shown(key) {
+                self.open_again(key, who);
+            }
         }
     }
 }

@@ -85,8 +85,19 @@ fn serve_calls<H: Files>(
 // EVENT-2: What is done with a connection is what the core says is next: Idle or Reading, bytes are
 // handed in; Owing, the reply is taken over; if it Sends, the forwarded call is sent; Awaiting, it
 // waits; Lost, it is closed.
-/// Does what the core says is next, until it wants bytes that are not there, waits for the end of a forwarded call, or
-/// owes more than the outbox has room for. A forwarded call is sent at once: no other one is unsent, since each was sent
+/// Hands in what was read, which must not be held back. Returns whether the core took it.
+fn hand_in(link: &mut Link, engine: &mut Engine, id: u64) -> bool {
+    let done = exchange(engine, id, link.inbox.bytes(), &mut link.outbox);
+    engine.tell_call();
+    let Ok(done) = done else {
+        return false;
+    };
+    link.note_taken(done.taken.count, done.standing);
+    true
+}
+
+/// Does what the core says is next, until it wants bytes that are not there, holds back a call that needs an owner, waits
+/// for the end of a forwarded call, or owes more than the outbox has room for. A forwarded call is sent at once: no other one is unsent, since each was sent
 /// when it came. Returns whether the connection goes on.
 fn make_exchanges(link: &mut Link, engine: &mut Engine, forwards: &ForwardSockets) -> bool {
     let Some(id) = link.id() else {
@@ -95,12 +106,12 @@ fn make_exchanges(link: &mut Link, engine: &mut Engine, forwards: &ForwardSocket
     for _ in 0..EXCHANGES {
         match link.standing() {
             Standing::Idle | Standing::Reading if !link.inbox.is_empty() => {
-                let done = exchange(engine, id, link.inbox.bytes(), &mut link.outbox);
-                engine.tell_call();
-                let Ok(done) = done else {
+                if link.hold_back() {
+                    return true;
+                }
+                if !hand_in(link, engine, id) {
                     return false;
-                };
-                link.note_taken(done.taken.count, done.standing);
+                }
             }
             Standing::Owing if link.outbox.has_room() => {
                 let Ok(given) = write_into(engine, id, &mut link.outbox) else {

@@ -6,10 +6,12 @@ use crate::inbox::{Inbox, READ_AHEAD};
 use crate::outbox::{OWN_ROOM, Outbox};
 use mio::{Registry, Token};
 use rb_address::{Family, Host, Who};
+use rb_evidence::Sight;
 use rb_model::Standing;
 use rb_policy::{
     Evidence, Holder, Next, Origin, Round, after_read, after_write, evidence_of, is_cut_off,
-    looks_in, outcome_of_count, reads_on, round_of, standing_outside, stuck_at,
+    looks_again, looks_in, may_change, outcome_of_count, reads_on, round_of, sight_in,
+    standing_outside, stuck_at,
 };
 use rb_sockets::{Ends, Stream};
 use std::alloc::{AllocError, Global};
@@ -23,10 +25,12 @@ pub struct Turn {
     pub moment: u64,
 }
 
-/// A connection that is not opened before the kernel's tables were looked at.
+/// A connection whose call is held back until the kernel's tables show whose it is.
 #[derive(Clone, Copy)]
 struct Held {
     ends: Ends,
+    /// How many passes through the tables it takes part in, or did.
+    passes: u8,
     /// What they show of it so far.
     known: Evidence,
 }
@@ -35,11 +39,15 @@ struct Held {
 /// next.
 #[derive(Drop)]
 pub struct Link {
-    /// The core's number of the connection; none before it is opened.
+    /// The core's number of the connection; none before it is opened. It gets another one when it is known whose it is.
     id: Option<u64>,
     /// None if no connection has the place.
     stream: Option<Stream>,
-    /// Whether it waits to be opened, and for what.
+    /// Its ends, if it is not known whose it is: only calls that need no owner are handed in.
+    unknown: Option<Ends>,
+    /// Whether the next byte to be handed in begins a record.
+    is_between: bool,
+    /// Whether its call is held back, and what for.
     held: Option<Held>,
     origin: Origin,
     /// The moment of its last progress, or of its opening, in milliseconds. A record that ended is progress, and so
@@ -73,6 +81,8 @@ impl Link {
         Ok(Link {
             id: None,
             stream: None,
+            unknown: None,
+            is_between: true,
             held: None,
             origin: Origin {
                 host: Host::V4([0; 4]),
@@ -110,6 +120,8 @@ impl Link {
     pub(crate) fn take(&mut self, stream: Stream, origin: Origin, moment: u64) {
         self.id = None;
         self.stream = Some(stream);
+        self.unknown = None;
+        self.is_between = true;
         self.held = None;
         self.origin = origin;
         self.since = moment;
@@ -121,48 +133,97 @@ impl Link {
         self.is_waiting = false;
     }
 
-    /// It is not opened before the kernel's tables were looked at.
-    pub(crate) fn hold(&mut self, ends: Ends) {
-        self.held = Some(Held {
-            ends,
-            known: Evidence::NotFound,
-        });
+    /// It is opened though it is not known whose it is: it has these ends.
+    pub(crate) fn note_unknown(&mut self, ends: Ends) {
+        self.unknown = Some(ends);
     }
 
-    /// Whether the table of a family must be looked at for it.
-    pub(crate) fn looks_in(&self, table: Family) -> bool {
-        match &self.held {
-            Some(held) => looks_in(table, held.ends.theirs.family(), held.known),
-            None => false,
-        }
+    /// Whether what was read must not be handed in before it is known whose it is: it may begin a call that needs an
+    /// owner.
+    fn waits_for_owner(&self) -> bool {
+        self.unknown.is_some() && self.is_between && may_change(self.inbox.bytes())
     }
 
-    /// Notes what the table of a family, if it was read, shows of it.
-    pub(crate) fn look_in(&mut self, table: Family, text: Option<&[u8]>) {
-        if !self.looks_in(table) {
-            return;
+    /// Holds back what was read, if it must not be handed in before it is known whose it is. Whether it is held back.
+    pub fn hold_back(&mut self) -> bool {
+        if !self.waits_for_owner() {
+            return false;
         }
+        if let (None, Some(ends)) = (&self.held, self.unknown) {
+            self.held = Some(Held {
+                ends,
+                passes: 0,
+                known: Evidence::NotFound,
+            });
+        }
+        true
+    }
+
+    /// Whether its call is held back.
+    pub(crate) fn is_held(&self) -> bool {
+        self.held.is_some()
+    }
+
+    /// A pass through the kernel's tables begins, in which it takes part if its call is held back.
+    pub(crate) fn begin_pass(&mut self) {
         if let Some(held) = &mut self.held {
-            held.known = evidence_of(table, text, &held.ends.theirs, &held.ends.ours);
+            held.passes = held.passes.saturating_add(1);
+        }
+    }
+
+    /// What a walk through the table of a family looks for, if it must look for it.
+    pub(crate) fn sight_in(&self, table: Family) -> Option<Sight> {
+        let held = self.held.as_ref()?;
+        if held.passes > 0 && looks_in(table, held.ends.theirs.family(), held.known) {
+            Some(sight_in(table, &held.ends.theirs, &held.ends.ours))
+        } else {
+            None
+        }
+    }
+
+    /// Notes what a walk has seen of it, if that came to the end of its table.
+    pub(crate) fn note_seen(&mut self, is_whole: bool, sight: &Sight) {
+        if let Some(held) = &mut self.held {
+            held.known = evidence_of(is_whole, sight);
         }
     }
 
     // TABLES-5: What the kernel's tables show counts only if the connection is still connected after
     // they were read; otherwise its owner is unknown.
-    /// Who it is, if it waited for that, by what the tables showed. They say nothing of it if it is no longer
-    /// connected: another connection may have its two ends by then.
+    /// A pass has ended: who it is, if it took part, by what the tables showed. They say nothing of it if it is no
+    /// longer connected: another connection may have its two ends by then. If it is, and the first pass showed nothing, it
+    /// waits for another one.
     pub(crate) fn shown(&mut self) -> Option<Who> {
-        let held = self.held.take()?;
+        let held = self.held?;
+        if held.passes == 0 {
+            return None;
+        }
         let is_connected = self
             .stream
             .as_ref()
             .is_some_and(|stream| stream.is_connected());
+        if is_connected && looks_again(held.passes, held.known) {
+            return None;
+        }
+        self.held = None;
+        self.unknown = None;
         let evidence = if is_connected {
             held.known
         } else {
             Evidence::NotFound
         };
         Some(held.ends.who(false, evidence))
+    }
+
+    /// Its number, which is its own no longer.
+    pub(crate) fn take_id(&mut self) -> Option<u64> {
+        self.id.take()
+    }
+
+    /// It goes on under this number of the core's, and must be served though no event shows it.
+    pub(crate) fn renumber(&mut self, id: u64) {
+        self.id = Some(id);
+        self.is_waiting = true;
     }
 
     /// The connection that has the place is opened under this number of the core's, and its events are shown under the
@@ -182,6 +243,7 @@ impl Link {
     /// from here on.
     pub(crate) fn close(&mut self, long_outbox: &mut Outbox) -> Option<u64> {
         self.stream = None;
+        self.unknown = None;
         self.held = None;
         self.outbox.clear();
         long_outbox.take_longer(&mut self.outbox);
@@ -208,7 +270,7 @@ impl Link {
 
     /// Where it stands, as its client sees it: bytes are owed on it until its socket has taken them.
     fn standing_outside(&self) -> Standing {
-        standing_outside(self.standing, !self.outbox.is_empty())
+        standing_outside(self.standing, !self.outbox.is_empty(), self.is_held())
     }
 
     /// The round of a turn in which it is served.
@@ -290,6 +352,7 @@ impl Link {
         requires { count ≤ length self.old.inbox }
     {
         self.inbox.take(count);
+        self.is_between = standing != Standing::Reading;
         self.standing = standing;
         self.made_progress |= count > 0 && standing != Standing::Reading;
     }

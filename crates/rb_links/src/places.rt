@@ -6,6 +6,7 @@ use crate::link::{Link, Turn};
 use crate::outbox::{LONG_ROOM, Outbox};
 use mio::{Registry, Token};
 use rb_address::{Family, Who};
+use rb_evidence::Sight;
 use rb_forward::sooner;
 use rb_policy::{Admission, Holder, Origin, Round, accept_count, admit};
 use rb_sockets::{Ends, Stream};
@@ -22,7 +23,9 @@ pub struct Places {
     holders: Vec<Option<Holder>>,
     /// How many places have connections.
     taken: usize,
-    /// Whether connections may wait to be opened.
+    /// What the walk through one of the kernel's tables looks for, at each place.
+    sights: Vec<Option<Sight>>,
+    /// Whether calls may be held back for which no pass through the tables has begun.
     are_held: bool,
     /// Whether bytes may wait for the sockets of some.
     are_owed: bool,
@@ -45,6 +48,15 @@ fn free_places(alloc: Global, count: usize) -> Result<Vec<Link>, AllocError>
     Ok(places)
 }
 
+/// As many places for what is looked for. Each is written, so that its memory is the process's from here on.
+fn no_sights(alloc: Global, count: usize) -> Result<Vec<Option<Sight>>, AllocError> {
+    let mut sights = Vec::with_capacity(alloc, count)?;
+    'places: for _i in 0..count {
+        sights.push_reserved(None);
+    }
+    Ok(sights)
+}
+
 impl Places {
     /// A number of places, which no connections have. An error if an allocation is refused.
     pub fn new(alloc: Global, count: usize) -> Result<Places, AllocError>
@@ -57,6 +69,7 @@ impl Places {
             links: free_places(alloc, count)?,
             long_outbox: Outbox::new(alloc, LONG_ROOM)?,
             holders,
+            sights: no_sights(alloc, count)?,
             taken: 0,
             are_held: false,
             are_owed: false,
@@ -147,9 +160,10 @@ impl Places {
         self.are_left = true;
     }
 
-    /// A turn has served the connection at a place: bytes may wait for its socket from here on.
+    /// A turn has served the connection at a place: bytes may wait for its socket from here on, and its call for a pass.
     pub fn note_served(&mut self, key: usize) {
         self.are_owed |= self.stuck_at(key).is_some();
+        self.are_held |= self.links.get(key).is_some_and(|link| link.is_held());
     }
 
     /// The moment, in milliseconds, at which the connection at a place is given up, if its socket takes nothing of what
@@ -208,38 +222,72 @@ impl Places {
         }
     }
 
-    /// The connection at a place, which has these ends, is not opened before the kernel's tables were looked at.
-    pub fn hold(&mut self, key: usize, ends: Ends) {
+    /// The connection at a place, which has these ends, is opened though it is not known whose it is.
+    pub fn note_unknown(&mut self, key: usize, ends: Ends) {
         if let Some(link) = self.links.get_mut(key) {
-            link.hold(ends);
-            self.are_held = true;
+            link.note_unknown(ends);
         }
     }
 
-    /// Whether connections may wait to be opened.
+    /// Whether calls may be held back for which no pass through the kernel's tables has begun.
     pub fn are_held(&self) -> bool {
         self.are_held
     }
 
-    /// Whether the table of a family must be looked at for one that waits.
-    pub fn looks_in(&self, table: Family) -> bool {
-        self.links.iter().any(|link| link.looks_in(table))
-    }
-
-    /// Notes what the table of a family, if it was read, shows of those that wait.
-    pub fn look_in(&mut self, table: Family, text: Option<&[u8]>) {
+    /// A pass through the kernel's tables begins, for all whose calls are held back now.
+    pub fn begin_pass(&mut self) {
+        self.are_held = false;
         for link in &mut self.links {
-            link.look_in(table, text);
+            link.begin_pass();
         }
     }
 
-    /// All tables were looked at: those that wait must be opened, each by `shown`.
-    pub fn end_looking(&mut self) {
-        self.are_held = false;
+    /// A walk through the table of a family begins: what it looks for, if anything is looked for there.
+    pub fn begin_walk(&mut self, table: Family) -> bool {
+        let mut is_some = false;
+        for key in 0..self.links.len() {
+            if let (Some(sight), Some(link)) = (self.sights.get_mut(key), self.links.get(key)) {
+                *sight = link.sight_in(table);
+                is_some |= sight.is_some();
+            }
+        }
+        is_some
     }
 
-    /// Who is at a place, if that waited to be opened.
+    /// What the walk looks for, at each place.
+    pub fn sights(&mut self) -> &mut [Option<Sight>] {
+        self.sights.as_mut_slice()
+    }
+
+    /// The walk is over: it came to the end of its table, or the table can't be read.
+    pub fn end_walk(&mut self, is_whole: bool) {
+        for key in 0..self.links.len() {
+            if let (Some(place), Some(link)) = (self.sights.get_mut(key), self.links.get_mut(key)) {
+                if let Some(sight) = place.take() {
+                    link.note_seen(is_whole, &sight);
+                }
+            }
+        }
+    }
+
+    /// A pass has ended: who is at a place, if that was looked for. One that is looked for again waits for the next pass.
     pub fn shown(&mut self, key: usize) -> Option<Who> {
-        self.links.get_mut(key)?.shown()
+        let link = self.links.get_mut(key)?;
+        let who = link.shown();
+        self.are_held |= link.is_held();
+        who
+    }
+
+    /// The number of the connection at a place, which is its own no longer.
+    pub fn take_id(&mut self, key: usize) -> Option<u64> {
+        self.links.get_mut(key)?.take_id()
+    }
+
+    /// The connection at a place goes on under this number.
+    pub fn renumber(&mut self, key: usize, id: u64) {
+        if let Some(link) = self.links.get_mut(key) {
+            link.renumber(id);
+            self.are_left = true;
+        }
     }
 }

@@ -6,3 +6,5 @@ mod Candidates
 mod TrustLaws
 mod WayLaws
 mod LogLaws
+mod AskLaws
+mod ShareLaws

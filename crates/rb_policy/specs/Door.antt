@@ -40,13 +40,20 @@ origin_of Local = record { host = V4 (127 ∷ 0 ∷ 0 ∷ 1 ∷ []); is_local = 
 -- where it stands outside: what the core gave is owed until the socket has taken it
 -- DOOR-6: A connection whose outbox holds bytes is Owing, though the core counts them as given,
 -- unless its call is forwarded; one whose call must be sent counts as Awaiting.
-abbrev pub standing_outside : Standing → Bool → Standing
-standing_outside Sends is_owed = Awaiting
-standing_outside Awaiting is_owed = Awaiting
-standing_outside Idle is_owed = if is_owed then Owing else Idle
-standing_outside Reading is_owed = if is_owed then Owing else Reading
-standing_outside Owing is_owed = Owing
-standing_outside Lost is_owed = if is_owed then Owing else Lost
+-- DOOR-6
+abbrev pub standing_by : Standing → Bool → Standing
+standing_by Sends is_owed = Awaiting
+standing_by Awaiting is_owed = Awaiting
+standing_by Idle is_owed = if is_owed then Owing else Idle
+standing_by Reading is_owed = if is_owed then Owing else Reading
+standing_by Owing is_owed = Owing
+standing_by Lost is_owed = if is_owed then Owing else Lost
+
+-- DOOR-8: A connection whose call is held back until the kernel's tables show whose it is counts as Awaiting.
+abbrev pub standing_outside : Standing → Bool → Bool → Standing
+standing_outside Idle is_owed is_held = if is_held then Awaiting else standing_by Idle is_owed
+standing_outside Reading is_owed is_held = if is_held then Awaiting else standing_by Reading is_owed
+standing_outside told is_owed is_held = standing_by told is_owed
 
 -- how long bytes that are owed may wait for the socket to take some, in milliseconds
 abbrev pub owed_for : ℕ

@@ -1,11 +1,12 @@
--- What the kernel's tables of connections show of one from this host, and when they are read.
-use Rattle.std.specs.Prelude.{ℕ, nat_le, Bool, true, false, not, ◌&&◌, if◌then◌else◌, List, take, Option, Some, None}
+-- What the kernel's tables of connections show of one from this host.
+use Rattle.std.specs.Prelude.{◌≡◌, ℕ, nat_lt, Bool, true, false, not, ◌&&◌, if◌then◌else◌, List, Option, Some, None}
 use Rattle.rb_address.specs.declared.host.Family.{Family}
 use Rattle.rb_address.specs.declared.host.Family.TheVariants.{Inet, Inet6}
 use Rattle.rb_address.specs.declared.peer.Peer.{Peer}
 use Rattle.rb_address.specs.Hosts.{family_of, is_loopback}
-use Rattle.rb_forward.specs.Forwards.{later}
-use Rattle.rb_evidence.specs.Table.{uid_of, uid_of_mapped}
+use Rattle.rb_evidence.specs.declared.sight.Sight.{Sight}
+use Rattle.rb_evidence.specs.Table.{endpoint_text, mapped_text}
+use Rattle.rb_evidence.specs.Walks.{nothing_seen}
 use Rattle.rb_policy.specs.declared.evidence.Evidence.{Evidence}
 use Rattle.rb_policy.specs.declared.evidence.Evidence.TheVariants.{Found, NotFound, Unread}
 
@@ -21,48 +22,36 @@ looks_in Inet Inet NotFound = true
 looks_in Inet6 peer NotFound = true
 looks_in table peer known = false
 
--- a peer of IPv4 stands in the table of IPv6 in IPv6's form
-abbrev pub uid_by : Family → Family → List ℕ → Peer → Peer → Option ℕ
-uid_by Inet6 Inet text theirs ours = uid_of_mapped text theirs ours
-uid_by Inet6 Inet6 text theirs ours = uid_of text theirs ours
-uid_by Inet peer text theirs ours = uid_of text theirs ours
+-- how the two ends stand in a table: a peer of IPv4 stands in that of IPv6 in IPv6's form
+abbrev pub text_by : Family → Family → Peer → List ℕ
+text_by Inet6 Inet end = mapped_text end
+text_by Inet6 Inet6 end = endpoint_text end
+text_by Inet peer end = endpoint_text end
 
+-- What a walk through the table of a family looks for.
 -- TABLES-2
-abbrev pub uid_in : Family → List ℕ → Peer → Peer → Option ℕ
-uid_in table text theirs ours = uid_by table (family_of theirs.host) text theirs ours
+pub record IsSightIn (table : Family) (theirs ours : Peer) (sight : Sight) : Type 0 where
+  pub theirs_is : sight.theirs.bytes ≡ text_by table (family_of theirs.host) theirs
+  pub ours_is : sight.ours.bytes ≡ text_by table (family_of theirs.host) ours
+  pub seen_is : sight.seen ≡ nothing_seen
 
 abbrev pub evidence_in : Option ℕ → Evidence
 evidence_in (Some uid) = Found uid
 evidence_in None = NotFound
 
--- by the text of a table, if it was read
+-- by the uid that a walk through a table has seen, if it came to the end
 -- TABLES-2
-abbrev pub evidence_of : Family → Option (List ℕ) → Peer → Peer → Evidence
-evidence_of table (Some text) theirs ours = evidence_in (uid_in table text theirs ours)
-evidence_of table None theirs ours = Unread
+abbrev pub evidence_of : Bool → Option ℕ → Evidence
+evidence_of is_whole uid = if is_whole then evidence_in uid else Unread
 
--- ---- when they are read
-
--- how long it is from one reading to the next, at least, in milliseconds
-abbrev pub between_readings : ℕ
-between_readings = 20
-
--- the moment from which they may be read, by the moment of the last reading, if there was one
--- TABLES-4
-abbrev pub next_reading : Option ℕ → ℕ
-next_reading (Some last) = later last between_readings
-next_reading None = 0
+abbrev pub is_not_found : Evidence → Bool
+is_not_found (Found uid) = false
+is_not_found NotFound = true
+is_not_found Unread = false
 
 -- TABLES-4: Between two readings of the kernel's tables lie at least 20 ms. If connections wait for
 -- one, a turn waits no longer than until it may come.
-abbrev pub may_read : ℕ → Option ℕ → Bool
-may_read now last = nat_le (next_reading last) now
-
--- the most bytes of a table that is believed: 1 MiB
-abbrev pub longest_table : ℕ
-longest_table = 1048576
-
--- the first bytes of the room, if they are no more than a table may have
 -- TABLES-3: A table of the kernel of more than 1,048,576 bytes counts as one that can't be read.
-abbrev pub whole_text : List ℕ → ℕ → Option (List ℕ)
-whole_text room count = if nat_le count longest_table then Some (take count room) else None
+-- TABLES-7: A connection that is still connected though a pass through the kernel's tables shows no user of it is looked for in one more pass.
+abbrev pub looks_again : ℕ → Evidence → Bool
+looks_again passes known = is_not_found known && nat_lt passes 2

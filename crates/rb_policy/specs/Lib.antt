@@ -11,6 +11,8 @@ pub mod Addresses
 pub mod Checked
 pub mod WaysBack
 pub mod Evidence
+pub mod Asks
+pub mod Shares
 pub mod Trusts
 pub mod UserNamespace
 pub mod Recents

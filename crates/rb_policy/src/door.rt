@@ -13,11 +13,13 @@ pub const ACTIVE: u64 = 1_000;
 pub const OWED: u64 = 30_000;
 
 /// Where a connection stands outside, of which the core says where it stands: bytes that the core gave are owed until the
-/// socket has taken them. A call that must be sent counts as one that is awaited.
-pub fn standing_outside(told: Standing, is_owed: bool) -> Standing
-    ensures { result ≡ standing_outside told is_owed }
+/// socket has taken them. A call that must be sent counts as one that is awaited, and so does one that is held back until
+/// the kernel's tables show whose it is.
+pub fn standing_outside(told: Standing, is_owed: bool, is_held: bool) -> Standing
+    ensures { result ≡ standing_outside told is_owed is_held }
 {
     match told {
+        Standing::Idle | Standing::Reading if is_held => Standing::Awaiting,
         Standing::Sends | Standing::Awaiting => Standing::Awaiting,
         Standing::Idle | Standing::Reading | Standing::Owing | Standing::Lost if is_owed => {
             Standing::Owing

@@ -1,16 +1,10 @@
-//! What the kernel's tables of connections show of one from this host, and when they are read.
-ghost use Rattle.std.specs.Prelude.{◌≡◌, ◌≤◌, length};
-ghost use Rattle.std.specs.Option.{option_map};
-ghost use Rattle.rb_policy.specs.Evidence.{is_shown, looks_in, evidence_of, evidence_in, uid_in, may_read, next_reading, whole_text};
+//! What the kernel's tables of connections show of one from this host.
+ghost use Rattle.std.specs.Prelude.{◌≡◌};
+ghost use Rattle.rb_evidence.specs.Walks.{uid_seen};
+ghost use Rattle.rb_policy.specs.Evidence.{is_shown, looks_in, IsSightIn, evidence_of, evidence_in, looks_again};
 
 use rb_address::{Family, Peer};
-use rb_evidence::{uid_of, uid_of_mapped};
-
-/// A table of more bytes counts as one that can't be read.
-pub const LONGEST_TABLE: usize = 1_048_576;
-
-/// The fewest milliseconds between two readings.
-pub const BETWEEN_READINGS: u64 = 20;
+use rb_evidence::Sight;
 
 /// What the kernel's tables show of a connection from this host.
 #[derive(Clone, Copy, Debug, PartialEq, Eq)]
@@ -19,7 +13,7 @@ pub enum Evidence {
     Found(u32),
     /// They show no such socket, or more than one.
     NotFound,
-    /// A table has more than 1 MiB, or can't be read.
+    /// A table can't be read.
     Unread,
 }
 
@@ -43,13 +37,25 @@ pub fn looks_in(table: Family, peer: Family, known: Evidence) -> bool
     }
 }
 
-/// What the table of a family, if it was read, shows of the connection from a peer of this host to us.
-pub fn evidence_of(table: Family, text: Option<&[u8]>, theirs: &Peer, ours: &Peer) -> Evidence
-    ensures { result ≡ evidence_of table (option_map (λ t. t.now) text.entry) theirs.now ours.now }
+/// What a walk through the table of a family looks for, of the connection from a peer of this host to us: a peer of IPv4
+/// stands in the table of IPv6 in IPv6's form.
+pub fn sight_in(table: Family, theirs: &Peer, ours: &Peer) -> Sight
+    ensures { IsSightIn table theirs.now ours.now result }
 {
-    match text {
-        Some(text) => evidence_in(uid_in(table, text, theirs, ours)),
-        None => Evidence::Unread,
+    match (table, theirs.family()) {
+        (Family::Inet6, Family::Inet) => Sight::new_mapped(theirs, ours),
+        (Family::Inet, _) | (Family::Inet6, Family::Inet6) => Sight::new(theirs, ours),
+    }
+}
+
+/// What a walk through a table shows, if it came to its end.
+pub fn evidence_of(is_whole: bool, sight: &Sight) -> Evidence
+    ensures { result ≡ evidence_of is_whole (uid_seen sight.now.seen) }
+{
+    if is_whole {
+        evidence_in(sight.uid())
+    } else {
+        Evidence::Unread
     }
 }
 
@@ -62,43 +68,10 @@ fn evidence_in(uid: Option<u32>) -> Evidence
     }
 }
 
-/// The uid of the one line from them to us in the table of a family: a peer of IPv4 stands in that of IPv6 in IPv6's
-/// form.
-fn uid_in(table: Family, text: &[u8], theirs: &Peer, ours: &Peer) -> Option<u32>
-    ensures { result ≡ uid_in table text.now theirs.now ours.now }
+/// Whether it is looked for in a further pass, as it is still connected after this many, of which the last shows this of
+/// it: the kernel shows a table a part at a time, and may leave a connection out that it moves meanwhile.
+pub fn looks_again(passes: u8, known: Evidence) -> bool
+    ensures { result ≡ looks_again passes known }
 {
-    match (table, theirs.family()) {
-        (Family::Inet6, Family::Inet) => uid_of_mapped(text, theirs, ours),
-        (Family::Inet, _) | (Family::Inet6, Family::Inet6) => uid_of(text, theirs, ours),
-    }
-}
-
-/// The moment from which the tables may be read, by that of their last reading, if there was one. In milliseconds.
-#[tactic(auto, unfolding(rb_forward::specs::Forwards::later))]
-pub fn next_reading(last: Option<u64>) -> u64
-    ensures { result ≡ next_reading last }
-{
-    match last {
-        Some(last) => last.saturating_add(BETWEEN_READINGS),
-        None => 0,
-    }
-}
-
-/// Whether the tables may be read at a moment.
-pub fn may_read(now: u64, last: Option<u64>) -> bool
-    ensures { result ≡ may_read now last }
-{
-    now >= next_reading(last)
-}
-
-/// The text of a table of which this many bytes were read into the room, if these are all of it.
-pub fn whole_text(room: &[u8], count: usize) -> Option<&[u8]>
-    requires { count ≤ length room.now }
-    ensures { option_map (λ t. t.now) result ≡ whole_text room.now count }
-{
-    if count <= LONGEST_TABLE {
-        Some(&room[..count])
-    } else {
-        None
-    }
+    matches!(known, Evidence::NotFound) && passes < 2
 }

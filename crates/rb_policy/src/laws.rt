@@ -1,6 +1,8 @@
-//! Laws of who has a place, of who may ask and is believed, of where the ends of forwarded calls go, of how many
+//! Laws of who has a place, of who may ask and is believed, of what waits until it is known whose it is, of where the ends of forwarded calls go, of how many
 //! datagrams are served, and of how many lines a log gets.
 ghost use Rattle.rb_policy.specs.Trusts.{OthersNeedNoTable, OthersAreStrangers, OthersAreStrangersOverUdp};
+ghost use Rattle.rb_policy.specs.Asks.{ChangesWait};
+ghost use Rattle.rb_policy.specs.Shares.{SlicesAreAQuarter};
 ghost use Rattle.rb_policy.specs.BrakeLaws.{NeverMore, NeverHeldBack, HaveOnePlace, AreNetworks, StrangersCount, OneSecondIsServed};
 ghost use Rattle.rb_policy.specs.DoorLaws.{SharesAreKept, OneIsGivenUp};
 ghost use Rattle.rb_policy.specs.LogLaws.{FewOfASecond, NoneIsLost, TheyAreToldThen};
@@ -33,6 +35,14 @@ pub fn trust_laws()
     ensures others { OthersAreStrangers }
     ensures over_udp { OthersAreStrangersOverUdp }
     ensures tables { OthersNeedNoTable }
+{}
+
+/// However the record of a SET, an UNSET or a call to be forwarded is cut into fragments, and wherever what came of it
+/// ends, it is held back until it is known whose it is. While other work waits, the kernel's tables are read in a quarter
+/// of the time at most.
+pub fn ask_laws()
+    ensures wait { ChangesWait }
+    ensures quarter { SlicesAreAQuarter }
 {}
 
 /// In no second are more datagrams served of one network, or of one host, than the rate has. One is dropped only if

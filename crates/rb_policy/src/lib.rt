@@ -2,6 +2,7 @@
 #![tactic(auto)]
 
 mod addresses;
+mod asks;
 mod brake;
 mod checked;
 mod deadlines;
@@ -18,110 +19,45 @@ mod outcome;
 mod peers;
 mod recent;
 mod record_file;
+mod share;
 mod trust;
 mod turns;
 mod user_namespace;
 mod ways_back;
 
-pub use addresses::ANY;
-pub use addresses::LOOPBACK;
-pub use addresses::LOOPBACK6;
-pub use addresses::announced_inet;
-pub use addresses::announced_inet6;
-pub use addresses::binds_every_inet;
-pub use addresses::binds_loopback6;
-pub use addresses::forwards_inet;
-pub use addresses::forwards_inet6;
-pub use addresses::has_every_host;
-pub use addresses::has_every_inet;
-pub use addresses::is_no_address;
-pub use brake::Brake;
-pub use brake::Rate;
+pub use addresses::{
+    ANY, LOOPBACK, LOOPBACK6, announced_inet, announced_inet6, binds_every_inet, binds_loopback6,
+    forwards_inet, forwards_inet6, has_every_host, has_every_inet, is_no_address,
+};
+pub use asks::may_change;
+pub use brake::{Brake, Rate};
 pub use checked::checked_at;
-pub use deadlines::Deadlines;
-pub use deadlines::MOST_PUT_OFF;
-pub use deadlines::is_behind;
-pub use door::ACTIVE;
-pub use door::Admission;
-pub use door::Holder;
-pub use door::OWED;
-pub use door::Origin;
-pub use door::admit;
-pub use door::origin_of;
-pub use door::standing_outside;
-pub use door::stuck_at;
-pub use evidence::BETWEEN_READINGS;
-pub use evidence::Evidence;
-pub use evidence::LONGEST_TABLE;
-pub use evidence::evidence_of;
-pub use evidence::is_shown;
-pub use evidence::looks_in;
-pub use evidence::may_read;
-pub use evidence::next_reading;
-pub use evidence::whole_text;
-pub use keep_file::Distrust;
-pub use keep_file::KeepAction;
-pub use keep_file::KeepState;
-pub use keep_file::Writers;
-pub use keep_file::keep_action;
-pub use laws::brake_laws;
-pub use laws::door_laws;
-pub use laws::log_laws;
-pub use laws::network_laws;
-pub use laws::trust_laws;
-pub use laws::way_laws;
-pub use local_file::FileAction;
-pub use local_file::FileState;
-pub use local_file::SeenFile;
-pub use local_file::entrance_now;
-pub use local_file::entrance_of;
-pub use local_file::file_action;
-pub use local_file::is_nothing_there;
-pub use local_file::next_try;
-pub use local_file::obstacle_text;
-pub use local_file::state_by_connect;
-pub use local_file::takes_abstract_name;
-pub use log_lines::ChangeLine;
-pub use log_lines::LONGEST_LOG_LINE;
-pub use log_lines::LogKind;
-pub use log_lines::LogLine;
-pub use log_lines::MOST_SHOWN;
-pub use log_rate::LINES;
-pub use log_rate::LogRate;
+pub use deadlines::{Deadlines, MOST_PUT_OFF, is_behind};
+pub use door::{
+    ACTIVE, Admission, Holder, OWED, Origin, admit, origin_of, standing_outside, stuck_at,
+};
+pub use evidence::{Evidence, evidence_of, is_shown, looks_again, looks_in, sight_in};
+pub use keep_file::{Distrust, KeepAction, KeepState, Writers, keep_action};
+pub use laws::{ask_laws, brake_laws, door_laws, log_laws, network_laws, trust_laws, way_laws};
+pub use local_file::{
+    FileAction, FileState, SeenFile, entrance_now, entrance_of, file_action, is_nothing_there,
+    next_try, obstacle_text, state_by_connect, takes_abstract_name,
+};
+pub use log_lines::{ChangeLine, LONGEST_LOG_LINE, LogKind, LogLine, MOST_SHOWN};
+pub use log_rate::{LINES, LogRate};
 pub use moments::Moments;
-pub use networks::asker;
-pub use networks::may_ask;
-pub use outcome::Next;
-pub use outcome::SocketResult;
-pub use outcome::after_accept;
-pub use outcome::after_read;
-pub use outcome::after_receive;
-pub use outcome::after_write;
-pub use outcome::outcome_of;
-pub use outcome::outcome_of_count;
-pub use peers::address_of;
-pub use peers::ip_of;
-pub use peers::sender;
-pub use record_file::RecordAction;
-pub use record_file::RecordState;
-pub use record_file::record_action;
-pub use trust::Beliefs;
-pub use trust::Entrance;
-pub use trust::lets_in_root_alone;
-pub use trust::trust_of;
-pub use turns::Again;
-pub use turns::LAST_ROUND;
-pub use turns::RETRY;
-pub use turns::Round;
-pub use turns::SOCKET_CALLS;
-pub use turns::STEP;
-pub use turns::accept_count;
-pub use turns::after_all_calls;
-pub use turns::is_cut_off;
-pub use turns::place_count;
-pub use turns::reads_on;
-pub use turns::round_of;
-pub use turns::serves_another;
-pub use turns::wait_of;
+pub use networks::{asker, may_ask};
+pub use outcome::{
+    Next, SocketResult, after_accept, after_read, after_receive, after_write, outcome_of,
+    outcome_of_count,
+};
+pub use peers::{address_of, ip_of, sender};
+pub use record_file::{RecordAction, RecordState, record_action};
+pub use share::Share;
+pub use trust::{Beliefs, Entrance, lets_in_root_alone, trust_of};
+pub use turns::{
+    Again, LAST_ROUND, RETRY, Round, SOCKET_CALLS, STEP, accept_count, after_all_calls, is_cut_off,
+    place_count, reads_on, round_of, serves_another, wait_of,
+};
 pub use user_namespace::unmapped_uid;
 pub use ways_back::WaysBack;

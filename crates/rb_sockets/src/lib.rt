@@ -22,5 +22,5 @@ pub use listener::{Ends, Listener, Visitor};
 pub use settings::{LocalSocket, Logged, Settings};
 pub use sockets::{Shown, Sockets};
 pub use stream::{Incoming, Outgoing, Stream};
-pub use tables::Table;
+pub use tables::{Slice, Table};
 pub use watched::Watched;

@@ -1,52 +1,68 @@
-//! The kernel's tables of connections, read.
-ghost use Rattle.std.specs.Prelude.{IfOk, ◌≤◌, length};
-
+//! The kernel's tables of connections, read in slices.
 use rb_address::Family;
-use rb_policy::{LONGEST_TABLE, whole_text};
+use rb_evidence::{Lines, Sight};
 use std::alloc::{AllocError, Global};
 use std::fs::{File, Files};
-use std::io;
-use std::io::Read;
 
-/// The room for one of the kernel's tables of connections at a time.
-#[derive(Drop)]
-pub struct Table {
-    room: Vec<u8>,
+/// What a read of a table gave.
+#[derive(Clone, Copy)]
+pub enum Slice {
+    /// More of it.
+    More,
+    /// Its end.
+    End,
+    /// It can't be read.
+    Fault,
 }
 
-impl Table {
-    /// Room for the longest table that is read, and a byte more, if any is read. Each byte is written, so that its
-    /// memory is the process's from here on. An error if the allocation is refused.
-    pub fn new(alloc: Global, is_read: bool) -> Result<Table, AllocError> {
-        let size = if is_read { LONGEST_TABLE + 1 } else { 0 };
-        let mut room = Vec::with_capacity(alloc, size)?;
-        room.resize(size, 0)?;
-        Ok(Table { room })
+/// One of the kernel's tables of connections at a time, which is open from its first slice to its last.
+#[derive(Drop)]
+pub struct Table<H: Files> {
+    file: Option<H::File>,
+    lines: Lines,
+}
+
+impl<H: Files> Table<H> {
+    /// None is open. There is room for a slice, if tables are read at all. An error if the allocation is refused.
+    pub fn new(alloc: Global, are_read: bool) -> Result<Table<H>, AllocError> {
+        Ok(Table {
+            file: None,
+            lines: Lines::new(alloc, are_read)?,
+        })
     }
 
-    /// The text of the table of a family, as it is now; none if it can't be read, or has more than 1 MiB. If folders of
-    /// other processes are hidden, /proc/self still has it.
-    pub fn read<R: Files>(&mut self, rt: &R, family: Family) -> Option<&[u8]> {
+    /// Opens the table of a family. Whether it could be opened. If folders of other processes are hidden, /proc/self
+    /// still has it.
+    pub fn open(&mut self, rt: &H, family: Family) -> bool {
         let path = match family {
             Family::Inet => "/proc/self/net/tcp",
             Family::Inet6 => "/proc/self/net/tcp6",
         };
-        let mut file = File::open(rt, path).ok()?;
-        let count = fill(&mut file, &mut self.room).ok()?;
-        whole_text(&self.room, count)
+        self.lines.clear();
+        self.file = File::open(rt, path).ok();
+        self.file.is_some()
     }
-}
 
-/// Reads until the end, or until the room is full, and says how many bytes there are.
-fn fill<R: Read>(reader: &mut R, room: &mut [u8]) -> io::Result<usize>
-    ensures { IfOk result (λ count. count ≤ length room.new) }
-{
-    let mut count = 0;
-    while count < room.len() {
-        match reader.read(&mut room[count..])? {
-            0 => break,
-            more => count += more,
+    /// Reads the next slice, and looks at the lines that are whole then, for all of the connections that are looked
+    /// for. At the end it looks at the last line, and the table is closed; and so it is if it can't be read.
+    pub fn read(&mut self, sights: &mut [Option<Sight>]) -> Slice {
+        let Some(file) = &mut self.file else {
+            return Slice::Fault;
+        };
+        match self.lines.read(file) {
+            Ok(0) => {
+                self.lines.look_at_last(sights);
+                self.file = None;
+                Slice::End
+            }
+            Ok(_) => {
+                self.lines.look_at_whole(sights);
+                Slice::More
+            }
+            Err(_) => {
+                self.file = None;
+                Slice::Fault
+            }
         }
     }
-    Ok(count)
 }

@@ -17,7 +17,11 @@ pub struct Recorder<F: Write + Drop> {
 impl<F: Write + Drop> Recorder<F> {
     /// Writes what was recorded and is not written yet: how the run begins, and what the last turn did. After a fault,
     /// which is said once, nothing more is recorded.
-    pub fn write<R: Clock, E: Write>(&mut self, daemon: &mut Daemon<'_, R>, faults: &mut E) {
+    pub fn write<R: Clock + Files, E: Write>(
+        &mut self,
+        daemon: &mut Daemon<'_, R, R>,
+        faults: &mut E,
+    ) {
         let Some(file) = &mut self.file else {
             return;
         };

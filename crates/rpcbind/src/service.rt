@@ -32,7 +32,7 @@ where
 
 // KEEP-10: Kept rows are read, and asked, before anything listens.
 /// A daemon that has the rows that were kept, which are read before anything listens; those that it has not are said.
-fn begin<'a, R, E>(rt: &'a R, serve: &Serve<'_>, faults: &mut E) -> Result<Daemon<'a, R>, u8>
+fn begin<'a, R, E>(rt: &'a R, serve: &Serve<'_>, faults: &mut E) -> Result<Daemon<'a, R, R>, u8>
 where
     R: Net + Files + Clock + AllocGlobal,
     E: Write,
@@ -52,7 +52,7 @@ where
 /// Makes the file of the record, says where the daemon listens, and takes its turns.
 fn serve_until_the_end<R, E>(
     rt: &R,
-    daemon: &mut Daemon<'_, R>,
+    daemon: &mut Daemon<'_, R, R>,
     serve: &Serve<'_>,
     faults: &mut E,
 ) -> u8
@@ -81,7 +81,7 @@ where
 /// takes no lines, they are lost.
 fn take_turn<R: Clock + Files, F: Write + Drop, E: Write>(
     rt: &R,
-    daemon: &mut Daemon<'_, R>,
+    daemon: &mut Daemon<'_, R, R>,
     settings: &Settings<'_>,
     recorder: &mut Recorder<F>,
     faults: &mut E,
@@ -99,7 +99,7 @@ fn take_turn<R: Clock + Files, F: Write + Drop, E: Write>(
 
 fn take_turns<R: Clock + Files + Wait, F: Write + Drop, E: Write>(
     rt: &R,
-    daemon: &mut Daemon<'_, R>,
+    daemon: &mut Daemon<'_, R, R>,
     serve: &Serve<'_>,
     recorder: &mut Recorder<F>,
     faults: &mut E,

@@ -1,0 +1,60 @@
+//! How much of the time the kernel's tables are read, while other work waits.
+ghost use Rattle.std.specs.Prelude.{◌≡◌, ◌||◌, nat_le};
+ghost use Rattle.rb_policy.specs.Shares.{rest_after, may_read};
+
+/// For how many times as long as a turn took that read a slice of a table other work goes first.
+const REST: u64 = 3;
+
+/// When slices were read. Moments are in milliseconds.
+#[derive(Clone, Copy, Debug)]
+pub struct Share {
+    /// The moment of the last turn that read a slice, if that was the last one.
+    read_at: Option<u64>,
+    /// The moment until which other work goes first.
+    rests_until: u64,
+}
+
+impl Share {
+    ghost use Rattle.std.specs.Prelude.{◌≡◌, Some, None};
+    ghost use Rattle.rb_policy.specs.Shares.{rests_until, may_read};
+
+    /// Before the first slice.
+    pub fn new() -> Share {
+        Share {
+            read_at: None,
+            rests_until: 0,
+        }
+    }
+
+    /// The next turn begins at this moment: how long the last one took is known.
+    pub fn begin_turn(&mut self, now: u64)
+        ensures rest { self.new.rests_until ≡ rests_until now self.old.read_at self.old.rests_until }
+        ensures read { self.new.read_at ≡ None }
+    {
+        if let Some(at) = self.read_at.take() {
+            self.rests_until = rest_after(at, now);
+        }
+    }
+
+    /// The turn of this moment reads a slice.
+    pub fn note_read(&mut self, now: u64)
+        ensures read { self.new.read_at ≡ Some now }
+        ensures rest { self.new.rests_until ≡ self.old.rests_until }
+    {
+        self.read_at = Some(now);
+    }
+
+    /// Whether the turn of this moment may read a slice: it may if nothing else waits.
+    pub fn may_read(&self, now: u64, is_idle: bool) -> bool
+        ensures { result ≡ may_read now is_idle self.now.rests_until }
+    {
+        is_idle || self.rests_until <= now
+    }
+}
+
+/// The moment until which other work goes first, after a turn from `at` to `now` that read a slice.
+fn rest_after(at: u64, now: u64) -> u64
+    ensures { result ≡ rest_after at now }
+{
+    now.saturating_add(now.saturating_sub(at).saturating_mul(REST))
+}
