@@ -35,9 +35,9 @@ pub struct Daemon<'a, R: Clock, H: Files> {
     left_out: Vec<usize>,
 }
 
+impl<'a, R: Clock, H: Files> Daemon<'a, R, H> {
     // LIMITS-2: The fault is `Limits` if and only if a limit is out of its range: before memory is
     // taken and sockets are bound.
-impl<'a, R: Clock, H: Files> Daemon<'a, R, H> {
     /// A daemon that listens where the settings say: over TCP and UDP on each of their hosts, and also on ::1 and on a
     /// local socket if they are asked for. Before that it sets the rows again that were kept. `Limits` if a limit is
     /// out of its range, or the rows have no room for the own ones and two more; else `Memory` or `Socket`, whichever

@@ -9,7 +9,7 @@ mod deadlines;
 mod door;
 mod evidence;
 mod keep_file;
-mod laws;
+pub mod laws;
 mod local_file;
 mod log_lines;
 mod log_rate;
@@ -38,7 +38,6 @@ pub use door::{
 };
 pub use evidence::{Evidence, evidence_of, is_shown, looks_again, looks_in, sight_in};
 pub use keep_file::{Distrust, KeepAction, KeepState, Writers, keep_action};
-pub use laws::{ask_laws, brake_laws, door_laws, log_laws, network_laws, trust_laws, way_laws};
 pub use local_file::{
     FileAction, FileState, SeenFile, entrance_now, entrance_of, file_action, is_nothing_there,
     next_try, obstacle_text, state_by_connect, takes_abstract_name,
