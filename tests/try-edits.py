@@ -15,10 +15,11 @@ What was refused is kept on this machine, where `rt ci` keeps its own work, unde
 crates are worked on side by side as RT_JOBS says.
 """
 
-import collections, concurrent.futures, dataclasses, fcntl, functools, glob, hashlib, os, re, shutil, subprocess, sys
-import tempfile, threading, time
+import concurrent.futures, dataclasses, fcntl, functools, glob, hashlib, os, re, shutil, subprocess, sys, tempfile, threading
+import time
 
-KIT = os.path.dirname(os.path.dirname(os.path.realpath(shutil.which("rt") or "rt")))
+from kit import KIT, below, read, read_uses
+
 PARTS = "src", "specs", "proofs"
 TICKS = os.sysconf("SC_CLK_TCK")
 KEPT_DAYS = 30  # since it was last asked for
@@ -31,31 +32,7 @@ UNREAD = re.compile(r"^(?:\./)?(?:src|specs)/\S+: error|\berror\[[\w-]+\]", re.M
 GONE = re.compile(r"is not in scope|has no (?:field|`)|was not admitted")
 
 
-def read(path):
-    with open(path, encoding="utf-8") as file:
-        return file.read()
-
-
 # ---- crates
-
-
-def read_uses():
-    """Of each crate what it stands on, as crates.txt has it."""
-    found = {}
-    for line in read("crates.txt").split("\n"):
-        name, colon, uses = line.partition("#")[0].partition(":")
-        if colon:
-            found[name.split()[0]] = uses.split()
-    return found
-
-
-def below(uses, crate):
-    """The repository's crates below a crate, each after those that it stands on."""
-    found = []
-    for it in uses[crate]:
-        if it in uses:
-            found += [*below(uses, it), it]
-    return list(dict.fromkeys(found))
 
 
 def rlib(crate):
