@@ -22,7 +22,7 @@ PLACED = sed 's|@PREFIX@|$(PREFIX)|g; s|@SUFFIX@|$(SUFFIX)|g'
 all:
 	@tests/prove.sh
 
-# The daemon, asked over real sockets of 127.0.0.1, and three calls from bytes to bytes: in a minute, before any proof.
+# The daemon, asked over real sockets of 127.0.0.1, and three calls from bytes to bytes: before any proof.
 # PORT=N takes another port.
 run:
 	@PORT=$(PORT) examples/run.sh
