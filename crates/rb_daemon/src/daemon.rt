@@ -10,7 +10,9 @@ use mio::{Events, Poll};
 use rb_core::{CoreFault, Limits, Listener};
 use rb_policy::{Moments, place_count, wait_of};
 use rb_registry::Row;
-use rb_sockets::{BindFault, DaemonFault, Logged, Settings, Shortage, SocketFault, Sockets, Step};
+use rb_sockets::{
+    BindFault, DaemonFault, Logged, Settings, Shortage, SocketFault, Sockets, Step, TableFault,
+};
 use std::alloc::{AllocError, Global};
 use std::fs::Files;
 use std::io::Write;
@@ -142,7 +144,7 @@ impl<'a, R: Clock, H: Files> Daemon<'a, R, H> {
         self.serving.serve_left(host);
         self.serving.expire(deadline, is_fresh, shown, EVENTS);
         self.serving.close_lost();
-        self.serving.accept_all(self.poll.registry());
+        self.serving.accept_all(host, self.poll.registry());
         self.serving
             .look_in_tables(host, !is_work_left && shown == 0);
         self.serving.keep(host);
@@ -158,6 +160,23 @@ impl<'a, R: Clock, H: Files> Daemon<'a, R, H> {
     /// the next change.
     pub fn take_keep_fault(&mut self) -> Option<io::Error> {
         self.serving.take_keep_fault()
+    }
+
+    /// The first fault of one of the kernel's tables, once: while they can't be read whole, nobody registers over TCP.
+    pub fn take_table_fault(&mut self) -> Option<TableFault> {
+        self.serving.take_table_fault()
+    }
+
+    /// Whether it was found since the last question that the file of the local socket is another one, or open to others: from
+    /// then on the owner of whoever comes there is unknown.
+    pub fn take_local_change(&mut self) -> bool {
+        self.serving.take_local_change()
+    }
+
+    /// Tries again to take the abstract name of the local socket, if it is to be held and is not: every 10 seconds, which a
+    /// turn knows of. What is to be told of it, once each: why it was not taken at the start, and that it was taken later.
+    pub fn take_name<N: Files + Net>(&mut self, host: &N) -> Option<io::Result<()>> {
+        self.serving.take_name(host)
     }
 
     /// Writes what was recorded of the turns and not yet written (docs/EVENTS.md). After an error nothing more is

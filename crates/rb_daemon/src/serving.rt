@@ -14,11 +14,12 @@ use rb_policy::{
     Admission, Again, Brake, Deadlines, Evidence, Next, RETRY, Rate, Round, SOCKET_CALLS, Share,
     after_accept, after_all_calls, after_receive, is_behind, origin_of, outcome_of, serves_another,
 };
-use rb_sockets::{Shown, Slice, SocketFault, Sockets, Step, Stream, Table, Visitor};
+use rb_sockets::{Shown, Slice, SocketFault, Sockets, Step, Stream, Table, TableFault, Visitor};
 use std::alloc::{AllocError, Global};
 use std::fs::Files;
 use std::io;
 use std::io::Write;
+use std::net::Net;
 
 /// The longest datagram.
 const LONGEST_DATAGRAM: usize = 65_536;
@@ -53,6 +54,9 @@ pub(crate) struct Serving<H: Files> {
     changes: u64,
     /// The fault of a listener that is yet to be told.
     fault: Option<SocketFault>,
+    /// The first fault of a table, until it is told, and whether there was one.
+    table_fault: Option<TableFault>,
+    has_table_failed: bool,
 }
 
 /// The brake for a rate, if there is one.
@@ -107,6 +111,8 @@ impl<H: Files> Serving<H> {
             deadlines: Deadlines::new(),
             changes: 0,
             fault: None,
+            table_fault: None,
+            has_table_failed: false,
         })
     }
 
@@ -153,12 +159,14 @@ impl<H: Files> Serving<H> {
 
     /// The moment at which the next turn comes though nothing shows it, given that it would otherwise come at this
     /// deadline, if there is one: for a line of the log on those that were left out; for a socket that failed.
+    /// deadline, if there is one: for connections that wait to be opened, when the kernel's tables may be read; for a
+    /// line of the log on those that were left out; for a socket that failed; for the abstract name.
     pub(crate) fn next_turn(&self, deadline: Option<u64>) -> Option<u64> {
         let mut next = sooner(deadline, self.engine.next_log_line());
         if self.sockets.is_tried_again() {
             next = sooner(next, Some(self.turn.moment.saturating_add(RETRY)));
         }
-        next
+        sooner(next, self.sockets.next_name_try())
     }
 
     /// A turn at this moment, in milliseconds since the start of 1970.
@@ -439,7 +447,7 @@ impl<H: Files> Serving<H> {
 
     /// Accepts connections on each listener, beginning with another one in each turn, until they are as many as a
     /// turn accepts.
-    pub(crate) fn accept_all(&mut self, registry: &Registry) {
+    pub(crate) fn accept_all(&mut self, host: &H, registry: &Registry) {
         let mut left = self.places.accept_count();
         for i in 0..self.sockets.listeners.len() {
             let which = self.sockets.nth_listener(self.turn.number, i);
@@ -449,7 +457,7 @@ impl<H: Files> Serving<H> {
                 .get(which)
                 .is_some_and(|listener| listener.is_ready());
             if is_ready {
-                let again = self.accept_on(registry, which, &mut left);
+                let again = self.accept_on(host, registry, which, &mut left);
                 if let Some(listener) = self.sockets.listeners.get_mut(which) {
                     listener.leave(again);
                 }
@@ -460,16 +468,22 @@ impl<H: Files> Serving<H> {
     // LISTENER-1: The first fault of each listener is told, and no later one; each turn tries again.
     /// Accepts connections on the listener of this number, as many as are left for the turn, and says when it is
     /// served again.
-    fn accept_on(&mut self, registry: &Registry, which: usize, left: &mut usize) -> Again {
+    fn accept_on(
+        &mut self,
+        host: &H,
+        registry: &Registry,
+        which: usize,
+        left: &mut usize,
+    ) -> Again {
         let mut got_some = false;
         for calls in 1..=SOCKET_CALLS {
             if *left == 0 {
                 return Again::AtOnce;
             }
-            let Some(listener) = self.sockets.listeners.get(which) else {
+            let Some(listener) = self.sockets.listeners.get_mut(which) else {
                 break;
             };
-            match listener.socket.accept(&self.sockets.networks) {
+            match listener.socket.accept(host, &self.sockets.networks) {
                 Ok((stream, from)) => {
                     got_some = true;
                     *left = left.saturating_sub(1);
@@ -515,6 +529,23 @@ impl<H: Files> Serving<H> {
     // place is opened.
     /// Gives a connection a free place, or that of one that is given up for it, and opens it. If the kernel's tables
     /// must show whose it is, it is nobody's known until a call needs more. One that may not ask is closed at once.
+    /// The first fault of one of the kernel's tables, if it is yet to be told.
+    pub(crate) fn take_table_fault(&mut self) -> Option<TableFault> {
+        self.table_fault.take()
+    }
+
+    /// Whether it was found since the last question that the local socket is root's no longer.
+    pub(crate) fn take_local_change(&mut self) -> bool {
+        self.sockets.take_local_change()
+    }
+
+    /// Tries again to take the abstract name, if that is due. What is to be told of it.
+    pub(crate) fn take_name<N: Files + Net>(&mut self, host: &N) -> Option<io::Result<()>> {
+        self.sockets.take_name(host, self.turn.moment)
+    }
+
+    /// Gives a connection a free place, or that of one that is given up for it, and opens it, unless the kernel's
+    /// tables must show first whose it is. One that is nobody's is closed at once.
     fn open(&mut self, registry: &Registry, stream: Stream, from: Option<Visitor>) {
         let Some(visitor) = from else {
             return;
@@ -581,9 +612,12 @@ impl<H: Files> Serving<H> {
             return;
         };
         match self.table.read(self.places.sights()) {
-            Slice::More => {}
-            Slice::End => self.end_walk(rt, table, true),
-            Slice::Fault => self.end_walk(rt, table, false),
+            Ok(Slice::More) => {}
+            Ok(Slice::End) => self.end_walk(rt, table, true),
+            Err(fault) => {
+                self.note_table_fault(fault);
+                self.end_walk(rt, table, false);
+            }
         }
     }
 
@@ -610,11 +644,18 @@ impl<H: Files> Serving<H> {
         if !self.places.begin_walk(table) {
             return false;
         }
-        let is_open = self.table.open(rt, table);
-        if !is_open {
-            self.places.end_walk(false);
+        match self.table.open(rt, table) {
+            Ok(true) => true,
+            Ok(false) => {
+                self.places.end_walk(true);
+                false
+            }
+            Err(fault) => {
+                self.note_table_fault(fault);
+                self.places.end_walk(false);
+                false
+            }
         }
-        is_open
     }
 
     /// The walk through a table is over, which came to its end or could not go on.
@@ -623,6 +664,14 @@ impl<H: Files> Serving<H> {
         match table {
             Family::Inet => self.begin_last_walk(rt),
             Family::Inet6 => self.end_pass(),
+        }
+    }
+
+    /// A table could not be read whole, which must be told if it is the first time.
+    fn note_table_fault(&mut self, fault: TableFault) {
+        if !self.has_table_failed {
+            self.has_table_failed = true;
+            self.table_fault = Some(fault);
         }
     }
 

@@ -212,7 +212,7 @@ impl Link {
         } else {
             Evidence::NotFound
         };
-        Some(held.ends.who(false, evidence))
+        Some(held.ends.who(evidence))
     }
 
     /// Its number, which is its own no longer.

@@ -7,15 +7,16 @@ use crate::watched::Watched;
 use mio::net::UdpSocket;
 use mio::{Interest, Registry, Token};
 use rb_address::{Family, Host, Network, Peer, Source, Who};
-use rb_policy::{Entrance, WaysBack, address_for, asker, host_asked, ip_of, somebody, trust_of};
+use rb_descriptors::{share, udp_socket};
+use rb_policy::{Beliefs, Entrance, WaysBack, address_of, asker, ip_of, sender, trust_of};
 use std::io;
 use std::net::{Net, SocketAddr};
 use std::os::fd::{AsRawFd, RawFd};
 
-/// A socket of datagrams on a host and port; with port 0 on one of the system's choice.
-fn bind_udp(net: &impl Net, host: Host, port: u16) -> Result<UdpSocket, BindFault> {
+/// A socket of datagrams on a host and port, which shares them if that is asked for; with port 0 on one of the system's choice.
+fn bind_udp(net: &impl Net, host: Host, port: u16, shares: bool) -> Result<UdpSocket, BindFault> {
     let address = SocketAddr::new(ip_of(host), port);
-    match UdpSocket::bind(net, address) {
+    match udp_socket(net, address, shares) {
         Ok(socket) => Ok(socket),
         Err(error) => Err(BindFault::Socket(Step::BindUdp(address).failed(error))),
     }
@@ -26,21 +27,33 @@ fn bind_udp(net: &impl Net, host: Host, port: u16) -> Result<UdpSocket, BindFaul
 pub struct CallSocket {
     socket: UdpSocket,
     bound: Host,
-    are_claims_believed: bool,
+    beliefs: Beliefs,
 }
 
 impl CallSocket {
+    /// At this host and port. If it shares them, so may others that do.
     pub(crate) fn bind(
         net: &impl Net,
         host: Host,
         port: u16,
-        are_claims_believed: bool,
+        shares: bool,
+        beliefs: Beliefs,
     ) -> Result<CallSocket, BindFault> {
         Ok(CallSocket {
-            socket: bind_udp(net, host, port)?,
+            socket: bind_udp(net, host, port, shares)?,
             bound: host,
-            are_claims_believed,
+            beliefs,
         })
+    }
+
+    /// Whether it shares its host and port from here on.
+    pub(crate) fn share(&self, shares: bool) -> io::Result<()> {
+        share(&self.socket, shares)
+    }
+
+    /// The host to which it is bound.
+    pub(crate) fn bound(&self) -> Host {
+        self.bound
     }
 
     /// A datagram, how long it is, and from whom, if that caller may call when these networks are served.
@@ -48,25 +61,27 @@ impl CallSocket {
         ensures { IfOk result (λ r. r.0 ≤ length room.new) }
     {
         let (len, from) = self.socket.recv_from(room)?;
-        let who = match asker(networks, somebody(Peer::of(from))) {
+        let who = match asker(networks, sender(from)) {
             Some(peer) => Some(self.who(peer)),
             None => None,
         };
         Ok((len, who))
     }
 
+    // ASKED-1: A datagram asked the host to which its socket is bound; if that is 0.0.0.0 or `::`, it is not known which.
+    /// Who sent a datagram.
     fn who(&self, peer: Peer) -> Who {
         Who {
             source: Source::Inet(peer),
-            asked: host_asked(self.bound, peer.family()),
-            trust: trust_of(self.are_claims_believed, Entrance::Udp(peer)),
+            asked: self.bound,
+            trust: trust_of(self.beliefs, Entrance::Udp(self.bound, peer)),
         }
     }
 
     /// Sends a reply. One that the socket does not take is lost.
     pub fn reply(&self, reply: &[u8], to: Who) {
         if let Source::Inet(peer) = to.source {
-            let _ = self.socket.send_to(reply, address_for(self.bound, peer));
+            let _ = self.socket.send_to(reply, address_of(peer));
         }
     }
 
@@ -123,15 +138,13 @@ impl CallSockets {
 #[derive(Drop)]
 pub struct ForwardSocket {
     socket: UdpSocket,
-    bound: Host,
 }
 
 impl ForwardSocket {
     /// The port is of the system's choice.
     pub(crate) fn bind(net: &impl Net, host: Host) -> Result<ForwardSocket, BindFault> {
         Ok(ForwardSocket {
-            socket: bind_udp(net, host, 0)?,
-            bound: host,
+            socket: bind_udp(net, host, 0, false)?,
         })
     }
 
@@ -140,12 +153,12 @@ impl ForwardSocket {
         ensures { IfOk result (λ r. r.0 ≤ length room.new) }
     {
         let (len, from) = self.socket.recv_from(room)?;
-        Ok((len, somebody(Peer::of(from))))
+        Ok((len, sender(from)))
     }
 
     /// Sends a forwarded call. One that the socket does not take is lost.
     fn call(&self, call: &[u8], target: Peer) {
-        let _ = self.socket.send_to(call, address_for(self.bound, target));
+        let _ = self.socket.send_to(call, address_of(target));
     }
 
     pub(crate) fn as_raw_fd(&self) -> RawFd {

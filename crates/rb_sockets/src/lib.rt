@@ -12,6 +12,7 @@ mod settings;
 mod sockets;
 mod stream;
 mod tables;
+mod user_namespace;
 mod watched;
 
 pub use calls::{CallSocket, CallSockets, ForwardSocket, ForwardSockets};
@@ -22,5 +23,5 @@ pub use listener::{Ends, Listener, Visitor};
 pub use settings::{LocalSocket, Logged, Settings};
 pub use sockets::{Shown, Sockets};
 pub use stream::{Incoming, Outgoing, Stream};
-pub use tables::{Slice, Table};
+pub use tables::{Slice, Table, TableFault};
 pub use watched::Watched;

@@ -1,10 +1,13 @@
 //! Where connections come in, and who comes there.
 use crate::faults::{BindFault, Step};
+use crate::local::LocalListener;
 use crate::stream::Stream;
-use mio::net::{TcpListener, UnixListener};
+use mio::net::TcpListener;
 use mio::{Interest, Registry, Token};
-use rb_address::{Host, Network, Peer, Source, Trust, Who};
-use rb_policy::{ANY, Entrance, Evidence, asker, ip_of, is_shown, somebody, trust_of};
+use rb_address::{Host, Network, Peer, Source, Who};
+use rb_descriptors::tcp_listener;
+use rb_policy::{ANY, Beliefs, Entrance, Evidence, asker, ip_of, is_shown, sender, trust_of};
+use std::fs::Files;
 use std::io;
 use std::net::{Net, SocketAddr};
 use std::os::fd::{AsRawFd, RawFd};
@@ -16,15 +19,17 @@ pub struct Ends {
     pub theirs: Peer,
     /// Our own end: the host that was asked, and its port.
     pub ours: Peer,
+    /// What is believed.
+    pub beliefs: Beliefs,
 }
 
 impl Ends {
-    /// Who that is, by whether what callers claim is believed, and by what the kernel's tables show.
-    pub fn who(self, are_claims_believed: bool, evidence: Evidence) -> Who {
+    /// Who that is, by what the kernel's tables show.
+    pub fn who(self, evidence: Evidence) -> Who {
         Who {
             source: Source::Inet(self.theirs),
             asked: self.ours.host(),
-            trust: trust_of(are_claims_believed, Entrance::Tcp(self.theirs, evidence)),
+            trust: trust_of(self.beliefs, Entrance::Tcp(self.theirs, evidence)),
         }
     }
 }
@@ -51,10 +56,10 @@ impl Visitor {
 /// Where connections come in.
 #[derive(Drop)]
 pub enum Listener {
-    /// Over TCP. Whether callers are believed what they claim.
-    Tcp(TcpListener, bool),
-    /// On the local socket, and how far its callers are trusted.
-    Local(UnixListener, Trust),
+    /// Over TCP, and what is believed.
+    Tcp(TcpListener, Beliefs),
+    /// On the local socket.
+    Local(LocalListener),
 }
 
 impl Listener {
@@ -62,11 +67,11 @@ impl Listener {
         net: &impl Net,
         host: Host,
         port: u16,
-        are_claims_believed: bool,
+        beliefs: Beliefs,
     ) -> Result<Listener, BindFault> {
         let address = SocketAddr::new(ip_of(host), port);
-        match TcpListener::bind(net, address) {
-            Ok(listener) => Ok(Listener::Tcp(listener, are_claims_believed)),
+        match tcp_listener(net, address) {
+            Ok(listener) => Ok(Listener::Tcp(listener, beliefs)),
             Err(error) => Err(BindFault::Socket(Step::BindTcp(address).failed(error))),
         }
     }
@@ -74,53 +79,68 @@ impl Listener {
     // ASKED-2: A connection over TCP asked the host of its own end, also if the listener has every
     // host; one on the local socket asked none.
     /// A connection, and whose it is when these networks are served. One that is nobody's must be closed.
-    pub fn accept(&self, networks: &[Network]) -> io::Result<(Stream, Option<Visitor>)> {
+    pub fn accept<R: Files>(
+        &mut self,
+        rt: &R,
+        networks: &[Network],
+    ) -> io::Result<(Stream, Option<Visitor>)> {
         match self {
-            Listener::Tcp(listener, are_claims_believed) => {
+            Listener::Tcp(listener, beliefs) => {
                 let (stream, from) = listener.accept()?;
                 let stream = Stream::Tcp(stream);
-                let visitor = match asker(networks, somebody(Peer::of(from))) {
-                    Some(theirs) => Some(visitor_at(&stream, theirs, *are_claims_believed)),
+                let visitor = match asker(networks, sender(from)) {
+                    Some(theirs) => Some(visitor_at(&stream, theirs, *beliefs)),
                     None => None,
                 };
                 Ok((stream, visitor))
             }
-            Listener::Local(listener, trust) => {
-                let (stream, _) = listener.accept()?;
+            Listener::Local(local) => {
+                let (stream, trust) = local.accept(rt)?;
                 let who = Who {
                     source: Source::Local,
                     asked: Host::V4(ANY),
-                    trust: *trust,
+                    trust,
                 };
                 Ok((Stream::Local(stream), Some(Visitor::Known(who))))
             }
         }
     }
 
+    /// Whether it was found since the last question that it is the local socket, and root's no longer.
+    pub(crate) fn take_change(&mut self) -> bool {
+        match self {
+            Listener::Tcp(_, _) => false,
+            Listener::Local(local) => local.take_change(),
+        }
+    }
+
     pub(crate) fn as_raw_fd(&self) -> RawFd {
         match self {
             Listener::Tcp(listener, _) => listener.as_raw_fd(),
-            Listener::Local(listener, _) => listener.as_raw_fd(),
+            Listener::Local(local) => local.listener.as_raw_fd(),
         }
     }
 
     pub(crate) fn register(&mut self, registry: &Registry, token: Token) -> io::Result<()> {
         match self {
             Listener::Tcp(listener, _) => registry.register(listener, token, Interest::READABLE),
-            Listener::Local(listener, _) => registry.register(listener, token, Interest::READABLE),
+            Listener::Local(local) => {
+                registry.register(&mut local.listener, token, Interest::READABLE)
+            }
         }
     }
 }
 
 /// Whose a connection over TCP is that came from this peer.
-fn visitor_at(stream: &Stream, theirs: Peer, are_claims_believed: bool) -> Visitor {
+fn visitor_at(stream: &Stream, theirs: Peer, beliefs: Beliefs) -> Visitor {
     let ends = Ends {
         theirs,
         ours: stream.own_end(),
+        beliefs,
     };
-    if is_shown(are_claims_believed, theirs) {
+    if is_shown(beliefs.claims, theirs) {
         Visitor::Unknown(ends)
     } else {
-        Visitor::Known(ends.who(are_claims_believed, Evidence::NotFound))
+        Visitor::Known(ends.who(Evidence::NotFound))
     }
 }

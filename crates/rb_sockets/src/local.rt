@@ -1,30 +1,100 @@
-//! The start of the local socket.
+//! The local socket: its start, whether it is root's, and its abstract name.
 ghost use Rattle.std.specs.Prelude.{IfOk};
 ghost use Rattle.rb_policy.specs.LocalFile.{IsRootsByMode};
 
 use crate::settings::LocalSocket;
 use mio::net::{UnixListener, UnixStream};
+use rb_address::Trust;
 use rb_policy::{
-    Entrance, FileAction, FileState, entrance_of, file_action, is_nothing_there, obstacle_text,
-    state_by_connect,
+    Beliefs, Entrance, FileAction, FileState, SeenFile, entrance_now, entrance_of, file_action,
+    is_nothing_there, next_try, obstacle_text, state_by_connect, trust_of,
 };
+use std::alloc::{AllocError, Global};
 use std::fs::{Files, Permissions};
 use std::io::ErrorKind;
 use std::net::{Net, Shutdown};
 use std::os::fd::OwnedFd;
-use std::os::unix::fs::{FileTypeExt, PermissionsExt};
+use std::os::unix::fs::{FileTypeExt, MetadataExt, PermissionsExt};
 use std::os::unix::net::{SocketAddr, SocketAddrExt};
 use std::{fs, io};
+
+/// The local socket, and how far its callers are trusted.
+#[derive(Drop)]
+pub struct LocalListener {
+    pub(crate) listener: UnixListener,
+    path: String,
+    /// The file as the system made it; none if it is not known.
+    made: Option<SeenFile>,
+    entrance: Entrance,
+    beliefs: Beliefs,
+    /// Whether it is yet to be told that it is root's no longer.
+    is_change_untold: bool,
+}
+
+impl LocalListener {
+    /// Listens there, in a new file of its mode. The memory for the path is taken first.
+    pub(crate) fn bind<R: Files + Net>(
+        alloc: Global,
+        rt: &R,
+        local: &LocalSocket<'_>,
+        beliefs: Beliefs,
+    ) -> Result<io::Result<LocalListener>, AllocError> {
+        let mut path = String::new(alloc);
+        path.push_str(local.path)?;
+        match listen(rt, local) {
+            Ok(listening) => Ok(Ok(LocalListener {
+                listener: listening.listener,
+                path,
+                made: listening.made,
+                entrance: listening.entrance,
+                beliefs,
+                is_change_untold: false,
+            })),
+            Err(error) => Ok(Err(error)),
+        }
+    }
+
+    /// A connection, and how far its caller is trusted. The file is looked at after the accept: whoever came while it was
+    /// another one, or open to others, is not root.
+    pub(crate) fn accept<R: Files>(&mut self, rt: &R) -> io::Result<(UnixStream, Trust)> {
+        let (stream, _) = self.listener.accept()?;
+        self.look(rt);
+        Ok((stream, trust_of(self.beliefs, self.entrance)))
+    }
+
+    /// Looks at the file, if the socket is root's by it.
+    fn look<R: Files>(&mut self, rt: &R) {
+        if let (Entrance::RootSocket, Some(made)) = (self.entrance, self.made) {
+            self.entrance = entrance_now(self.entrance, made, seen_at(rt, &self.path));
+            self.is_change_untold = matches!(self.entrance, Entrance::OpenSocket);
+        }
+    }
+
+    /// Whether it was found in a look since the last question that the socket is root's no longer, which counts for good.
+    pub(crate) fn take_change(&mut self) -> bool {
+        let is_untold = self.is_change_untold;
+        self.is_change_untold = false;
+        is_untold
+    }
+}
+
+/// What a start of the local socket gives.
+#[derive(Drop)]
+pub struct Listening {
+    /// Where connections come in.
+    pub listener: UnixListener,
+    /// Where their callers come in.
+    pub entrance: Entrance,
+    /// The file as the system made it; none if it is not known.
+    pub made: Option<SeenFile>,
+}
 
 // LOCAL-4: The file of the local socket has the mode that is given.
 /// Listens on the local socket, in a file of its mode, and says where its callers come in. A socket that nobody listens
 /// on any more is removed first. It is root's if its mode lets in root alone, and the one with which the system made
 /// the file did too: otherwise somebody may have come in before its mode was set.
-pub fn listen<R: Files + Net>(
-    rt: &R,
-    local: &LocalSocket<'_>,
-) -> io::Result<(UnixListener, Entrance)>
-    ensures { IfOk result (λ listening. IsRootsByMode local.now.mode listening.1) }
+pub fn listen<R: Files + Net>(rt: &R, local: &LocalSocket<'_>) -> io::Result<Listening>
+    ensures { IfOk result (λ listening. IsRootsByMode local.now.mode listening.entrance) }
 {
     let LocalSocket { path, mode } = *local;
     let state = file_state(rt, path)?;
@@ -34,16 +104,25 @@ pub fn listen<R: Files + Net>(
         FileAction::GiveUp => return Err(in_the_way(state)),
     }
     let listener = UnixListener::bind(rt, path)?;
-    let made = mode_at(rt, path);
+    let made = seen_at(rt, path);
     fs::set_permissions(rt, path, Permissions::from_mode(mode))?;
-    let entrance = entrance_of(made, mode);
-    Ok((listener, entrance))
+    let entrance = entrance_of(made.map(|file| file.mode), mode);
+    Ok(Listening {
+        listener,
+        entrance,
+        made,
+    })
 }
 
-/// The mode of the file at the path, if the system tells it.
-fn mode_at<R: Files>(rt: &R, path: &str) -> Option<u32> {
+/// The file at the path, if the system tells it.
+fn seen_at<R: Files>(rt: &R, path: &str) -> Option<SeenFile> {
     match fs::symlink_metadata(rt, path) {
-        Ok(found) => Some(found.permissions().mode()),
+        Ok(found) => Some(SeenFile {
+            device: found.dev(),
+            inode: found.ino(),
+            uid: found.uid(),
+            mode: found.permissions().mode(),
+        }),
         Err(_) => None,
     }
 }
@@ -76,12 +155,60 @@ fn in_the_way(state: FileState) -> io::Error {
 /// The abstract name that newer clients try before the file. Nobody's mode keeps it, so nobody is answered there.
 const ABSTRACT_NAME: &[u8; 17] = b"/run/rpcbind.sock";
 
+/// The abstract name of the local socket, for a daemon that is to have it.
+#[derive(Drop)]
+pub struct AbstractName {
+    pub(crate) held: Option<UnixStream>,
+    /// The moment of the last try, in milliseconds; 0 if that was at the start.
+    last_try: u64,
+    /// Why the first try failed, until it is told.
+    fault: Option<io::Error>,
+}
+
+impl AbstractName {
+    /// Tries to take it at the start.
+    pub(crate) fn new<R: Files + Net>(rt: &R) -> AbstractName {
+        let (held, fault) = match hold_abstract_name(rt) {
+            Ok(held) => (Some(held), None),
+            Err(error) => (None, Some(error)),
+        };
+        AbstractName {
+            held,
+            last_try: 0,
+            fault,
+        }
+    }
+
+    /// The moment at which it is tried again, in milliseconds, if it is not held.
+    pub(crate) fn next_try(&self) -> Option<u64> {
+        match &self.held {
+            Some(_) => None,
+            None => Some(next_try(self.last_try)),
+        }
+    }
+
+    /// Tries again to take it, if it is not held, and this moment is the one for it. What is to be told: why the first try
+    /// failed, or that it was taken after that.
+    pub(crate) fn take<R: Files + Net>(&mut self, rt: &R, now: u64) -> Option<io::Result<()>> {
+        if let Some(error) = self.fault.take() {
+            return Some(Err(error));
+        }
+        if self.next_try()? > now {
+            return None;
+        }
+        self.last_try = now;
+        self.held = hold_abstract_name(rt).ok();
+        self.held.as_ref()?;
+        Some(Ok(()))
+    }
+}
+
 /// Holds the abstract name, so that no other program answers there in place of this one: whoever tries it is refused,
-/// and goes on to the file. None if another program has it.
-pub fn hold_abstract_name<R: Files + Net>(rt: &R) -> Option<UnixStream> {
-    let address = SocketAddr::from_abstract_name(ABSTRACT_NAME).ok()?;
-    let listener = UnixListener::bind_addr(rt, &address).ok()?;
+/// and goes on to the file. An error if another program has it.
+fn hold_abstract_name<R: Files + Net>(rt: &R) -> io::Result<UnixStream> {
+    let address = SocketAddr::from_abstract_name(ABSTRACT_NAME)?;
+    let listener = UnixListener::bind_addr(rt, &address)?;
     let held = UnixStream::from(OwnedFd::from(listener));
-    held.shutdown(Shutdown::Both).ok()?;
-    Some(held)
+    held.shutdown(Shutdown::Both)?;
+    Ok(held)
 }

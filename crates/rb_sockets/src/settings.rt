@@ -33,8 +33,8 @@ pub enum Logged {
 /// What a daemon is started with. A field has the name of its option of `serve`.
 #[derive(Drop)]
 pub struct Settings<'a> {
-    /// The hosts to listen on over TCP and UDP; :: is every host of both families. Forwarded calls go out from the first
-    /// of their family.
+    /// The hosts to listen on over TCP and UDP; :: is every host of both families, and goes with sockets of 0.0.0.0. Forwarded
+    /// calls go out from the first of their family.
     pub bind: Few<Host>,
     /// The networks whose hosts may ask, beside this machine; with none everybody may.
     pub from: Few<Network>,

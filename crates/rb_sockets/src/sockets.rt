@@ -5,21 +5,21 @@ ghost use Rattle.rb_sockets.specs.Events.{shown_by, family_at, MayBeShown};
 use crate::calls::{CallSocket, CallSockets, ForwardSocket, ForwardSockets};
 use crate::faults::{BindFault, Step};
 use crate::listener::Listener;
-use crate::local;
+use crate::local::{AbstractName, LocalListener};
 use crate::settings::{LocalSocket, Settings};
+use crate::user_namespace::unmapped;
 use crate::watched::Watched;
-use mio::net::UnixStream;
 use mio::{Registry, Token};
 use rb_address::{Family, Host, Network};
 use rb_policy::{
-    ANY, LOOPBACK6, WaysBack, binds_loopback6, forwards_inet, forwards_inet6, has_every_host,
-    is_bound, takes_abstract_name, trust_of,
+    ANY, Beliefs, LOOPBACK, LOOPBACK6, WaysBack, binds_every_inet, binds_loopback6, forwards_inet,
+    forwards_inet6, has_every_host, has_every_inet, ip_of, takes_abstract_name,
 };
 use std::alloc::{AllocError, Global};
 use std::fs::Files;
 use std::io;
 use std::io::ErrorKind;
-use std::net::Net;
+use std::net::{Net, SocketAddr};
 use std::os::fd::AsRawFd;
 
 /// The keys of events: those of connections are the numbers of their places, at most 256.
@@ -60,8 +60,8 @@ pub struct Sockets {
     pub networks: Vec<Network>,
     /// Whether callers are believed what they claim.
     pub are_claims_believed: bool,
-    /// The abstract name of the local socket, if it is held.
-    abstract_name: Option<UnixStream>,
+    /// The abstract name of the local socket, if it is to be held.
+    abstract_name: Option<AbstractName>,
 }
 
 impl Sockets {
@@ -74,11 +74,15 @@ impl Sockets {
         settings: &Settings<'_>,
     ) -> Result<Sockets, BindFault> {
         let most = settings.bind.len().saturating_add(3);
+        let beliefs = Beliefs {
+            claims: settings.believe_claims,
+            unmapped: unmapped(rt),
+        };
         let mut inet = Inet {
             listeners: Vec::with_capacity(alloc, most)?,
             calls: Vec::with_capacity(alloc, most)?,
             port: settings.port,
-            are_claims_believed: settings.believe_claims,
+            beliefs,
         };
         inet.bind_all(rt, settings)?;
         let forwards = bind_forwards(rt, settings)?;
@@ -86,13 +90,13 @@ impl Sockets {
             mut listeners,
             calls: all,
             port,
-            are_claims_believed,
+            ..
         } = inet;
         let mut abstract_name = None;
         if let Some(local) = &settings.local {
-            put(&mut listeners, bind_local(rt, local, are_claims_believed)?)?;
+            put(&mut listeners, bind_local(alloc, rt, local, beliefs)?)?;
             if takes_abstract_name(port) {
-                abstract_name = local::hold_abstract_name(rt);
+                abstract_name = Some(AbstractName::new(rt));
             }
         }
         let mut networks = Vec::with_capacity(alloc, settings.from.len())?;
@@ -103,13 +107,14 @@ impl Sockets {
             forwards,
             listeners,
             networks,
-            are_claims_believed,
+            are_claims_believed: beliefs.claims,
             abstract_name,
         })
     }
 
     /// The number of descriptors of the process that are not for connections: the system gives the least free number, so
-    /// when the last of these sockets got its own, all below that were taken.
+    /// when the last of these sockets got its own, all below that were taken. One is for the abstract name, if that is yet to be
+    /// taken.
     pub fn count_descriptors(&self) -> u64 {
         let mut last = self.forwards.inet.socket.as_raw_fd();
         if let Some(inet6) = &self.forwards.inet6 {
@@ -121,10 +126,14 @@ impl Sockets {
         for listener in &self.listeners {
             last = last.max(listener.socket.as_raw_fd());
         }
-        if let Some(held) = &self.abstract_name {
-            last = last.max(held.as_raw_fd());
+        let mut more = 1;
+        if let Some(name) = &self.abstract_name {
+            match &name.held {
+                Some(held) => last = last.max(held.as_raw_fd()),
+                None => more = 2,
+            }
         }
-        u64::try_from(last).unwrap_or(0).saturating_add(1)
+        u64::try_from(last).unwrap_or(0).saturating_add(more)
     }
 
     /// Writes to as much of the stack as a turn needs, so that its memory is the process's from here on: an array
@@ -133,6 +142,26 @@ impl Sockets {
     #[inline(never)]
     pub fn write_stack(&self) {
         let _ = self.forwards.inet.socket.receive(&mut [0; STACK]);
+    }
+
+    /// The moment at which the abstract name is tried again, in milliseconds, if it is to be held and is not.
+    pub fn next_name_try(&self) -> Option<u64> {
+        self.abstract_name.as_ref()?.next_try()
+    }
+
+    /// Tries again to take the abstract name, if that is due at this moment, in milliseconds. What is to be told of it, once each:
+    /// why the try at the start failed, and that it was taken after that.
+    pub fn take_name<R: Files + Net>(&mut self, rt: &R, now: u64) -> Option<io::Result<()>> {
+        self.abstract_name.as_mut()?.take(rt, now)
+    }
+
+    /// Whether it was found since the last question that the local socket is root's no longer.
+    pub fn take_local_change(&mut self) -> bool {
+        let mut is_changed = false;
+        for listener in &mut self.listeners {
+            is_changed |= listener.socket.take_change();
+        }
+        is_changed
     }
 
     /// Their events are shown from here on.
@@ -254,55 +283,84 @@ struct Inet {
     listeners: Vec<Watched<Listener>>,
     calls: Vec<Watched<CallSocket>>,
     port: u16,
-    are_claims_believed: bool,
+    beliefs: Beliefs,
 }
 
 impl Inet {
     /// Binds all of the hosts, of TCP before UDP.
     fn bind_all<R: Net>(&mut self, rt: &R, settings: &Settings<'_>) -> Result<(), BindFault> {
         let hosts = settings.bind.as_slice();
-        for host in hosts {
-            if is_bound(hosts, *host) {
-                self.bind_tcp(rt, host.plain())?;
-            }
-        }
+        let is_every_inet = binds_every_inet(hosts);
         let is_loopback6 = binds_loopback6(hosts, settings.loopback6);
+        for host in hosts {
+            self.bind_tcp(rt, *host)?;
+        }
+        if is_every_inet {
+            self.bind_tcp(rt, Host::V4(ANY))?;
+        }
         if is_loopback6 {
             self.bind_tcp(rt, Host::V6(LOOPBACK6))?;
         }
         for host in hosts {
-            if is_bound(hosts, *host) {
-                self.bind_udp(rt, host.plain())?;
-            }
+            self.bind_udp(rt, *host)?;
+        }
+        if is_every_inet {
+            self.bind_udp(rt, Host::V4(ANY))?;
         }
         if is_loopback6 {
             self.bind_udp(rt, Host::V6(LOOPBACK6))?;
         }
+        self.bind_loopbacks(rt, hosts)
+    }
+
+    /// Binds UDP sockets at 127.0.0.1 and ::1 beside those of every host, at which programs of this machine register. A socket of
+    /// every host is bound before it shares its port, and none shares it in the end: so no other program has a part of it.
+    fn bind_loopbacks<R: Net>(&mut self, rt: &R, hosts: &[Host]) -> Result<(), BindFault> {
+        if !has_every_inet(hosts) {
+            return Ok(());
+        }
+        self.share(true)?;
+        self.bind_loopback(rt, Host::V4(LOOPBACK))?;
         if has_every_host(hosts) {
-            unless_in_use(self.bind_tcp(rt, Host::V4(ANY)))?;
-            unless_in_use(self.bind_udp(rt, Host::V4(ANY)))?;
+            self.bind_loopback(rt, Host::V6(LOOPBACK6))?;
+        }
+        self.share(false)
+    }
+
+    /// Binds a UDP socket there beside that of every host, unless the machine does not have the host.
+    fn bind_loopback(&mut self, rt: &impl Net, host: Host) -> Result<(), BindFault> {
+        match CallSocket::bind(rt, host, self.port, true, self.beliefs) {
+            Ok(calls) => put(&mut self.calls, calls),
+            Err(BindFault::Socket(fault)) if is_no_host(&fault.error) => Ok(()),
+            Err(fault) => Err(fault),
+        }
+    }
+
+    /// Whether all UDP sockets share their ports from here on.
+    fn share(&self, shares: bool) -> Result<(), BindFault> {
+        for calls in &self.calls {
+            if let Err(error) = calls.socket.share(shares) {
+                let address = SocketAddr::new(ip_of(calls.socket.bound()), self.port);
+                return Err(BindFault::Socket(Step::BindUdp(address).failed(error)));
+            }
         }
         Ok(())
     }
 
     fn bind_tcp(&mut self, rt: &impl Net, host: Host) -> Result<(), BindFault> {
-        let listener = Listener::bind_tcp(rt, host, self.port, self.are_claims_believed)?;
+        let listener = Listener::bind_tcp(rt, host, self.port, self.beliefs)?;
         put(&mut self.listeners, listener)
     }
 
     fn bind_udp(&mut self, rt: &impl Net, host: Host) -> Result<(), BindFault> {
-        let calls = CallSocket::bind(rt, host, self.port, self.are_claims_believed)?;
+        let calls = CallSocket::bind(rt, host, self.port, false, self.beliefs)?;
         put(&mut self.calls, calls)
     }
 }
 
-/// What binding 0.0.0.0 beside :: gave: if the system says that it is in use, :: has it already, as it does unless the
-/// system keeps both apart (bindv6only of ipv6(7)).
-fn unless_in_use(bound: Result<(), BindFault>) -> Result<(), BindFault> {
-    match bound {
-        Err(BindFault::Socket(fault)) if fault.error.kind() == ErrorKind::AddrInUse => Ok(()),
-        other => other,
-    }
+/// Whether the system says that the machine does not have the host of an address.
+fn is_no_host(error: &io::Error) -> bool {
+    error.kind() == ErrorKind::AddrNotAvailable
 }
 
 fn bind_forwards<R: Net>(rt: &R, settings: &Settings<'_>) -> Result<ForwardSockets, BindFault> {
@@ -319,15 +377,13 @@ fn bind_forwards<R: Net>(rt: &R, settings: &Settings<'_>) -> Result<ForwardSocke
 }
 
 fn bind_local<R: Files + Net>(
+    alloc: Global,
     rt: &R,
     local: &LocalSocket<'_>,
-    are_claims_believed: bool,
+    beliefs: Beliefs,
 ) -> Result<Listener, BindFault> {
-    match local::listen(rt, local) {
-        Ok((listener, entrance)) => Ok(Listener::Local(
-            listener,
-            trust_of(are_claims_believed, entrance),
-        )),
+    match LocalListener::bind(alloc, rt, local, beliefs)? {
+        Ok(listener) => Ok(Listener::Local(listener)),
         Err(error) => Err(BindFault::Socket(Step::BindLocal.failed(error))),
     }
 }

@@ -3,7 +3,7 @@ ghost use Rattle.std.specs.Prelude.{◌≤◌, IfErr};
 
 use crate::keep::{read_keep, say_keep_fault, say_left_out};
 use crate::record::{Recorder, make_record};
-use crate::telling::{explain_fault, say_start};
+use crate::telling::{explain_fault, say_local_change, say_name, say_start, say_table_fault};
 use rb_commands::Serve;
 use rb_daemon::{Daemon, DaemonFault, Settings};
 use std::fs::Files;
@@ -57,7 +57,7 @@ fn serve_until_the_end<R, E>(
     faults: &mut E,
 ) -> u8
 where
-    R: Files + Clock + Wait + Print,
+    R: Files + Net + Clock + Wait + Print,
     E: Write,
     ensures { result ≤ 1 }
 {
@@ -77,9 +77,9 @@ where
 }
 
 /// Takes a turn, which waits this many milliseconds at most, and writes what was recorded of it, the lines of the log,
-/// and one for each listener that failed the first time and for the rows that could not be written. If standard error
-/// takes no lines, they are lost.
-fn take_turn<R: Clock + Files, F: Write + Drop, E: Write>(
+/// and one for each listener that failed the first time, for the rows that could not be written, and for what else was found
+/// out of the system. If standard error takes no lines, they are lost.
+fn take_turn<R: Clock + Files + Net, F: Write + Drop, E: Write>(
     rt: &R,
     daemon: &mut Daemon<'_, R, R>,
     settings: &Settings<'_>,
@@ -94,10 +94,13 @@ fn take_turn<R: Clock + Files, F: Write + Drop, E: Write>(
         let _ = writeln!(faults, "rpcbind: {fault}; it is tried again");
     }
     say_keep_fault(settings, daemon.take_keep_fault(), faults);
+    say_table_fault(daemon.take_table_fault(), faults);
+    say_local_change(settings, daemon.take_local_change(), faults);
+    say_name(daemon.take_name(rt), faults);
     turned
 }
 
-fn take_turns<R: Clock + Files + Wait, F: Write + Drop, E: Write>(
+fn take_turns<R: Clock + Files + Net + Wait, F: Write + Drop, E: Write>(
     rt: &R,
     daemon: &mut Daemon<'_, R, R>,
     serve: &Serve<'_>,

@@ -7,7 +7,7 @@ use rb_address::Host;
 use rb_lines::{Ending, Fault, explain, explain_run};
 use rb_policy::is_no_address;
 use rb_proto::Announced;
-use rb_sockets::{DaemonFault, LocalSocket, Settings, Shortage, SocketFault, Step};
+use rb_sockets::{DaemonFault, LocalSocket, Settings, Shortage, SocketFault, Step, TableFault};
 use std::fmt::{Display, Formatter};
 use std::io::Write;
 use std::{fmt, io};
@@ -47,6 +47,43 @@ fn say_announced<E: Write>(settings: &Settings<'_>, faults: &mut E) {
 fn say_shortage<E: Write>(shortage: Option<Shortage>, faults: &mut E) {
     if let Some(shortage) = shortage {
         let _ = writeln!(faults, "{}", ShortageLine(shortage));
+    }
+}
+
+/// Says which of the kernel's tables could not be read, and what that means.
+pub fn say_table_fault<E: Write>(fault: Option<TableFault>, faults: &mut E) {
+    if let Some(TableFault { path, error }) = fault {
+        let _ = writeln!(
+            faults,
+            "rpcbind: read {path}: {error}; meanwhile programs can't register over TCP"
+        );
+    }
+}
+
+/// Says that the local socket is root's no longer, if that was found.
+pub fn say_local_change<E: Write>(settings: &Settings<'_>, is_changed: bool, faults: &mut E) {
+    if let (Some(local), true) = (settings.local, is_changed) {
+        let path = local.path;
+        let _ = writeln!(
+            faults,
+            "rpcbind: {path} was replaced, removed or opened to others: its callers are unknown until a restart"
+        );
+    }
+}
+
+/// Says why the abstract name was not taken at the start, or that it was taken later.
+pub fn say_name<E: Write>(tried: Option<io::Result<()>>, faults: &mut E) {
+    match tried {
+        Some(Ok(())) => {
+            let _ = writeln!(faults, "rpcbind: @/run/rpcbind.sock is taken now");
+        }
+        Some(Err(error)) => {
+            let _ = writeln!(
+                faults,
+                "rpcbind: take @/run/rpcbind.sock: {error}; it is tried again"
+            );
+        }
+        None => {}
     }
 }
 

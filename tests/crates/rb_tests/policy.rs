@@ -3,10 +3,11 @@
 use crate::evidence::{AT_31112, table_at};
 use rb_address::{Family, Host, Owner, Peer, Source, Trust, Who};
 use rb_policy::{
-    BETWEEN_READINGS, Brake, Entrance, Evidence, LONGEST_TABLE, Rate, WaysBack, address_for,
-    announced_inet, announced_inet6, binds_loopback6, evidence_of, forwards_inet, forwards_inet6,
-    has_every_host, host_asked, ip_of, is_bound, is_no_address, is_shown, lets_in_root_alone,
-    looks_in, may_read, next_reading, origin_of, somebody, trust_of, wait_of, whole_text,
+    BETWEEN_READINGS, Beliefs, Brake, Entrance, Evidence, LONGEST_TABLE, Rate, SeenFile, WaysBack,
+    address_of, announced_inet, announced_inet6, binds_every_inet, binds_loopback6, entrance_now,
+    evidence_of, forwards_inet, forwards_inet6, has_every_host, has_every_inet, ip_of,
+    is_no_address, is_shown, lets_in_root_alone, looks_in, may_read, next_reading, next_try,
+    origin_of, sender, trust_of, unmapped_uid, wait_of, whole_text,
 };
 use std::net::{IpAddr, Ipv4Addr, Ipv6Addr, SocketAddr};
 use std::test::Fail;
@@ -34,9 +35,13 @@ fn at(host: Host) -> Peer {
     Peer::new(host, 900)
 }
 
+// 127.0.0.5, from which a neighbour's datagrams come with route_localnet
+const NEAR: Host = Host::V4([127, 0, 0, 5]);
+
 /// Each row of the table: where a caller comes in and what is shown of it there, and how far it is trusted.
-fn table_of_trust() -> [(Entrance, Trust); 12] {
+fn table_of_trust() -> [(Entrance, Trust); 18] {
     let nobody = Trust::Local(Owner::Unknown);
+    let stranger = Trust::Stranger;
     [
         (Entrance::RootSocket, Trust::Local(Owner::Uid(0))),
         (Entrance::OpenSocket, nobody),
@@ -48,33 +53,109 @@ fn table_of_trust() -> [(Entrance, Trust); 12] {
             Entrance::Tcp(at(INET6), Evidence::Found(0)),
             Trust::Local(Owner::Uid(0)),
         ),
-        (Entrance::Tcp(at(INET), Evidence::NotFound), nobody),
-        (Entrance::Tcp(at(INET6), Evidence::Unread), nobody),
-        (Entrance::Udp(at(INET)), nobody),
-        (Entrance::Udp(at(INET6)), nobody),
-        (
-            Entrance::Tcp(at(ELSEWHERE), Evidence::Found(0)),
-            Trust::Stranger,
-        ),
-        (
-            Entrance::Tcp(at(ELSEWHERE6), Evidence::NotFound),
-            Trust::Stranger,
-        ),
-        (Entrance::Udp(at(ELSEWHERE)), Trust::Stranger),
-        (Entrance::Udp(at(ELSEWHERE6)), Trust::Stranger),
+        (Entrance::Tcp(at(NEAR), Evidence::NotFound), nobody),
+        (Entrance::Tcp(at(INET6), Evidence::Unread), stranger),
+        (Entrance::Tcp(at(ELSEWHERE), Evidence::Found(0)), stranger),
+        (Entrance::Tcp(at(ELSEWHERE6), Evidence::NotFound), stranger),
+        (Entrance::Udp(INET, at(INET)), nobody),
+        (Entrance::Udp(INET6, at(INET6)), nobody),
+        (Entrance::Udp(INET, at(NEAR)), stranger),
+        (Entrance::Udp(NEAR, at(NEAR)), stranger),
+        (Entrance::Udp(ANY, at(INET)), stranger),
+        (Entrance::Udp(ANY6, at(INET)), stranger),
+        (Entrance::Udp(ANY6, at(INET6)), stranger),
+        (Entrance::Udp(ELSEWHERE6, at(INET)), stranger),
+        (Entrance::Udp(ELSEWHERE, at(ELSEWHERE)), stranger),
+        (Entrance::Udp(INET, at(ELSEWHERE)), stranger),
     ]
 }
 
 // TRUST-6 TRUST-8 TRUST-9
+// In no user namespace, and in one that maps some users.
+const PLAIN: Beliefs = Beliefs {
+    claims: false,
+    unmapped: None,
+};
+
+const MAPPED: Beliefs = Beliefs {
+    claims: false,
+    unmapped: Some(65_534),
+};
+
+const CLAIMS: Beliefs = Beliefs {
+    claims: true,
+    unmapped: None,
+};
+
 #[test]
 fn callers_are_trusted(rt: HostRuntime) {
     for (entrance, trust) in table_of_trust() {
-        assert_eq!(rt; trust_of(false, entrance), trust, "{entrance:?}");
-        assert_eq!(rt; trust_of(true, entrance), Trust::Claims);
+        assert_eq!(rt; trust_of(PLAIN, entrance), trust, "{entrance:?}");
+        assert_eq!(rt; trust_of(CLAIMS, entrance), Trust::Claims);
     }
 }
 
 // TRUST-2
+/// Whom the namespace does not map is nobody known, and each other user is itself.
+#[test]
+fn users_of_other_namespaces_are_nobody(rt: HostRuntime) {
+    let unmapped = Entrance::Tcp(at(INET), Evidence::Found(65_534));
+    assert_eq!(rt; trust_of(MAPPED, unmapped), Trust::Local(Owner::Unknown));
+    let mapped = Entrance::Tcp(at(INET), Evidence::Found(0));
+    assert_eq!(rt; trust_of(MAPPED, mapped), Trust::Local(Owner::Uid(0)));
+}
+
+/// Maps as Linux 6.18 shows them: of the first namespace, and of one that `unshare -r` made.
+#[test]
+fn namespaces_map_users(rt: HostRuntime) {
+    let all = b"         0          0 4294967295\n";
+    let root = b"         0       1000          1\n";
+    assert_eq!(rt; unmapped_uid(Some(all), Some(b"65534\n")), None);
+    assert_eq!(rt; unmapped_uid(Some(all), None), None);
+    assert_eq!(rt; unmapped_uid(Some(root), Some(b"99\n")), Some(99));
+    assert_eq!(rt; unmapped_uid(Some(root), Some(b"99")), Some(65_534));
+    assert_eq!(rt; unmapped_uid(Some(root), None), Some(65_534));
+    assert_eq!(rt; unmapped_uid(None, Some(b"65534\n")), Some(65_534));
+}
+
+/// The socket is root's as long as its file is the same, of the same user, and no others may write to it; never again after
+/// that.
+#[test]
+fn local_socket_stays_roots(rt: HostRuntime) {
+    let made = SeenFile {
+        device: 7,
+        inode: 40,
+        uid: 0,
+        mode: 0o140_755,
+    };
+    let closed = SeenFile {
+        mode: 0o140_600,
+        ..made
+    };
+    let opened = SeenFile {
+        mode: 0o140_666,
+        ..made
+    };
+    let another = SeenFile { inode: 41, ..made };
+    let elsewhere = SeenFile { device: 8, ..made };
+    let given = SeenFile { uid: 1000, ..made };
+    let is_roots = |found| {
+        let now = entrance_now(Entrance::RootSocket, made, found);
+        matches!(now, Entrance::RootSocket)
+    };
+    assert!(rt; is_roots(Some(made)) && is_roots(Some(closed)));
+    assert!(rt; !is_roots(Some(opened)) && !is_roots(None) && !is_roots(Some(another)));
+    assert!(rt; !is_roots(Some(elsewhere)) && !is_roots(Some(given)));
+    let again = entrance_now(Entrance::OpenSocket, made, Some(made));
+    assert!(rt; matches!(again, Entrance::OpenSocket));
+}
+
+#[test]
+fn abstract_name_is_tried_again(rt: HostRuntime) {
+    assert_eq!(rt; next_try(5_000), 15_000);
+    assert_eq!(rt; next_try(u64::MAX), u64::MAX);
+}
+
 // Who may write to a socket's file may connect (unix(7)).
 #[test]
 fn modes_let_in_root_alone(rt: HostRuntime) {
@@ -175,8 +256,9 @@ fn turns_wait(rt: HostRuntime) {
 fn every_host_has_both_families(rt: HostRuntime) {
     let every = [ELSEWHERE, ANY6];
     assert!(rt; has_every_host(&every) && !has_every_host(&[ANY, ELSEWHERE6]));
-    assert!(rt; is_bound(&every, ELSEWHERE) && !is_bound(&[ANY, ANY6], ANY));
-    assert!(rt; is_bound(&[ANY, ELSEWHERE6], ANY));
+    assert!(rt; binds_every_inet(&every) && !binds_every_inet(&[ANY, ANY6]));
+    assert!(rt; !binds_every_inet(&[ANY, ELSEWHERE6]));
+    assert!(rt; has_every_inet(&every) && has_every_inet(&[ANY]) && !has_every_inet(&[INET]));
     assert!(rt; binds_loopback6(&[INET], true) && !binds_loopback6(&[INET], false));
     assert!(rt; !binds_loopback6(&every, true) && !binds_loopback6(&[INET6], true));
 }
@@ -216,14 +298,6 @@ fn calls_are_forwarded_from_hosts(rt: HostRuntime) {
 }
 
 // ASKED-1
-#[test]
-fn hosts_are_asked(rt: HostRuntime) {
-    assert_eq!(rt; host_asked(ELSEWHERE, Family::Inet), ELSEWHERE);
-    assert_eq!(rt; host_asked(INET6, Family::Inet6), INET6);
-    assert_eq!(rt; host_asked(ANY6, Family::Inet6), ANY6);
-    assert_eq!(rt; host_asked(ANY6, Family::Inet), ANY);
-}
-
 // WAYBACK-1
 /// Each call's end goes back to the socket on which it came, once; there is room for two.
 #[test]
@@ -254,28 +328,37 @@ fn sources_have_origins(rt: HostRuntime) {
 }
 
 // NOBODY-1
+fn socket_at(host: Host, port: u16) -> SocketAddr {
+    SocketAddr::new(ip_of(host), port)
+}
+
 #[test]
 fn peers_are_somebody(rt: HostRuntime) {
     for host in [INET, INET6, ELSEWHERE, ELSEWHERE6] {
-        assert_eq!(rt; somebody(at(host)), Some(at(host)));
-        assert_eq!(rt; somebody(Peer::new(host, 0)), None);
+        assert_eq!(rt; sender(socket_at(host, 900)), Some(at(host)));
+        assert_eq!(rt; sender(socket_at(host, 0)), None);
     }
     for host in [ANY, ANY6, Host::V4([0, 0, 0, 7])] {
-        assert_eq!(rt; somebody(at(host)), None);
+        assert_eq!(rt; sender(socket_at(host, 900)), None);
+    }
+}
+
+/// Whoever sends from ::ffff:127.0.0.1 is not from 127.0.0.1.
+#[test]
+fn mapped_sources_are_nobody(rt: HostRuntime) {
+    for host in [INET, ELSEWHERE] {
+        assert_eq!(rt; sender(socket_at(host.mapped(), 900)), None);
     }
 }
 
 // MAPPED-2
-/// A socket of IPv6 sends to 192.0.2.1 as ::ffff:192.0.2.1.
 #[test]
 fn peers_have_addresses(rt: HostRuntime) {
     let ipv4 = IpAddr::V4(Ipv4Addr::from(OCTETS));
     let ipv6 = IpAddr::V6(Ipv6Addr::from([0x2001, 0xdb8, 0, 0, 0, 0, 0, 1]));
-    let mapped = IpAddr::V6(Ipv6Addr::from([0, 0, 0, 0, 0, 0xffff, 0xc000, 0x201]));
     assert!(rt; ip_of(ELSEWHERE) == ipv4 && ip_of(ELSEWHERE6) == ipv6);
-    assert!(rt; address_for(ANY, at(ELSEWHERE)) == SocketAddr::new(ipv4, 900));
-    assert!(rt; address_for(ANY6, at(ELSEWHERE)) == SocketAddr::new(mapped, 900));
-    assert!(rt; address_for(ANY6, at(ELSEWHERE6)) == SocketAddr::new(ipv6, 900));
+    assert!(rt; address_of(at(ELSEWHERE)) == SocketAddr::new(ipv4, 900));
+    assert!(rt; address_of(at(ELSEWHERE6)) == SocketAddr::new(ipv6, 900));
 }
 
 // two for each network, and one for each host
