@@ -87,19 +87,26 @@ run() {
 for built in "$program" "$rpcinfo"; do
     [ -x "$built" ] || judge 1 "no program $built: run 'make' first"
 done
+# Runs a part of the rows, and says which.
+part() {
+    local name=${1//_/ }
+    printf '%10s s  rows: %s\n' "$SECONDS" "${name#run }"
+    "$1"
+}
+
 if [ "$failed" -eq 0 ]; then
-    run_long_ones_beside
-    run_rpcbind_over_files
-    run_starts
-    run_records
-    run_rpcinfo_over_files
-    run_asking
-    run_serving
-    run_keep_rows
-    join_beside
-    run_releases
+    part run_long_ones_beside
+    part run_rpcbind_over_files
+    part run_starts
+    part run_records
+    part run_rpcinfo_over_files
+    part run_asking
+    part run_serving
+    part run_keep_rows
+    part join_beside
+    part run_releases
 fi
-check_repository
+part check_repository
 
 echo "$passed passed, $failed failed"
 [ "$failed" -eq 0 ]

@@ -1,4 +1,4 @@
-#!/usr/bin/env python3
+#!/usr/bin/env -S python3 -B
 """Tries the edits crates/NAME/refused/*.edit, after `rt ci`: the prover must refuse each. With names it tries those of these
 crates alone, and with --anew also what it refused before. The last line is 'N passed, M failed'.
 
