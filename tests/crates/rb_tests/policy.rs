@@ -70,7 +70,6 @@ fn table_of_trust() -> [(Entrance, Trust); 18] {
     ]
 }
 
-// TRUST-6 TRUST-8 TRUST-9
 // In no user namespace, and in one that maps some users.
 const PLAIN: Beliefs = Beliefs {
     claims: false,
@@ -87,6 +86,7 @@ const CLAIMS: Beliefs = Beliefs {
     unmapped: None,
 };
 
+// TRUST-6 TRUST-8 TRUST-9
 #[test]
 fn callers_are_trusted(rt: HostRuntime) {
     for (entrance, trust) in table_of_trust() {
@@ -95,7 +95,7 @@ fn callers_are_trusted(rt: HostRuntime) {
     }
 }
 
-// TRUST-2
+// TRUST-11
 /// Whom the namespace does not map is nobody known, and each other user is itself.
 #[test]
 fn users_of_other_namespaces_are_nobody(rt: HostRuntime) {
@@ -105,6 +105,7 @@ fn users_of_other_namespaces_are_nobody(rt: HostRuntime) {
     assert_eq!(rt; trust_of(MAPPED, mapped), Trust::Local(Owner::Uid(0)));
 }
 
+// TRUST-13
 /// Maps as Linux 6.18 shows them: of the first namespace, and of one that `unshare -r` made.
 #[test]
 fn namespaces_map_users(rt: HostRuntime) {
@@ -118,6 +119,7 @@ fn namespaces_map_users(rt: HostRuntime) {
     assert_eq!(rt; unmapped_uid(None, Some(b"65534\n")), Some(65_534));
 }
 
+// TRUST-12
 /// The socket is root's as long as its file is the same, of the same user, and no others may write to it; never again after
 /// that.
 #[test]
@@ -251,7 +253,7 @@ fn turns_wait(rt: HostRuntime) {
     assert_eq!(rt; wait_of(false, 1000, None, None), None);
 }
 
-// BIND-1 BIND-2
+// BIND-1 BIND-2 BIND-4
 #[test]
 fn every_host_has_both_families(rt: HostRuntime) {
     let every = [ELSEWHERE, ANY6];
@@ -297,7 +299,6 @@ fn calls_are_forwarded_from_hosts(rt: HostRuntime) {
     assert_eq!(rt; forwards_inet6(&[INET], false), None);
 }
 
-// ASKED-1
 // WAYBACK-1
 /// Each call's end goes back to the socket on which it came, once; there is room for two.
 #[test]
