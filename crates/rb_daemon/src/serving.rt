@@ -566,7 +566,7 @@ impl<H: Files> Serving<H> {
         match visitor {
             Visitor::Known(who) => self.open_at(registry, key, who),
             Visitor::Unknown(ends) => {
-                self.open_at(registry, key, ends.who(false, Evidence::NotFound));
+                self.open_at(registry, key, ends.who(Evidence::NotFound));
                 self.places.note_unknown(key, ends);
             }
         }
