@@ -1,5 +1,6 @@
 //! The place of an accepted connection: what is known of it, and its socket calls.
-ghost use Rattle.std.specs.Prelude.{◌≡◌, ◌≤◌, length, IfOk};
+ghost use Rattle.std.specs.Prelude.{◌≡◌, ◌≤◌, length, IfOk, Some, None};
+ghost use Rattle.rb_links.specs.Holding.{is_between_records, must_wait};
 ghost use Rattle.rb_links.specs.Outgoing.{nothing_in, own_room};
 
 use crate::inbox::{Inbox, READ_AHEAD};
@@ -33,6 +34,17 @@ struct Held {
     passes: u8,
     /// What they show of it so far.
     known: Evidence,
+}
+
+/// Whether the next byte that is handed in begins a record, by where the core says that the connection stands.
+fn is_between_records(standing: Standing) -> bool
+    ensures { result ≡ is_between_records standing }
+{
+    match standing {
+        Standing::Reading => false,
+        Standing::Idle | Standing::Owing | Standing::Awaiting | Standing::Sends => true,
+        Standing::Lost => true,
+    }
 }
 
 /// The place of an accepted connection. Its memory is taken before the first connection has it, and stays for the
@@ -134,19 +146,25 @@ impl Link {
     }
 
     /// It is opened though it is not known whose it is: it has these ends.
-    pub(crate) fn note_unknown(&mut self, ends: Ends) {
+    pub(crate) fn note_unknown(&mut self, ends: Ends)
+        ensures { self.new.unknown ≡ Some ends }
+    {
         self.unknown = Some(ends);
     }
 
     /// Whether what was read must not be handed in before it is known whose it is: it may begin a call that needs an
     /// owner.
-    fn waits_for_owner(&self) -> bool {
+    fn must_wait(&self) -> bool
+        ensures { result ≡ must_wait self.now }
+    {
         self.unknown.is_some() && self.is_between && may_change(self.inbox.bytes())
     }
 
     /// Holds back what was read, if it must not be handed in before it is known whose it is. Whether it is held back.
-    pub fn hold_back(&mut self) -> bool {
-        if !self.waits_for_owner() {
+    pub fn hold_back(&mut self) -> bool
+        ensures { result ≡ must_wait self.new }
+    {
+        if !self.must_wait() {
             return false;
         }
         if let (None, Some(ends)) = (&self.held, self.unknown) {
@@ -350,9 +368,11 @@ impl Link {
     /// The core took this many of the bytes that were read, and says where it stands then. A record that ended is progress.
     pub fn note_taken(&mut self, count: usize, standing: Standing)
         requires { count ≤ length self.old.inbox }
+        ensures between { self.new.is_between ≡ is_between_records standing }
+        ensures unknown { self.new.unknown ≡ self.old.unknown }
     {
         self.inbox.take(count);
-        self.is_between = standing != Standing::Reading;
+        self.is_between = is_between_records(standing);
         self.standing = standing;
         self.made_progress |= count > 0 && standing != Standing::Reading;
     }

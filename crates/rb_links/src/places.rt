@@ -51,7 +51,7 @@ fn free_places(alloc: Global, count: usize) -> Result<Vec<Link>, AllocError>
 /// As many places for what is looked for. Each is written, so that its memory is the process's from here on.
 fn no_sights(alloc: Global, count: usize) -> Result<Vec<Option<Sight>>, AllocError> {
     let mut sights = Vec::with_capacity(alloc, count)?;
-    'places: for _i in 0..count {
+    'sights: for _i in 0..count {
         sights.push_reserved(None);
     }
     Ok(sights)
