@@ -231,7 +231,7 @@ run_log_of_all() {
     seconds=$((SECONDS - begin + 2))
     for _ in $(seq 100); do
         told=$(grep -c '^rpcbind: call by 127.0.0.1:20113 refused: version unavailable$' "$work/log")
-        more=$(awk '/^rpcbind: [0-9]+ more refused calls$/ { sum += $2 } END { print sum + 0 }' "$work/log")
+        more=$(awk '/^rpcbind: [0-9]+ more refused calls of unknown$/ { sum += $2 } END { print sum + 0 }' "$work/log")
         [ $((told + more)) -lt 100 ] || break
         sleep 0.1
     done

@@ -199,7 +199,7 @@ fn on_terms<'a>(alloc: Global, args: &mut Vec<Arg<'a>>) -> Result<(), AllocError
         args,
         "udp-rate",
         "N[,M]",
-        "Most datagrams a second, 1 to 1000, that are served of one network of others, IPv4 /24 or IPv6 /56, and of one host [default: any number]",
+        "Most datagrams a second, 1 to 1000, that are served of one network of others, IPv4 /24 or IPv6 /48, and of one host [default: any number]",
     )
 }
 

@@ -1,5 +1,5 @@
 -- What a call of the engine does, at the engine's moment.
-use Rattle.std.specs.Prelude.{◌≡◌, ℕ, ◌%◌, ◌^◌, List, [], ◌∷◌, ◌++◌, length, Result}
+use Rattle.std.specs.Prelude.{◌≡◌, ℕ, List, [], ◌∷◌, ◌++◌, length, Result}
 use Rattle.rb_proto.specs.declared.listener.Listener.{Listener}
 use Rattle.rb_model.specs.declared.types.Limits.{Limits}
 use Rattle.rb_model.specs.State.{State, opening}
@@ -19,10 +19,9 @@ use Rattle.rb_links.specs.Outgoing.{Outgoing}
 use Rattle.rb_daemon.specs.declared.engine.Engine.{Engine}
 use Rattle.rb_daemon.specs.Recording.{exchange_events, give_events}
 
--- Its core stands for the state before the first event; the xid of the first forwarded call is the low 32 bits of the
--- moment.
-abbrev pub IsNewEngine : ℕ → Limits → Listener → Engine → Type 0
-IsNewEngine moment limits listener engine = StandsFor engine.core.core (opening limits listener (moment % 2 ^ 32) moment)
+-- Its core stands for the state before the first event; the first forwarded call will have this xid.
+abbrev pub IsNewEngine : ℕ → ℕ → Limits → Listener → Engine → Type 0
+IsNewEngine first_xid moment limits listener engine = StandsFor engine.core.core (opening limits listener first_xid moment)
 
 -- Whatever state its core stood for, it stands for the next one.
 abbrev pub Moves : (State → ℕ → State) → Engine → Engine → Type 0

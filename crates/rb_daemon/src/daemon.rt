@@ -5,8 +5,9 @@ ghost use Rattle.rb_daemon.specs.Served.{has_good_limits};
 
 use crate::engine::Engine;
 use crate::keeping::Keeper;
+use crate::secrets::{Secrets, brake_of, draw, first_xid};
 use crate::serving::Serving;
-use mio::{Events, Poll};
+use crate::waiting::{EVENTS, Waiting};
 use rb_core::{CoreFault, Limits, Listener};
 use rb_policy::{Moments, place_count, wait_of};
 use rb_registry::Row;
@@ -17,20 +18,17 @@ use std::alloc::{AllocError, Global};
 use std::fs::Files;
 use std::io::Write;
 use std::net::Net;
+use std::random::RandomSource;
 use std::rt::Clock;
 use std::time::Duration;
 use std::{io, thread};
-
-/// The most events that one wait shows. The system keeps the others for the next.
-const EVENTS: usize = 64;
 
 /// A core and the sockets around it. What it takes of memory it takes in `new`; `tests/run-memory.sh` shows so.
 #[derive(Drop)]
 pub struct Daemon<'a, R: Clock, H: Files> {
     clock: &'a R,
     moments: Moments,
-    poll: Poll,
-    events: Events,
+    waiting: Waiting,
     serving: Serving<H>,
     shortage: Option<Shortage>,
     /// Which of the rows that were kept are not set again.
@@ -41,10 +39,10 @@ impl<'a, R: Clock, H: Files> Daemon<'a, R, H> {
     // LIMITS-2: The fault is `Limits` if and only if a limit is out of its range: before memory is
     // taken and sockets are bound.
     /// A daemon that listens where the settings say: over TCP and UDP on each of their hosts, and also on ::1 and on a
-    /// local socket if they are asked for. Before that it sets the rows again that were kept. `Limits` if a limit is
-    /// out of its range, or the rows have no room for the own ones and two more; else `Memory` or `Socket`, whichever
-    /// occurs first.
-    pub fn new<B: Files + Net>(
+    /// local socket if they are asked for. Before that it sets the rows again that were kept. Its secrets are of the
+    /// randomness of `host`. `Limits` if a limit is out of its range, or the rows have no room for the own ones and two
+    /// more; else `Memory` or `Socket`, whichever occurs first.
+    pub fn new<B: Files + Net + RandomSource>(
         alloc: Global,
         host: &B,
         clock: &'a R,
@@ -57,6 +55,7 @@ impl<'a, R: Clock, H: Files> Daemon<'a, R, H> {
     {
         let limits = settings.limits;
         let listener = settings.listener();
+        let secrets = draw(host);
         let (mut engine, moments) = engine_of(
             alloc,
             limits,
@@ -64,14 +63,13 @@ impl<'a, R: Clock, H: Files> Daemon<'a, R, H> {
             settings.record_limit,
             settings.log,
             read_clocks(clock),
+            &secrets,
         )?;
+        let brake = brake_of(alloc, settings.udp_rate, secrets)?;
         let left_out = restore(alloc, &mut engine, kept).map_err(DaemonFault::Memory)?;
         let made = Keeper::new(alloc, settings.keep, limits.rows, engine.changes());
         let keeper = made.map_err(DaemonFault::Memory)?;
-        let poll = match Poll::new(host) {
-            Ok(poll) => poll,
-            Err(error) => return Err(DaemonFault::Socket(Step::Prepare.failed(error))),
-        };
+        let waiting = Waiting::new(alloc, host)?;
         let sockets = match Sockets::bind(alloc, host, settings) {
             Ok(sockets) => sockets,
             Err(BindFault::Memory(error)) => return Err(DaemonFault::Memory(error)),
@@ -79,19 +77,16 @@ impl<'a, R: Clock, H: Files> Daemon<'a, R, H> {
         };
         sockets.write_stack();
         let (places, shortage) = places_of(settings, &sockets);
-        let events = Events::with_capacity(alloc, EVENTS).map_err(DaemonFault::Memory)?;
         let most_due = limits.conns.saturating_add(limits.forwards);
-        let udp_rate = settings.udp_rate;
-        let made = Serving::new(alloc, engine, keeper, sockets, places, most_due, udp_rate);
+        let made = Serving::new(alloc, engine, keeper, sockets, places, most_due, brake);
         let mut serving = made.map_err(DaemonFault::Memory)?;
-        if let Err(error) = serving.register(poll.registry()) {
+        if let Err(error) = serving.register(waiting.registry()) {
             return Err(DaemonFault::Socket(Step::Prepare.failed(error)));
         }
         Ok(Daemon {
             clock,
             moments,
-            poll,
-            events,
+            waiting,
             serving,
             shortage,
             left_out,
@@ -119,8 +114,9 @@ impl<'a, R: Clock, H: Files> Daemon<'a, R, H> {
     /// wait showed, in this order: datagrams, what comes back for forwarded calls, connections, those that are owed
     /// bytes last, and what is due, unless the turn is behind: then the next one does not wait. It closes Lost
     /// connections, and accepts connections as far as there are free places. Those from this host over TCP it opens by
-    /// what the kernel's tables, which are files of `host`, show of them. After a fault, `Socket` of the wait or the
-    /// clock, what was handed to the core stands, and the daemon can do no more.
+    /// what the kernel's tables, which are files of `host`, show of them. A wait that fails is as one that showed nothing,
+    /// after a pause. After a fault, `Socket` of many waits that failed one after another or of the clock, what was handed
+    /// to the core stands, and the daemon can do no more.
     pub fn turn(&mut self, host: &H, longest: Option<u64>) -> Result<(), DaemonFault> {
         let is_work_left = self.serving.is_work_left();
         let deadline = self.serving.next_deadline();
@@ -131,29 +127,32 @@ impl<'a, R: Clock, H: Files> Daemon<'a, R, H> {
             longest,
         );
         let is_fresh = self.wait(wait, deadline.is_none())?;
-        let shown = self.events.iter().count();
+        let shown = self.waiting.count();
         self.serving.begin_turn(self.moments.last());
-        for event in &self.events {
+        for event in &self.waiting.events {
             self.serving.note_ready(event);
         }
         self.serving.answer_calls(host);
         self.serving.take_forward_replies();
-        for event in &self.events {
+        for event in &self.waiting.events {
             self.serving.serve(host, event);
         }
         self.serving.serve_left(host);
         self.serving.expire(deadline, is_fresh, shown, EVENTS);
         self.serving.close_lost();
-        self.serving.accept_all(host, self.poll.registry());
+        self.serving.accept_all(host, self.waiting.registry());
         self.serving
             .look_in_tables(host, !is_work_left && shown == 0);
         self.serving.keep(host);
         Ok(())
     }
 
-    /// The first fault of a listener, once: the daemon goes on, and tries that listener again in each turn.
+    /// The first fault of a listener, or of the wait for events, once: the daemon goes on, and tries it again in each turn.
     pub fn take_fault(&mut self) -> Option<SocketFault> {
-        self.serving.take_fault()
+        match self.waiting.take_fault() {
+            Some(fault) => Some(fault),
+            None => self.serving.take_fault(),
+        }
     }
 
     /// The error of a write of the rows that are kept, only once if more follow: the daemon goes on, and tries again at
@@ -198,27 +197,17 @@ impl<'a, R: Clock, H: Files> Daemon<'a, R, H> {
     /// of the turn. Returns whether it did. A signal ends a wait too, and is told as one that showed nothing.
     fn wait(&mut self, wait: Option<u64>, follows_wall: bool) -> Result<bool, DaemonFault> {
         if wait != Some(0) {
-            self.look(wait)?;
-            if self.events.iter().count() > 0 {
+            let is_done = self.waiting.look(self.clock, wait)?;
+            if self.waiting.count() > 0 {
                 self.read_moment(follows_wall)?;
                 return Ok(false);
             }
-            self.sleep_on(wait)?;
+            if is_done {
+                self.sleep_on(wait)?;
+            }
         }
         self.read_moment(follows_wall)?;
-        self.look(Some(0))?;
-        Ok(true)
-    }
-
-    /// Takes what is ready, after this many milliseconds at most.
-    fn look(&mut self, wait: Option<u64>) -> Result<(), DaemonFault> {
-        match self
-            .poll
-            .poll(&mut self.events, wait.map(Duration::from_millis))
-        {
-            Ok(()) => Ok(()),
-            Err(error) => Err(DaemonFault::Socket(Step::Wait.failed(error))),
-        }
+        self.waiting.look(self.clock, Some(0))
     }
 
     /// If a signal ended a wait of this many milliseconds, which showed nothing, the rest of it passes all the same: so
@@ -315,6 +304,7 @@ fn engine_of(
     record_limit: usize,
     logged: Logged,
     first: io::Result<Times>,
+    secrets: &io::Result<Secrets>,
 ) -> Result<(Engine, Moments), DaemonFault>
     ensures bad { IsErrOf result DaemonFault.Limits ↔ IsTrue (not (are_good limits listener)) }
     ensures good { OnOk result (IsTrue (are_good limits listener)) }
@@ -324,7 +314,8 @@ fn engine_of(
         Ok(Times { wall, monotonic }) => (*wall, *monotonic),
         Err(_) => (0, 0),
     };
-    match Engine::new(alloc, limits, listener, wall, record_limit, logged) {
+    let xid = first_xid(secrets, wall);
+    match Engine::new(alloc, limits, listener, xid, wall, record_limit, logged) {
         Ok(engine) => match first {
             Ok(_) => Ok((engine, Moments::new(wall, monotonic))),
             Err(error) => Err(DaemonFault::Socket(Step::Clock.failed(error))),

@@ -161,23 +161,22 @@ impl Engine {
     ghost use Rattle.rb_daemon.specs.Served.{answer_datagram, change_count, set_again, ready_of, take_forward_reply, expire_due, send_forward};
     ghost use Rattle.rb_daemon.specs.Moves.{IsNewEngine, Moves, ActsNow, RecordsEvent, RecordsEvents, RecordsExchange, RecordsGiven, ExchangesNow, WritesInto, CountsGiven};
 
-    /// A new core at this moment, which is the first. The xid of the first forwarded call is the low 32 bits of it.
-    /// Up to `record_limit` bytes of its events are recorded, and `logged` says of what the log has lines. `BadLimits`
+    /// A new core at this moment, which is the first, and whose first forwarded call has this xid. Up to `record_limit` bytes of its events are recorded, and `logged` says of what the log has lines. `BadLimits`
     /// if a limit is out of its range, else `NoMemory` if an allocation is refused.
     pub(crate) fn new(
         alloc: Global,
         limits: Limits,
         listener: Listener,
+        first_xid: u32,
         moment: u64,
         record_limit: usize,
         logged: Logged,
     ) -> Result<Engine, CoreFault>
-        ensures made { IfOk result (IsNewEngine moment limits listener) }
+        ensures made { IfOk result (IsNewEngine first_xid moment limits listener) }
         ensures record { IfOk result (λ engine. engine.tape.limit ≡ record_limit) }
         ensures bad { IsErrOf result CoreFault.BadLimits ↔ IsTrue (not (are_good limits listener)) }
     {
         check_listener(&listener);
-        let first_xid = (moment % 0x1_0000_0000) as u32;
         let start = Start {
             limits,
             listener: &listener,

@@ -8,9 +8,11 @@ mod keeping;
 mod laws;
 mod log;
 mod outbox;
+mod secrets;
 mod serving;
 mod showing;
 mod steps;
+mod waiting;
 
 pub use daemon::Daemon;
 pub use laws::{served_cores_are_bounded, served_records_are_read};

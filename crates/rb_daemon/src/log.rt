@@ -1,9 +1,11 @@
-//! The log: lines of what calls changed, and of those that were refused. It has the memory that a second's lines need
-//! from the start.
+//! The log: lines of what calls changed, and of those that were refused. It has the memory that a turn's lines need from
+//! the start.
 use rb_address::Source;
 use rb_core::{ChangeAsked, ChangeKind, Seen};
 use rb_forward::sooner;
-use rb_policy::{ChangeLine, LINES, LONGEST_LOG_LINE, LogKind, LogLine, LogRate};
+use rb_policy::caller_rate::{LogCaller, OWN_COUNTS};
+use rb_policy::log_lines::{ChangeLine, LogKind, LogLine};
+use rb_policy::log_rate::{LOG_ROOM, LogRate, caller_at, caller_of, has_log_room};
 use rb_sockets::Logged;
 use std::alloc::{AllocError, Global};
 use std::io;
@@ -16,9 +18,9 @@ const KINDS: [LogKind; 4] = [
     LogKind::GivenUp,
 ];
 
-/// The room for what a turn adds, which is at one moment: of each kind the lines of a second, one of how many were left
-/// out before, and one that is never used.
-const ROOM: usize = KINDS.len() * (LINES as usize + 2) * LONGEST_LOG_LINE;
+/// The most lines of a kind on what was left out in a second: of each caller that has a count of its own and of the
+/// others, of owners and of hosts.
+const MOST_MORE: usize = 2 * (OWN_COUNTS + 1);
 
 /// Lines that are not written yet, and how many there were of each kind.
 #[derive(Drop)]
@@ -36,7 +38,7 @@ impl Log {
     pub(crate) fn new(alloc: Global, logged: Logged) -> Result<Log, AllocError> {
         let room = match logged {
             Logged::Nothing => 0,
-            Logged::Changes | Logged::All => ROOM,
+            Logged::Changes | Logged::All => LOG_ROOM,
         };
         let mut text = Vec::with_capacity(alloc, room)?;
         text.resize(room, 0)?;
@@ -60,11 +62,12 @@ impl Log {
                 } else {
                     LogKind::Refused
                 };
-                self.tell(now, kind, &LogLine::Change(line_of(change)));
+                let caller = caller_of(&change.who);
+                self.tell(now, kind, caller, &LogLine::Change(line_of(change)));
             }
             (Seen::Refused(call), Logged::All) => {
                 let line = LogLine::RefusedCall(call.who, call.status);
-                self.tell(now, LogKind::Calls, &line);
+                self.tell(now, LogKind::Calls, caller_of(&call.who), &line);
             }
             (Seen::Change(_), Logged::Nothing)
             | (Seen::Refused(_), Logged::Nothing | Logged::Changes) => {}
@@ -74,14 +77,15 @@ impl Log {
     /// A connection from there was given up at this moment, in milliseconds.
     pub(crate) fn note_given_up(&mut self, now: u64, source: Source) {
         if self.logged == Logged::All {
-            self.tell(now, LogKind::GivenUp, &LogLine::GivenUp(source));
+            let line = LogLine::GivenUp(source);
+            self.tell(now, LogKind::GivenUp, caller_at(source), &line);
         }
     }
 
     /// The moment, in milliseconds, from which the log tells of lines that were left out, if some were.
     pub(crate) fn next_line(&self) -> Option<u64> {
         let mut next = None;
-        for rate in [self.accepted, self.refused, self.calls, self.given_up] {
+        for rate in [&self.accepted, &self.refused, &self.calls, &self.given_up] {
             next = sooner(next, rate.next_line());
         }
         next
@@ -101,17 +105,25 @@ impl Log {
         done
     }
 
-    /// Adds a line, after how many of its kind were left out before; or counts it, if its second has had enough.
-    fn tell(&mut self, now: u64, kind: LogKind, line: &LogLine<'_>) {
+    /// Adds a line of this caller, after how many of its kind were left out before; or counts it, if the caller has had
+    /// enough of them in its second, or there is no room.
+    fn tell(&mut self, now: u64, kind: LogKind, caller: LogCaller, line: &LogLine<'_>) {
         self.tell_left_out(now, kind);
-        if self.rate(kind).ask(now) {
+        let has_room = has_log_room(kind, self.text.len());
+        if self.rate(kind).ask(now, caller, has_room) {
             self.add(line);
         }
     }
 
+    /// Adds how many lines of a kind were left out, as far as there is room.
     fn tell_left_out(&mut self, now: u64, kind: LogKind) {
-        let left_out = self.rate(kind).take_left_out(now);
-        if left_out > 0 {
+        for _ in 0..MOST_MORE {
+            if !has_log_room(kind, self.text.len()) {
+                return;
+            }
+            let Some(left_out) = self.rate(kind).take_left_out(now) else {
+                return;
+            };
             self.add(&LogLine::More(left_out, kind));
         }
     }
@@ -125,11 +137,9 @@ impl Log {
         }
     }
 
-    /// Adds a line if there is room for the longest.
+    /// Adds a line, for which there is room.
     fn add(&mut self, line: &LogLine<'_>) {
-        if self.text.len() <= ROOM - LONGEST_LOG_LINE {
-            let _ = writeln!(self.text, "{line}");
-        }
+        let _ = writeln!(self.text, "{line}");
     }
 }
 

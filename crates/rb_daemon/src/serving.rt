@@ -11,7 +11,7 @@ use rb_address::{Family, Peer, Source, Who};
 use rb_forward::sooner;
 use rb_links::{Places, Turn};
 use rb_policy::{
-    Admission, Again, Brake, Deadlines, Evidence, Next, RETRY, Rate, Round, SOCKET_CALLS, Share,
+    Admission, Again, Brake, Deadlines, Evidence, Next, RETRY, Round, SOCKET_CALLS, Share,
     after_accept, after_all_calls, after_receive, is_behind, origin_of, outcome_of, serves_another,
 };
 use rb_sockets::{Shown, Slice, SocketFault, Sockets, Step, Stream, Table, TableFault, Visitor};
@@ -59,14 +59,6 @@ pub(crate) struct Serving<H: Files> {
     has_table_failed: bool,
 }
 
-/// The brake for a rate, if there is one.
-fn brake_of(alloc: Global, rate: Option<Rate>) -> Result<Option<Brake>, AllocError> {
-    match rate {
-        Some(rate) => Ok(Some(Brake::new(alloc, rate)?)),
-        None => Ok(None),
-    }
-}
-
 /// Whether a datagram of this caller is served that came at this moment: each one is, if there is no brake.
 fn passes(brake: &mut Option<Brake>, now: u64, who: &Who) -> bool {
     match brake {
@@ -76,8 +68,8 @@ fn passes(brake: &mut Option<Brake>, now: u64, who: &Who) -> bool {
 }
 
 impl<H: Files> Serving<H> {
-    /// With this many places for connections, and this many datagrams of strangers in a second if that is limited. An
-    /// error if an allocation is refused.
+    /// With this many places for connections, and what drops datagrams of strangers if they are limited. An error if an
+    /// allocation is refused.
     pub(crate) fn new(
         alloc: Global,
         engine: Engine,
@@ -85,7 +77,7 @@ impl<H: Files> Serving<H> {
         sockets: Sockets,
         places: usize,
         most_due: usize,
-        udp_rate: Option<Rate>,
+        brake: Option<Brake>,
     ) -> Result<Serving<H>, AllocError> {
         let mut datagram = Vec::with_capacity(alloc, LONGEST_DATAGRAM)?;
         datagram.resize(LONGEST_DATAGRAM, 0)?;
@@ -100,7 +92,7 @@ impl<H: Files> Serving<H> {
             sources,
             most_due,
             datagram,
-            brake: brake_of(alloc, udp_rate)?,
+            brake,
             table,
             walk: None,
             share: Share::new(),

@@ -15,8 +15,10 @@ use Rattle.rb_address.specs.declared.who.Trust.TheVariants.{Claims, Local, Stran
 use Rattle.rb_address.specs.Hosts.{is_same_host}
 use Rattle.rb_address.specs.Networks.{octet_bits, bits_of, is_same_front}
 use Rattle.rb_policy.specs.declared.brake.Rate.{Rate}
+use Rattle.rb_policy.specs.declared.places.PlaceKey.{PlaceKey}
+use Rattle.rb_policy.specs.Places.{place_by, network_place, host_place}
 use Rattle.rb_policy.specs.Recents.{one_second}
-use Rattle.rb_policy.specs.Brake.{Datagram, place_by, network_place, host_place, moment_of, served_within, has_room_at, admits, admit, host_counted}
+use Rattle.rb_policy.specs.Brake.{Datagram, moment_of, served_within, has_room_at, admits, admit, host_counted}
 use Rattle.rb_policy.specs.Trusts.{is_home}
 use Rattle.rb_policy.specs.BrakeLaws.{serve_after, serve, is_same_network, served_in_second, NeverMore, NeverHeldBack, HaveOnePlace, AreNetworks, StrangersCount}
 
@@ -25,17 +27,18 @@ use Rattle.rb_policy.specs.BrakeLaws.{serve_after, serve, is_same_network, serve
 same_bytes : (a b : List ℕ) → bytes_eq a b ≡ true → a ≡ b
 same_bytes a b same = (bytes_eq-Decides a b).0 same
 
-one_network : (a b : Host) → is_same_network a b ≡ true → network_place a ≡ network_place b
-one_network (V4 a) (V4 b) same = ap place_by (same_bytes (take 3 a) (take 3 b) same)
-one_network (V6 a) (V6 b) same = ap place_by (same_bytes (take 7 a) (take 7 b) same)
-one_network (V4 a) (V6 b) same = grind (arith, same)
-one_network (V6 a) (V4 b) same = grind (arith, same)
+module _ (key : PlaceKey) where
+  one_network : (a b : Host) → is_same_network a b ≡ true → network_place key a ≡ network_place key b
+  one_network (V4 a) (V4 b) same = ap (place_by key) (same_bytes (take 3 a) (take 3 b) same)
+  one_network (V6 a) (V6 b) same = ap (place_by key) (same_bytes (take 6 a) (take 6 b) same)
+  one_network (V4 a) (V6 b) same = grind (arith, same)
+  one_network (V6 a) (V4 b) same = grind (arith, same)
 
-one_host : (a b : Host) → is_same_host a b ≡ true → host_place a ≡ host_place b
-one_host (V4 a) (V4 b) same = ap place_by (same_bytes a b same)
-one_host (V6 a) (V6 b) same = ap place_by (same_bytes a b same)
-one_host (V4 a) (V6 b) same = grind (arith, same)
-one_host (V6 a) (V4 b) same = grind (arith, same)
+  one_host : (a b : Host) → is_same_host a b ≡ true → host_place key a ≡ host_place key b
+  one_host (V4 a) (V4 b) same = ap (place_by key) (same_bytes a b same)
+  one_host (V6 a) (V6 b) same = ap (place_by key) (same_bytes a b same)
+  one_host (V4 a) (V6 b) same = grind (arith, same)
+  one_host (V6 a) (V4 b) same = grind (arith, same)
 
 pub have_one_place : HaveOnePlace
 have_one_place = record { network = one_network; host = one_host }
@@ -107,45 +110,45 @@ both : (a b : Bool) → (a && b) ≡ true → (a ≡ true) × (b ≡ true)
 both true b e = (refl, e)
 both false b e = grind (arith, e)
 
-module _ (rate : Rate) where
+module _ (key : PlaceKey) (rate : Rate) where
   AreBounded : List Datagram → Type 0
-  AreBounded served = IsBounded network_place rate.network served × IsBounded host_place rate.host served
+  AreBounded served = IsBounded (network_place key) rate.network served × IsBounded (host_place key) rate.host served
 
   module _ (served : List Datagram) (moment : ℕ) (host : Host) where
     abbrev x : Datagram
     x = record { moment = moment; host = host }
 
     abbrev has_room_for : Bool
-    has_room_for = has_room_at network_place rate.network served moment host && has_room_at host_place rate.host served moment host
+    has_room_for = has_room_at (network_place key) rate.network served moment host && has_room_at (host_place key) rate.host served moment host
 
     either : AreBounded served → (b : Bool) → has_room_for ≡ b → AreBounded (if b then served ++ (x ∷ []) else served)
     unfolding AreBounded
     either bounded true has =
         let rooms = both _ _ has in (
-          more network_place rate.network served x (room network_place rate.network served moment host rooms.0) bounded.0,
-          more host_place rate.host served x (room host_place rate.host served moment host rooms.1) bounded.1,
+          more (network_place key) rate.network served x (room (network_place key) rate.network served moment host rooms.0) bounded.0,
+          more (host_place key) rate.host served x (room (host_place key) rate.host served moment host rooms.1) bounded.1,
         )
     either bounded false has = bounded
 
-  step : (served : List Datagram) (now : ℕ) (host : Host) → AreBounded served → AreBounded (admit rate served now host)
+  step : (served : List Datagram) (now : ℕ) (host : Host) → AreBounded served → AreBounded (admit key rate served now host)
   unfolding admit admits
   step served now host bounded = either served (moment_of served now) host bounded _ refl
 
-  run : (served came : List Datagram) → AreBounded served → AreBounded (serve_after rate served came)
+  run : (served came : List Datagram) → AreBounded served → AreBounded (serve_after key rate served came)
   run served [] bounded = bounded
-  run served (d ∷ rest) bounded = run (admit rate served d.moment d.host) rest (step served d.moment d.host bounded)
+  run served (d ∷ rest) bounded = run (admit key rate served d.moment d.host) rest (step served d.moment d.host bounded)
 
-  all : (came : List Datagram) → AreBounded (serve rate came)
+  all : (came : List Datagram) → AreBounded (serve key rate came)
   unfolding AreBounded
-  all came = run [] came (none network_place rate.network, none host_place rate.host)
+  all came = run [] came (none (network_place key) rate.network, none (host_place key) rate.host)
 
-  at_most_network : (came : List Datagram) (since : ℕ) (host : Host) → served_in_second (is_same_network host) since (serve rate came) ≤ rate.network
+  at_most_network : (came : List Datagram) (since : ℕ) (host : Host) → served_in_second (is_same_network host) since (serve key rate came) ≤ rate.network
   unfolding AreBounded
-  at_most_network came since host = at_most network_place rate.network (is_same_network host) (network_place host) since (serve rate came) (λ other same. sym (one_network host other same)) (all came).0
+  at_most_network came since host = at_most (network_place key) rate.network (is_same_network host) (network_place key host) since (serve key rate came) (λ other same. sym (one_network key host other same)) (all came).0
 
-  at_most_host : (came : List Datagram) (since : ℕ) (host : Host) → served_in_second (is_same_host host) since (serve rate came) ≤ rate.host
+  at_most_host : (came : List Datagram) (since : ℕ) (host : Host) → served_in_second (is_same_host host) since (serve key rate came) ≤ rate.host
   unfolding AreBounded
-  at_most_host came since host = at_most host_place rate.host (is_same_host host) (host_place host) since (serve rate came) (λ other same. sym (one_host host other same)) (all came).1
+  at_most_host came since host = at_most (host_place key) rate.host (is_same_host host) (host_place key host) since (serve key rate came) (λ other same. sym (one_host key host other same)) (all came).1
 
 pub never_more : NeverMore
 never_more = record { network = at_most_network; host = at_most_host }
@@ -161,7 +164,7 @@ neither n m a b e = split (nat_lt a n) refl
 
 pub never_held_back : NeverHeldBack
 unfolding admits
-never_held_back rate came now host dropped = neither rate.network rate.host _ _ dropped
+never_held_back key rate came now host dropped = neither rate.network rate.host _ _ dropped
 
 -- ---- networks
 
@@ -194,7 +197,7 @@ front (suc n) (x ∷ a) (y ∷ b) long_a long_b bytes_a bytes_b =
 
 pub are_networks : AreNetworks
 are_networks (V4 a) (V4 b) is_a is_b = front 3 a b (omega (arith, is_a.count)) (omega (arith, is_b.count)) is_a.small is_b.small
-are_networks (V6 a) (V6 b) is_a is_b = front 7 a b (omega (arith, is_a.count)) (omega (arith, is_b.count)) is_a.small is_b.small
+are_networks (V6 a) (V6 b) is_a is_b = front 6 a b (omega (arith, is_a.count)) (omega (arith, is_b.count)) is_a.small is_b.small
 are_networks (V4 a) (V6 b) is_a is_b = refl
 are_networks (V6 a) (V4 b) is_a is_b = refl
 

@@ -7,8 +7,10 @@ use Rattle.std.proofs.lemmas.List.Elements.{filter-append}
 use Rattle.std.proofs.lemmas.List.Sums.{sum_by-cons, count_by-le-length}
 use Rattle.rb_address.specs.declared.host.Host.{Host}
 use Rattle.rb_policy.specs.declared.brake.Rate.{Rate}
+use Rattle.rb_policy.specs.declared.places.PlaceKey.{PlaceKey}
+use Rattle.rb_policy.specs.Places.{table_places, network_place, host_place}
 use Rattle.rb_policy.specs.Recents.{RecentMoments, one_second, last_of, is_first_old, has_room, noted, nothing_of}
-use Rattle.rb_policy.specs.Brake.{Datagram, table_places, network_place, host_place, latest_of, moment_of, served_within, has_room_at, admits, admit, moments_at, IsTable, AreInOrder, BrakeTables, StandsForServed}
+use Rattle.rb_policy.specs.Brake.{Datagram, latest_of, moment_of, served_within, has_room_at, admits, admit, moments_at, IsTable, AreInOrder, BrakeTables, StandsForServed}
 
 -- ---- the last of many moments
 
@@ -204,32 +206,32 @@ nowhere : RecentMoments
 nowhere = record { most = 0; moments = [] }
 
 module _ (brake : BrakeTables) (served : List Datagram) (stands : StandsForServed brake served) (now : ℕ) (host : Host) where
-  module _ (moment network place : ℕ) (moment_is : moment ≡ max now brake.latest) (network_is : network ≡ network_place host) (place_is : place ≡ host_place host) (network_below : network < table_places) (place_below : place < table_places) where
+  module _ (moment network place : ℕ) (moment_is : moment ≡ max now brake.latest) (network_is : network ≡ network_place brake.key host) (place_is : place ≡ host_place brake.key host) (network_below : network < table_places) (place_below : place < table_places) where
     moment_same : moment ≡ moment_of served now
     moment_same = moment_is ∙ ap (max now) stands.latest
 
-    network_room : has_room (get_or brake.networks network nowhere) moment ≡ has_room_at network_place brake.rate.network served (moment_of served now) host
+    network_room : has_room (get_or brake.networks network nowhere) moment ≡ has_room_at (network_place brake.key) brake.rate.network served (moment_of served now) host
     network_room =
-        has_room_is network_place brake.rate.network brake.networks served stands.networks moment network nowhere stands.in_order network_below
-        ∙ ap (λ (m : ℕ). nat_lt (served_within network_place network m served) brake.rate.network) moment_same
-        ∙ ap (λ (p : ℕ). nat_lt (served_within network_place p (moment_of served now) served) brake.rate.network) network_is
+        has_room_is (network_place brake.key) brake.rate.network brake.networks served stands.networks moment network nowhere stands.in_order network_below
+        ∙ ap (λ (m : ℕ). nat_lt (served_within (network_place brake.key) network m served) brake.rate.network) moment_same
+        ∙ ap (λ (p : ℕ). nat_lt (served_within (network_place brake.key) p (moment_of served now) served) brake.rate.network) network_is
 
-    host_room : has_room (get_or brake.hosts place nowhere) moment ≡ has_room_at host_place brake.rate.host served (moment_of served now) host
+    host_room : has_room (get_or brake.hosts place nowhere) moment ≡ has_room_at (host_place brake.key) brake.rate.host served (moment_of served now) host
     host_room =
-        has_room_is host_place brake.rate.host brake.hosts served stands.hosts moment place nowhere stands.in_order place_below
-        ∙ ap (λ (m : ℕ). nat_lt (served_within host_place place m served) brake.rate.host) moment_same
-        ∙ ap (λ (p : ℕ). nat_lt (served_within host_place p (moment_of served now) served) brake.rate.host) place_is
+        has_room_is (host_place brake.key) brake.rate.host brake.hosts served stands.hosts moment place nowhere stands.in_order place_below
+        ∙ ap (λ (m : ℕ). nat_lt (served_within (host_place brake.key) place m served) brake.rate.host) moment_same
+        ∙ ap (λ (p : ℕ). nat_lt (served_within (host_place brake.key) p (moment_of served now) served) brake.rate.host) place_is
 
     -- the tables decide
-    pub decides : (b : Bool) → ((d : RecentMoments) → b ≡ (has_room (get_or brake.networks network d) moment && has_room (get_or brake.hosts place d) moment)) → b ≡ admits brake.rate served now host
+    pub decides : (b : Bool) → ((d : RecentMoments) → b ≡ (has_room (get_or brake.networks network d) moment && has_room (get_or brake.hosts place d) moment)) → b ≡ admits brake.key brake.rate served now host
     unfolding admits
     decides b is =
         is nowhere
         ∙ ap (λ (r : Bool). r && has_room (get_or brake.hosts place nowhere) moment) network_room
-        ∙ ap (λ (r : Bool). has_room_at network_place brake.rate.network served (moment_of served now) host && r) host_room
+        ∙ ap (λ (r : Bool). has_room_at (network_place brake.key) brake.rate.network served (moment_of served now) host && r) host_room
 
     -- one that is dropped leaves all as it was
-    pub stands_where_dropped : false ≡ admits brake.rate served now host → StandsForServed brake (admit brake.rate served now host)
+    pub stands_where_dropped : false ≡ admits brake.key brake.rate served now host → StandsForServed brake (admit brake.key brake.rate served now host)
     unfolding admit
     stands_where_dropped dropped = subst (λ (b : Bool). StandsForServed brake (if b then served ++ (record { moment = moment_of served now; host = host } ∷ []) else served)) dropped stands
 
@@ -240,24 +242,24 @@ module _ (brake : BrakeTables) (served : List Datagram) (stands : StandsForServe
         (networks_are : (d : RecentMoments) → networks ≡ set brake.networks network (noted (get_or brake.networks network d) moment))
         (hosts_are : (d : RecentMoments) → hosts ≡ set brake.hosts place (noted (get_or brake.hosts place d) moment)) where
       abbrev after : BrakeTables
-      after = record { rate = brake.rate; networks = networks; hosts = hosts; latest = moment }
+      after = record { key = brake.key; rate = brake.rate; networks = networks; hosts = hosts; latest = moment }
 
       latest_within : latest_of served ≤ moment
       latest_within = omega (arith, moment_is, stands.latest)
 
-      networks_table : IsTable network_place brake.rate.network networks (served ++ x ∷ [])
+      networks_table : IsTable (network_place brake.key) brake.rate.network networks (served ++ x ∷ [])
       unfolding x
       networks_table =
           let at = ap (λ (p : ℕ). set brake.networks p (noted (get_or brake.networks p nowhere) moment)) network_is in
-          subst (λ (t : List RecentMoments). IsTable network_place brake.rate.network t (served ++ x ∷ [])) (sym (networks_are nowhere ∙ at))
-          (is_noted network_place brake.rate.network brake.networks served stands.networks x nowhere (subst (λ (p : ℕ). p < table_places) network_is network_below))
+          subst (λ (t : List RecentMoments). IsTable (network_place brake.key) brake.rate.network t (served ++ x ∷ [])) (sym (networks_are nowhere ∙ at))
+          (is_noted (network_place brake.key) brake.rate.network brake.networks served stands.networks x nowhere (subst (λ (p : ℕ). p < table_places) network_is network_below))
 
-      hosts_table : IsTable host_place brake.rate.host hosts (served ++ x ∷ [])
+      hosts_table : IsTable (host_place brake.key) brake.rate.host hosts (served ++ x ∷ [])
       unfolding x
       hosts_table =
           let at = ap (λ (p : ℕ). set brake.hosts p (noted (get_or brake.hosts p nowhere) moment)) place_is in
-          subst (λ (t : List RecentMoments). IsTable host_place brake.rate.host t (served ++ x ∷ [])) (sym (hosts_are nowhere ∙ at))
-          (is_noted host_place brake.rate.host brake.hosts served stands.hosts x nowhere (subst (λ (p : ℕ). p < table_places) place_is place_below))
+          subst (λ (t : List RecentMoments). IsTable (host_place brake.key) brake.rate.host t (served ++ x ∷ [])) (sym (hosts_are nowhere ∙ at))
+          (is_noted (host_place brake.key) brake.rate.host brake.hosts served stands.hosts x nowhere (subst (λ (p : ℕ). p < table_places) place_is place_below))
 
       stands_after : StandsForServed after (served ++ x ∷ [])
       unfolding x
@@ -269,7 +271,7 @@ module _ (brake : BrakeTables) (served : List Datagram) (stands : StandsForServe
       }
 
       -- one that is served is the last
-      pub stands_where_served : true ≡ admits brake.rate served now host → StandsForServed after (admit brake.rate served now host)
+      pub stands_where_served : true ≡ admits brake.key brake.rate served now host → StandsForServed after (admit brake.key brake.rate served now host)
       unfolding admit x
       stands_where_served admitted =
           subst (λ (b : Bool). StandsForServed after (if b then served ++ (record { moment = moment_of served now; host = host } ∷ []) else served)) admitted
@@ -283,10 +285,10 @@ new_is_table place_of most = record {
       ∙ ap (λ (ms : List ℕ). let r : RecentMoments = record { most = most; moments = ms } in r) (sym (short most [] (omega arith)));
 }
 
-pub new_stands : (rate : Rate) (networks hosts : List RecentMoments) → networks ≡ replicate table_places (nothing_of rate.network) → hosts ≡ replicate table_places (nothing_of rate.host) → StandsForServed (record { rate = rate; networks = networks; hosts = hosts; latest = 0 }) []
-new_stands rate networks hosts networks_are hosts_are = record {
-  networks = subst (λ (t : List RecentMoments). IsTable network_place rate.network t []) (sym networks_are) (new_is_table network_place rate.network);
-  hosts = subst (λ (t : List RecentMoments). IsTable host_place rate.host t []) (sym hosts_are) (new_is_table host_place rate.host);
+pub new_stands : (key : PlaceKey) (rate : Rate) (networks hosts : List RecentMoments) → networks ≡ replicate table_places (nothing_of rate.network) → hosts ≡ replicate table_places (nothing_of rate.host) → StandsForServed (record { key = key; rate = rate; networks = networks; hosts = hosts; latest = 0 }) []
+new_stands key rate networks hosts networks_are hosts_are = record {
+  networks = subst (λ (t : List RecentMoments). IsTable (network_place key) rate.network t []) (sym networks_are) (new_is_table (network_place key) rate.network);
+  hosts = subst (λ (t : List RecentMoments). IsTable (host_place key) rate.host t []) (sym hosts_are) (new_is_table (host_place key) rate.host);
   latest = refl;
   in_order = tt;
 }

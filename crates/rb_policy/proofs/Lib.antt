@@ -1,5 +1,6 @@
 mod BrakeLaws
 mod Brakes
+mod CallerRates
 mod DoorLaws
 mod Doors
 mod Candidates

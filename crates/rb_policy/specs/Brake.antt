@@ -1,38 +1,17 @@
 -- How many datagrams are served in a second: of one network, and of one host.
-use Rattle.std.specs.Prelude.{◌≡◌, ℕ, ◌+◌, ◌*◌, ◌%◌, ◌<◌, ◌≤◌, ◌==◌, nat_lt, max, Bool, true, ◌&&◌, Option, Some, None, if◌then◌else◌, List, [], ◌∷◌, ◌++◌, take, map, length, slice_index_or}
-use Rattle.std.specs.List.{fold, count_by, filter, AllByRecursion}
+use Rattle.std.specs.Prelude.{◌≡◌, ℕ, ◌+◌, ◌<◌, ◌≤◌, ◌==◌, nat_lt, max, Bool, true, ◌&&◌, Option, Some, None, if◌then◌else◌, List, [], ◌∷◌, ◌++◌, map, length, slice_index_or}
+use Rattle.std.specs.List.{count_by, filter, AllByRecursion}
 use Rattle.rb_address.specs.declared.host.Host.{Host}
-use Rattle.rb_address.specs.declared.host.Host.TheVariants.{V4, V6}
 use Rattle.rb_address.specs.declared.who.Source.{Source}
 use Rattle.rb_address.specs.declared.who.Source.TheVariants.{Inet, Local}
 use Rattle.rb_address.specs.declared.who.Trust.{Trust}
 use Rattle.rb_address.specs.declared.who.Trust.TheVariants as Trusts
 use Rattle.rb_address.specs.declared.who.Trust.TheVariants.{Claims, Stranger}
 use Rattle.rb_address.specs.declared.who.Who.{Who}
-use Rattle.rb_address.specs.Hosts.{octets_of_host}
 use Rattle.rb_policy.specs.declared.brake.Rate.{Rate}
+use Rattle.rb_policy.specs.declared.places.PlaceKey.{PlaceKey}
+use Rattle.rb_policy.specs.Places.{table_places, network_place, host_place}
 use Rattle.rb_policy.specs.Recents.{RecentMoments, has_room, one_second, last_of}
-
--- ---- places
-
--- how many places networks are told apart by, and how many hosts are
-abbrev pub table_places : ℕ
-table_places = 1024
-
--- a place by some bytes
-abbrev pub place_by : List ℕ → ℕ
-place_by octets = fold (λ place octet. (place * 31 + octet) % table_places) 0 octets
-
--- the bytes that hosts of one network begin with: IPv4 /24, IPv6 /56
-abbrev pub network_octets : Host → List ℕ
-network_octets (V4 octets) = take 3 octets
-network_octets (V6 octets) = take 7 octets
-
-abbrev pub network_place : Host → ℕ
-network_place host = place_by (network_octets host)
-
-abbrev pub host_place : Host → ℕ
-host_place host = place_by (octets_of_host host)
 
 -- ---- what was served
 
@@ -57,18 +36,19 @@ served_within place_of place now served = count_by (λ d. place_of d.host == pla
 abbrev pub has_room_at : (Host → ℕ) → ℕ → List Datagram → ℕ → Host → Bool
 has_room_at place_of most served now host = nat_lt (served_within place_of (place_of host) now served) most
 
-abbrev pub admits_at : Rate → List Datagram → ℕ → Host → Bool
-admits_at rate served now host = has_room_at network_place rate.network served now host && has_room_at host_place rate.host served now host
+abbrev pub admits_at : PlaceKey → Rate → List Datagram → ℕ → Host → Bool
+admits_at key rate served now host =
+    has_room_at (network_place key) rate.network served now host && has_room_at (host_place key) rate.host served now host
 
--- whether a datagram is served, after these that were
--- BRAKE-1
-unfoldable pub admits : Rate → List Datagram → ℕ → Host → Bool
-admits rate served now host = admits_at rate served (moment_of served now) host
+-- BRAKE-1: With `--udp-rate`, of strangers' datagrams at most as many are served in a second as the rate has, of one
+-- network (IPv4 /24, IPv6 /48) and of one host; others are dropped, and are not counted.
+unfoldable pub admits : PlaceKey → Rate → List Datagram → ℕ → Host → Bool
+admits key rate served now host = admits_at key rate served (moment_of served now) host
 
 -- what was served then
-unfoldable pub admit : Rate → List Datagram → ℕ → Host → List Datagram
-admit rate served now host =
-    if admits rate served now host then served ++ (record { moment = moment_of served now; host = host } ∷ []) else served
+unfoldable pub admit : PlaceKey → Rate → List Datagram → ℕ → Host → List Datagram
+admit key rate served now host =
+    if admits key rate served now host then served ++ (record { moment = moment_of served now; host = host } ∷ []) else served
 
 -- ---- whose datagrams count
 
@@ -80,20 +60,20 @@ host_counted Claims source = None
 host_counted (Trusts.Local owner) source = None
 
 -- a stranger's is served if it is admitted, and each other one always
-abbrev pub passes_by : Rate → List Datagram → ℕ → Option Host → Bool
-passes_by rate served now None = true
-passes_by rate served now (Some host) = admits rate served now host
+abbrev pub passes_by : PlaceKey → Rate → List Datagram → ℕ → Option Host → Bool
+passes_by key rate served now None = true
+passes_by key rate served now (Some host) = admits key rate served now host
 
-abbrev pub passes : Rate → List Datagram → ℕ → Who → Bool
-passes rate served now who = passes_by rate served now (host_counted who.trust who.source)
+abbrev pub passes : PlaceKey → Rate → List Datagram → ℕ → Who → Bool
+passes key rate served now who = passes_by key rate served now (host_counted who.trust who.source)
 
 -- what was served of strangers then
-abbrev pub pass_by : Rate → List Datagram → ℕ → Option Host → List Datagram
-pass_by rate served now None = served
-pass_by rate served now (Some host) = admit rate served now host
+abbrev pub pass_by : PlaceKey → Rate → List Datagram → ℕ → Option Host → List Datagram
+pass_by key rate served now None = served
+pass_by key rate served now (Some host) = admit key rate served now host
 
-abbrev pub pass : Rate → List Datagram → ℕ → Who → List Datagram
-pass rate served now who = pass_by rate served now (host_counted who.trust who.source)
+abbrev pub pass : PlaceKey → Rate → List Datagram → ℕ → Who → List Datagram
+pass key rate served now who = pass_by key rate served now (host_counted who.trust who.source)
 
 -- ---- what a brake keeps of it
 
@@ -114,6 +94,7 @@ AreInOrder (moment ∷ more) = AllByRecursion (λ later. moment ≤ later) more 
 
 -- what a contract sees of a brake
 pub record BrakeTables : Type 0 where
+  pub key : PlaceKey
   pub rate : Rate
   pub networks : List RecentMoments
   pub hosts : List RecentMoments
@@ -126,8 +107,8 @@ has_room_for brake network host now other =
 
 -- The brake has what it needs to know of these, and they are all that were served.
 pub record StandsForServed (brake : BrakeTables) (served : List Datagram) : Type 0 where
-  pub networks : IsTable network_place brake.rate.network brake.networks served
-  pub hosts : IsTable host_place brake.rate.host brake.hosts served
+  pub networks : IsTable (network_place brake.key) brake.rate.network brake.networks served
+  pub hosts : IsTable (host_place brake.key) brake.rate.host brake.hosts served
   pub latest : brake.latest ≡ latest_of served
   pub in_order : AreInOrder (map (λ d. d.moment) served)
 

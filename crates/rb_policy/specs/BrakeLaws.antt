@@ -1,5 +1,5 @@
 -- What follows of how many datagrams are served.
-use Rattle.std.specs.Prelude.{◌≡◌, ℕ, ◌+◌, ◌≤◌, ◌⊎◌, nat_lt, nat_le, Bool, true, false, ◌&&◌, ◌||◌, if◌then◌else◌, Some, None, List, [], ◌∷◌, take, bytes_eq}
+use Rattle.std.specs.Prelude.{◌≡◌, ◌≢◌, ℕ, ◌+◌, ◌≤◌, ◌⊎◌, nat_lt, nat_le, Bool, true, false, ◌&&◌, ◌||◌, if◌then◌else◌, Some, None, List, [], ◌∷◌, take, bytes_eq}
 use Rattle.std.specs.List.{count_by}
 use Rattle.rb_address.specs.declared.host.Host.{Host}
 use Rattle.rb_address.specs.declared.host.Host.TheVariants.{V4, V6}
@@ -11,21 +11,24 @@ use Rattle.rb_policy.specs.declared.trust.Entrance.TheVariants.{Udp}
 use Rattle.rb_policy.specs.declared.trust.Beliefs.{Beliefs}
 use Rattle.rb_policy.specs.Trusts.{trust_of, is_home}
 use Rattle.rb_policy.specs.declared.brake.Rate.{Rate}
+use Rattle.rb_policy.specs.declared.places.PlaceKey.{PlaceKey}
+use Rattle.rb_policy.specs.Places.{network_place, host_place}
 use Rattle.rb_policy.specs.Recents.{one_second}
-use Rattle.rb_policy.specs.Brake.{Datagram, network_place, host_place, moment_of, served_within, admits, admit, host_counted}
+use Rattle.rb_policy.specs.Brake.{Datagram, moment_of, served_within, admits, admit, host_counted}
 
 -- what is served of datagrams that came in this order, after some that were
-abbrev pub serve_after : Rate → List Datagram → List Datagram → List Datagram
-serve_after rate served [] = served
-serve_after rate served (datagram ∷ more) = serve_after rate (admit rate served datagram.moment datagram.host) more
+abbrev pub serve_after : PlaceKey → Rate → List Datagram → List Datagram → List Datagram
+serve_after key rate served [] = served
+serve_after key rate served (datagram ∷ more) =
+    serve_after key rate (admit key rate served datagram.moment datagram.host) more
 
-abbrev pub serve : Rate → List Datagram → List Datagram
-serve rate came = serve_after rate [] came
+abbrev pub serve : PlaceKey → Rate → List Datagram → List Datagram
+serve key rate came = serve_after key rate [] came
 
--- whether two hosts are of one network: IPv4 /24, IPv6 /56
+-- whether two hosts are of one network: IPv4 /24, IPv6 /48
 abbrev pub is_same_network : Host → Host → Bool
 is_same_network (V4 a) (V4 b) = bytes_eq (take 3 a) (take 3 b)
-is_same_network (V6 a) (V6 b) = bytes_eq (take 7 a) (take 7 b)
+is_same_network (V6 a) (V6 b) = bytes_eq (take 6 a) (take 6 b)
 is_same_network (V4 a) (V6 b) = false
 is_same_network (V6 a) (V4 b) = false
 
@@ -37,37 +40,42 @@ served_in_second is_one since served =
 -- BRAKE-1: With `--udp-rate`, of strangers' datagrams at most as many are served in a second as the
 -- rate has, of one network (IPv4 /24, IPv6 /56) and of one host; others are dropped, and are not
 -- counted.
+-- In no second are more served of one network, or of one host, whatever the key.
+-- BRAKE-1
 pub record NeverMore : Type 0 where
-  pub network : (rate : Rate) (came : List Datagram) (since : ℕ) (host : Host)
-      → served_in_second (is_same_network host) since (serve rate came) ≤ rate.network
-  pub host : (rate : Rate) (came : List Datagram) (since : ℕ) (host : Host)
-      → served_in_second (is_same_host host) since (serve rate came) ≤ rate.host
+  pub network : (key : PlaceKey) (rate : Rate) (came : List Datagram) (since : ℕ) (host : Host)
+      → served_in_second (is_same_network host) since (serve key rate came) ≤ rate.network
+  pub host : (key : PlaceKey) (rate : Rate) (came : List Datagram) (since : ℕ) (host : Host)
+      → served_in_second (is_same_host host) since (serve key rate came) ≤ rate.host
 
 -- this many were served, of the place of its network or of its host, within the second before it
-abbrev pub WereServed : Rate → List Datagram → ℕ → Host → Type 0
-WereServed rate served now host =
-    (rate.network ≤ served_within network_place (network_place host) now served)
-    ⊎ (rate.host ≤ served_within host_place (host_place host) now served)
+abbrev pub WereServed : PlaceKey → Rate → List Datagram → ℕ → Host → Type 0
+WereServed key rate served now host =
+    (rate.network ≤ served_within (network_place key) (network_place key host) now served)
+    ⊎ (rate.host ≤ served_within (host_place key) (host_place key host) now served)
 
 -- BRAKE-2: With `--udp-rate` a stranger's datagram is dropped only if within the second before as
 -- many were served as the rate has, of the place of its network or of its host; each has one place
 -- of 1,024.
+-- BRAKE-2: With `--udp-rate` a stranger's datagram is dropped only if within the second before as many were served as the
+-- rate has, of the place of its network or of its host; each has one place of 1,024.
 abbrev pub NeverHeldBack : Type 0
 NeverHeldBack =
-    (rate : Rate) (came : List Datagram) (now : ℕ) (host : Host) → admits rate (serve rate came) now host ≡ false
-    → WereServed rate (serve rate came) (moment_of (serve rate came) now) host
+    (key : PlaceKey) (rate : Rate) (came : List Datagram) (now : ℕ) (host : Host)
+    → admits key rate (serve key rate came) now host ≡ false
+    → WereServed key rate (serve key rate came) (moment_of (serve key rate came) now) host
 
 -- Networks are not split over places, nor are hosts.
 -- BRAKE-2
 pub record HaveOnePlace : Type 0 where
-  pub network : (a b : Host) → is_same_network a b ≡ true → network_place a ≡ network_place b
-  pub host : (a b : Host) → is_same_host a b ≡ true → host_place a ≡ host_place b
+  pub network : (key : PlaceKey) (a b : Host) → is_same_network a b ≡ true → network_place key a ≡ network_place key b
+  pub host : (key : PlaceKey) (a b : Host) → is_same_host a b ≡ true → host_place key a ≡ host_place key b
 
 abbrev pub network_bits : Host → ℕ
 network_bits (V4 octets) = 24
-network_bits (V6 octets) = 56
+network_bits (V6 octets) = 48
 
--- They are the networks of 24 bits of IPv4, and of 56 of IPv6.
+-- They are the networks of 24 bits of IPv4, and of 48 of IPv6.
 -- BRAKE-1
 abbrev pub AreNetworks : Type 0
 AreNetworks = (a b : Host) → IsBytesOf a → IsBytesOf b → has_front a (network_bits a) b ≡ is_same_network a b
@@ -86,10 +94,22 @@ StrangersCount =
 abbrev pub at : ℕ → ℕ → ℕ → Datagram
 at moment third last = record { moment = moment; host = V4 (192 ∷ 0 ∷ third ∷ last ∷ []) }
 
+abbrev pub first_key : PlaceKey
+first_key = record { point = 2; factor = 1 }
+
+abbrev pub second_key : PlaceKey
+second_key = record { point = 257; factor = 65537 }
+
 -- With two for each network and one for each host, the second of 192.0.2.1 is dropped within the second, and so is the
 -- third of 192.0.2.0/24. 192.0.3.1 is of another network.
 abbrev pub OneSecondIsServed : Type 0
 OneSecondIsServed =
-    serve (record { network = 2; host = 1 })
+    serve second_key (record { network = 2; host = 1 })
     (at 5000 2 1 ∷ at 5000 2 1 ∷ at 5200 2 2 ∷ at 5999 2 3 ∷ at 5999 3 1 ∷ at 6000 2 1 ∷ at 6000 2 3 ∷ at 6200 2 3 ∷ [])
     ≡ at 5000 2 1 ∷ at 5200 2 2 ∷ at 5999 3 1 ∷ at 6000 2 1 ∷ at 6200 2 3 ∷ []
+
+-- 10.0.2.1 and 10.0.1.3 share a place under one key, and not under another.
+-- BRAKE-4
+pub record PlacesGoByTheKey : Type 0 where
+  pub shared : host_place first_key (V4 (10 ∷ 0 ∷ 2 ∷ 1 ∷ [])) ≡ host_place first_key (V4 (10 ∷ 0 ∷ 1 ∷ 3 ∷ []))
+  pub apart : host_place second_key (V4 (10 ∷ 0 ∷ 2 ∷ 1 ∷ [])) ≢ host_place second_key (V4 (10 ∷ 0 ∷ 1 ∷ 3 ∷ []))

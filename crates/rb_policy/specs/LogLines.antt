@@ -1,12 +1,15 @@
 -- The lines of a log.
-use Rattle.std.specs.Prelude.{ℕ, nat_le, ◌&&◌, Bool, true, false, if◌then◌else◌, List, [], ◌∷◌, ◌++◌, map, take, decimal, codes}
+use Rattle.std.specs.Prelude.{ℕ, nat_le, ◌&&◌, Bool, true, false, if◌then◌else◌, List, [], ◌∷◌, ◌++◌, map, take, decimal, codes, Option, Some, None}
 use Rattle.rb_address.specs.declared.who.Owner.{Owner}
 use Rattle.rb_address.specs.declared.who.Trust.{Trust}
 use Rattle.rb_address.specs.declared.who.Trust.TheVariants as trusts
 use Rattle.rb_address.specs.declared.who.Who.{Who}
 use Rattle.rb_address.specs.Callers.{owner_text as text_of_owner, source_text}
+use Rattle.rb_address.specs.Peers.{bare_host_text}
 use Rattle.rb_rpc.specs.declared.reply.ReplyStatus.{ReplyStatus}
 use Rattle.rb_rpc.specs.declared.reply.ReplyStatus.TheVariants.{Success, ProgUnavail, ProgMismatch, ProcUnavail, GarbageArgs, SystemErr, RpcMismatch, AuthError}
+use Rattle.rb_policy.specs.declared.caller_rate.LogCaller.{LogCaller}
+use Rattle.rb_policy.specs.declared.caller_rate.LogCaller.TheVariants as callers
 use Rattle.rb_policy.specs.declared.log_lines.LogKind.{LogKind}
 use Rattle.rb_policy.specs.declared.log_lines.LogKind.TheVariants.{Accepted, Refused, Calls, GivenUp}
 use Rattle.rb_policy.specs.declared.log_lines.ChangeLine.{ChangeLine}
@@ -67,6 +70,13 @@ kind_text Refused = codes "refused changes"
 kind_text Calls = codes "refused calls"
 kind_text GivenUp = codes "connections given up"
 
+-- whose lines were left out, if that is known of one
+-- LOG-5
+abbrev pub whose_part : Option LogCaller → List ℕ
+whose_part None = []
+whose_part (Some (callers.Owner owner)) = codes " of " ++ owner_text owner
+whose_part (Some (callers.Host host)) = codes " by " ++ bare_host_text host
+
 -- ---- lines
 
 -- the address of a SET
@@ -81,7 +91,9 @@ row_part line =
     decimal line.prog ++ codes " " ++ decimal line.vers ++ codes " " ++ shown_text line.netid.now
     ++ address_part line.adds line.addr.now
 
--- LOG-3
+-- LOG-3: A line of the log says what a SET or an UNSET is about, as whom the caller registers, from where it called and
+-- whether it was accepted; or of a refused call from where and why; or whose connection was given up; or how many lines of a
+-- kind were left out, and of whom.
 abbrev pub change_line : ChangeLine → List ℕ
 change_line line =
     codes "rpcbind: " ++ changes_text line.adds ++ codes " " ++ row_part line
@@ -94,4 +106,5 @@ abbrev pub log_line : LogLine → List ℕ
 log_line (lines.Change change) = change_line change
 log_line (lines.RefusedCall who status) = codes "rpcbind: call by " ++ caller_text who ++ codes " refused: " ++ status_text status
 log_line (lines.GivenUp source) = codes "rpcbind: connection of " ++ source_text source ++ codes " given up"
-log_line (lines.More count kind) = codes "rpcbind: " ++ decimal count ++ codes " more " ++ kind_text kind
+log_line (lines.More left_out kind) =
+    codes "rpcbind: " ++ decimal left_out.count ++ codes " more " ++ kind_text kind ++ whose_part left_out.caller

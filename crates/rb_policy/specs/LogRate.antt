@@ -1,55 +1,87 @@
 -- How many lines of a kind a log gets in a second.
-use Rattle.std.specs.Prelude.{ℕ, ◌+◌, ◌-◌, ◌*◌, ◌^◌, ◌/◌, ◌==◌, nat_lt, min, Bool, if◌then◌else◌, Option, Some, None}
+use Rattle.std.specs.Prelude.{ℕ, ◌+◌, ◌/◌, nat_le, Bool, Option, Some, None}
+use Rattle.rb_address.specs.declared.who.Owner.TheVariants.{Unknown}
+use Rattle.rb_address.specs.declared.who.Source.{Source}
+use Rattle.rb_address.specs.declared.who.Source.TheVariants.{Inet, Local}
+use Rattle.rb_address.specs.declared.who.Trust.{Trust}
+use Rattle.rb_address.specs.declared.who.Trust.TheVariants as trusts
+use Rattle.rb_forward.specs.Deadlines.{sooner_of}
+use Rattle.rb_policy.specs.declared.caller_rate.LogCaller.{LogCaller}
+use Rattle.rb_policy.specs.declared.caller_rate.LogCaller.TheVariants as callers
+use Rattle.rb_policy.specs.declared.caller_rate.CallerRate.{CallerRate}
+use Rattle.rb_policy.specs.declared.caller_rate.LeftOut.{LeftOut}
+use Rattle.rb_policy.specs.declared.log_lines.LogKind.{LogKind}
+use Rattle.rb_policy.specs.declared.log_lines.LogKind.TheVariants.{Accepted, Refused, Calls, GivenUp}
 use Rattle.rb_policy.specs.declared.log_rate.LogRate.{LogRate}
-use Rattle.rb_policy.specs.Recents.{one_second}
+use Rattle.rb_policy.specs.CallerRates.{rate_new, rate_after, tells, rate_told, next_line}
 
--- the most lines of a kind in a second
-abbrev pub lines_a_second : ℕ
-lines_a_second = 20
+-- ---- whose lines they are
 
-abbrev pub second_of : ℕ → ℕ
-second_of now = now / one_second
+abbrev pub caller_at : Source → LogCaller
+caller_at (Inet peer) = callers.Host peer.host
+caller_at Local = callers.Owner Unknown
 
-abbrev pub new_rate : LogRate
-new_rate = record { second = 0; written = 0; left_out = 0 }
+-- LOG-1
+abbrev pub caller_of : Trust → Source → LogCaller
+caller_of (trusts.Local owner) source = callers.Owner owner
+caller_of trusts.Claims source = caller_at source
+caller_of trusts.Stranger source = caller_at source
 
--- what is known at a moment: in another second than that of the last line, none is written
-abbrev pub rate_at : LogRate → ℕ → LogRate
-rate_at rate now =
-    if second_of now == rate.second then rate
-    else record { second = second_of now; written = 0; left_out = rate.left_out }
+-- ---- callers of this machine, and others
 
--- whether the log gets a line: so long as it has fewer than the most of this second
 -- LOG-1: Of each kind of lines, accepted changes, refused changes, refused calls and connections
 -- that are given up, the log gets at most 20 in each whole second of the daemon's clock, beside the
 -- line on those left out. How many are left out is told in a later second, from the end of theirs
 -- on.
-abbrev pub gets_line : LogRate → ℕ → Bool
-gets_line rate now = nat_lt (rate_at rate now).written lines_a_second
+abbrev pub new_log : LogRate
+new_log = record { owners = rate_new; hosts = rate_new }
 
--- one more is written
-abbrev pub with_line : LogRate → LogRate
-with_line rate = record rate { written = rate.written + 1 }
+-- LOG-4
+abbrev pub rate_for : LogRate → LogCaller → CallerRate
+rate_for log (callers.Owner owner) = log.owners
+rate_for log (callers.Host host) = log.hosts
 
--- one more is left out; the greatest count stays
-abbrev pub without_line : LogRate → LogRate
-without_line rate = record rate { left_out = min (rate.left_out + 1) (2 ^ 64 - 1) }
+abbrev pub log_after : LogRate → ℕ → LogCaller → Bool → LogRate
+log_after log now (callers.Owner owner) has_room = record log { owners = rate_after log.owners now (callers.Owner owner) has_room }
+log_after log now (callers.Host host) has_room = record log { hosts = rate_after log.hosts now (callers.Host host) has_room }
 
--- LOG-1
-abbrev pub rate_after : LogRate → ℕ → LogRate
-rate_after rate now = if gets_line rate now then with_line (rate_at rate now) else without_line (rate_at rate now)
+abbrev pub or_of_hosts : LogRate → ℕ → Option LeftOut → Option LeftOut
+or_of_hosts log now (Some left_out) = Some left_out
+or_of_hosts log now None = tells log.hosts now
 
--- how many are told as left out: none in the second of the last line
--- LOG-1
-abbrev pub tells : LogRate → ℕ → ℕ
-tells rate now = if second_of now == rate.second then 0 else rate.left_out
+-- LOG-5
+abbrev pub log_tells : LogRate → ℕ → Option LeftOut
+log_tells log now = or_of_hosts log now (tells log.owners now)
 
--- LOG-1
-abbrev pub rate_told : LogRate → ℕ → LogRate
-rate_told rate now = if second_of now == rate.second then rate else record rate { left_out = 0 }
+abbrev pub told_then : LogRate → ℕ → Option LeftOut → LogRate
+told_then log now (Some left_out) = record log { owners = rate_told log.owners now }
+told_then log now None = record { owners = rate_told log.owners now; hosts = rate_told log.hosts now }
 
--- the moment from which they are told, if some were left out: the end of their second, or the greatest one
--- LOG-1
-abbrev pub next_line : LogRate → Option ℕ
-next_line rate =
-    if rate.left_out == 0 then None else Some (min ((rate.second + 1) * one_second) (2 ^ 64 - 1))
+-- LOG-5
+abbrev pub log_told : LogRate → ℕ → LogRate
+log_told log now = told_then log now (tells log.owners now)
+
+-- LOG-5
+abbrev pub next_log_line : LogRate → Option ℕ
+next_log_line log = sooner_of (next_line log.owners) (next_line log.hosts)
+
+-- ---- the room of a turn
+
+-- the most bytes of the lines that a turn adds
+abbrev pub log_room : ℕ
+log_room = 28160
+
+-- the most bytes of a line, its line break among them
+abbrev pub longest_line : ℕ
+longest_line = 320
+
+abbrev pub room_of : LogKind → ℕ
+room_of Accepted = log_room
+room_of Refused = log_room / 2
+room_of Calls = log_room / 2
+room_of GivenUp = log_room / 2
+
+-- LOG-6: The lines of a turn have room for 28,160 bytes, those of accepted changes in all of it and others in its first half.
+-- A line for which there is no room counts as left out.
+abbrev pub has_log_room : LogKind → ℕ → Bool
+has_log_room kind used = nat_le (used + longest_line) (room_of kind)

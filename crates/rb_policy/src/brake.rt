@@ -2,8 +2,10 @@
 ghost use Rattle.std.specs.Prelude.{◌≡◌, ◌<◌, [], List, IfOk};
 ghost use Rattle.rb_policy.specs.declared.recent.TheConstants.{PLACES};
 ghost use Rattle.rb_policy.specs.Recents.{RecentMoments};
-ghost use Rattle.rb_policy.specs.Brake.{has_room_for, place_by, network_place, host_place, Datagram, admits, admit, host_counted, passes, pass, StandsForServed, ShowsServed, BecomesServed};
+ghost use Rattle.rb_policy.specs.Places.{network_place, host_place};
+ghost use Rattle.rb_policy.specs.Brake.{has_room_for, Datagram, admits, admit, host_counted, passes, pass, StandsForServed, ShowsServed, BecomesServed};
 
+use crate::places::{PlaceKey, host_place, network_place};
 use crate::recent::{PLACES, Table};
 use rb_address::{Host, Source, Trust, Who};
 use std::alloc::{AllocError, Global};
@@ -12,17 +14,18 @@ use std::marker::Model;
 /// How many datagrams are served in a second.
 #[derive(Clone, Copy)]
 pub struct Rate {
-    /// Of one network: of an IPv4 /24, or of an IPv6 /56.
+    /// Of one network: of an IPv4 /24, or of an IPv6 /48.
     pub network: u32,
     /// Of one host.
     pub host: u32,
 }
 
 /// What drops datagrams that come too often. Networks and hosts are told apart by their places in tables of 1,024 each,
-/// so those that share a place share what is served of it. `new` takes all of its memory: 8,192 bytes for each datagram
+/// which go by a key, so those that share a place share what is served of it. `new` takes all of its memory: 8,192 bytes for each datagram
 /// of the rate, and about 130,000 bytes as well.
 #[derive(Drop)]
 pub struct Brake {
+    key: PlaceKey,
     rate: Rate,
     networks: Table,
     hosts: Table,
@@ -36,6 +39,7 @@ impl Model for Brake {
     ghost Value = { BrakeTables };
 
     ghost view = { λ b. record {
+      key = b.key;
       rate = b.rate;
       networks = b.networks;
       hosts = b.hosts;
@@ -45,11 +49,13 @@ impl Model for Brake {
 
 impl Brake {
     /// Nothing was served. An error if an allocation is refused.
-    pub fn new(alloc: Global, rate: Rate) -> Result<Brake, AllocError>
+    pub fn new(alloc: Global, key: PlaceKey, rate: Rate) -> Result<Brake, AllocError>
+        ensures key { IfOk result (λ brake. brake.key ≡ key) }
         ensures rate { IfOk result (λ brake. brake.rate ≡ rate) }
         ensures stands { IfOk result (λ brake. StandsForServed brake []) }
     {
         Ok(Brake {
+            key,
             rate,
             networks: Table::new(alloc, rate.network as usize)?,
             hosts: Table::new(alloc, rate.host as usize)?,
@@ -60,14 +66,16 @@ impl Brake {
     /// Whether a datagram from this host is served that came at this moment, in milliseconds. One that is served counts
     /// from then on. A moment before the last one counts as that.
     pub fn admit(&mut self, now: u64, host: Host) -> bool
+        ensures key { self.new.key ≡ self.old.key }
         ensures rate { self.new.rate ≡ self.old.rate }
-        ensures admits { ShowsServed (λ served. admits self.old.rate served now host) self.old result }
+        ensures admits { ShowsServed
+            (λ served. admits self.old.key self.old.rate served now host) self.old result }
         ensures stands { BecomesServed
-            (λ served. admit self.old.rate served now host) self.old self.new }
+            (λ served. admit self.old.key self.old.rate served now host) self.old self.new }
     {
         let now = now.max(self.latest);
-        let network = network_place(host);
-        let place = host_place(host);
+        let network = network_place(self.key, host);
+        let place = host_place(self.key, host);
         if !self.has_room(network, place, now) {
             return false;
         }
@@ -80,11 +88,12 @@ impl Brake {
     /// Whether a datagram of this caller is served that came at this moment, in milliseconds: of a stranger if it is
     /// admitted, and of anyone else always.
     pub fn passes(&mut self, now: u64, who: &Who) -> bool
+        ensures key { self.new.key ≡ self.old.key }
         ensures rate { self.new.rate ≡ self.old.rate }
         ensures passes { ShowsServed
-            (λ served. passes self.old.rate served now who.now) self.old result }
+            (λ served. passes self.old.key self.old.rate served now who.now) self.old result }
         ensures stands { BecomesServed
-            (λ served. pass self.old.rate served now who.now) self.old self.new }
+            (λ served. pass self.old.key self.old.rate served now who.now) self.old self.new }
     {
         match host_counted(who) {
             Some(host) => self.admit(now, host),
@@ -110,38 +119,4 @@ fn host_counted(who: &Who) -> Option<Host>
         (Trust::Stranger, Source::Inet(peer)) => Some(peer.host()),
         (Trust::Stranger, Source::Local) | (Trust::Claims | Trust::Local(_), _) => None,
     }
-}
-
-/// The place of a host's network: of all hosts that begin with the same three bytes of IPv4, or seven of IPv6.
-fn network_place(host: Host) -> usize
-    ensures place { result ≡ network_place host }
-    ensures below { result < PLACES }
-{
-    match host {
-        Host::V4(octets) => place_by(&octets[..3]),
-        Host::V6(octets) => place_by(&octets[..7]),
-    }
-}
-
-/// The place of a host.
-fn host_place(host: Host) -> usize
-    ensures place { result ≡ host_place host }
-    ensures below { result < PLACES }
-{
-    match host {
-        Host::V4(octets) => place_by(&octets),
-        Host::V6(octets) => place_by(&octets),
-    }
-}
-
-/// A place by some bytes. Two that differ in the last alone have different places.
-fn place_by(octets: &[u8]) -> usize
-    ensures place { result ≡ place_by octets.now }
-    ensures below { result < PLACES }
-{
-    let mut place = 0;
-    for octet in octets {
-        place = (place * 31 + usize::from(*octet)) % PLACES;
-    }
-    place
 }

@@ -3,9 +3,9 @@
 ghost use Rattle.rb_policy.specs.Trusts.{OthersNeedNoTable, OthersAreStrangers, OthersAreStrangersOverUdp};
 ghost use Rattle.rb_policy.specs.Asks.{ChangesWait};
 ghost use Rattle.rb_policy.specs.Shares.{SlicesAreAQuarter};
-ghost use Rattle.rb_policy.specs.BrakeLaws.{NeverMore, NeverHeldBack, HaveOnePlace, AreNetworks, StrangersCount, OneSecondIsServed};
+ghost use Rattle.rb_policy.specs.BrakeLaws.{NeverMore, NeverHeldBack, HaveOnePlace, AreNetworks, StrangersCount, OneSecondIsServed, PlacesGoByTheKey};
 ghost use Rattle.rb_policy.specs.DoorLaws.{SharesAreKept, OneIsGivenUp};
-ghost use Rattle.rb_policy.specs.LogLaws.{FewOfASecond, NoneIsLost, TheyAreToldThen};
+ghost use Rattle.rb_policy.specs.LogLaws.{FewOfASecond, FewInAll, NoneIsLost, OwnCountsAreApart, OwnersAndHostsAreApart, TheyAreToldThen};
 ghost use Rattle.rb_policy.specs.Networks.{WhoMayAsk, AskersOfOneNetwork};
 ghost use Rattle.rb_policy.specs.WaysBack.{EndsGoBack, OthersStay};
 
@@ -47,7 +47,8 @@ pub fn ask_laws()
 
 /// In no second are more datagrams served of one network, or of one host, than the rate has. One is dropped only if
 /// that many were served within the second before it, of the place of its network or of its host, and neither has two
-/// places. The networks are those of 24 bits of IPv4, and of 56 of IPv6. Over UDP strangers count, and nobody else.
+/// places. Places go by the key. The networks are those of 24 bits of IPv4, and of 48 of IPv6. Over UDP strangers count,
+/// and nobody else.
 pub fn brake_laws()
     ensures more { NeverMore }
     ensures back { NeverHeldBack }
@@ -55,12 +56,17 @@ pub fn brake_laws()
     ensures networks { AreNetworks }
     ensures strangers { StrangersCount }
     ensures example { OneSecondIsServed }
+    ensures keyed { PlacesGoByTheKey }
 {}
 
-/// In no second the log gets more than 20 lines of a kind. Each that it does not get is counted, and the count is
-/// told from its moment on, and not before.
+/// In no second the log gets more than 20 lines of a kind and of one caller. What others ask for changes nothing for a caller
+/// that has a count of its own, and what hosts ask for nothing for owners. Each line that the log does not get is counted,
+/// and the count is told from its moment on, and not before.
 pub fn log_laws()
     ensures few { FewOfASecond }
+    ensures all { FewInAll }
+    ensures own { OwnCountsAreApart }
+    ensures apart { OwnersAndHostsAreApart }
     ensures none { NoneIsLost }
     ensures told { TheyAreToldThen }
 {}

@@ -4,6 +4,7 @@
 mod addresses;
 mod asks;
 mod brake;
+pub mod caller_rate;
 mod checked;
 mod deadlines;
 mod door;
@@ -11,18 +12,20 @@ mod evidence;
 mod keep_file;
 pub mod laws;
 mod local_file;
-mod log_lines;
-mod log_rate;
+pub mod log_lines;
+pub mod log_rate;
 mod moments;
 mod networks;
 mod outcome;
 mod peers;
+mod places;
 mod recent;
 mod record_file;
 mod share;
 mod trust;
 mod turns;
 mod user_namespace;
+mod waits;
 mod ways_back;
 
 pub use addresses::{
@@ -42,8 +45,6 @@ pub use local_file::{
     FileAction, FileState, SeenFile, entrance_now, entrance_of, file_action, is_nothing_there,
     next_try, obstacle_text, state_by_connect, takes_abstract_name,
 };
-pub use log_lines::{ChangeLine, LONGEST_LOG_LINE, LogKind, LogLine, MOST_SHOWN};
-pub use log_rate::{LINES, LogRate};
 pub use moments::Moments;
 pub use networks::{asker, may_ask};
 pub use outcome::{
@@ -51,6 +52,7 @@ pub use outcome::{
     outcome_of_count,
 };
 pub use peers::{address_of, ip_of, sender};
+pub use places::PlaceKey;
 pub use record_file::{RecordAction, RecordState, record_action};
 pub use share::Share;
 pub use trust::{Beliefs, Entrance, lets_in_root_alone, trust_of};
@@ -59,4 +61,5 @@ pub use turns::{
     place_count, reads_on, round_of, serves_another, wait_of,
 };
 pub use user_namespace::unmapped_uid;
+pub use waits::{AfterWait, Waits};
 pub use ways_back::WaysBack;

@@ -2,6 +2,7 @@
 ghost use Rattle.std.specs.Prelude.{◌≡◌, ◌<◌, ◌≤◌, length};
 ghost use Rattle.rb_policy.specs.LogLines.{shown_byte, shown_text, status_text, owner_text, stranger_text, changes_text, end_text, kind_text};
 
+use crate::caller_rate::{LeftOut, LogCaller};
 use arrayvec::ArrayString;
 use rb_address::{Owner, Source, Trust, Who};
 use rb_rpc::ReplyStatus;
@@ -56,8 +57,8 @@ pub enum LogLine<'a> {
     RefusedCall(Who, ReplyStatus),
     /// A connection from there that was given up.
     GivenUp(Source),
-    /// The number of lines of a kind that were left out.
-    More(u64, LogKind),
+    /// How many lines of a kind were left out.
+    More(LeftOut, LogKind),
 }
 
 fn shown_char(byte: u8) -> char
@@ -170,6 +171,28 @@ impl fmt::Display for CallerText {
     }
 }
 
+/// Whose lines were left out, if that is known of one: ` of 1000` of an owner, ` by 192.0.2.7` of a host.
+#[derive(Clone, Copy)]
+struct WhosePart(Option<LogCaller>);
+
+impl fmt::Display for WhosePart {
+    ghost use Rattle.std.specs.Prelude.{Some};
+    ghost use Rattle.rb_policy.specs.LogLines.{whose_part};
+
+    ghost output = { λ part. Some (whose_part part.0) };
+
+    fn fmt<W: fmt::Write>(&self, f: &mut fmt::Formatter<W>) -> fmt::Result {
+        match self.0 {
+            Some(LogCaller::Owner(owner)) => {
+                let owner = OwnerText(owner);
+                write!(f, " of {owner}")
+            }
+            Some(LogCaller::Host(host)) => write!(f, " by {host}"),
+            None => Ok(()),
+        }
+    }
+}
+
 /// The address of a SET, after a space.
 #[derive(Clone, Copy)]
 struct AddressPart<'a> {
@@ -246,9 +269,11 @@ impl fmt::Display for LogLine<'_> {
                 write!(f, "rpcbind: call by {caller} refused: {why}")
             }
             LogLine::GivenUp(source) => write!(f, "rpcbind: connection of {source} given up"),
-            LogLine::More(count, kind) => {
+            LogLine::More(left_out, kind) => {
                 let kind = kind_text(*kind);
-                write!(f, "rpcbind: {count} more {kind}")
+                let count = left_out.count;
+                let whose = WhosePart(left_out.caller);
+                write!(f, "rpcbind: {count} more {kind}{whose}")
             }
         }
     }

@@ -1,99 +1,102 @@
 //! How many lines of a kind a log gets in a second.
 ghost use Rattle.std.specs.Prelude.{◌≡◌};
-ghost use Rattle.rb_policy.specs.LogRate.{second_of};
+ghost use Rattle.rb_policy.specs.LogRate.{caller_of, caller_at, has_log_room};
 
-use crate::recent::SECOND;
+use crate::caller_rate::{CallerRate, LeftOut, LogCaller};
+use crate::log_lines::{LONGEST_LOG_LINE, LogKind};
+use rb_address::{Owner, Source, Trust, Who};
+use rb_forward::sooner;
 
-/// The most lines of a kind in a second. Those that are too many are counted, and left out.
-pub const LINES: u32 = 20;
+/// The most bytes of the lines that a turn adds.
+pub const LOG_ROOM: usize = 28_160;
+
+const _: () = prove!(LONGEST_LOG_LINE <= LOG_ROOM / 2);
 
 /// What is known of the lines of a kind.
 #[derive(Clone, Copy)]
 pub struct LogRate {
-    /// The second of the last one that was asked for, since the start of 1970.
-    second: u64,
-    /// How many the log got in it.
-    written: u32,
-    /// How many were left out since that was told.
-    left_out: u64,
+    /// Of callers of this machine.
+    owners: CallerRate,
+    /// Of others.
+    hosts: CallerRate,
 }
 
-/// The second of a moment in milliseconds.
-fn second_of(now: u64) -> u64
-    ensures { result ≡ second_of now }
+/// Whose lines those about a call are: its owner's, if it is known to be of this machine, and else its host's.
+pub fn caller_of(who: &Who) -> LogCaller
+    ensures { result ≡ caller_of who.now.trust who.now.source }
 {
-    now / SECOND
+    match who.trust {
+        Trust::Local(owner) => LogCaller::Owner(owner),
+        Trust::Claims | Trust::Stranger => caller_at(who.source),
+    }
+}
+
+/// Whose lines those about a connection from there are.
+pub fn caller_at(source: Source) -> LogCaller
+    ensures { result ≡ caller_at source }
+{
+    match source {
+        Source::Inet(peer) => LogCaller::Host(peer.host()),
+        Source::Local => LogCaller::Owner(Owner::Unknown),
+    }
+}
+
+/// Whether one more line of a kind has room, after this many bytes of a turn's lines.
+pub fn has_log_room(kind: LogKind, used: usize) -> bool
+    ensures { result ≡ has_log_room kind used }
+{
+    let room = match kind {
+        LogKind::Accepted => LOG_ROOM,
+        LogKind::Refused | LogKind::Calls | LogKind::GivenUp => LOG_ROOM / 2,
+    };
+    used <= room - LONGEST_LOG_LINE
 }
 
 impl LogRate {
     ghost use Rattle.std.specs.Prelude.{◌≡◌};
-    ghost use Rattle.rb_policy.specs.LogRate.{new_rate, rate_at, gets_line, rate_after, tells, rate_told, next_line};
+    ghost use Rattle.rb_policy.specs.CallerRates.{gets_line};
+    ghost use Rattle.rb_policy.specs.LogRate.{new_log, rate_for, log_after, log_tells, log_told, next_log_line};
 
     /// No line was asked for.
     pub fn new() -> LogRate
-        ensures { result ≡ new_rate }
+        ensures { result ≡ new_log }
     {
         LogRate {
-            second: 0,
-            written: 0,
-            left_out: 0,
+            owners: CallerRate::new(),
+            hosts: CallerRate::new(),
         }
     }
 
-    /// What is known at a moment: of another second than that of the last line, the log has got none.
-    fn at(self, now: u64) -> LogRate
-        ensures { result ≡ rate_at self now }
+    /// Whether the log gets a line of this caller at this moment, in milliseconds, if there is room for it. One that it
+    /// does not get is counted.
+    pub fn ask(&mut self, now: u64, caller: LogCaller, has_room: bool) -> bool
+        ensures gets { result ≡ gets_line (rate_for self.old caller) now caller has_room }
+        ensures after { self.new ≡ log_after self.old now caller has_room }
     {
-        let second = second_of(now);
-        if second == self.second {
-            return self;
-        }
-        LogRate {
-            second,
-            written: 0,
-            left_out: self.left_out,
+        match caller {
+            LogCaller::Owner(_) => self.owners.ask(now, caller, has_room),
+            LogCaller::Host(_) => self.hosts.ask(now, caller, has_room),
         }
     }
 
-    /// Whether the log gets a line of what happened at this moment, in milliseconds. One that it does not get is
-    /// counted.
-    pub fn ask(&mut self, now: u64) -> bool
-        ensures gets { result ≡ gets_line self.old now }
-        ensures after { self.new ≡ rate_after self.old now }
+    /// How many lines were left out that must be told at this moment, in milliseconds, of one caller or of all that have
+    /// no count of their own: none of its own second, since more may follow. They are told then, and the next call has
+    /// others.
+    pub fn take_left_out(&mut self, now: u64) -> Option<LeftOut>
+        ensures told { result ≡ log_tells self.old now }
+        ensures after { self.new ≡ log_told self.old now }
     {
-        *self = self.at(now);
-        let gets = self.written < LINES;
-        if gets {
-            self.written += 1;
-        } else {
-            self.left_out = self.left_out.saturating_add(1);
+        match self.owners.take_left_out(now) {
+            Some(left_out) => Some(left_out),
+            None => self.hosts.take_left_out(now),
         }
-        gets
-    }
-
-    /// How many lines were left out that must be told at this moment, in milliseconds: none of its own second, since
-    /// more may follow. They are told then.
-    pub fn take_left_out(&mut self, now: u64) -> u64
-        ensures told { result ≡ tells self.old now }
-        ensures after { self.new ≡ rate_told self.old now }
-    {
-        if second_of(now) == self.second {
-            return 0;
-        }
-        let left_out = self.left_out;
-        self.left_out = 0;
-        left_out
     }
 
     /// The moment from which `take_left_out` tells how many lines were left out, in milliseconds: the end of their
     /// second. None if none were.
     pub fn next_line(&self) -> Option<u64>
-        ensures { result ≡ next_line self.now }
+        ensures { result ≡ next_log_line self.now }
     {
-        if self.left_out == 0 {
-            return None;
-        }
-        let next = self.second.saturating_add(1);
-        Some(next.saturating_mul(SECOND))
+        sooner(self.owners.next_line(), self.hosts.next_line())
     }
 }

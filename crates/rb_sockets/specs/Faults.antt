@@ -2,7 +2,7 @@
 use Rattle.std.specs.Prelude.{ℕ, List, ◌++◌, codes}
 use Rattle.std.specs.Net.Text.{socket_text}
 use Rattle.rb_sockets.specs.declared.faults.Step.{Step}
-use Rattle.rb_sockets.specs.declared.faults.Step.TheVariants.{BindTcp, BindUdp, BindLocal, Prepare, Wait, Accept, Clock}
+use Rattle.rb_sockets.specs.declared.faults.Step.TheVariants.{BindTcp, BindUdp, BindLocal, Prepare, Wait, Accept, Clock, Random}
 
 -- FAULT-3
 abbrev pub step_text : Step → List ℕ
@@ -13,3 +13,4 @@ step_text Prepare = codes "prepare for events"
 step_text Wait = codes "wait for events"
 step_text Accept = codes "accept a connection"
 step_text Clock = codes "read the clock"
+step_text Random = codes "read randomness"

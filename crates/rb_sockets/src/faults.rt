@@ -57,6 +57,8 @@ pub enum Step {
     Accept,
     /// It reads a clock.
     Clock,
+    /// It draws numbers of the system's randomness.
+    Random,
 }
 
 impl Step {
@@ -81,6 +83,7 @@ impl Display for Step {
             Step::Wait => write!(f, "wait for events"),
             Step::Accept => write!(f, "accept a connection"),
             Step::Clock => write!(f, "read the clock"),
+            Step::Random => write!(f, "read randomness"),
         }
     }
 }

@@ -9,6 +9,7 @@ use rb_daemon::{Daemon, DaemonFault, Settings};
 use std::fs::Files;
 use std::io::Write;
 use std::net::Net;
+use std::random::RandomSource;
 use std::rt::Clock;
 use std::sync::Wait;
 
@@ -20,7 +21,7 @@ const WAIT: u64 = 100;
 /// output or the file of the record failed. The error message goes to `faults`, after a line that says what failed.
 pub fn run_service<R, E>(rt: &R, serve: &Serve<'_>, faults: &mut E) -> u8
 where
-    R: Net + Files + Clock + Wait + AllocGlobal + Print,
+    R: Net + Files + Clock + RandomSource + Wait + AllocGlobal + Print,
     E: Write,
     ensures { result ≤ 1 }
 {
@@ -34,7 +35,7 @@ where
 /// A daemon that has the rows that were kept, which are read before anything listens; those that it has not are said.
 fn begin<'a, R, E>(rt: &'a R, serve: &Serve<'_>, faults: &mut E) -> Result<Daemon<'a, R, R>, u8>
 where
-    R: Net + Files + Clock + AllocGlobal,
+    R: Net + Files + Clock + RandomSource + AllocGlobal,
     E: Write,
     ensures { IfErr result (λ status. status ≤ 1) }
 {

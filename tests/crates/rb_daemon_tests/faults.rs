@@ -2,19 +2,21 @@
 use crate::client::Client;
 use crate::records::answers_a_call;
 use crate::turns::{HERE, Host, Stopped, everywhere, plain};
-use rb_daemon::{Settings, Step};
+use rb_daemon::{DaemonFault, Rate, Settings, Step};
 use std::alloc::Allocator;
 use std::fs::{Files, Metadata, OpenOptions, Permissions};
 use std::io;
 use std::net::{Ipv4Addr, Net, SocketAddr, TcpListener, UdpSocket};
 use std::os::fd::{BorrowedFd, OwnedFd};
 use std::os::unix::net::SocketAddr as UnixAddr;
+use std::random::RandomSource;
 use std::test::Fail;
 
 /// Where the local socket of `Crossed` listens.
 const CROSSED: u16 = 20_113;
 
-/// A system whose local sockets are TCP sockets: each accept fails, since the peer has no address of its kind.
+/// A system whose local sockets are TCP sockets: each accept fails, since the peer has no address of its kind. It has no
+/// randomness.
 #[derive(Drop)]
 struct Crossed<'a> {
     rt: &'a HostRuntime,
@@ -40,6 +42,12 @@ impl Net for Crossed<'_> {
     fn unix_socket(&self) -> io::Result<OwnedFd> {
         let at = SocketAddr::from((Ipv4Addr::LOCALHOST, CROSSED));
         Ok(OwnedFd::from(TcpListener::bind(self.rt, at)?))
+    }
+}
+
+impl RandomSource for Crossed<'_> {
+    fn fill_bytes(&self, _buf: &mut [u8]) -> io::Result<()> {
+        Err(io::Error::from(io::ErrorKind::Unsupported))
     }
 }
 
@@ -125,6 +133,22 @@ fn failing_listener_ends_nothing(rt: HostRuntime) -> Result<(), Fail> {
     let mut host = Host::over(&clock, &system, &settings).map_err(|_| "no daemon")?;
     assert_eq!(rt; serves_beside_a_fault(&rt, &mut host), Some(true));
     Ok(())
+}
+
+// BRAKE-4: without randomness nothing goes by a key
+#[test]
+fn brake_needs_randomness(rt: HostRuntime) {
+    let clock = Stopped::new(&rt);
+    let system = Crossed { rt: &rt };
+    let settings = Settings {
+        udp_rate: Some(Rate {
+            network: 2,
+            host: 1,
+        }),
+        ..plain(&HERE, 2)
+    };
+    let made = Host::over(&clock, &system, &settings);
+    assert!(rt; matches!(made, Err(DaemonFault::Socket(fault)) if fault.step == Step::Random));
 }
 
 /// There is a place for one: it is given up for the next, who is served.

@@ -120,7 +120,7 @@ fn turn_waits_until_a_deadline(rt: HostRuntime) -> Result<(), Fail> {
 const REFUSED: u32 = 25;
 
 /// What the log tells of those that were left out, after their second.
-const LEFT_OUT: &[u8] = b"rpcbind: 5 more refused calls\n";
+const LEFT_OUT: &[u8] = b"rpcbind: 5 more refused calls of unknown\n";
 
 /// How long a turn waits for that line, and whether it comes.
 fn waits_for_a_line(

@@ -8,6 +8,7 @@ use std::cell::Cell;
 use std::fs::Files;
 use std::io;
 use std::net::{Ipv4Addr, Ipv6Addr, Net, SocketAddr};
+use std::random::RandomSource;
 use std::rt::Clock;
 use std::time::Duration;
 
@@ -161,7 +162,7 @@ impl<'a> Host<'a> {
     }
 
     /// A daemon over this system.
-    pub(crate) fn over<H: Files + Net>(
+    pub(crate) fn over<H: Files + Net + RandomSource>(
         clock: &'a Stopped,
         system: &H,
         settings: &Settings<'_>,

@@ -3,9 +3,9 @@
 use crate::evidence::{AT_31112, table_at};
 use rb_address::{Family, Host, Owner, Peer, Source, Trust, Who};
 use rb_policy::{
-    BETWEEN_READINGS, Beliefs, Brake, Entrance, Evidence, LONGEST_TABLE, Rate, SeenFile, WaysBack,
-    address_of, announced_inet, announced_inet6, binds_every_inet, binds_loopback6, entrance_now,
-    evidence_of, forwards_inet, forwards_inet6, has_every_host, has_every_inet, ip_of,
+    BETWEEN_READINGS, Beliefs, Brake, Entrance, Evidence, LONGEST_TABLE, PlaceKey, Rate, SeenFile,
+    WaysBack, address_of, announced_inet, announced_inet6, binds_every_inet, binds_loopback6,
+    entrance_now, evidence_of, forwards_inet, forwards_inet6, has_every_host, has_every_inet, ip_of,
     is_no_address, is_shown, lets_in_root_alone, looks_in, may_read, next_reading, next_try,
     origin_of, sender, trust_of, unmapped_uid, wait_of, whole_text,
 };
@@ -368,6 +368,12 @@ const FEW: Rate = Rate {
     host: 1,
 };
 
+// under it the hosts and networks below have places of their own
+const KEY: PlaceKey = PlaceKey {
+    point: 1_000_003,
+    factor: 7_919,
+};
+
 // 192.0.N.M of the documentation's 192.0.2.0/24, or of the network beside it
 fn host_in(third: u8, last: u8) -> Host {
     Host::V4([192, 0, third, last])
@@ -377,7 +383,7 @@ fn host_in(third: u8, last: u8) -> Host {
 /// What comes within a second of as many is dropped, and is not counted.
 #[test]
 fn datagrams_of_strangers_are_braked(rt: HostRuntime) -> Result<(), Fail> {
-    let mut brake = Brake::new(rt.alloc(), FEW)?;
+    let mut brake = Brake::new(rt.alloc(), KEY, FEW)?;
     let came = [
         (5000, host_in(2, 1), true),
         (5000, host_in(2, 1), false),
@@ -401,14 +407,14 @@ fn datagrams_of_strangers_are_braked(rt: HostRuntime) -> Result<(), Fail> {
 }
 
 // BRAKE-1
-/// Hosts whose first seven bytes of sixteen are the same are of one network.
+/// Hosts whose first six bytes of sixteen are the same are of one network.
 #[test]
 fn networks_of_ipv6_are_braked(rt: HostRuntime) -> Result<(), Fail> {
-    let mut brake = Brake::new(rt.alloc(), FEW)?;
+    let mut brake = Brake::new(rt.alloc(), KEY, FEW)?;
     let mut served = 0u32;
     for last in 1..=9 {
         let mut octets = OCTETS6;
-        octets[7] = last;
+        octets[6] = last;
         octets[15] = last;
         if brake.admit(5000, Host::V6(octets)) {
             served += 1;
@@ -416,7 +422,7 @@ fn networks_of_ipv6_are_braked(rt: HostRuntime) -> Result<(), Fail> {
     }
     assert_eq!(rt; served, 2);
     let mut octets = OCTETS6;
-    octets[6] = 1;
+    octets[5] = 1;
     assert!(rt; brake.admit(5000, Host::V6(octets)));
     Ok(())
 }
@@ -425,7 +431,7 @@ fn networks_of_ipv6_are_braked(rt: HostRuntime) -> Result<(), Fail> {
 /// Strangers alone are counted.
 #[test]
 fn others_are_not_braked(rt: HostRuntime) -> Result<(), Fail> {
-    let mut brake = Brake::new(rt.alloc(), FEW)?;
+    let mut brake = Brake::new(rt.alloc(), KEY, FEW)?;
     let stranger = Who {
         source: Source::Inet(at(ELSEWHERE)),
         asked: ANY,
