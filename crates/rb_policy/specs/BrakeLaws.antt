@@ -37,9 +37,6 @@ abbrev pub served_in_second : (Host → Bool) → ℕ → List Datagram → ℕ
 served_in_second is_one since served =
     count_by (λ d. is_one d.host && (nat_le since d.moment && nat_lt d.moment (since + one_second))) served
 
--- BRAKE-1: With `--udp-rate`, of strangers' datagrams at most as many are served in a second as the
--- rate has, of one network (IPv4 /24, IPv6 /56) and of one host; others are dropped, and are not
--- counted.
 -- In no second are more served of one network, or of one host, whatever the key.
 -- BRAKE-1
 pub record NeverMore : Type 0 where
@@ -54,9 +51,6 @@ WereServed key rate served now host =
     (rate.network ≤ served_within (network_place key) (network_place key host) now served)
     ⊎ (rate.host ≤ served_within (host_place key) (host_place key host) now served)
 
--- BRAKE-2: With `--udp-rate` a stranger's datagram is dropped only if within the second before as
--- many were served as the rate has, of the place of its network or of its host; each has one place
--- of 1,024.
 -- BRAKE-2: With `--udp-rate` a stranger's datagram is dropped only if within the second before as many were served as the
 -- rate has, of the place of its network or of its host; each has one place of 1,024.
 abbrev pub NeverHeldBack : Type 0

@@ -99,9 +99,7 @@ change_line line =
     codes "rpcbind: " ++ changes_text line.adds ++ codes " " ++ row_part line
     ++ codes " of " ++ owner_text line.owner ++ codes " by " ++ caller_text line.who ++ codes ": " ++ end_text line.is_accepted
 
--- LOG-3: A line of the log says what a SET or an UNSET is about, as whom the caller registers, from
--- where it called and whether it was accepted; or of a refused call from where and why; or whose
--- connection was given up; or how many lines of a kind were left out.
+-- LOG-3
 abbrev pub log_line : LogLine → List ℕ
 log_line (lines.Change change) = change_line change
 log_line (lines.RefusedCall who status) = codes "rpcbind: call by " ++ caller_text who ++ codes " refused: " ++ status_text status

@@ -29,10 +29,7 @@ caller_of trusts.Stranger source = caller_at source
 
 -- ---- callers of this machine, and others
 
--- LOG-1: Of each kind of lines, accepted changes, refused changes, refused calls and connections
--- that are given up, the log gets at most 20 in each whole second of the daemon's clock, beside the
--- line on those left out. How many are left out is told in a later second, from the end of theirs
--- on.
+-- LOG-1
 abbrev pub new_log : LogRate
 new_log = record { owners = rate_new; hosts = rate_new }
 
