@@ -183,6 +183,10 @@ impl<'a> Host<'a> {
         self.daemon.take_fault()
     }
 
+    pub(crate) fn take_local_change(&mut self) -> bool {
+        self.daemon.take_local_change()
+    }
+
     /// The lines of the log that were not taken yet.
     pub(crate) fn take_log(&mut self) -> Option<Vec<u8>> {
         let mut lines = Vec::new(self.rt.alloc());
