@@ -93,10 +93,12 @@ minutes_of_make() {
         }'
 }
 
-# The same of `make test`, in which each proof works on one processor, and edits fill the others.
+# The same of `make test`, in which each proof works on one processor, and all else comes before or after the proofs.
 minutes_of_test() {
     awk -v cores="$1" -v pace="$2" -v all="$(told_number '^All together are ([0-9,]+) processor minutes.*')" \
+        -v proofs="$(told_number '^\| all \|[^|]*\|[^|]*\| ([0-9,]+) min .*')" \
         -v chain="$(told_number '^The longest chain of proofs has ([0-9,]+) minutes.*')" 'BEGIN {
+            chain += 1.1 * (all - proofs) / cores
             all *= 1.1 / cores
             printf "%.0f\n", pace * (all > chain ? all : chain) + 0.5
         }'

@@ -7,9 +7,10 @@ the function that must be refused, by its path below the crate, if that is not t
 
 Several edits of a crate are tried by one check, over the libraries that stand in crates/*/out/rlib: each changes the bodies
 of other functions, whose contracts stay, so none changes what is to be proved of the others'. The check proves the edited
-functions with what they call (`rattle check --only`). An edit is refused if the prover says that its function is not proved
-and that all which this function calls is: so its own goals are what fails, and not another edit. What a check does not
-decide is tried in the next one, and in the end alone, as is from the start what changes more than bodies.
+functions with what they call (`rattle check --only`), and takes what it can't prove by its contract (`--allow-holes`). An
+edit is refused if the prover names goals or answers of its own function that are not proved; if it names such of a function
+that no edit changes, nothing of that check counts. What a check does not decide is tried in the next one, and in the end
+alone, without holes, as is from the start what changes more than bodies: then all that the function calls must be proved.
 
 What was refused is kept on this machine, where `rt ci` keeps its own work, under a sum of all that it was tried on. As many
 crates are worked on side by side as RT_JOBS says.
@@ -28,7 +29,8 @@ FUNCTION = re.compile(r"( *)(?:pub(?:\([^)]*\))? )?(?:(?:const|final|unsafe) )*f
 OWNER = re.compile(r"(?:pub(?:\([^)]*\))? )?(?:impl\b(?:<.*?>)? (?:.* for )?|trait )(\w+)")
 TYPE = re.compile(r"^(?:pub(?:\([^)]*\))? )?(?:struct|enum|trait) (\w+)", re.M)
 # What the prover says of a text that it cannot read, where an edit that only makes a statement false reads well.
-UNREAD = re.compile(r"^(?:\./)?(?:src|specs)/\S+: error|\berror\[[\w-]+\]", re.M)
+NAMELESS = "is not in scope|has no field|is no name|operand is missing|expected the end|cannot continue"
+UNREAD = re.compile(rf"^(?:\./)?(?:src|specs)/\S+: error: (?:(?!`)|`.*?`: .*(?:{NAMELESS}))|\berror\[[\w-]+\]", re.M)
 GONE = re.compile(r"is not in scope|has no (?:field|`)|was not admitted")
 
 
@@ -162,18 +164,17 @@ def read_edit(path):
 
 @dataclasses.dataclass
 class Said:
-    status: int
     lines: list
     seconds: dict  # of each function that was proved or tried: processor seconds
 
     @property
-    def has_ended(self):
-        return self.lines[-1].startswith("only=")
+    def is_whole(self):
+        """Whether the check came to its end, and could read all texts."""
+        return self.lines[-1].startswith("only=") and not UNREAD.search("\n".join(self.lines))
 
-    def of(self, crate, function):
-        """What the prover says of a function."""
-        start = f"fn {crate}::{function}: "
-        return next((it[len(start) :] for it in self.lines if it.startswith(start)), "")
+    def verdicts(self, crate):
+        """What the prover says of each function and closure."""
+        return re.findall(rf"^fn {crate}::(\S+): (.*)", "\n".join(self.lines), re.M)
 
     def reason(self, function):
         """The first answer of the function that the prover refuses, or one that names what is gone if there is no other."""
@@ -181,6 +182,18 @@ class Said:
         refused = [it for it in self.lines if proofs in it.partition(": error")[0] and ": error" in it]
         refused.sort(key=lambda it: bool(GONE.search(it)))
         return refused[0].removeprefix("./") if refused else ""
+
+
+def owner_of(function):
+    """The function that a closure stands in, or else the function itself."""
+    return re.sub(r"^((?:\w+::)*)fn::(\w+)::.*", r"\1\2", function)
+
+
+def fails_itself(crate, function, line):
+    """Whether it is said of a function that goals or answers of its own are not proved."""
+    own = f"`Rattle.{crate}.proofs.{function.replace('::', '.')}."
+    stands_on = re.findall(r"it stands on (`.*?`), which antt refuses", line)
+    return line == "not proved" or "`search` did not prove" in line or any(it.startswith(own) for it in stands_on)
 
 
 def processor_seconds(process):
@@ -209,6 +222,7 @@ def check(uses, crate, batch, kept):
         furnish(room, crate, batch)
         words = [f"{KIT}/bin/rattle", "check", *words_of(uses, crate), "--incremental", kept, "--progress"]
         words += [word for edit in batch for word in ("--only", edit.judged)]
+        words += ["--allow-holes"] if len(batch) > 1 else []
         how = {"stdin": subprocess.DEVNULL, "stdout": subprocess.PIPE, "stderr": subprocess.STDOUT}
         lines, seconds, before = [], {}, 0
         with subprocess.Popen(words, cwd=room, **how, text=True, errors="replace") as process:
@@ -217,24 +231,38 @@ def check(uses, crate, batch, kept):
                 if found := re.match(r"checked (\S+), \d+ of", line):
                     now = processor_seconds(process.pid)
                     seconds[found[1]], before = now - before, now
-        return Said(process.returncode, lines or [""], seconds)
+        return Said(lines or [""], seconds)
 
 
-def judge(crate, edit, said):
-    """Whether the prover refused the edit or proved its function, and what it said; None if that is not known."""
-    line = said.of(crate, edit.judged)
-    if not said.has_ended or UNREAD.search("\n".join(said.lines)):
-        return None, next((it for it in said.lines if UNREAD.search(it)), said.lines[-1])
-    if line == "proved":
-        return False, "the function is still proved"
-    if not line.startswith(("not proved", "no proof")) or "it calls `" in line:
-        return None, line or f"there is no function {edit.judged}"
-    goals, reason = re.search(r"`search` did not prove (.*)", line), said.reason(edit.judged)
+def judge_batch(crate, batch, said):
+    """Of each edit that the prover refuses what it says."""
+    edited = {it for edit in batch for it in (*edit.functions, edit.judged)}
+    failing = {owner_of(it): line for it, line in said.verdicts(crate) if fails_itself(crate, it, line)}
+    if not said.is_whole or not edited.issuperset(failing):
+        return {}
+    return {it.label: describe(crate, it, said, failing[it.judged]) for it in batch if it.judged in failing}
+
+
+def judge_alone(crate, edit, said):
+    """Whether the prover refused the edit, and what it said."""
+    lines = [line for it, line in said.verdicts(crate) if owner_of(it) == edit.judged]
+    if not said.is_whole:
+        return False, next((it for it in said.lines if UNREAD.search(it)), said.lines[-1])
+    if not lines:
+        return False, f"there is no function {edit.judged}"
+    callees = [it for line in lines for it in re.findall(r"it calls `(\S+?)`", line) if "::fn::" not in it]
+    if callees:
+        return False, f"the prover refuses {callees[0]}, which a line '# by FUNCTION' may name"
+    refused = [it for it in lines if it.startswith(("not proved", "no proof"))]
+    return bool(refused), describe(crate, edit, said, refused[0]) if refused else lines[0]
+
+
+def describe(crate, edit, said, line):
+    goals, reason = re.search(r"`search` did not prove ([^;]*)", line), said.reason(edit.judged)
     why = goals[1] if goals else reason or line
     if GONE.search(why):
         why = f"only because a proof file names what the edit takes away, so change a value and keep the names: {why}"
-    taken = said.seconds.get(f"{crate}::{edit.judged}", 0)
-    return True, f"refused, as it must be, in {taken:.0f} s: {why}"[:240]
+    return f"refused, as it must be, in {said.seconds.get(f'{crate}::{edit.judged}', 0):.0f} s: {why}"[:240]
 
 
 def next_batch(waiting):
@@ -256,12 +284,14 @@ def try_edits(uses, crate, edits, tell):
         while waiting:
             batch = next_batch(waiting)
             said = check(uses, crate, batch, kept)
-            settled = []
-            for edit in batch:
-                is_refused, why = judge(crate, edit, said)
-                if is_refused is not None or len(batch) == 1:
-                    settled.append(edit)
-                    tell(edit, bool(is_refused), why)
+            if len(batch) == 1:
+                tell(batch[0], *judge_alone(crate, batch[0], said))
+                settled = batch
+            else:
+                told = judge_batch(crate, batch, said)
+                settled = [it for it in batch if it.label in told]
+                for edit in settled:
+                    tell(edit, True, told[edit.label])
             for edit in [] if settled else batch:
                 edit.is_apart = True
             waiting = sorted((it for it in waiting if it not in settled), key=lambda it: it.is_apart)

@@ -85,82 +85,125 @@ fn option<'a>(alloc: Global, name: &'a str, value: &'a str, help: &'a str) -> Ar
         .help(help)
 }
 
-fn with_flags<'a>(alloc: Global, command: Command<'a>) -> Result<Command<'a>, AllocError> {
-    let mut command = command;
-    for (_, short, id, help) in FLAGS {
-        let flag = Arg::new(alloc, id)
-            .short(short)
-            .action(ArgAction::SetTrue)
-            .help(help);
-        command = command.arg(flag)?;
-    }
-    let summary = Arg::new(alloc, "summary")
-        .long("summary")
-        .action(ArgAction::SetTrue)
-        .help("Shows a line for each program");
-    command.arg(summary)
+/// An option without a value.
+fn flag<'a>(alloc: Global, name: &'a str, help: &'a str) -> Arg<'a> {
+    Arg::new(alloc, name).action(ArgAction::SetTrue).help(help)
 }
 
-/// The options that say what is called, and where.
-fn with_places<'a>(alloc: Global, command: Command<'a>) -> Result<Command<'a>, AllocError> {
-    let help = "where -b goes [each network of this machine]";
-    let network = option(alloc, "broadcast", "ADDRESS", help);
-    let command = command.arg(network.long("broadcast"))?;
-    let help = "tcp, udp, tcp6, udp6 or local";
-    let netid = option(alloc, "netid", "NETID", help);
-    let command = command.arg(netid.short('T'))?;
-    let help = "the address that is called, with -T";
-    let address = option(alloc, "address", "ADDRESS", help);
-    let command = command.arg(address.short('a'))?;
-    let help = "the port that is called, with -t and -u";
-    let target = option(alloc, "target", "N", help);
-    command.arg(target.short('n'))
+// The functions that add an option: whoever adds several then holds no option of clap's, each of which has many parts that
+// the check of borrows would follow through all that comes after it.
+
+fn add<'a>(
+    alloc: Global,
+    args: &mut Vec<Arg<'a>>,
+    name: &'a str,
+    value: &'a str,
+    help: &'a str,
+) -> Result<(), AllocError> {
+    args.push(option(alloc, name, value, help).long(name))?;
+    Ok(())
 }
 
-/// The options that say how a list is written.
-fn with_layouts<'a>(alloc: Global, command: Command<'a>) -> Result<Command<'a>, AllocError> {
-    let mut command = command;
-    for (_, name, help) in LAYOUTS {
-        let layout = Arg::new(alloc, name)
-            .long(name)
-            .action(ArgAction::SetTrue)
-            .help(help);
-        command = command.arg(layout)?;
-    }
-    let programs = option(
-        alloc,
-        "programs",
-        "PATH",
-        "a file of names of programs [/etc/rpc]",
-    );
-    command.arg(programs.long("programs"))
+fn add_letter<'a>(
+    alloc: Global,
+    args: &mut Vec<Arg<'a>>,
+    letter: char,
+    name: &'a str,
+    value: &'a str,
+    help: &'a str,
+) -> Result<(), AllocError> {
+    args.push(option(alloc, name, value, help).short(letter))?;
+    Ok(())
 }
 
-/// The options that say how a portmapper is asked.
-fn with_portmapper<'a>(alloc: Global, command: Command<'a>) -> Result<Command<'a>, AllocError> {
-    let help = "the portmapper's port, 1 to 65535 [111]";
-    let port = option(alloc, "port", "N", help);
-    let command = command.arg(port.long("port"))?;
-    let uid = option(alloc, "uid", "N", "asks as this user");
-    let command = command.arg(uid.long("uid"))?;
-    let help = "asks over this socket, without HOST";
-    let local = option(alloc, "local", "PATH", help);
-    command.arg(local.long("local"))
+fn add_flag<'a>(
+    alloc: Global,
+    args: &mut Vec<Arg<'a>>,
+    name: &'a str,
+    help: &'a str,
+) -> Result<(), AllocError> {
+    args.push(flag(alloc, name, help).long(name))?;
+    Ok(())
 }
 
-fn command<'a>(alloc: Global) -> Result<Command<'a>, AllocError> {
-    let command = Command::new(alloc, "rpcinfo")
-        .version(VERSION)
-        .about("Asks a portmapper and shows what it answers");
-    let command = with_flags(alloc, command)?;
-    let command = with_places(alloc, command)?;
-    let command = with_layouts(alloc, command)?;
-    with_portmapper(alloc, command)?.arg(
+fn add_letter_flag<'a>(
+    alloc: Global,
+    args: &mut Vec<Arg<'a>>,
+    letter: char,
+    name: &'a str,
+    help: &'a str,
+) -> Result<(), AllocError> {
+    args.push(flag(alloc, name, help).short(letter))?;
+    Ok(())
+}
+
+fn add_words<'a>(alloc: Global, args: &mut Vec<Arg<'a>>) -> Result<(), AllocError> {
+    args.push(
         Arg::new(alloc, "words")
             .action(ArgAction::Append)
             .num_args(0..)
             .help("[host] [program] [version]; host - reads a reply from standard input"),
-    )
+    )?;
+    Ok(())
+}
+
+fn add_flags<'a>(alloc: Global, args: &mut Vec<Arg<'a>>) -> Result<(), AllocError> {
+    for (_, letter, name, help) in FLAGS {
+        add_letter_flag(alloc, args, letter, name, help)?;
+    }
+    add_flag(alloc, args, "summary", "Shows a line for each program")
+}
+
+/// The options that say what is called, and where.
+fn add_places<'a>(alloc: Global, args: &mut Vec<Arg<'a>>) -> Result<(), AllocError> {
+    let help = "where -b goes [each network of this machine]";
+    add(alloc, args, "broadcast", "ADDRESS", help)?;
+    let help = "tcp, udp, tcp6, udp6 or local";
+    add_letter(alloc, args, 'T', "netid", "NETID", help)?;
+    let help = "the address that is called, with -T";
+    add_letter(alloc, args, 'a', "address", "ADDRESS", help)?;
+    let help = "the port that is called, with -t and -u";
+    add_letter(alloc, args, 'n', "target", "N", help)
+}
+
+/// The options that say how a list is written.
+fn add_layouts<'a>(alloc: Global, args: &mut Vec<Arg<'a>>) -> Result<(), AllocError> {
+    for (_, name, help) in LAYOUTS {
+        add_flag(alloc, args, name, help)?;
+    }
+    let help = "a file of names of programs [/etc/rpc]";
+    add(alloc, args, "programs", "PATH", help)
+}
+
+/// The options that say how a portmapper is asked.
+fn add_portmapper<'a>(alloc: Global, args: &mut Vec<Arg<'a>>) -> Result<(), AllocError> {
+    let help = "the portmapper's port, 1 to 65535 [111]";
+    add(alloc, args, "port", "N", help)?;
+    add(alloc, args, "uid", "N", "asks as this user")?;
+    let help = "asks over this socket, without HOST";
+    add(alloc, args, "local", "PATH", help)
+}
+
+fn add_all<'a>(alloc: Global, args: &mut Vec<Arg<'a>>) -> Result<(), AllocError> {
+    add_flags(alloc, args)?;
+    add_places(alloc, args)?;
+    add_layouts(alloc, args)?;
+    add_portmapper(alloc, args)?;
+    add_words(alloc, args)
+}
+
+fn all_args<'a>(alloc: Global) -> Result<Vec<Arg<'a>>, AllocError> {
+    let mut args = Vec::new(alloc);
+    add_all(alloc, &mut args)?;
+    Ok(args)
+}
+
+fn command<'a>(alloc: Global) -> Result<Command<'a>, AllocError> {
+    let args = all_args(alloc)?;
+    Command::new(alloc, "rpcinfo")
+        .version(VERSION)
+        .about("Asks a portmapper and shows what it answers")
+        .args(args)
 }
 
 /// The words by their shape.
