@@ -120,7 +120,7 @@ fn turn_waits_until_a_deadline(rt: HostRuntime) -> Result<(), Fail> {
 const REFUSED: u32 = 25;
 
 /// What the log tells of those that were left out, after their second.
-const LEFT_OUT: &[u8] = b"rpcbind: 5 more refused calls of unknown\n";
+const LEFT_OUT: &[u8] = b"rpcbind: 5 more refused calls by 127.0.0.1\n";
 
 /// How long a turn waits for that line, and whether it comes.
 fn waits_for_a_line(
@@ -146,6 +146,40 @@ fn waits_for_a_line(
 }
 
 // WAIT-2
+/// A call of version 9 in a record of 40 bytes, and how many bytes its reply has there.
+const VERSION_9: [u32; 11] = [0x8000_0028, 7, 0, 2, 100_000, 9, 0, 0, 0, 0, 0];
+
+const LONG: usize = 36;
+
+const OF_ANOTHER: &[u8] = b"rpcbind: call by local refused: version unavailable\n";
+
+/// Whether the line of a refused call on the local socket comes after more of another owner's than the log has.
+fn shows_another(rt: &HostRuntime, host: &mut Host<'_>) -> Option<bool> {
+    let mut caller = Caller::new(rt, 0)?;
+    for _ in 0..REFUSED {
+        if !caller.send(&bytes_of(rt.alloc(), VERSION_9.get(1..)?).ok()?) {
+            return None;
+        }
+        caller.receive(host);
+    }
+    host.take_log()?;
+    let mut other = Client::local(rt)?;
+    if !other.send(&bytes_of(rt.alloc(), &VERSION_9).ok()?) {
+        return None;
+    }
+    other.receive(host, LONG);
+    Some(host.take_log()?.as_slice() == OF_ANOTHER)
+}
+
+// LOG-4: one owner's lines hide no line of another's
+#[test]
+fn owners_have_lines_of_their_own(rt: HostRuntime) -> Result<(), Fail> {
+    let clock = Stopped::new(&rt);
+    let mut host = new_host(&rt, &clock, 2)?;
+    assert_eq!(rt; shows_another(&rt, &mut host), Some(true));
+    Ok(())
+}
+
 #[test]
 fn turn_waits_until_a_line(rt: HostRuntime) -> Result<(), Fail> {
     let clock = Stopped::new(&rt);
