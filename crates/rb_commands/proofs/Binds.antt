@@ -12,8 +12,8 @@ use Rattle.rb_address.specs.declared.network.NetworkFault.{NetworkFault}
 use Rattle.rb_address.specs.Hosts.{plain_host}
 use Rattle.rb_address.specs.Networks.{network_at}
 use Rattle.rb_commands.specs.declared.options.Valued.{Valued}
-use Rattle.rb_commands.specs.Options.{◌>>=◌}
-use Rattle.rb_commands.specs.Serving.{values_from, is_octal, read_mode}
+use Rattle.rb_commands.specs.Options.{◌>>=◌, values_from}
+use Rattle.rb_commands.specs.Serving.{is_octal, read_mode}
 
 -- ---- the values of `--bind`, and of `--from`
 

@@ -1,18 +1,19 @@
 -- What the values of the options of `replay` mean, and of those that `serve` has too.
-use Rattle.std.specs.Prelude.{ℕ, ◌^◌, ◌==◌, Bool, true, false, if◌then◌else◌, List, [], ◌∷◌, codes, bytes_eq, is_some, Option, Some, None, option_map, Result, Ok, Err}
+use Rattle.std.specs.Prelude.{ℕ, ◌+◌, ◌^◌, ◌==◌, nat_lt, nat_le, unwrap_or, Bool, true, false, if◌then◌else◌, List, [], ◌∷◌, codes, bytes_eq, is_some, Option, Some, None, option_map, Result, Ok, Err}
 use Rattle.std.specs.Borrow.{Bor}
 use Rattle.rb_address.specs.declared.host.Host.{Host}
 use Rattle.rb_address.specs.declared.host.Host.TheVariants.{V4, V6}
 use Rattle.rb_address.specs.Networks.{plain_host_of}
-use Rattle.rb_address.specs.Reading.{number_below}
+use Rattle.rb_address.specs.Reading.{cut, number_below}
 use Rattle.rb_proto.specs.declared.listener.Announced.{Announced}
 use Rattle.rb_proto.specs.declared.listener.Forwarding.{Forwarding}
 use Rattle.rb_proto.specs.declared.listener.Forwarding.TheVariants.{Anywhere, ForAll, ForLocal}
+use Rattle.rb_proto.specs.declared.reserved.Reservation.{Reservation}
 use Rattle.rb_model.specs.declared.types.Limits.{Limits}
 use Rattle.rb_lines.specs.declared.beginning.Beginning.{Beginning}
 use Rattle.rb_lines.specs.Paths.{is_path}
 use Rattle.rb_commands.specs.declared.options.Valued.{Valued}
-use Rattle.rb_commands.specs.declared.options.Valued.TheVariants.{Announce, Local, Conns, Rows, Forwards, UdpLists, ReplayForwardFor, Port, Xid, Now}
+use Rattle.rb_commands.specs.declared.options.Valued.TheVariants.{Announce, Local, Conns, Rows, Forwards, UdpLists, ReplayForwardFor, Port, Xid, Now, Reserve}
 use Rattle.rb_commands.specs.declared.options.ReplayTexts.{ReplayTexts}
 
 -- one after the other, up to the first that can't be read
@@ -109,6 +110,40 @@ forward_for text =
 abbrev pub forwarding_of : List ℕ → Option Forwarding
 forwarding_of text = if bytes_eq text (codes "any") then Some Anywhere else forward_for text
 
+-- ---- the reservations
+
+-- the values from a place on, each read as one of its place
+unfoldable pub values_from : {A : Type 0} → (ℕ → List ℕ → Result A Valued) → ℕ → List (Bor (List ℕ)) → Result (List A) Valued
+values_from value_at place [] = Ok []
+values_from value_at place (text ∷ texts) = do
+  first ← value_at place text.now
+  others ← values_from value_at (place + 1) texts
+  Ok (first ∷ others)
+
+-- a number of 32 bits
+abbrev pub number32 : List ℕ → Option ℕ
+number32 text = number_below (2 ^ 32) text
+
+-- the first program and the last one of `PROGRAM-PROGRAM`, or `PROGRAM` twice
+abbrev pub programs_in : List ℕ → List ℕ × List ℕ
+programs_in text = unwrap_or (cut 45 text) (text, text)
+
+-- `PROGRAM[-PROGRAM]=UID`, the first program no greater than the last one
+abbrev pub reservation_of : Valued → List ℕ → Result Reservation Valued
+reservation_of option text = do
+  parts ← value_of option (cut 61 text)
+  first ← value_of option (number32 (programs_in parts.0).0)
+  last ← value_of option (number32 (programs_in parts.0).1)
+  uid ← value_of option (number32 parts.1)
+  if nat_le first last then Ok (record { first = first; last = last; uid = uid }) else Err option
+
+-- RESERVE-2: `--reserve` is given at most 64 times.
+abbrev pub reserve_at : ℕ → List ℕ → Result Reservation Valued
+reserve_at place text = if nat_lt place 64 then reservation_of (Reserve place) text else Err (Reserve place)
+
+abbrev pub reserved_from : ℕ → List (Bor (List ℕ)) → Result (List Reservation) Valued
+reserved_from place texts = values_from reserve_at place texts
+
 -- what a replay begins with, or the first option whose value can't be read
 -- OPTION-11: Each option of `replay` sets its own field.
 abbrev pub beginning_of : ReplayTexts → Result Beginning Valued
@@ -121,9 +156,10 @@ beginning_of texts = do
   moment ← value_of Now (number_below (2 ^ 64) texts.moment.now)
   lists ← value_of UdpLists (udp_lists texts.udp_lists.now)
   whom ← value_of ReplayForwardFor (forwarding_of texts.forward_for.now)
+  owned ← reserved_from 0 texts.reserve.now
   Ok (record {
     limits = limits;
-    listener = record { announced = announced; port = listens; local = path; terms = record { long_replies = lists; forwarding = whom } };
+    listener = record { announced = announced; port = listens; local = path; terms = record { long_replies = lists; forwarding = whom }; reserved = owned };
     first_xid = xid;
     moment = moment;
     steps = texts.steps;

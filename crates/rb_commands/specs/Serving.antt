@@ -15,10 +15,10 @@ use Rattle.rb_sockets.specs.declared.settings.Logged.{Logged}
 use Rattle.rb_sockets.specs.declared.settings.Logged.TheVariants.{Nothing, Changes, All as Everything}
 use Rattle.rb_sockets.specs.declared.settings.Settings.{Settings}
 use Rattle.rb_commands.specs.declared.options.Valued.{Valued}
-use Rattle.rb_commands.specs.declared.options.Valued.TheVariants.{Announce, Bind, From, Local, LocalMode, Port, Conns, Rows, Forwards, UdpLists, ForwardFor, ReplayForwardFor, UdpRate, Xid, Now, Turns, RecordLimit, Keep, Log}
+use Rattle.rb_commands.specs.declared.options.Valued.TheVariants.{Announce, Bind, From, Local, LocalMode, Port, Conns, Rows, Forwards, UdpLists, ForwardFor, ReplayForwardFor, UdpRate, Xid, Now, Turns, RecordLimit, Keep, Log, Reserve}
 use Rattle.rb_commands.specs.declared.serving.ServeTexts.{ServeTexts}
 use Rattle.rb_commands.specs.declared.serving.Serve.{Serve}
-use Rattle.rb_commands.specs.Options.{◌>>=◌, value_of, announced_of, read_local, port, limits_of, udp_lists, forward_for}
+use Rattle.rb_commands.specs.Options.{◌>>=◌, value_of, values_from, reserved_from, announced_of, read_local, port, limits_of, udp_lists, forward_for}
 
 -- OPTION-10: An option of `serve` that is not given has the value that the help shows.
 abbrev pub default_of : Valued → List ℕ
@@ -41,6 +41,7 @@ default_of UdpRate = []
 default_of ReplayForwardFor = []
 default_of Xid = []
 default_of Now = []
+default_of (Reserve place) = []
 
 -- the host at a place of `--bind`, of which there are at most 16
 abbrev pub host_at : ℕ → List ℕ → Result Host Valued
@@ -50,15 +51,8 @@ host_at place text = if nat_lt place 16 then value_of (Bind place) (plain_host_o
 abbrev pub network_at : ℕ → List ℕ → Result Network Valued
 network_at place text = if nat_lt place 16 then value_of (From place) (network_of text) else Err (From place)
 
--- the values from a place on, each read as one of its place
-unfoldable pub values_from : {A : Type 0} → (ℕ → List ℕ → Result A Valued) → ℕ → List (Bor (List ℕ)) → Result (List A) Valued
-values_from value_at place [] = Ok []
-values_from value_at place (text ∷ texts) = do
-  first ← value_at place text.now
-  others ← values_from value_at (place + 1) texts
-  Ok (first ∷ others)
-
 -- OPTION-4: `--bind` is given at most 16 times, `--announce` at most once for each family.
+-- OPTION-4
 abbrev pub hosts_from : ℕ → List (Bor (List ℕ)) → Result (List Host) Valued
 hosts_from place texts = values_from host_at place texts
 
@@ -175,6 +169,7 @@ settings_of open_files texts = do
   bytes ← recorded_of texts.record_path texts.record_limit.now
   kept ← keep_of texts.keep
   tells ← log_of texts.log
+  owned ← reserved_from 0 texts.reserve.now
   Ok (record {
     bind = hosts;
     from = networks;
@@ -185,6 +180,7 @@ settings_of open_files texts = do
     port = listens;
     limits = most;
     terms = on;
+    reserve = owned;
     udp_rate = rate;
     record_limit = bytes;
     keep = kept;

@@ -2,7 +2,7 @@
 use Rattle.std.specs.Prelude.{ℕ, ◌==◌, nat_lt, Bool, false, if◌then◌else◌, List, ◌++◌, codes, bytes_eq, Option, Some, None}
 use Rattle.std.specs.Borrow.{Bor}
 use Rattle.rb_commands.specs.declared.options.Valued.{Valued}
-use Rattle.rb_commands.specs.declared.options.Valued.TheVariants.{Announce, Bind, From, Local, LocalMode, Port, Conns, Rows, Forwards, UdpLists, ForwardFor, ReplayForwardFor, UdpRate, Xid, Now, Turns, RecordLimit, Keep, Log}
+use Rattle.rb_commands.specs.declared.options.Valued.TheVariants.{Announce, Bind, From, Local, LocalMode, Port, Conns, Rows, Forwards, UdpLists, ForwardFor, ReplayForwardFor, UdpRate, Xid, Now, Turns, RecordLimit, Keep, Log, Reserve}
 use Rattle.rb_commands.specs.declared.wanted.BadValue.{BadValue}
 
 -- the name of an option, after its two dashes
@@ -27,6 +27,7 @@ option_name Turns = codes "turns"
 option_name RecordLimit = codes "record-limit"
 option_name Keep = codes "keep"
 option_name Log = codes "log"
+option_name (Reserve place) = codes "reserve"
 
 -- ---- what is expected
 
@@ -52,6 +53,9 @@ network_text = codes "a network as 192.0.2.0/24, with no bit set behind its leng
 abbrev pub served_text : ℕ → List ℕ
 served_text place = if nat_lt place 16 then network_text else codes "no more than 16 networks"
 
+abbrev pub reserve_text : ℕ → List ℕ
+reserve_text place = if nat_lt place 64 then codes "a reservation as 100003=0 or 100003-100005=0" else codes "no more than 64 reservations"
+
 -- WORD-1
 abbrev pub wanted_text : Valued → List ℕ
 wanted_text (Announce place) = announced_text place
@@ -73,6 +77,7 @@ wanted_text Turns = number_text
 wanted_text RecordLimit = codes "a number from 1000 to 16777216"
 wanted_text Keep = codes "the path of a file"
 wanted_text Log = codes "changes or all"
+wanted_text (Reserve place) = reserve_text place
 
 -- WORD-1: The line of a value that can't be read names its option, the value and what is expected
 -- there.

@@ -113,6 +113,7 @@ fn serve_of<'a>(matches: &ArgMatches<'a>) -> Result<Serve<'a>, BadValue<'a>> {
         forwards: text_of(matches, "forwards"),
         udp_lists: text_of(matches, "udp-lists"),
         forward_for: text_of(matches, "forward-for"),
+        reserve: matches.get_strs("reserve").unwrap_or(&[]),
         udp_rate: matches.get_str("udp-rate"),
         record_path: matches.get_str("record"),
         record_limit: text_of(matches, "record-limit"),
@@ -162,6 +163,7 @@ fn beginning_of<'a>(matches: &ArgMatches<'a>) -> Result<Beginning, BadValue<'a>>
         moment: text_of(matches, "now"),
         udp_lists: text_of(matches, "udp-lists"),
         forward_for: text_of(matches, "forward-for"),
+        reserve: matches.get_strs("reserve").unwrap_or(&[]),
         steps: matches.get_flag("steps"),
     };
     match read_beginning(&texts) {
@@ -174,9 +176,10 @@ fn beginning_of<'a>(matches: &ArgMatches<'a>) -> Result<Beginning, BadValue<'a>>
 fn bad_value<'a>(bad: Valued, matches: &ArgMatches<'a>) -> BadValue<'a> {
     let option = option_name(bad);
     let value = match bad {
-        Valued::Announce(place) | Valued::Bind(place) | Valued::From(place) => {
-            value_at(matches, option, place)
-        }
+        Valued::Announce(place)
+        | Valued::Bind(place)
+        | Valued::From(place)
+        | Valued::Reserve(place) => value_at(matches, option, place),
         _ => text_of(matches, option),
     };
     BadValue {

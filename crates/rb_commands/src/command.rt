@@ -184,6 +184,7 @@ fn add_bind<'a>(alloc: Global, args: &mut Vec<Arg<'a>>) -> Result<(), AllocError
 
 /// On which terms `serve` serves.
 fn on_terms<'a>(alloc: Global, args: &mut Vec<Arg<'a>>) -> Result<(), AllocError> {
+    add_reserve(alloc, args)?;
     let whom = serve_default(Valued::UdpLists);
     add_with(alloc, args, "udp-lists", "WHOM", UDP_LISTS, whom)?;
     add_with(
@@ -314,6 +315,18 @@ fn fill_replay<'a>(alloc: Global, args: &mut Vec<Arg<'a>>) -> Result<(), AllocEr
         "WHOM",
         "For whom calls are forwarded: any, to other hosts too; all; or local, for this machine alone",
         "any",
+    )?;
+    add_reserve(alloc, args)
+}
+
+/// Whose programs are, of both commands.
+fn add_reserve<'a>(alloc: Global, args: &mut Vec<Arg<'a>>) -> Result<(), AllocError> {
+    add_many(
+        alloc,
+        args,
+        "reserve",
+        "PROGRAM[-PROGRAM]=UID",
+        "Rows of these programs are set by this uid, or by uid 0, alone; may be given up to 64 times",
     )
 }
 

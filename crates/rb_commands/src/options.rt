@@ -1,15 +1,15 @@
 //! What the values of the options of `replay` mean, and those that `serve` has too.
-ghost use Rattle.std.specs.Prelude.{◌≡◌, ◌^◌};
+ghost use Rattle.std.specs.Prelude.{◌≡◌, ◌<◌, ◌^◌, OnOk};
 ghost use Rattle.std.specs.List.{list_all};
 ghost use Rattle.rb_address.specs.Reading.{number_below};
 ghost use Rattle.rb_address.specs.Networks.{plain_host_of};
 ghost use Rattle.rb_lines.specs.Paths.{is_quotable};
-ghost use Rattle.rb_commands.specs.Options.{value_of, with_host, announce_at, announced_of, read_local, local_address, port, limits_of, udp_lists, forward_for, forwarding_of, beginning_of};
+ghost use Rattle.rb_commands.specs.Options.{value_of, with_host, announce_at, announced_of, read_local, local_address, port, limits_of, udp_lists, forward_for, forwarding_of, number32, programs_in, reservation_of, reserve_at, reserved_from, beginning_of};
 
-use rb_address::{Host, number_below};
+use rb_address::{Host, cut, number_below};
 use rb_lines::Beginning;
 use rb_model::Limits;
-use rb_proto::{Announced, Forwarding, Listener, Terms};
+use rb_proto::{Announced, Forwarding, Listener, MOST_RESERVED, Reservation, Reserved, Terms};
 use rb_uaddr::AddressText;
 
 /// The longest path of a local socket, in bytes.
@@ -62,6 +62,8 @@ pub enum Valued {
     Keep,
     /// `--log WHAT`
     Log,
+    /// The value of `--reserve` at this place, from 0. None may stand at place 64.
+    Reserve(usize),
 }
 
 /// The values of the options of `replay`, as texts.
@@ -88,6 +90,8 @@ pub struct ReplayTexts<'m, 'a> {
     pub udp_lists: &'a str,
     /// `any`, `all` or `local`.
     pub forward_for: &'a str,
+    /// At most 64 reservations, as 100003=0 or 100003-100005=0.
+    pub reserve: &'m [&'a str],
     /// Whether `--steps` is given.
     pub steps: bool,
 }
@@ -192,15 +196,70 @@ fn read_local_address(text: Option<&str>) -> Result<Option<AddressText>, Valued>
 
 /// A number of 32 bits.
 #[tactic(auto, unfolding(rb_address::specs::Reading::number_below))]
-fn number32(option: Valued, text: &str) -> Result<u32, Valued>
-    ensures { result ≡ value_of option (number_below (2 ^ 32) text.now) }
+fn number32(option: Valued, text: &[u8]) -> Result<u32, Valued>
+    ensures { result ≡ value_of option (number32 text.now) }
 {
-    let n = number(option, text)?;
+    let Some(n) = number_below(text) else {
+        return Err(option);
+    };
     if n < 0x1_0000_0000 {
         Ok(n as u32)
     } else {
         Err(option)
     }
+}
+
+/// The first program and the last one.
+fn programs_in(text: &[u8]) -> (&[u8], &[u8])
+    ensures first { result.0.now ≡ (programs_in text.now).0 }
+    ensures last { result.1.now ≡ (programs_in text.now).1 }
+{
+    match cut(text, b'-') {
+        Some(programs) => programs,
+        None => (text, text),
+    }
+}
+
+/// A reservation.
+fn read_reservation(option: Valued, text: &[u8]) -> Result<Reservation, Valued>
+    ensures { result ≡ reservation_of option text.now }
+{
+    let Some((programs, uid)) = cut(text, b'=') else {
+        return Err(option);
+    };
+    let (first, last) = programs_in(programs);
+    let first = number32(option, first)?;
+    let last = number32(option, last)?;
+    let uid = number32(option, uid)?;
+    if first <= last {
+        Ok(Reservation { first, last, uid })
+    } else {
+        Err(option)
+    }
+}
+
+/// The reservation of `--reserve` at a place.
+fn reserve_at(place: usize, text: &str) -> Result<Reservation, Valued>
+    ensures reservation { result ≡ reserve_at place text.now }
+    ensures room { OnOk result (place < MOST_RESERVED) }
+{
+    if place < MOST_RESERVED {
+        read_reservation(Valued::Reserve(place), text.as_bytes())
+    } else {
+        Err(Valued::Reserve(place))
+    }
+}
+
+/// The reservations of `--reserve`.
+pub(crate) fn read_reserved(texts: &[&str]) -> Result<Reserved, Valued>
+    ensures { result ≡ reserved_from 0 texts.now }
+{
+    let mut reserved = Reserved::new();
+    for text in texts {
+        let reservation = reserve_at(reserved.len(), text)?;
+        reserved.push(reservation);
+    }
+    Ok(reserved)
 }
 
 /// A port from 1 to 65535. `Port` if the text is none.
@@ -272,10 +331,11 @@ pub fn read_beginning(texts: &ReplayTexts<'_, '_>) -> Result<Beginning, Valued>
     let local = read_local_address(texts.local)?;
     let limits = read_limits(texts.conns, texts.rows, texts.forwards)?;
     let port = read_port(texts.port)?;
-    let first_xid = number32(Valued::Xid, texts.xid)?;
+    let first_xid = number32(Valued::Xid, texts.xid.as_bytes())?;
     let moment = number(Valued::Now, texts.moment)?;
     let long_replies = read_udp_lists(texts.udp_lists)?;
     let forwarding = read_forwarding(texts.forward_for)?;
+    let reserved = read_reserved(texts.reserve)?;
     Ok(Beginning {
         limits,
         listener: Listener {
@@ -286,6 +346,7 @@ pub fn read_beginning(texts: &ReplayTexts<'_, '_>) -> Result<Beginning, Valued>
                 long_replies,
                 forwarding,
             },
+            reserved,
         },
         first_xid,
         moment,

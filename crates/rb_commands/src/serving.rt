@@ -6,7 +6,7 @@ ghost use Rattle.rb_commands.specs.Serving.{default_of, host_at, hosts_from, net
 
 use crate::options::{
     Valued, number, read_announced, read_forward_for, read_host, read_limits, read_local,
-    read_port, read_udp_lists,
+    read_port, read_reserved, read_udp_lists,
 };
 use rb_address::{Host, Network, cut, number_below};
 use rb_policy::{ANY, Rate};
@@ -43,6 +43,8 @@ pub struct ServeTexts<'m, 'a> {
     pub udp_lists: &'a str,
     /// `all` or `local`.
     pub forward_for: &'a str,
+    /// At most 64 reservations, as 100003=0 or 100003-100005=0.
+    pub reserve: &'m [&'a str],
     /// One or two numbers from 1 to 1,000, with a comma between them.
     pub udp_rate: Option<&'a str>,
     /// Any path.
@@ -91,6 +93,7 @@ pub fn serve_default(option: Valued) -> &'static str
         Valued::Announce(_) | Valued::From(_) | Valued::Local => "",
         Valued::Keep | Valued::Log => "",
         Valued::UdpRate | Valued::ReplayForwardFor | Valued::Xid | Valued::Now => "",
+        Valued::Reserve(_) => "",
     }
 }
 
@@ -310,6 +313,7 @@ fn read_settings<'a>(texts: &ServeTexts<'_, 'a>, open_files: u64) -> Result<Sett
     let record_limit = read_recorded(texts.record_path, texts.record_limit)?;
     let keep = read_keep(texts.keep)?;
     let log = read_log(texts.log)?;
+    let reserve = read_reserved(texts.reserve)?;
     Ok(Settings {
         bind,
         from,
@@ -320,6 +324,7 @@ fn read_settings<'a>(texts: &ServeTexts<'_, 'a>, open_files: u64) -> Result<Sett
         port,
         limits,
         terms,
+        reserve,
         udp_rate,
         record_limit,
         keep,

@@ -1,8 +1,9 @@
 //! What is wrong with the value of an option, and what is expected there.
 ghost use Rattle.std.specs.Prelude.{◌≡◌};
-ghost use Rattle.rb_commands.specs.Wanted.{option_name, wanted_text, announced_text, bound_text, served_text};
+ghost use Rattle.rb_commands.specs.Wanted.{option_name, wanted_text, announced_text, bound_text, served_text, reserve_text};
 
 use crate::options::Valued;
+use rb_proto::MOST_RESERVED;
 use rb_sockets::MOST;
 use std::fmt;
 use std::fmt::{Display, Formatter};
@@ -68,11 +69,12 @@ pub(crate) fn option_name(option: Valued) -> &'static str
         Valued::RecordLimit => "record-limit",
         Valued::Keep => "keep",
         Valued::Log => "log",
+        Valued::Reserve(_) => "reserve",
     }
 }
 
 /// What is expected as its value. That of `--announce` at a place after the first may be the second of its family, and
-/// those of `--bind` and `--from` may be one too many.
+/// those of `--bind`, `--from` and `--reserve` may be one too many.
 pub(crate) fn wanted_text(option: Valued) -> &'static str
     ensures { result.now ≡ wanted_text option }
 {
@@ -91,6 +93,7 @@ pub(crate) fn wanted_text(option: Valued) -> &'static str
         Valued::RecordLimit => "a number from 1000 to 16777216",
         Valued::Keep => "the path of a file",
         Valued::Log => "changes or all",
+        Valued::Reserve(place) => reserve_text(place),
     }
 }
 
@@ -121,5 +124,15 @@ fn served_text(place: usize) -> &'static str
         NETWORK
     } else {
         "no more than 16 networks"
+    }
+}
+
+fn reserve_text(place: usize) -> &'static str
+    ensures { result.now ≡ reserve_text place }
+{
+    if place < MOST_RESERVED {
+        "a reservation as 100003=0 or 100003-100005=0"
+    } else {
+        "no more than 64 reservations"
     }
 }

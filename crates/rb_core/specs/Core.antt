@@ -7,6 +7,8 @@ use Rattle.rb_rpc.specs.declared.caller.Caller.TheVariants.{Tcp}
 use Rattle.rb_forward.specs.declared.types.Ended.{Ended}
 use Rattle.rb_proto.specs.declared.books.Books.{Books}
 use Rattle.rb_proto.specs.declared.context.Context.{Context}
+use Rattle.rb_proto.specs.declared.listener.Listener.{Listener}
+use Rattle.rb_model.specs.declared.types.Limits.{Limits}
 use Rattle.rb_proto.specs.Books.{AreTied}
 use Rattle.rb_model.specs.declared.types.CoreFault.{CoreFault}
 use Rattle.rb_model.specs.State.{Setting, State}
@@ -54,16 +56,20 @@ pub record IsCore (setting : Setting) (connections : Table) (books : Books) (rep
 
 -- ---- what calls answer
 
--- what a call from a caller sees
-abbrev pub context_of : CoreView → Caller → Context
-context_of held caller = record {
-  announced = held.setting.listener.announced;
-  terms = held.setting.listener.terms;
-  limit = held.setting.limits.rows;
-  forwards = held.setting.limits.forwards;
-  clock = held.clock;
+-- what a call from a caller sees at a moment
+abbrev pub context_at : Limits → Listener → ℕ → Caller → Context
+context_at limits listener clock caller = record {
+  announced = listener.announced;
+  terms = listener.terms;
+  reserved = listener.reserved;
+  limit = limits.rows;
+  forwards = limits.forwards;
+  clock = clock;
   caller = caller;
 }
+
+abbrev pub context_of : CoreView → Caller → Context
+context_of held caller = context_at held.setting.limits held.setting.listener held.clock caller
 
 -- what was received of a piece of bytes, or that there is no such connection
 abbrev pub received_in : Result Piece CoreFault → Result Received CoreFault

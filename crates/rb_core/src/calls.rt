@@ -20,7 +20,7 @@ use crate::eviction::make_room;
 use crate::seen::{Seen, seen_of};
 use rb_connections::{Connections, EndedRecord, Received, write_whole};
 use rb_model::{CoreFault, Message, Response, Served, Standing};
-use rb_proto::{Books, Context};
+use rb_proto::{Books, Context, Refusal};
 use rb_rpc::{FRAGMENT_HEADER, Verdict, read_call};
 use rb_serving::{kept_arguments, procedure_of, serve, serve_null};
 use rb_xdr::{Kept, Meter};
@@ -138,7 +138,7 @@ pub fn serve_verdict(
     let called = match procedure_of(verdict) {
         Ok(called) => called,
         Err(message) => {
-            note(seen, context, &message, false);
+            note(seen, context, &message, None);
             return serve(books, context, &message, arguments, out, meter);
         }
     };
@@ -147,16 +147,14 @@ pub fn serve_verdict(
     }
     let message = &called.message(arguments);
     make_room(connections, books, context, message, meter);
-    let stamp = books.registry.stamp();
     let served = serve(books, context, message, arguments, out, meter);
-    let is_accepted = stamp < books.registry.stamp();
-    note(seen, context, message, is_accepted);
+    note(seen, context, message, books.refusal);
     served
 }
 
-/// Notes what there is to tell of a message, if anything; `is_accepted` is whether it changed the rows.
-fn note(seen: &mut Option<Seen>, context: &Context, message: &Message, is_accepted: bool) {
-    if let Some(told) = seen_of(context, message, is_accepted) {
+/// Notes what there is to tell of a message, if anything; `refusal` is why a SET or an UNSET was refused, if it was.
+fn note(seen: &mut Option<Seen>, context: &Context, message: &Message, refusal: Option<Refusal>) {
+    if let Some(told) = seen_of(context, message, refusal) {
         *seen = Some(told);
     }
 }

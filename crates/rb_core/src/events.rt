@@ -1,4 +1,7 @@
 //! The calls of a core: each is one event, or says how one went.
+ghost use Rattle.std.specs.Prelude.{◌≡◌, ◌≤◌};
+ghost use Rattle.rb_core.specs.Core.{context_at};
+
 use crate::calls::{
     Piece, lend_arguments, serve_verdict, standing_behind, take_piece, write_at_once,
 };
@@ -7,11 +10,32 @@ use crate::seen::{Seen, forget};
 use rb_address::{Peer, Who};
 use rb_connections::{EndedRecord, Received};
 use rb_forward::{Ended, FwdId, Unsent, sooner};
-use rb_model::{CoreFault, Exchanged, Expired, Response, Served, Standing, Taken, Told};
-use rb_proto::Context;
+use rb_model::{CoreFault, Exchanged, Expired, Limits, Response, Served, Standing, Taken, Told};
+use rb_proto::{Context, Listener};
 use rb_rpc::{Caller, read_call};
 use rb_serving::{arguments_behind, longest_to, put_end};
 use rb_xdr::Meter;
+
+/// What the answer to a call of this caller depends on beside the books.
+fn context_at<'a>(
+    limits: &Limits,
+    listener: &'a Listener,
+    clock: u64,
+    caller: Caller,
+) -> Context<'a>
+    requires { limits.now.forwards ≤ 64 }
+    ensures { result ≡ context_at limits.now listener.now clock caller }
+{
+    Context {
+        announced: listener.announced,
+        terms: listener.terms,
+        reserved: listener.reserved.lend(),
+        limit: limits.rows,
+        forwards: limits.forwards as u32,
+        clock,
+        caller,
+    }
+}
 
 impl Core {
     ghost use Rattle.std.specs.Prelude.{◌≡◌, ◌+◌, ◌≤◌, [], false, length, IfOk, IfSome, OnErr};
@@ -39,20 +63,6 @@ impl Core {
     ghost use Rattle.rb_connections.specs.Costs.{look_cost, slot_count};
     ghost use Rattle.rb_model.specs.Costs.{close_cost, ended_cost, tell_cost};
 
-    /// What the answer to a call of this caller depends on beside the books.
-    fn context(&self, caller: Caller) -> Context
-        ensures { result ≡ context_of self.now caller }
-    {
-        Context {
-            announced: self.listener.announced,
-            terms: self.listener.terms,
-            limit: self.limits.rows,
-            forwards: self.limits.forwards as u32,
-            clock: self.clock,
-            caller,
-        }
-    }
-
     /// Answers a datagram from `who` at the moment `now` (RFC 5531 section 9, RFC 1833 sections 2.2 and 3.2). At
     /// `Reply` the reply is lent by `udp_reply`, of at most 9,000 bytes. At `Forwarded` the call is forwarded, and its
     /// reply comes with `forward_reply` or `expire`. At `NoCall` and `Silent` there is none.
@@ -73,7 +83,8 @@ impl Core {
         forget(&mut self.seen);
         self.clock = self.clock.max(now);
         let longest = longest_to(&self.listener.terms, &who, content.len());
-        let context = self.context(Caller::Udp(who, longest));
+        let caller = Caller::Udp(who, longest);
+        let context = context_at(&self.limits, &self.listener, self.clock, caller);
         self.reply.clear(meter);
         let verdict = read_call(content);
         let arguments = arguments_behind(verdict, content);
@@ -247,7 +258,8 @@ impl Core {
         ensures cost { PaysToAnswer ended
             self.old self.new lent.entry room.old result.1 meter.old meter.new }
     {
-        let context = self.context(Caller::Tcp(id, ended.who));
+        let caller = Caller::Tcp(id, ended.who);
+        let context = context_at(&self.limits, &self.listener, self.clock, caller);
         let arguments = lend_arguments(lent, &self.arguments, meter);
         let served = serve_verdict(
             &mut self.connections,

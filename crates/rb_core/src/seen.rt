@@ -3,7 +3,7 @@
 use rb_address::{Family, Netid, Owner, Transport, Who};
 use rb_arguments::{LentRpcb, Mapping, MappingProcedure, Request, RpcbProcedure};
 use rb_model::Message;
-use rb_proto::{Call, Context};
+use rb_proto::{Call, Context, Refusal};
 use rb_rpc::{Caller, ReplyStatus};
 use rb_uaddr::Uaddr;
 use rb_xdr::Text;
@@ -46,8 +46,8 @@ pub struct ChangeAsked {
     pub owner: Owner,
     /// Who called.
     pub who: Who,
-    /// Whether the rows were changed.
-    pub is_accepted: bool,
+    /// Why it was refused; `None` if the rows were changed.
+    pub refusal: Option<Refusal>,
 }
 
 /// A call that was refused.
@@ -77,27 +77,27 @@ pub(crate) fn forget(seen: &mut Option<Seen>) {
     }
 }
 
-/// What there is to tell of a message, if anything; `is_accepted` is whether it changed the rows.
-pub fn seen_of(context: &Context, message: &Message, is_accepted: bool) -> Option<Seen> {
+/// What there is to tell of a message, if anything; `refusal` is why it was refused, if it is a SET or an UNSET that was.
+pub fn seen_of(context: &Context, message: &Message, refusal: Option<Refusal>) -> Option<Seen> {
     let status = match message {
         Message::NoCall => return None,
         Message::Refused(head) => head.status,
         Message::Garbage(_) => ReplyStatus::GarbageArgs,
-        Message::Asked(call) => return change_in(context, call, is_accepted),
+        Message::Asked(call) => return change_in(context, call, refusal),
     };
     let who = who_of(&context.caller);
     Some(Seen::Refused(RefusedCall { who, status }))
 }
 
 /// What a call asks to change, if it does.
-fn change_in(context: &Context, call: &Call, is_accepted: bool) -> Option<Seen> {
+fn change_in(context: &Context, call: &Call, refusal: Option<Refusal>) -> Option<Seen> {
     let (asked, row) = named_by(&call.request)?;
     Some(Seen::Change(ChangeAsked {
         asked,
         row,
         owner: context.owner(&call.head),
         who: who_of(&context.caller),
-        is_accepted,
+        refusal,
     }))
 }
 

@@ -57,7 +57,7 @@ impl Log {
     pub(crate) fn note_call(&mut self, now: u64, seen: &Seen) {
         match (seen, self.logged) {
             (Seen::Change(change), Logged::Changes | Logged::All) => {
-                let kind = if change.is_accepted {
+                let kind = if change.refusal.is_none() {
                     LogKind::Accepted
                 } else {
                     LogKind::Refused
@@ -153,6 +153,6 @@ fn line_of(change: &ChangeAsked) -> ChangeLine<'_> {
         addr: change.row.addr.as_slice(),
         owner: change.owner,
         who: change.who,
-        is_accepted: change.is_accepted,
+        is_accepted: change.refusal.is_none(),
     }
 }

@@ -4,7 +4,7 @@ use Rattle.std.specs.Prelude.{IfSome}
 use Rattle.std.specs.Fmt.{decimal, digits, digits_onto, digit_glyph}
 use Rattle.std.specs.Net.Text.{ipv4_text}
 use Rattle.std.specs.Char.{digit_value}
-use Rattle.std.proofs.Common.{◌≡◌, ◌<◌, ◌≤◌, ◌/◌, ◌%◌, ℕ, zero, suc, Bool, true, false, cond, eqb, codes, List, [], ◌∷◌, ◌++◌, map, slice_index, Option, Some, None, refl, sym, ap, subst, ◌∙◌, arith, inl, inr, ◌⊎◌, append_assoc, length, take}
+use Rattle.std.proofs.Common.{◌≡◌, ◌==◌, ◌<◌, ◌≤◌, ◌/◌, ◌%◌, ℕ, zero, suc, Bool, true, false, cond, eqb, codes, List, [], ◌∷◌, ◌++◌, map, slice_index, Option, Some, None, refl, sym, ap, subst, ◌∙◌, arith, inl, inr, ◌⊎◌, append_assoc, length, take}
 use Rattle.std.proofs.lemmas.Fmt.{decimal_is_IsNumeral}
 use Rattle.std.proofs.lemmas.List.Elements.{All-append, All-cons, All-nil, All-head, All-tail}
 use Rattle.std.proofs.lemmas.List.Splits.{slice_split-cons_yes, slice_split-cons_no}
@@ -27,6 +27,7 @@ use Rattle.rb_forward.specs.Forwards.{Unsent as UnsentCall}
 use Rattle.rb_proto.specs.declared.listener.Forwarding.{Forwarding}
 use Rattle.rb_proto.specs.declared.listener.Forwarding.TheVariants.{Anywhere, ForAll, ForLocal}
 use Rattle.rb_proto.specs.declared.listener.Listener.{Listener}
+use Rattle.rb_proto.specs.declared.reserved.Reservation.{Reservation}
 use Rattle.rb_proto.specs.declared.listener.Terms.{Terms}
 use Rattle.rb_model.specs.declared.types.Limits.{Limits}
 use Rattle.rb_model.specs.declared.types.CoreFault.{CoreFault}
@@ -36,7 +37,7 @@ use Rattle.rb_model.specs.Step.{Event, Output, step, run}
 use Rattle.rb_model.specs.Step.Event.{Datagram, Open, Bytes, Pending, Gave, Closed, NextLost, Unsent, Sent, Forward, Expire, ZeroStats}
 use Rattle.rb_model.specs.Step.Output.{Opened, Refused, TooMuch, Took, TookAndLost, IsPending, Done, LostIs, Replied, Forwarded, Silent, UnsentIs, Ignored, Nothing, ConnectionLost, Ready, RepliedTo}
 use Rattle.rb_record.specs.Printing.{hex_text, refusal_text, bytes_line, peer_line, source_line, output_text}
-use Rattle.rb_record.specs.Entries.{event_text, entry_text, run_entries, run_text, limits_text, announce_text, inet_text, inet6_text, local_text, lists_text, forwarding_text, terms_text, listener_text, options_text}
+use Rattle.rb_record.specs.Entries.{event_text, entry_text, run_entries, run_text, limits_text, announce_text, inet_text, inet6_text, local_text, lists_text, forwarding_text, last_text, reservation_text, reserve_text, reserved_text, terms_text, listener_text, options_text}
 use Rattle.rb_record.specs.Tapes.{last_line}
 use Rattle.rb_lines.specs.Lines.{longest_input, line, lines_of}
 use Rattle.rb_lines.specs.Lines.Line.{Skipped, Happens}
@@ -631,10 +632,29 @@ terms_apart terms = joined (lists_text terms.long_replies) (forwarding_text term
     forwarding_apart ForAll = apart (codes " --forward-for all") refl
     forwarding_apart ForLocal = apart (codes " --forward-for local") refl
 
+last_apart : (r : Reservation) → IsWithout 10 (last_text r)
+last_apart r = by_test (r.first == r.last)
+  where
+    by_test : (b : Bool) → IsWithout 10 (cond b [] (codes "-" ++ decimal r.last))
+    by_test true = nothing
+    by_test false = joined (codes "-") (decimal r.last) (apart (codes "-") refl) (number_apart r.last)
+
+reserve_apart : (r : Reservation) → IsWithout 10 (reserve_text r)
+reserve_apart r =
+    joined (codes " --reserve ") (reservation_text r) (apart (codes " --reserve ") refl)
+    (joined (decimal r.first) (last_text r ++ (codes "=" ++ decimal r.uid)) (number_apart r.first)
+    (joined (last_text r) (codes "=" ++ decimal r.uid) (last_apart r)
+    (joined (codes "=") (decimal r.uid) (apart (codes "=") refl) (number_apart r.uid))))
+
+reserved_apart : (reserved : List Reservation) → IsWithout 10 (reserved_text reserved)
+reserved_apart [] = nothing
+reserved_apart (r ∷ reserved) = joined (reserve_text r) (reserved_text reserved) (reserve_apart r) (reserved_apart reserved)
+
 listener_apart : (listener : Listener) → HasPath listener → IsWithout 10 (listener_text listener)
 listener_apart listener is =
-    let path = joined (local_text listener.local) (terms_text listener.terms) (local_apart listener.local is) (terms_apart listener.terms) in
-    let port = joined (decimal listener.port) (local_text listener.local ++ terms_text listener.terms) (number_apart listener.port) path in
+    let terms = joined (terms_text listener.terms) (reserved_text listener.reserved) (terms_apart listener.terms) (reserved_apart listener.reserved) in
+    let path = joined (local_text listener.local) (terms_text listener.terms ++ reserved_text listener.reserved) (local_apart listener.local is) terms in
+    let port = joined (decimal listener.port) (local_text listener.local ++ (terms_text listener.terms ++ reserved_text listener.reserved)) (number_apart listener.port) path in
     joined (inet_text listener.announced.inet) _ (inet_apart listener.announced.inet)
     (joined (inet6_text listener.announced.inet6) _ (inet6_apart listener.announced.inet6) (joined (codes " --port ") _ o_port port))
 

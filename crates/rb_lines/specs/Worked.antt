@@ -15,7 +15,7 @@ use Rattle.rb_proto.specs.declared.listener.Terms.{Terms}
 use Rattle.rb_model.specs.Step.Event.{Datagram, Open, Bytes, Pending, Gave, Closed, NextLost, Unsent, Sent, Forward, Expire, ZeroStats}
 use Rattle.rb_model.specs.declared.types.CoreFault.TheVariants.{Full, Spent, Gone}
 use Rattle.rb_model.specs.Step.Output.{Replied, Silent, Opened, Refused, Took, TookAndLost, IsPending, Done, TooMuch, LostIs, Forwarded, UnsentIs, Ignored, Nothing, Ready, RepliedTo}
-use Rattle.rb_record.specs.Entries.{event_text, listener_text}
+use Rattle.rb_record.specs.Entries.{event_text, listener_text, reserved_text}
 use Rattle.rb_lines.specs.declared.lines.ReadFault.TheVariants.{BadLine}
 use Rattle.rb_lines.specs.Lines.{read}
 use Rattle.rb_lines.specs.Printing.{report_of}
@@ -208,14 +208,15 @@ abbrev pub open_terms : Terms
 open_terms = record { long_replies = true; forwarding = Anywhere }
 
 -- The command in the first line of a record, of a daemon that serves both families and a local socket, and of one that
--- serves IPv6 alone; and when the terms hold somebody back.
+-- serves IPv6 alone; when the terms hold somebody back; and programs that are reserved.
 abbrev pub OptionsArePrinted : Type 0
 OptionsArePrinted =
-    (listener_text (record { announced = record { inet = Some (192 ∷ 0 ∷ 2 ∷ 1 ∷ []); inet6 = Some (replicate 15 0 ++ 1 ∷ []) }; port = 111; local = Some (codes "/run/rpcbind.sock"); terms = open_terms })
+    (listener_text (record { announced = record { inet = Some (192 ∷ 0 ∷ 2 ∷ 1 ∷ []); inet6 = Some (replicate 15 0 ++ 1 ∷ []) }; port = 111; local = Some (codes "/run/rpcbind.sock"); terms = open_terms; reserved = [] })
     ≡ codes " --announce 192.0.2.1 --announce ::1 --port 111 --local '/run/rpcbind.sock'")
-    × (listener_text (record { announced = record { inet = None; inet6 = Some (replicate 15 0 ++ 1 ∷ []) }; port = 111; local = None; terms = open_terms }) ≡ codes " --announce ::1 --port 111")
-    × (listener_text (record { announced = record { inet = None; inet6 = None }; port = 111; local = Some (codes "/run/rpcbind.sock"); terms = record { long_replies = false; forwarding = ForLocal } })
+    × (listener_text (record { announced = record { inet = None; inet6 = Some (replicate 15 0 ++ 1 ∷ []) }; port = 111; local = None; terms = open_terms; reserved = [] }) ≡ codes " --announce ::1 --port 111")
+    × (listener_text (record { announced = record { inet = None; inet6 = None }; port = 111; local = Some (codes "/run/rpcbind.sock"); terms = record { long_replies = false; forwarding = ForLocal }; reserved = [] })
     ≡ codes " --port 111 --local '/run/rpcbind.sock' --udp-lists local --forward-for local")
+    × (reserved_text (record { first = 100003; last = 100003; uid = 0 } ∷ record { first = 100020; last = 100030; uid = 110 } ∷ []) ≡ codes " --reserve 100003=0 --reserve 100020-100030=110")
 
 -- The lines of peers of IPv6. Another spelling of the host, as one that is not shortened or has no brackets, makes a
 -- bad line.

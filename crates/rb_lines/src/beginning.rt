@@ -3,7 +3,7 @@ use rb_model::Limits;
 use rb_proto::Listener;
 
 /// What the core of a replay begins with.
-#[derive(Clone, Drop)]
+#[derive(Drop)]
 pub struct Beginning {
     /// How many connections, rows and forwarded calls there may be.
     pub limits: Limits,

@@ -35,6 +35,7 @@ use Rattle.rb_proto.specs.declared.answers.Answer.TheVariants as answers
 use Rattle.rb_proto.specs.declared.answers.Results.TheVariants as results
 use Rattle.rb_proto.specs.declared.answers.Value.TheVariants as values
 use Rattle.rb_promises.specs.LocalCallers.{CallsAs}
+use Rattle.rb_promises.proofs.Owned.{owned_is, owned_of}
 use Rattle.rb_promises.specs.Sets.{IsByProtocol, IsOfMapping, IsOfRpcb, AsksToSet, LeavesAQuarter, IsAccepted, IsAddedTo, IsSetRequest, told, SetsARow, AnswersSet, SetsAreAcceptedExactly}
 use Rattle.rb_promises.proofs.LocalCallers.{local_exactly, owner_exactly}
 use Rattle.rb_promises.proofs.Addresses.{address_exactly}
@@ -172,7 +173,8 @@ module _ (context : Context) (l : Ledger) (row : Row) where
   accepted_is e =
       let (three, place) = and_parts _ _ e in
       let (two, share) = and_parts _ _ three in
-      let (here, can) = and_parts _ _ two in
+      let (one, owned) = and_parts _ _ two in
+      let (here, can) = and_parts _ _ one in
       let (foreign, address) = and_parts _ _ can in
       let (there, left) = and_parts _ _ place in
       let (none, room) = and_parts _ _ there in
@@ -180,6 +182,7 @@ module _ (context : Context) (l : Ledger) (row : Row) where
         local = (local_exactly context.announced (who_of context.caller)).0 here;
         foreign = eqb-false row.prog 100000 (not-true (row.prog == 100000) foreign);
         address = (address_exactly row.netid row.addr).0 address;
+        owned = owned_is context.reserved row owned;
         is_new = no_key row (rows_in l) (not-true (list_any (is_of_key row) (rows_in l)) none);
         fits = ltb-true (length (rows_in l)) context.limit room;
         quarter = quarter_is_left context (rows_in l) share;
@@ -196,7 +199,8 @@ module _ (context : Context) (l : Ledger) (row : Row) where
       let share = share_is_left context (rows_in l) a.quarter a.fits in
       let room = lt-ltb (length (rows_in l)) context.limit a.fits in
       let left = lt-ltb (length l.changes) (2 ^ 64 - 1) a.numbered in
-      rw (here, foreign, address, share, none, room, left) refl
+      let owned = owned_of context.reserved row a.owned in
+      rw (here, foreign, address, owned, share, none, room, left) refl
 
 -- ---- what it is answered
 

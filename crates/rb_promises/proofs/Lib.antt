@@ -1,6 +1,7 @@
 pub mod LocalCallers
 pub mod Addresses
 pub mod Keys
+pub mod Owned
 pub mod AcceptedSets
 pub mod AcceptedUnsets
 pub mod Found
@@ -25,6 +26,7 @@ pub mod FormedWords
 pub mod FormedPlans
 pub mod ReadForms
 pub mod OptionValues
+pub mod ReservedValues
 pub mod ReadBeginnings
 pub mod ServeValues
 pub mod ReadServices

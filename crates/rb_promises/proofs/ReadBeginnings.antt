@@ -1,15 +1,16 @@
 -- Which values of the options of `replay` give which beginning.
-use Rattle.std.proofs.Common.{◌≡◌, ◌<◌, ◌-◌, ◌^◌, ℕ, List, Ok, refl, sym, ap, subst, lit<}
+use Rattle.std.proofs.Common.{◌≡◌, ◌<◌, ◌-◌, ◌^◌, ℕ, List, length, Ok, refl, sym, ap, subst, lit<, arith}
 use Rattle.rb_address.specs.Reading.{number_below}
 use Rattle.rb_model.specs.declared.types.Limits.{Limits}
 use Rattle.rb_lines.specs.declared.beginning.Beginning.{Beginning}
 use Rattle.rb_commands.specs.declared.options.ReplayTexts.{ReplayTexts}
 use Rattle.rb_commands.specs.declared.options.Valued.{Valued}
 use Rattle.rb_commands.specs.declared.options.Valued.TheVariants.{Conns, Rows, Forwards, UdpLists, ReplayForwardFor, Port, Xid, Now}
-use Rattle.rb_commands.specs.Options.{value_of, announced_of, local_address, limits_of, port, udp_lists, forwarding_of, beginning_of}
+use Rattle.rb_commands.specs.Options.{value_of, announced_of, local_address, limits_of, port, udp_lists, forwarding_of, reserved_from, beginning_of}
 use Rattle.rb_promises.specs.WordForms.{SpellsWithin}
 use Rattle.rb_promises.specs.OptionTexts.{SpellsLong}
 use Rattle.rb_promises.specs.ReplayOptions.{IsBeginning, BeginningsAreSpelled}
+use Rattle.rb_promises.proofs.ReservedValues.{reserved_are, reserved_read, all_from_start}
 use Rattle.rb_promises.proofs.OptionValues.{bound, followed, same_Ok, valued, below_is, below_of, port_is, port_of, announced_is, announced_read, local_is, local_of, lists_is, lists_of, whom_is, whom_of}
 
 pub number_is : (limit : ℕ) (option : Valued) (text : List ℕ) (n : ℕ) → 0 < limit → value_of option (number_below limit text) ≡ Ok n → SpellsWithin 0 (limit - 1) n text
@@ -49,7 +50,9 @@ beginning_is texts beginning h =
     let (xid, read5, rest5) = bound (value_of Xid (number_below (2 ^ 32) texts.xid.now)) _ beginning rest4 in
     let (moment, read6, rest6) = bound (value_of Now (number_below (2 ^ 64) texts.moment.now)) _ beginning rest5 in
     let (lists, read7, rest7) = bound (value_of UdpLists (udp_lists texts.udp_lists.now)) _ beginning rest6 in
-    let (whom, read8, made) = bound (value_of ReplayForwardFor (forwarding_of texts.forward_for.now)) _ beginning rest7 in
+    let (whom, read8, rest8) = bound (value_of ReplayForwardFor (forwarding_of texts.forward_for.now)) _ beginning rest7 in
+    let (owned, read9, made) = bound (reserved_from 0 texts.reserve.now) _ beginning rest8 in
+    let reserved = reserved_are texts.reserve.now owned read9 in
     let limits_are = limits_are texts.conns.now texts.rows.now texts.forwards.now limits read3 in
     subst (IsBeginning texts) (same_Ok _ _ made) (record {
       announce = announced_is texts.announce.now announced read1;
@@ -62,6 +65,8 @@ beginning_is texts beginning h =
       moment = number_is (2 ^ 64) Now texts.moment.now moment (lit< tt) read6;
       udp_lists = lists_is texts.udp_lists.now lists (valued UdpLists (udp_lists texts.udp_lists.now) lists read7);
       forward_for = whom_is texts.forward_for.now whom (valued ReplayForwardFor (forwarding_of texts.forward_for.now) whom read8);
+      reserve = reserved.each;
+      few_reserved = all_from_start (length texts.reserve.now) reserved.few;
       steps = refl;
     })
 
@@ -77,7 +82,8 @@ beginning_read texts beginning b =
     (followed (value_of Now (number_below (2 ^ 64) texts.moment.now)) _ beginning.moment beginning (number_of (2 ^ 64) Now texts.moment.now beginning.moment (lit< tt) b.moment)
     (followed (value_of UdpLists (udp_lists texts.udp_lists.now)) _ listener.terms.long_replies beginning (ap (value_of UdpLists) (lists_of texts.udp_lists.now listener.terms.long_replies b.udp_lists))
     (followed (value_of ReplayForwardFor (forwarding_of texts.forward_for.now)) _ listener.terms.forwarding beginning (ap (value_of ReplayForwardFor) (whom_of texts.forward_for.now listener.terms.forwarding b.forward_for))
-    (ap (λ (steps : _). Ok (record beginning { steps = steps })) (sym b.steps)))))))))
+    (followed (reserved_from 0 texts.reserve.now) _ listener.reserved beginning (reserved_read texts.reserve.now listener.reserved (record { each = b.reserve; few = let few = b.few_reserved in omega (arith, few) }))
+    (ap (λ (steps : _). Ok (record beginning { steps = steps })) (sym b.steps))))))))))
 
 pub beginnings_are_spelled : BeginningsAreSpelled
 beginnings_are_spelled texts beginning = (beginning_is texts beginning, beginning_read texts beginning)

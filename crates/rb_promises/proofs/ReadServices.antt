@@ -14,11 +14,12 @@ use Rattle.rb_commands.specs.declared.options.Valued.TheVariants.{LocalMode, Por
 use Rattle.rb_commands.specs.declared.options.Valued.TheVariants as valueds
 use Rattle.rb_commands.specs.declared.serving.ServeTexts.{ServeTexts}
 use Rattle.rb_commands.specs.declared.serving.Serve.{Serve}
-use Rattle.rb_commands.specs.Options.{value_of, announced_of, read_local, limits_of, port, udp_lists, forward_for}
+use Rattle.rb_commands.specs.Options.{value_of, announced_of, read_local, limits_of, port, udp_lists, forward_for, reserved_from}
 use Rattle.rb_commands.specs.Serving.{hosts_from, networks_from, read_mode, local_of, udp_rate, terms_of, record_limit, limit_at, recorded_of, keep_of, log_of, settings_of, serve_of}
 use Rattle.rb_promises.specs.OptionTexts.{IsSocketPath, SpellsMode, lists_text, whom_text}
 use Rattle.rb_promises.specs.WordForms.{SpellsWithin}
 use Rattle.rb_promises.specs.ServeOptions.{WhereGiven, RecordsUpTo, AreSettings, IsServe, ServicesAreSpelled}
+use Rattle.rb_promises.proofs.ReservedValues.{reserved_are, reserved_read, all_from_start}
 use Rattle.rb_promises.proofs.OptionValues.{bound, followed, same_Ok, valued, port_is, port_of, announced_is, announced_read, path_is, path_of, lists_is, lists_of}
 use Rattle.rb_promises.proofs.ReadBeginnings.{number_is, number_of, AreLimits, limits_are, limits_read}
 use Rattle.rb_promises.proofs.ServeValues.{hosts_are, hosts_read, networks_are, networks_read, mode_is, mode_of, between_is, between_of, udp_rate_is, udp_rate_of, served_is, served_of, log_is, log_read}
@@ -143,7 +144,9 @@ settings_are open_files texts settings h =
     let (rate, read8, rest8) = bound (udp_rate texts.udp_rate) _ settings rest7 in
     let (bytes, read9, rest9) = bound (recorded_of texts.record_path texts.record_limit.now) _ settings rest8 in
     let (keeps, read10, rest10) = bound (keep_of texts.keep) _ settings rest9 in
-    let (tells, read11, made) = bound (log_of texts.log) _ settings rest10 in
+    let (tells, read11, rest11) = bound (log_of texts.log) _ settings rest10 in
+    let (owned, read12, made) = bound (reserved_from 0 texts.reserve.now) _ settings rest11 in
+    let reserved = reserved_are texts.reserve.now owned read12 in
     let placed = hosts_are texts.bind.now hosts read2 in
     let within = networks_are texts.from.now networks read3 in
     let local = socket_is texts.local texts.local_mode.now socket read4 in
@@ -170,6 +173,8 @@ settings_are open_files texts settings h =
       udp_lists = on.long;
       forward_for = on.served.0;
       not_anywhere = on.served.1;
+      reserve = reserved.each;
+      few_reserved = all_from_start (length texts.reserve.now) reserved.few;
       udp_rate = udp_rate_is texts.udp_rate rate read8;
       limit = recorded.limit;
       record_limit = recorded.spelled;
@@ -200,7 +205,8 @@ settings_read open_files texts settings s =
     (followed (udp_rate texts.udp_rate) _ settings.udp_rate settings (udp_rate_of texts.udp_rate settings.udp_rate s.udp_rate)
     (followed (recorded_of texts.record_path texts.record_limit.now) _ settings.record_limit settings (recorded_read texts.record_path texts.record_limit.now settings.record_limit recorded)
     (followed (keep_of texts.keep) _ settings.keep settings (keep_read texts.keep settings.keep s.keep s.keep_path)
-    (followed (log_of texts.log) _ settings.log settings (log_read texts.log settings.log s.log) whole))))))))))
+    (followed (log_of texts.log) _ settings.log settings (log_read texts.log settings.log s.log)
+    (followed (reserved_from 0 texts.reserve.now) _ settings.reserve settings (reserved_read texts.reserve.now settings.reserve (record { each = s.reserve; few = let few = s.few_reserved in omega (arith, few) })) whole)))))))))))
 
 -- ---- and what is beside them
 

@@ -31,8 +31,8 @@ use Rattle.rb_commands.specs.declared.options.Valued.TheVariants as valueds
 use Rattle.rb_policy.specs.declared.brake.Rate.{Rate}
 use Rattle.rb_sockets.specs.declared.settings.Logged.{Logged}
 use Rattle.rb_sockets.specs.declared.settings.Logged.TheVariants.{Nothing, Changes, All as Everything}
-use Rattle.rb_commands.specs.Options.{value_of, forward_for}
-use Rattle.rb_commands.specs.Serving.{host_at, network_at as network_at_place, values_from, is_octal, read_mode, if_between, rate_number, rate_of_parts, rate_of, udp_rate, log_named, log_of}
+use Rattle.rb_commands.specs.Options.{value_of, values_from, forward_for}
+use Rattle.rb_commands.specs.Serving.{host_at, network_at as network_at_place, is_octal, read_mode, if_between, rate_number, rate_of_parts, rate_of, udp_rate, log_named, log_of}
 use Rattle.rb_promises.specs.WordForms.{SpellsWithin, MayHave}
 use Rattle.rb_promises.specs.OptionTexts.{SpellsHost, SpellEach, SpellsNetwork, SpellsMode, whom_text, SpellsRate, SpellsLog}
 use Rattle.rb_promises.specs.OptionTexts.SpellsNetwork.{OfOneHost, WithLength}
@@ -49,7 +49,7 @@ no_such : (at : ℕ) (front back : List ℕ) → IsWithout at (front ++ at ∷ b
 no_such at [] back none = eqb-false _ _ (All-head (IsOther at) at back none) refl
 no_such at (b ∷ front) back none = no_such at front back (All-tail (IsOther at) b (front ++ at ∷ back) none)
 
-not_cut : (at : ℕ) (text : List ℕ) → IsWithout at text → cut at text ≡ None
+pub not_cut : (at : ℕ) (text : List ℕ) → IsWithout at text → cut at text ≡ None
 not_cut at text none = by (cut at text) refl
   where
     by : (o : Option (List ℕ × List ℕ)) → cut at text ≡ o → o ≡ None
@@ -236,9 +236,9 @@ network_read text network (WithLength front text_is s most behind) =
 
 -- ---- values at their places
 
-record IsAtPlace {A : Type 0} (Spells : A → List ℕ → Type 0) (place : ℕ) (text : List ℕ) (x : A) : Type 0 where
-  few : place < 16
-  spells : Spells x text
+pub record IsAtPlace {A : Type 0} (most : ℕ) (Spells : A → List ℕ → Type 0) (place : ℕ) (text : List ℕ) (x : A) : Type 0 where
+  pub few : place < most
+  pub spells : Spells x text
 
 placed : {A : Type 0} (option : Valued) (place : ℕ) (o : Option A) (x : A) → cond (ltb place 16) (value_of option o) (Err option) ≡ Ok x → (place < 16) × (o ≡ Some x)
 placed option place o x h = by (ltb place 16) refl h
@@ -247,57 +247,57 @@ placed option place o x h = by (ltb place 16) refl h
     by true few h = (ltb-true _ _ few, valued option o x h)
     by false many h = absurd cc
 
-host_placed : (place : ℕ) (text : List ℕ) (host : Host) → host_at place text ≡ Ok host → IsAtPlace SpellsHost place text host
+host_placed : (place : ℕ) (text : List ℕ) (host : Host) → host_at place text ≡ Ok host → IsAtPlace 16 SpellsHost place text host
 host_placed place text host h = let (few, read) = placed (valueds.Bind place) place (plain_host_of text) host h in record { few = few; spells = host_is text host read }
 
-host_at_place : (place : ℕ) (text : List ℕ) (host : Host) → IsAtPlace SpellsHost place text host → host_at place text ≡ Ok host
+host_at_place : (place : ℕ) (text : List ℕ) (host : Host) → IsAtPlace 16 SpellsHost place text host → host_at place text ≡ Ok host
 host_at_place place text host p = rw (lt-ltb place 16 p.few) (ap (value_of (valueds.Bind place)) (host_read text host p.spells))
 
-network_placed : (place : ℕ) (text : List ℕ) (network : Network) → network_at_place place text ≡ Ok network → IsAtPlace SpellsNetwork place text network
+network_placed : (place : ℕ) (text : List ℕ) (network : Network) → network_at_place place text ≡ Ok network → IsAtPlace 16 SpellsNetwork place text network
 network_placed place text network h = let (few, read) = placed (valueds.From place) place (network_of text) network h in record { few = few; spells = network_is text network read }
 
-network_there : (place : ℕ) (text : List ℕ) (network : Network) → IsAtPlace SpellsNetwork place text network → network_at_place place text ≡ Ok network
+network_there : (place : ℕ) (text : List ℕ) (network : Network) → IsAtPlace 16 SpellsNetwork place text network → network_at_place place text ≡ Ok network
 network_there place text network p = rw (lt-ltb place 16 p.few) (ap (value_of (valueds.From place)) (network_read text network p.spells))
 
-pub record AreSpelled {A : Type 0} (Spells : A → List ℕ → Type 0) (place : ℕ) (texts : List (Bor (List ℕ))) (values : List A) : Type 0 where
+pub record AreSpelled {A : Type 0} (most : ℕ) (Spells : A → List ℕ → Type 0) (place : ℕ) (texts : List (Bor (List ℕ))) (values : List A) : Type 0 where
   pub each : SpellEach Spells values (borrowed_texts texts)
-  pub few : place + length texts ≤ 16
+  pub few : place + length texts ≤ most
 
-values_are : {A : Type 0} (Spells : A → List ℕ → Type 0) (value_at : ℕ → List ℕ → Result A Valued) → ((place : ℕ) (text : List ℕ) (x : A) → value_at place text ≡ Ok x → IsAtPlace Spells place text x)
-    → (place : ℕ) (texts : List (Bor (List ℕ))) (values : List A) → place ≤ 16 → values_from value_at place texts ≡ Ok values → AreSpelled Spells place texts values
+pub values_are : {A : Type 0} (most : ℕ) (Spells : A → List ℕ → Type 0) (value_at : ℕ → List ℕ → Result A Valued) → ((place : ℕ) (text : List ℕ) (x : A) → value_at place text ≡ Ok x → IsAtPlace most Spells place text x)
+    → (place : ℕ) (texts : List (Bor (List ℕ))) (values : List A) → place ≤ most → values_from value_at place texts ≡ Ok values → AreSpelled most Spells place texts values
 unfolding values_from
-values_are Spells value_at read place [] values le h = subst (AreSpelled Spells place []) (same_Ok _ _ h) (record { each = tt; few = omega arith })
-values_are Spells value_at read place (text ∷ texts) values le h =
+values_are most Spells value_at read place [] values le h = subst (AreSpelled most Spells place []) (same_Ok _ _ h) (record { each = tt; few = omega (arith, le) })
+values_are most Spells value_at read place (text ∷ texts) values le h =
     let (first, is, rest) = bound (value_at place text.now) _ values h in
     let (others, are, made) = bound (values_from value_at (place + 1) texts) _ values rest in
     let p = read place text.now first is in
     let here = p.few in
-    let later = values_are Spells value_at read (place + 1) texts others (omega (arith, here)) are in
+    let later = values_are most Spells value_at read (place + 1) texts others (omega (arith, here)) are in
     let few = later.few in
-    subst (AreSpelled Spells place (text ∷ texts)) (same_Ok _ _ made) (record { each = (p.spells, later.each); few = omega (arith, few) })
+    subst (AreSpelled most Spells place (text ∷ texts)) (same_Ok _ _ made) (record { each = (p.spells, later.each); few = omega (arith, few) })
 
-values_read : {A : Type 0} (Spells : A → List ℕ → Type 0) (value_at : ℕ → List ℕ → Result A Valued) → ((place : ℕ) (text : List ℕ) (x : A) → IsAtPlace Spells place text x → value_at place text ≡ Ok x)
-    → (place : ℕ) (texts : List (Bor (List ℕ))) (values : List A) → AreSpelled Spells place texts values → values_from value_at place texts ≡ Ok values
+pub values_read : {A : Type 0} (most : ℕ) (Spells : A → List ℕ → Type 0) (value_at : ℕ → List ℕ → Result A Valued) → ((place : ℕ) (text : List ℕ) (x : A) → IsAtPlace most Spells place text x → value_at place text ≡ Ok x)
+    → (place : ℕ) (texts : List (Bor (List ℕ))) (values : List A) → AreSpelled most Spells place texts values → values_from value_at place texts ≡ Ok values
 unfolding values_from
-values_read Spells value_at write place [] [] a = refl
-values_read Spells value_at write place [] (x ∷ xs) a = absurd a.each
-values_read Spells value_at write place (text ∷ texts) [] a = absurd a.each
-values_read Spells value_at write place (text ∷ texts) (x ∷ xs) a =
+values_read most Spells value_at write place [] [] a = refl
+values_read most Spells value_at write place [] (x ∷ xs) a = absurd a.each
+values_read most Spells value_at write place (text ∷ texts) [] a = absurd a.each
+values_read most Spells value_at write place (text ∷ texts) (x ∷ xs) a =
     let few = a.few in
     followed (value_at place text.now) _ x (x ∷ xs) (write place text.now x (record { few = omega (arith, few); spells = a.each.0 }))
-    (followed (values_from value_at (place + 1) texts) _ xs (x ∷ xs) (values_read Spells value_at write (place + 1) texts xs (record { each = a.each.1; few = omega (arith, few) })) refl)
+    (followed (values_from value_at (place + 1) texts) _ xs (x ∷ xs) (values_read most Spells value_at write (place + 1) texts xs (record { each = a.each.1; few = omega (arith, few) })) refl)
 
-pub hosts_are : (texts : List (Bor (List ℕ))) (hosts : List Host) → values_from host_at 0 texts ≡ Ok hosts → AreSpelled SpellsHost 0 texts hosts
-hosts_are texts hosts h = values_are SpellsHost host_at host_placed 0 texts hosts (omega arith) h
+pub hosts_are : (texts : List (Bor (List ℕ))) (hosts : List Host) → values_from host_at 0 texts ≡ Ok hosts → AreSpelled 16 SpellsHost 0 texts hosts
+hosts_are texts hosts h = values_are most SpellsHost host_at host_placed 0 texts hosts (omega arith) h
 
-pub hosts_read : (texts : List (Bor (List ℕ))) (hosts : List Host) → AreSpelled SpellsHost 0 texts hosts → values_from host_at 0 texts ≡ Ok hosts
-hosts_read texts hosts a = values_read SpellsHost host_at host_at_place 0 texts hosts a
+pub hosts_read : (texts : List (Bor (List ℕ))) (hosts : List Host) → AreSpelled 16 SpellsHost 0 texts hosts → values_from host_at 0 texts ≡ Ok hosts
+hosts_read texts hosts a = values_read most SpellsHost host_at host_at_place 0 texts hosts a
 
-pub networks_are : (texts : List (Bor (List ℕ))) (networks : List Network) → values_from network_at_place 0 texts ≡ Ok networks → AreSpelled SpellsNetwork 0 texts networks
-networks_are texts networks h = values_are SpellsNetwork network_at_place network_placed 0 texts networks (omega arith) h
+pub networks_are : (texts : List (Bor (List ℕ))) (networks : List Network) → values_from network_at_place 0 texts ≡ Ok networks → AreSpelled 16 SpellsNetwork 0 texts networks
+networks_are texts networks h = values_are most SpellsNetwork network_at_place network_placed 0 texts networks (omega arith) h
 
-pub networks_read : (texts : List (Bor (List ℕ))) (networks : List Network) → AreSpelled SpellsNetwork 0 texts networks → values_from network_at_place 0 texts ≡ Ok networks
-networks_read texts networks a = values_read SpellsNetwork network_at_place network_there 0 texts networks a
+pub networks_read : (texts : List (Bor (List ℕ))) (networks : List Network) → AreSpelled 16 SpellsNetwork 0 texts networks → values_from network_at_place 0 texts ≡ Ok networks
+networks_read texts networks a = values_read most SpellsNetwork network_at_place network_there 0 texts networks a
 
 -- ---- the mode
 

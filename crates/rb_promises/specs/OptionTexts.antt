@@ -14,7 +14,8 @@ use Rattle.rb_proto.specs.declared.listener.Forwarding.TheVariants.{Anywhere, Fo
 use Rattle.rb_policy.specs.declared.brake.Rate.{Rate}
 use Rattle.rb_sockets.specs.declared.settings.Logged.{Logged}
 use Rattle.rb_sockets.specs.declared.settings.Logged.TheVariants.{Nothing, Changes, All as Everything}
-use Rattle.rb_promises.specs.WordForms.{SpellsWithin}
+use Rattle.rb_proto.specs.declared.reserved.Reservation.{Reservation}
+use Rattle.rb_promises.specs.WordForms.{SpellsWithin, SpellsNumber}
 
 -- ---- numbers
 
@@ -80,6 +81,24 @@ pub record SpellsMode (n : ℕ) (text : List ℕ) : Type 0 where
   pub digits : IsNumeral 8 text
   pub value : digits_value 8 text ≡ n
   pub fits : n < 512
+
+-- ---- reserved programs
+
+-- the first program, and with a `-` the last one
+pub data SpellsPrograms (first last : ℕ) (text : List ℕ) : Type 0 where
+  OneProgram : SpellsNumber first text → last ≡ first → SpellsPrograms first last text
+  FirstAndLast : (front back : List ℕ) → text ≡ front ++ codes "-" ++ back
+      → SpellsNumber first front → SpellsNumber last back → SpellsPrograms first last text
+
+-- the programs, and after a `=` the uid
+-- RESERVE-2
+pub record SpellsReservation (r : Reservation) (text : List ℕ) : Type 0 where
+  pub programs : List ℕ
+  pub uid : List ℕ
+  pub parts : text ≡ programs ++ codes "=" ++ uid
+  pub of_programs : SpellsPrograms r.first r.last programs
+  pub of_uid : SpellsNumber r.uid uid
+  pub in_order : r.first ≤ r.last
 
 -- ---- the terms
 

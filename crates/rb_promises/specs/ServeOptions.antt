@@ -10,7 +10,7 @@ use Rattle.rb_commands.specs.declared.serving.ServeTexts.{ServeTexts}
 use Rattle.rb_commands.specs.declared.serving.Serve.{Serve}
 use Rattle.rb_commands.specs.Serving.{serve_of}
 use Rattle.rb_promises.specs.WordForms.{SpellsWithin, SpellsPort, MayHave}
-use Rattle.rb_promises.specs.OptionTexts.{SpellsLong, SpellsHost, SpellEach, Announces, SpellsNetwork, IsSocketPath, SpellsMode, lists_text, whom_text, SpellsRate, SpellsLog}
+use Rattle.rb_promises.specs.OptionTexts.{SpellsLong, SpellsHost, SpellEach, Announces, SpellsNetwork, IsSocketPath, SpellsMode, lists_text, whom_text, SpellsRate, SpellsLog, SpellsReservation}
 
 -- of the value of an option, if it is given
 abbrev pub WhereGiven : (List ℕ → Type 0) → Option (Bor (List ℕ)) → Type 0
@@ -48,6 +48,8 @@ pub record AreSettings (open_files : ℕ) (texts : ServeTexts) (settings : Setti
   pub udp_lists : texts.udp_lists.now ≡ lists_text settings.terms.long_replies
   pub forward_for : texts.forward_for.now ≡ whom_text settings.terms.forwarding
   pub not_anywhere : settings.terms.forwarding ≢ Anywhere
+  pub reserve : SpellEach SpellsReservation settings.reserve (borrowed_texts texts.reserve.now)
+  pub few_reserved : length texts.reserve.now ≤ 64
   pub udp_rate : MayHave SpellsRate settings.udp_rate texts.udp_rate
   pub limit : ℕ
   pub record_limit : SpellsWithin 1000 16777216 limit texts.record_limit.now

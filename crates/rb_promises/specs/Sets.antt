@@ -1,5 +1,5 @@
 -- Which SETs are accepted (RPCBPROC_SET and PMAPPROC_SET, RFC 1833 sections 2.2.1 and 3.2).
-use Rattle.std.specs.Prelude.{◌≡◌, ◌≢◌, ◌⊎◌, ◌↔◌, ⊤, ℕ, ◌+◌, ◌-◌, ◌/◌, ◌^◌, ◌<◌, Bool, true, false, List, [], ◌∷◌, ◌++◌, length, Contains}
+use Rattle.std.specs.Prelude.{◌≡◌, ◌≢◌, ◌⊎◌, ◌↔◌, ⊤, ℕ, ◌+◌, ◌-◌, ◌/◌, ◌^◌, ◌<◌, ◌≤◌, Bool, true, false, List, [], ◌∷◌, ◌++◌, length, Contains, Any}
 use Rattle.rb_uaddr.specs.Uaddr.{any_host}
 use Rattle.rb_uaddr.specs.Grammar.{SpellsV4}
 use Rattle.rb_address.specs.declared.netid.Netid.{Netid}
@@ -23,6 +23,7 @@ use Rattle.rb_proto.specs.declared.answers.Results.TheVariants as results
 use Rattle.rb_proto.specs.declared.answers.Value.TheVariants as values
 use Rattle.rb_proto.specs.declared.answers.Answer.{Answer}
 use Rattle.rb_proto.specs.declared.context.Context.{Context}
+use Rattle.rb_proto.specs.declared.reserved.Reservation.{Reservation}
 use Rattle.rb_proto.specs.Callers.{who_of}
 use Rattle.rb_proto.specs.Ledger.{Ledger, rows_in, version_of}
 use Rattle.rb_proto.specs.Answers.{answer_to}
@@ -75,12 +76,27 @@ abbrev pub LeavesAQuarter : Context → List Row → Type 0
 LeavesAQuarter context rows = (owner : Owner) → (who_of context.caller).trust ≡ trusts.Local owner
     → owner ≢ Uid 0 → length rows + context.limit / 4 < context.limit
 
--- The caller is of this machine; the row is of another program than the portmapper, at an address of its netid; no live
--- row is of the same program, version and netid; and there is a place for one more row and a number for one more change.
+-- the reservation covers the program
+pub record Covers (prog : ℕ) (r : Reservation) : Type 0 where
+  pub from : r.first ≤ prog
+  pub to : prog ≤ r.last
+
+-- the program is reserved for the uid that the owner is
+abbrev pub IsReservedFor : List Reservation → ℕ → Owner → Type 0
+IsReservedFor reserved prog owner = Any (λ r. Covers prog r × (owner ≡ Uid r.uid)) reserved
+
+-- If some reservation covers the row's program, the row is of uid 0, or of a uid for which the program is reserved.
+-- RESERVE-1
+abbrev pub IsItsOwners : List Reservation → Row → Type 0
+IsItsOwners reserved row = Any (Covers row.prog) reserved → (row.owner ≡ Uid 0) ⊎ IsReservedFor reserved row.prog row.owner
+
+-- The caller is of this machine; the row is of another program than the portmapper, at an address of its netid; its program
+-- is reserved for no other owner; no live row is of the same program, version and netid; and there is a place for one more row and a number for one more change.
 pub record IsAccepted (context : Context) (l : Ledger) (row : Row) : Type 0 where
   pub local : IsLocal context.announced (who_of context.caller)
   pub foreign : row.prog ≢ 100000
   pub address : IsAddressOn row.netid row.addr
+  pub owned : IsItsOwners context.reserved row
   pub is_new : (other : Row) → Contains (rows_in l) other → ¬ (HasSameKey row other)
   pub fits : length (rows_in l) < context.limit
   pub quarter : LeavesAQuarter context (rows_in l)

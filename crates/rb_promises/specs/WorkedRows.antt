@@ -39,6 +39,7 @@ abbrev pub here : Context
 here = record {
   announced = announced;
   terms = open_terms;
+  reserved = [];
   limit = 20;
   forwards = 4;
   clock = 0;

@@ -94,7 +94,7 @@ fn is_its_owner(reserved: &[Reservation], prog: u32, owner: Owner) -> bool
 }
 
 impl Reserved {
-    ghost use Rattle.std.specs.Prelude.{◌≡◌, ◌++◌, ◌∷◌, [], ◌≤◌, nat_lt, if◌then◌else◌, length};
+    ghost use Rattle.std.specs.Prelude.{◌≡◌, ◌++◌, ◌∷◌, [], ◌<◌, ◌≤◌, length};
 
     /// None.
     pub fn new() -> Reserved
@@ -105,12 +105,30 @@ impl Reserved {
         }
     }
 
-    /// Puts one more behind the others if there are fewer than 64, and returns whether there were.
-    pub fn push(&mut self, reservation: Reservation) -> bool
-        ensures room { result ≡ nat_lt (length self.old) 64 }
-        ensures pushed { self.new ≡ (if result then self.old ++ reservation ∷ [] else self.old) }
+    /// Another list of the same.
+    pub fn copied(&self) -> Reserved
+        ensures { result ≡ self.now }
     {
-        self.all.try_push(reservation).is_ok()
+        let mut all = ArrayVec::new();
+        match all.try_extend_from_slice(self.as_slice()) {
+            Ok(()) => Reserved { all },
+            Err(_) => unreachable!(),
+        }
+    }
+
+    /// How many there are.
+    pub fn len(&self) -> usize
+        ensures { result ≡ length self.now }
+    {
+        self.as_slice().len()
+    }
+
+    /// Puts one behind the others.
+    pub fn push(&mut self, reservation: Reservation)
+        requires { length self.old < 64 }
+        ensures { self.new ≡ self.old ++ reservation ∷ [] }
+    {
+        self.all.push(reservation);
     }
 
     /// All of them, in the order in which they came.

@@ -1,7 +1,7 @@
 -- Lines of events, as they are written, and what is written of a run.
-use Rattle.std.specs.Prelude.{ℕ, Bool, true, false, List, [], ◌∷◌, ◌++◌, Option, Some, None, codes}
+use Rattle.std.specs.Prelude.{ℕ, ◌==◌, if◌then◌else◌, Bool, true, false, List, [], ◌∷◌, ◌++◌, Option, Some, None, codes}
 use Rattle.std.specs.Fmt.{decimal}
-use Rattle.std.specs.List.{concat}
+use Rattle.std.specs.List.{concat, flat_map}
 use Rattle.rb_address.specs.declared.host.Host.{Host}
 use Rattle.rb_address.specs.declared.host.Host.TheVariants.{V4, V6}
 use Rattle.rb_address.specs.declared.who.Who.{Who}
@@ -11,6 +11,7 @@ use Rattle.rb_proto.specs.declared.listener.Forwarding.{Forwarding}
 use Rattle.rb_proto.specs.declared.listener.Forwarding.TheVariants.{Anywhere, ForAll, ForLocal}
 use Rattle.rb_proto.specs.declared.listener.Listener.{Listener}
 use Rattle.rb_proto.specs.declared.listener.Terms.{Terms}
+use Rattle.rb_proto.specs.declared.reserved.Reservation.{Reservation}
 use Rattle.rb_model.specs.declared.types.Limits.{Limits}
 use Rattle.rb_model.specs.declared.events.Event as event_type
 use Rattle.rb_model.specs.Plain.{LentEvent, LentOutput, plain_event, lent_event, lent_output}
@@ -91,11 +92,26 @@ forwarding_text ForLocal = codes " --forward-for local"
 abbrev pub terms_text : Terms → List ℕ
 terms_text terms = lists_text terms.long_replies ++ forwarding_text terms.forwarding
 
--- the announced host of each family, the port, the path of the local socket, and the terms
+-- the last program, if there are several
+abbrev pub last_text : Reservation → List ℕ
+last_text r = if r.first == r.last then [] else codes "-" ++ decimal r.last
+
+-- `PROGRAM-PROGRAM=UID`, or `PROGRAM=UID` of one program
+abbrev pub reservation_text : Reservation → List ℕ
+reservation_text r = decimal r.first ++ (last_text r ++ (codes "=" ++ decimal r.uid))
+
+abbrev pub reserve_text : Reservation → List ℕ
+reserve_text r = codes " --reserve " ++ reservation_text r
+
+-- the reservations
+abbrev pub reserved_text : List Reservation → List ℕ
+reserved_text reserved = flat_map reserve_text reserved
+
+-- the announced host of each family, the port, the path of the local socket, the terms, and the reservations
 abbrev pub listener_text : Listener → List ℕ
 listener_text listener =
     inet_text listener.announced.inet ++ (inet6_text listener.announced.inet6
-    ++ (codes " --port " ++ (decimal listener.port ++ (local_text listener.local ++ terms_text listener.terms))))
+    ++ (codes " --port " ++ (decimal listener.port ++ (local_text listener.local ++ (terms_text listener.terms ++ reserved_text listener.reserved)))))
 
 -- LINE-4: The first line of a record is a comment with the command that checks it.
 abbrev pub options_text : Limits → Listener → ℕ → ℕ → List ℕ

@@ -1,14 +1,15 @@
 //! The options of the replay of a run.
-ghost use Rattle.std.specs.Prelude.{◌≡◌, ◌≤◌, ◌+◌, ◌++◌, length};
-ghost use Rattle.rb_record.specs.Lines.{line_text};
-ghost use Rattle.rb_record.specs.Entries.{limits_text, announce_text, inet_text, inet6_text, local_text, lists_text, forwarding_text, listener_text, options_of};
+ghost use Rattle.std.specs.Prelude.{◌≡◌, ◌≤◌, ◌+◌, ◌*◌, ◌++◌, length};
+ghost use Rattle.rb_record.specs.Entries.{limits_text, announce_text, inet_text, inet6_text, local_text, lists_text, forwarding_text, last_text, reserve_text, reserved_text, listener_text, options_of};
 
 use crate::front::Front;
-use crate::line::Line;
 use rb_address::Host;
 use rb_model::Limits;
-use rb_proto::{Forwarding, Listener};
+use rb_proto::{Forwarding, Listener, Reservation};
 use rb_uaddr::AddressText;
+
+/// The room for the options of a replay, in bytes, which have less with 20 digits for each number.
+const MAX_OPTIONS: usize = 5_312;
 
 /// What a run begins with.
 #[derive(Clone, Copy)]
@@ -24,8 +25,8 @@ pub struct Start<'a> {
     pub moment: u64,
 }
 
-fn push_limits(front: &mut Front, limits: &Limits)
-    requires { length front.old.text.items + 89 ≤ 640 }
+fn push_limits(front: &mut Front<MAX_OPTIONS>, limits: &Limits)
+    requires { length front.old.text.items + 89 ≤ MAX_OPTIONS }
     ensures text { front.new.text.items ≡ front.old.text.items ++ limits_text limits.now }
     ensures short { length front.new.text.items ≤ length front.old.text.items + 89 }
 {
@@ -42,8 +43,8 @@ fn push_limits(front: &mut Front, limits: &Limits)
     front.push_number(forwards as u64);
 }
 
-fn push_announce(front: &mut Front, host: Host)
-    requires { length front.old.text.items + 95 ≤ 640 }
+fn push_announce(front: &mut Front<MAX_OPTIONS>, host: Host)
+    requires { length front.old.text.items + 95 ≤ MAX_OPTIONS }
     ensures text { front.new.text.items ≡ front.old.text.items ++ announce_text host }
     ensures short { length front.new.text.items ≤ length front.old.text.items + 95 }
 {
@@ -52,8 +53,8 @@ fn push_announce(front: &mut Front, host: Host)
 }
 
 /// The announced host of IPv4, if it is served.
-fn push_inet(front: &mut Front, announced: Option<[u8; 4]>)
-    requires { length front.old.text.items + 95 ≤ 640 }
+fn push_inet(front: &mut Front<MAX_OPTIONS>, announced: Option<[u8; 4]>)
+    requires { length front.old.text.items + 95 ≤ MAX_OPTIONS }
     ensures text { front.new.text.items ≡ front.old.text.items ++ inet_text announced }
     ensures short { length front.new.text.items ≤ length front.old.text.items + 95 }
 {
@@ -63,8 +64,8 @@ fn push_inet(front: &mut Front, announced: Option<[u8; 4]>)
 }
 
 /// The announced host of IPv6, if it is served.
-fn push_inet6(front: &mut Front, announced: Option<[u8; 16]>)
-    requires { length front.old.text.items + 95 ≤ 640 }
+fn push_inet6(front: &mut Front<MAX_OPTIONS>, announced: Option<[u8; 16]>)
+    requires { length front.old.text.items + 95 ≤ MAX_OPTIONS }
     ensures text { front.new.text.items ≡ front.old.text.items ++ inet6_text announced }
     ensures short { length front.new.text.items ≤ length front.old.text.items + 95 }
 {
@@ -74,8 +75,8 @@ fn push_inet6(front: &mut Front, announced: Option<[u8; 16]>)
 }
 
 /// The path of the local socket, if there is one.
-fn push_local(front: &mut Front, local: &Option<AddressText>)
-    requires { length front.old.text.items + 139 ≤ 640 }
+fn push_local(front: &mut Front<MAX_OPTIONS>, local: &Option<AddressText>)
+    requires { length front.old.text.items + 139 ≤ MAX_OPTIONS }
     ensures text { front.new.text.items ≡ front.old.text.items ++ local_text local.now }
     ensures short { length front.new.text.items ≤ length front.old.text.items + 139 }
 {
@@ -87,8 +88,8 @@ fn push_local(front: &mut Front, local: &Option<AddressText>)
 }
 
 /// That no long replies go to strangers over UDP, if none do.
-fn push_lists(front: &mut Front, long_replies: bool)
-    requires { length front.old.text.items + 18 ≤ 640 }
+fn push_lists(front: &mut Front<MAX_OPTIONS>, long_replies: bool)
+    requires { length front.old.text.items + 18 ≤ MAX_OPTIONS }
     ensures text { front.new.text.items ≡ front.old.text.items ++ lists_text long_replies }
     ensures short { length front.new.text.items ≤ length front.old.text.items + 18 }
 {
@@ -98,8 +99,8 @@ fn push_lists(front: &mut Front, long_replies: bool)
 }
 
 /// For whom calls are forwarded, if that is not for everybody to anywhere.
-fn push_forwarding(front: &mut Front, forwarding: Forwarding)
-    requires { length front.old.text.items + 20 ≤ 640 }
+fn push_forwarding(front: &mut Front<MAX_OPTIONS>, forwarding: Forwarding)
+    requires { length front.old.text.items + 20 ≤ MAX_OPTIONS }
     ensures text { front.new.text.items ≡ front.old.text.items ++ forwarding_text forwarding }
     ensures short { length front.new.text.items ≤ length front.old.text.items + 20 }
 {
@@ -110,16 +111,53 @@ fn push_forwarding(front: &mut Front, forwarding: Forwarding)
     }
 }
 
-fn push_listener(front: &mut Front, listener: &Listener)
-    requires { length front.old.text.items + 395 ≤ 640 }
+/// The last program of a reservation of several.
+fn push_last(front: &mut Front<MAX_OPTIONS>, reservation: &Reservation)
+    requires { length front.old.text.items + 21 ≤ MAX_OPTIONS }
+    ensures text { front.new.text.items ≡ front.old.text.items ++ last_text reservation.now }
+    ensures short { length front.new.text.items ≤ length front.old.text.items + 21 }
+{
+    if reservation.first != reservation.last {
+        front.push(b"-");
+        front.push_number(u64::from(reservation.last));
+    }
+}
+
+fn push_reservation(front: &mut Front<MAX_OPTIONS>, reservation: &Reservation)
+    requires { length front.old.text.items + 73 ≤ MAX_OPTIONS }
+    ensures text { front.new.text.items ≡ front.old.text.items ++ reserve_text reservation.now }
+    ensures short { length front.new.text.items ≤ length front.old.text.items + 73 }
+{
+    front.push(b" --reserve ");
+    front.push_number(u64::from(reservation.first));
+    push_last(front, reservation);
+    front.push(b"=");
+    front.push_number(u64::from(reservation.uid));
+}
+
+/// The reservations.
+fn push_reserved(front: &mut Front<MAX_OPTIONS>, all: &[Reservation])
+    requires { length front.old.text.items + 73 * length all.now ≤ MAX_OPTIONS }
+    ensures text { front.new.text.items ≡ front.old.text.items ++ reserved_text all.now }
+    ensures short { length front.new.text.items
+        ≤ length front.old.text.items + 73 * length all.now }
+{
+    for reservation in all {
+        push_reservation(front, reservation);
+    }
+}
+
+fn push_listener(front: &mut Front<MAX_OPTIONS>, listener: &Listener)
+    requires { length front.old.text.items + 5067 ≤ MAX_OPTIONS }
     ensures text { front.new.text.items ≡ front.old.text.items ++ listener_text listener.now }
-    ensures short { length front.new.text.items ≤ length front.old.text.items + 395 }
+    ensures short { length front.new.text.items ≤ length front.old.text.items + 5067 }
 {
     let Listener {
         announced,
         port,
         local,
         terms,
+        reserved,
     } = listener;
     push_inet(front, announced.inet);
     push_inet6(front, announced.inet6);
@@ -128,11 +166,12 @@ fn push_listener(front: &mut Front, listener: &Listener)
     push_local(front, local);
     push_lists(front, terms.long_replies);
     push_forwarding(front, terms.forwarding);
+    push_reserved(front, reserved.as_slice());
 }
 
 /// A comment line: the command that checks a record of a run that begins so.
-pub(crate) fn options_line<'a>(start: &Start<'_>) -> Line<'a>
-    ensures { line_text result ≡ options_of start.now }
+pub(crate) fn options_line(start: &Start<'_>) -> Front<MAX_OPTIONS>
+    ensures { result.text.items ≡ options_of start.now }
 {
     let Start {
         limits,
@@ -147,5 +186,6 @@ pub(crate) fn options_line<'a>(start: &Start<'_>) -> Line<'a>
     front.push_number(u64::from(*first_xid));
     front.push(b" --now ");
     front.push_number(*moment);
-    Line::of(front)
+    front.push(b"\n");
+    front
 }

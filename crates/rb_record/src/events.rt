@@ -5,7 +5,7 @@ ghost use Rattle.rb_record.specs.Lines.{line_text};
 ghost use Rattle.rb_record.specs.Printing.{Writes};
 ghost use Rattle.rb_record.specs.Entries.{event_text, event_line};
 
-use crate::front::Front;
+use crate::front::{Front, MAX_FRONT};
 use crate::line::Line;
 use rb_address::{Peer, Who};
 use rb_model::Event;
@@ -14,7 +14,7 @@ use std::io;
 use std::io::Write;
 
 /// The front of a line that begins with a word and a moment or a number.
-fn front_at(word: &str, number: u64) -> Front
+fn front_at(word: &str, number: u64) -> Front<MAX_FRONT>
     requires { length word.now ≤ 64 }
     ensures text { result.text.items ≡ word.now ++ decimal number ++ codes " " }
     ensures short { length result.text.items ≤ length word.now + 21 }

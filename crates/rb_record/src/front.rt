@@ -10,20 +10,21 @@ use itoa::Buffer;
 use rb_address::{Host, Owner, Peer, Source, Trust, Who};
 use rb_uaddr::ipv6_host_text;
 
-/// The room for a front in bytes. The longest is that of the options of a replay, which has less than this with 20
-/// digits for each number.
-const MAX_FRONT: usize = 640;
+/// The room for the front of a line of an event or of an output, in bytes, which have less with 20 digits for each
+/// number.
+pub(crate) const MAX_FRONT: usize = 640;
 
-/// Words, numbers and addresses: at most 640 bytes.
+/// Words, numbers and addresses: at most `N` bytes.
 #[derive(Drop)]
-pub(crate) struct Front {
-    text: ArrayVec<u8, MAX_FRONT>,
+pub(crate) struct Front<const N: usize> {
+    text: ArrayVec<u8, N>,
 }
 
-impl Front {
+impl<const N: usize> Front<N> {
     /// A front that begins with a word.
-    pub(crate) fn new(word: &str) -> Front
-        requires { length word.now ≤ 64 }
+    pub(crate) fn new(word: &str) -> Front<N>
+        requires word { length word.now ≤ 64 }
+        requires room { 64 ≤ N }
         ensures text { result.text.items ≡ word.now }
         ensures count { length result.text.items ≡ length word.now }
     {
@@ -37,14 +38,14 @@ impl Front {
     /// Its bytes.
     pub(crate) fn as_slice(&self) -> &[u8]
         ensures value { result.now ≡ self.now.text.items }
-        ensures short { length result.now ≤ MAX_FRONT }
+        ensures short { length result.now ≤ N }
     {
         self.text.as_slice()
     }
 
     /// Adds bytes.
     pub(crate) fn push(&mut self, bytes: &[u8])
-        requires { length self.old.text.items + length bytes.now ≤ MAX_FRONT }
+        requires { length self.old.text.items + length bytes.now ≤ N }
         ensures text { self.new.text.items ≡ self.old.text.items ++ bytes.now }
         ensures count { length self.new.text.items ≡ length self.old.text.items + length bytes.now }
     {
@@ -55,7 +56,7 @@ impl Front {
 
     /// Adds a number in decimal.
     pub(crate) fn push_number(&mut self, number: u64)
-        requires { length self.old.text.items + 20 ≤ MAX_FRONT }
+        requires { length self.old.text.items + 20 ≤ N }
         ensures text { self.new.text.items ≡ self.old.text.items ++ decimal number }
         ensures short { length self.new.text.items ≤ length self.old.text.items + 20 }
     {
@@ -64,7 +65,7 @@ impl Front {
 
     /// Adds an octet of an IPv4 host, and a dot in front of it.
     fn push_octet(&mut self, octet: u8)
-        requires { length self.old.text.items + 21 ≤ MAX_FRONT }
+        requires { length self.old.text.items + 21 ≤ N }
         ensures text { self.new.text.items ≡ self.old.text.items ++ codes "." ++ decimal octet }
         ensures short { length self.new.text.items ≤ length self.old.text.items + 21 }
     {
@@ -74,7 +75,7 @@ impl Front {
 
     /// Adds an IPv4 host.
     fn push_inet(&mut self, octets: [u8; 4])
-        requires { length self.old.text.items + 83 ≤ MAX_FRONT }
+        requires { length self.old.text.items + 83 ≤ N }
         ensures text { self.new.text.items ≡ self.old.text.items ++ ipv4_text octets }
         ensures short { length self.new.text.items ≤ length self.old.text.items + 83 }
     {
@@ -87,7 +88,7 @@ impl Front {
 
     /// Adds the groups of an IPv6 host.
     fn push_inet6(&mut self, octets: &[u8; 16])
-        requires { length self.old.text.items + 47 ≤ MAX_FRONT }
+        requires { length self.old.text.items + 47 ≤ N }
         ensures text { self.new.text.items ≡ self.old.text.items ++ ipv6_host_text octets.now }
         ensures short { length self.new.text.items ≤ length self.old.text.items + 47 }
     {
@@ -96,7 +97,7 @@ impl Front {
 
     /// Adds a host, without brackets.
     pub(crate) fn push_host(&mut self, host: Host)
-        requires { length self.old.text.items + 83 ≤ MAX_FRONT }
+        requires { length self.old.text.items + 83 ≤ N }
         ensures text { self.new.text.items ≡ self.old.text.items ++ bare_host_text host }
         ensures short { length self.new.text.items ≤ length self.old.text.items + 83 }
     {
@@ -108,7 +109,7 @@ impl Front {
 
     /// Adds a host, the groups of IPv6 in brackets.
     fn push_bracketed(&mut self, host: Host)
-        requires { length self.old.text.items + 83 ≤ MAX_FRONT }
+        requires { length self.old.text.items + 83 ≤ N }
         ensures text { self.new.text.items ≡ self.old.text.items ++ host_text host }
         ensures short { length self.new.text.items ≤ length self.old.text.items + 83 }
     {
@@ -124,7 +125,7 @@ impl Front {
 
     /// Adds a peer: its host and its port.
     pub(crate) fn push_peer(&mut self, peer: Peer)
-        requires { length self.old.text.items + 104 ≤ MAX_FRONT }
+        requires { length self.old.text.items + 104 ≤ N }
         ensures text { self.new.text.items ≡ self.old.text.items ++ peer_text peer }
         ensures short { length self.new.text.items ≤ length self.old.text.items + 104 }
     {
@@ -135,7 +136,7 @@ impl Front {
 
     /// Adds where a call came from.
     pub(crate) fn push_source(&mut self, source: Source)
-        requires { length self.old.text.items + 104 ≤ MAX_FRONT }
+        requires { length self.old.text.items + 104 ≤ N }
         ensures text { self.new.text.items ≡ self.old.text.items ++ source_text source }
         ensures short { length self.new.text.items ≤ length self.old.text.items + 104 }
     {
@@ -147,7 +148,7 @@ impl Front {
 
     /// Adds the host that was asked, if it is known.
     fn push_asked(&mut self, asked: Host)
-        requires { length self.old.text.items + 84 ≤ MAX_FRONT }
+        requires { length self.old.text.items + 84 ≤ N }
         ensures text { self.new.text.items ≡ self.old.text.items ++ asked_text asked }
         ensures short { length self.new.text.items ≤ length self.old.text.items + 84 }
     {
@@ -159,7 +160,7 @@ impl Front {
 
     /// Adds whose word there is for a caller, if there is more than its own.
     fn push_trust(&mut self, trust: Trust)
-        requires { length self.old.text.items + 21 ≤ MAX_FRONT }
+        requires { length self.old.text.items + 21 ≤ N }
         ensures text { self.new.text.items ≡ self.old.text.items ++ trust_text trust }
         ensures short { length self.new.text.items ≤ length self.old.text.items + 21 }
     {
@@ -176,7 +177,7 @@ impl Front {
 
     /// Adds a caller.
     pub(crate) fn push_who(&mut self, who: Who)
-        requires { length self.old.text.items + 209 ≤ MAX_FRONT }
+        requires { length self.old.text.items + 209 ≤ N }
         ensures text { self.new.text.items ≡ self.old.text.items ++ who_text who }
         ensures short { length self.new.text.items ≤ length self.old.text.items + 209 }
     {

@@ -4,7 +4,7 @@ ghost use Rattle.hex.specs.Hex.{encode_lower};
 ghost use Rattle.rb_record.specs.Printing.{hex_text, bytes_line, Writes};
 ghost use Rattle.rb_record.specs.Lines.{line_text, tail_text};
 
-use crate::front::Front;
+use crate::front::{Front, MAX_FRONT};
 use std::io;
 use std::io::Write;
 
@@ -23,13 +23,13 @@ enum Tail<'a> {
 /// A line.
 #[derive(Drop)]
 pub(crate) struct Line<'a> {
-    front: Front,
+    front: Front<MAX_FRONT>,
     tail: Tail<'a>,
 }
 
 impl<'a> Line<'a> {
     /// A line of a front alone.
-    pub(crate) fn of(front: Front) -> Line<'a>
+    pub(crate) fn of(front: Front<MAX_FRONT>) -> Line<'a>
         ensures { line_text result ≡ front.text.items ++ codes "\n" }
     {
         Line {
@@ -39,7 +39,7 @@ impl<'a> Line<'a> {
     }
 
     /// A line of a front and bytes.
-    pub(crate) fn with(front: Front, bytes: &'a [u8]) -> Line<'a>
+    pub(crate) fn with(front: Front<MAX_FRONT>, bytes: &'a [u8]) -> Line<'a>
         ensures { line_text result ≡ front.text.items ++ (hex_text bytes.now ++ codes "\n") }
     {
         Line {

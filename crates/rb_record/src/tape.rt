@@ -140,8 +140,9 @@ impl Tape {
             return;
         }
         let line = options_line(start);
-        if self.page.has_room(line.len()) {
-            self.page.push_line(&line);
+        let line = line.as_slice();
+        if self.page.has_room(line.len() as u128) {
+            self.page.push(line);
         } else {
             self.page.end();
         }

@@ -47,12 +47,14 @@ fn listener_like(listener: &Listener) -> Listener
             port: listener.port,
             local: Some(AddressText::new(path.as_slice())),
             terms: listener.terms,
+            reserved: listener.reserved.copied(),
         },
         None => Listener {
             announced: listener.announced,
             port: listener.port,
             local: None,
             terms: listener.terms,
+            reserved: listener.reserved.copied(),
         },
     }
 }

@@ -21,4 +21,4 @@ announced_by s = record {
 -- ANNOUNCE-2: The core is told which families are served, with the host of each that is announced,
 -- the port, and the path of the local socket.
 abbrev pub listener_of : Settings → Listener
-listener_of s = record { announced = announced_by s; port = s.port; local = path_of s.local; terms = s.terms }
+listener_of s = record { announced = announced_by s; port = s.port; local = path_of s.local; terms = s.terms; reserved = s.reserve }

@@ -6,7 +6,7 @@ use crate::few::Few;
 use rb_address::{Host, Network};
 use rb_model::Limits;
 use rb_policy::{Rate, announced_inet, announced_inet6};
-use rb_proto::{Announced, Listener, Terms};
+use rb_proto::{Announced, Listener, Reserved, Terms};
 use rb_uaddr::{AddressText, MAX_KEPT};
 
 /// A stream socket in the file system.
@@ -52,6 +52,8 @@ pub struct Settings<'a> {
     pub limits: Limits,
     /// On which terms callers are served.
     pub terms: Terms,
+    /// Whose programs are.
+    pub reserve: Reserved,
     /// How many datagrams of strangers are served in a second, if that is limited.
     pub udp_rate: Option<Rate>,
     /// The most bytes of a record of its events, its last line among them; 0 records nothing. It takes that much
@@ -90,6 +92,7 @@ impl Settings<'_> {
             port: self.port,
             local: path_of(&self.local),
             terms: self.terms,
+            reserved: self.reserve.copied(),
         }
     }
 }

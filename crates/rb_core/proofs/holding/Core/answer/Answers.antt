@@ -32,7 +32,6 @@ use Rattle.rb_connections.specs.Giving.{whole_cost}
 use Rattle.rb_model.specs.Costs.{sizes_for, answer_cost}
 use Rattle.rb_core.specs.CallCosts.{may_register_in, sizes}
 use Rattle.rb_core.proofs.Spending.{registers_as, pays_at_once, pays_and_begins}
-use Rattle.rb_core.proofs.Answering.{sees}
 use Rattle.rb_core.proofs.AtOnce.{Leaves, leaves_none, leaves_all, answer_giving, answer_counts, counts_served, count_of}
 use Rattle.rb_core.proofs.Steps.{Served as ServedIn}
 use Rattle.rb_core.proofs.holding.Core.answer.Goals as goal
@@ -78,7 +77,7 @@ module _ (c : goal.Then-given-gt0) where
   acts_then : ServesInRoom (context_of view_then (Tcp c.args.id c.args.ended.who)) (message_with c.args.ended.verdict lent_then) lent_then c.self.inside.connections c.self.inside.books c.serve_verdict-served.new.connections c.serve_verdict-served.new.books
       (served_in c.serve_verdict-served.new.books.registry c.serve_verdict-served.result c.serve_verdict-served.new.out.bytes)
   acts_then =
-      let seen : c.context-context.result ≡ context_of view_then (Tcp c.args.id c.args.ended.who) = sees (the_view c.self.inside) c.args.self.now c.context-context.result (Tcp c.args.id c.args.ended.who) c.self.view_is c.context-context.ensures in
+      let seen : c.context_at-context.result ≡ context_of view_then (Tcp c.args.id c.args.ended.who) = c.context_at-context.ensures in
       subst (λ (x : Context). ServesVerdict x c.args.ended.verdict lent_then c.self.inside.connections c.self.inside.books c.serve_verdict-served.new.connections c.serve_verdict-served.new.books c.serve_verdict-served.result c.serve_verdict-served.new.out)
       seen c.serve_verdict-served.ensures.acts
 
@@ -125,7 +124,7 @@ module _ (c : goal.After-is_no_call) where
   acts_else : ServesInRoom (context_of view_else (Tcp c.args.id c.args.ended.who)) (message_with c.args.ended.verdict lent_else) lent_else c.self.inside.connections c.self.inside.books c.serve_verdict-served.new.connections c.serve_verdict-served.new.books
       (served_in c.serve_verdict-served.new.books.registry c.serve_verdict-served.result c.serve_verdict-served.new.out.bytes)
   acts_else =
-      let seen : c.context-context.result ≡ context_of view_else (Tcp c.args.id c.args.ended.who) = sees (the_view c.self.inside) c.args.self.now c.context-context.result (Tcp c.args.id c.args.ended.who) c.self.view_is c.context-context.ensures in
+      let seen : c.context_at-context.result ≡ context_of view_else (Tcp c.args.id c.args.ended.who) = c.context_at-context.ensures in
       subst (λ (x : Context). ServesVerdict x c.args.ended.verdict lent_else c.self.inside.connections c.self.inside.books c.serve_verdict-served.new.connections c.serve_verdict-served.new.books c.serve_verdict-served.result c.serve_verdict-served.new.out)
       seen c.serve_verdict-served.ensures.acts
 
@@ -178,7 +177,7 @@ returns-then-given-gt0-clause-cost c =
     let v = c.serve_verdict-served in
     let once = c.write_at_once-given in
     cost_from c.args.ended c.args.lent lend.result.now (the_view c.self.inside) c.args.self.now lend.ensures.value c.self.view_is v.new.books (whole_cost (length c.args.room.now) once.result) c.args.meter.now once.new.meter
-    (pays_at_once c.context-context.result _ (registers_as c.context-context.result (the_view c.self.inside) _ (sees (the_view c.self.inside) c.args.self.now c.context-context.result _ c.self.view_is c.context-context.ensures)) c.args.ended.verdict c.self.inside.connections c.self.inside.books v.new.books lend.result.now v.new.out c.args.room.now once.result v.ensures.leaves.reply.short
+    (pays_at_once c.context_at-context.result _ (registers_as c.context_at-context.result (the_view c.self.inside) _ c.context_at-context.ensures) c.args.ended.verdict c.self.inside.connections c.self.inside.books v.new.books lend.result.now v.new.out c.args.room.now once.result v.ensures.leaves.reply.short
     c.args.meter.now lend.new.meter v.new.meter c.clear.new.meter once.new.meter lend.ensures.cost v.ensures.cost c.clear.ensures.cost once.ensures.cost)
 
 pub returns-clause-cost : goal.returns-clause-cost
@@ -189,5 +188,5 @@ returns-clause-cost c =
     let left = c.settle-standing in
     let given : PaysAtMost c.clear.new.meter once.new.meter (whole_cost (length c.args.room.now) 0) = rw (none_given c) at once.ensures.cost in
     cost_from c.args.ended c.args.lent lend.result.now (the_view c.self.inside) c.args.self.now lend.ensures.value c.self.view_is v.new.books (whole_cost (length c.args.room.now) 0) c.args.meter.now left.new.meter
-    (pays_and_begins c.context-context.result _ (registers_as c.context-context.result (the_view c.self.inside) _ (sees (the_view c.self.inside) c.args.self.now c.context-context.result _ c.self.view_is c.context-context.ensures)) c.args.ended.verdict c.self.inside.connections c.self.inside.books v.new.books lend.result.now v.new.out c.args.room.now 0 v.ensures.leaves.reply.short
+    (pays_and_begins c.context_at-context.result _ (registers_as c.context_at-context.result (the_view c.self.inside) _ c.context_at-context.ensures) c.args.ended.verdict c.self.inside.connections c.self.inside.books v.new.books lend.result.now v.new.out c.args.room.now 0 v.ensures.leaves.reply.short
     c.args.meter.now lend.new.meter v.new.meter c.clear.new.meter once.new.meter lend.ensures.cost v.ensures.cost c.clear.ensures.cost given v.result v.new.connections left.new.meter v.ensures.listed v.ensures.open.as_many left.ensures.cost)
