@@ -265,6 +265,7 @@ def judge(daemon, name, before, share, failed):
     return faults
 
 
+# WAIT-6
 def end_by(daemon, name, error, counts):
     """What is wrong about how a daemon ends by a fault that stays, and what is told of it."""
     if not within(RECOVERY, lambda: not daemon.is_there() or daemon.said().count("listening") == 2):
