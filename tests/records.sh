@@ -199,9 +199,9 @@ await_lines() {
 # netid is shown as `?`.
 run_log_of_changes() {
     local by='by 127.0.0.1:20113' set='SET 200001 1 tcp 127.0.0.1.8.1 of 1000' bad=0
-    printf 'rpcbind: %s\n' 'listening on 127.0.0.1 port 20112' "$set $by: accepted" "$set $by: refused" \
-        "UNSET 200001 1 tcp of 1001 $by: refused" \
-        "SET 200001 1 tcp?rpcbind: 127.0.0.1.8.1 of 1000 $by: refused" \
+    printf 'rpcbind: %s\n' 'listening on 127.0.0.1 port 20112' "$set $by: accepted" "$set $by: refused: taken" \
+        "UNSET 200001 1 tcp of 1001 $by: refused: nothing to remove" \
+        "SET 200001 1 tcp?rpcbind: 127.0.0.1.8.1 of 1000 $by: refused: no address" \
         "SET 200002 1 udp 0.0.0.0.8.1 of unknown $by: accepted" \
         "UNSET 200001 1 - of 1000 $by: accepted" > "$work/wanted"
     start_daemon "$work/log" --port 20112 --believe-claims --log changes || { judge 1 "a log of changes"; return; }

@@ -153,6 +153,6 @@ fn line_of(change: &ChangeAsked) -> ChangeLine<'_> {
         addr: change.row.addr.as_slice(),
         owner: change.owner,
         who: change.who,
-        is_accepted: change.refusal.is_none(),
+        refusal: change.refusal,
     }
 }

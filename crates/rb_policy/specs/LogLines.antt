@@ -8,6 +8,8 @@ use Rattle.rb_address.specs.Callers.{owner_text as text_of_owner, source_text}
 use Rattle.rb_address.specs.Peers.{bare_host_text}
 use Rattle.rb_rpc.specs.declared.reply.ReplyStatus.{ReplyStatus}
 use Rattle.rb_rpc.specs.declared.reply.ReplyStatus.TheVariants.{Success, ProgUnavail, ProgMismatch, ProcUnavail, GarbageArgs, SystemErr, RpcMismatch, AuthError}
+use Rattle.rb_proto.specs.declared.reasons.Refusal.{Refusal}
+use Rattle.rb_proto.specs.declared.reasons.Refusal.TheVariants.{MayNotRegister, OwnProgram, NoAddress, Reserved, NoPlace, Taken, NothingToRemove}
 use Rattle.rb_policy.specs.declared.caller_rate.LogCaller.{LogCaller}
 use Rattle.rb_policy.specs.declared.caller_rate.LogCaller.TheVariants as callers
 use Rattle.rb_policy.specs.declared.log_lines.LogKind.{LogKind}
@@ -60,9 +62,15 @@ abbrev pub changes_text : Bool → List ℕ
 changes_text true = codes "SET"
 changes_text false = codes "UNSET"
 
-abbrev pub end_text : Bool → List ℕ
-end_text true = codes "accepted"
-end_text false = codes "refused"
+abbrev pub end_text : Option Refusal → List ℕ
+end_text None = codes "accepted"
+end_text (Some MayNotRegister) = codes "refused: may not register"
+end_text (Some OwnProgram) = codes "refused: own program"
+end_text (Some NoAddress) = codes "refused: no address"
+end_text (Some Reserved) = codes "refused: reserved"
+end_text (Some NoPlace) = codes "refused: no place"
+end_text (Some Taken) = codes "refused: taken"
+end_text (Some NothingToRemove) = codes "refused: nothing to remove"
 
 abbrev pub kind_text : LogKind → List ℕ
 kind_text Accepted = codes "accepted changes"
@@ -92,12 +100,12 @@ row_part line =
     ++ address_part line.adds line.addr.now
 
 -- LOG-3: A line of the log says what a SET or an UNSET is about, as whom the caller registers, from where it called and
--- whether it was accepted; or of a refused call from where and why; or whose connection was given up; or how many lines of a
+-- whether it was accepted, or why not; or of a refused call from where and why; or whose connection was given up; or how many lines of a
 -- kind were left out, and of whom.
 abbrev pub change_line : ChangeLine → List ℕ
 change_line line =
     codes "rpcbind: " ++ changes_text line.adds ++ codes " " ++ row_part line
-    ++ codes " of " ++ owner_text line.owner ++ codes " by " ++ caller_text line.who ++ codes ": " ++ end_text line.is_accepted
+    ++ codes " of " ++ owner_text line.owner ++ codes " by " ++ caller_text line.who ++ codes ": " ++ end_text line.refusal
 
 -- LOG-3
 abbrev pub log_line : LogLine → List ℕ

@@ -5,6 +5,7 @@ ghost use Rattle.rb_policy.specs.LogLines.{shown_byte, shown_text, status_text, 
 use crate::caller_rate::{LeftOut, LogCaller};
 use arrayvec::ArrayString;
 use rb_address::{Owner, Source, Trust, Who};
+use rb_proto::Refusal;
 use rb_rpc::ReplyStatus;
 use std::fmt;
 
@@ -44,8 +45,8 @@ pub struct ChangeLine<'a> {
     pub owner: Owner,
     /// Who called.
     pub who: Who,
-    /// Whether the rows were changed.
-    pub is_accepted: bool,
+    /// Why the rows were not changed, if they were not.
+    pub refusal: Option<Refusal>,
 }
 
 /// A line of a log.
@@ -119,10 +120,19 @@ fn change_text(adds: bool) -> &'static str
     if adds { "SET" } else { "UNSET" }
 }
 
-fn end_text(is_accepted: bool) -> &'static str
-    ensures { result.now ≡ end_text is_accepted }
+fn end_text(refusal: Option<Refusal>) -> &'static str
+    ensures { result.now ≡ end_text refusal }
 {
-    if is_accepted { "accepted" } else { "refused" }
+    match refusal {
+        None => "accepted",
+        Some(Refusal::MayNotRegister) => "refused: may not register",
+        Some(Refusal::OwnProgram) => "refused: own program",
+        Some(Refusal::NoAddress) => "refused: no address",
+        Some(Refusal::Reserved) => "refused: reserved",
+        Some(Refusal::NoPlace) => "refused: no place",
+        Some(Refusal::Taken) => "refused: taken",
+        Some(Refusal::NothingToRemove) => "refused: nothing to remove",
+    }
 }
 
 fn kind_text(kind: LogKind) -> &'static str
@@ -248,7 +258,7 @@ impl fmt::Display for ChangeLine<'_> {
         let row = RowPart(*self);
         let owner = OwnerText(self.owner);
         let caller = CallerText(self.who);
-        let end = end_text(self.is_accepted);
+        let end = end_text(self.refusal);
         write!(f, "rpcbind: {change} {row} of {owner} by {caller}: {end}")
     }
 }

@@ -3,6 +3,7 @@ use rb_address::{Host, Owner, Peer, Source, Trust, Who};
 use rb_policy::caller_rate::{LINES, LeftOut, LogCaller, OWN_COUNTS};
 use rb_policy::log_lines::{ChangeLine, LONGEST_LOG_LINE, LogKind, LogLine};
 use rb_policy::log_rate::{LOG_ROOM, LogRate, caller_at, caller_of, has_log_room};
+use rb_proto::Refusal;
 use rb_rpc::ReplyStatus;
 use std::test::Fail;
 
@@ -29,7 +30,7 @@ fn on_the_local_socket() -> Who {
     }
 }
 
-fn set(who: Who, owner: Owner, is_accepted: bool) -> ChangeLine<'static> {
+fn set(who: Who, owner: Owner, refusal: Option<Refusal>) -> ChangeLine<'static> {
     ChangeLine {
         adds: true,
         prog: 100_003,
@@ -38,31 +39,31 @@ fn set(who: Who, owner: Owner, is_accepted: bool) -> ChangeLine<'static> {
         addr: b"0.0.0.0.8.1",
         owner,
         who,
-        is_accepted,
+        refusal,
     }
 }
 
 // LOG-3
 #[test]
 fn changes_are_told(rt: HostRuntime) -> Result<(), Fail> {
-    let line = set(from_here(), Owner::Uid(0), true);
+    let line = set(from_here(), Owner::Uid(0), None);
     assert_eq!(rt;
         format!(in rt.alloc(); "{line}")?.as_str(),
         "rpcbind: SET 100003 3 tcp 0.0.0.0.8.1 of 0 by 127.0.0.1:900: accepted"
     );
-    let line = set(on_the_local_socket(), Owner::Unknown, false);
+    let line = set(on_the_local_socket(), Owner::Unknown, Some(Refusal::Taken));
     assert_eq!(rt;
         format!(in rt.alloc(); "{line}")?.as_str(),
-        "rpcbind: SET 100003 3 tcp 0.0.0.0.8.1 of unknown by local: refused"
+        "rpcbind: SET 100003 3 tcp 0.0.0.0.8.1 of unknown by local: refused: taken"
     );
     let line = ChangeLine {
         adds: false,
         netid: b"",
-        ..set(stranger(), Owner::Uid(1_000), false)
+        ..set(stranger(), Owner::Uid(1_000), Some(Refusal::MayNotRegister))
     };
     assert_eq!(rt;
         format!(in rt.alloc(); "{line}")?.as_str(),
-        "rpcbind: UNSET 100003 3 - of 1000 by 192.0.2.7:900 (stranger): refused"
+        "rpcbind: UNSET 100003 3 - of 1000 by 192.0.2.7:900 (stranger): refused: may not register"
     );
     Ok(())
 }
@@ -74,11 +75,11 @@ fn texts_of_callers_are_shown(rt: HostRuntime) -> Result<(), Fail> {
     let line = ChangeLine {
         netid: b"tcp\nrpcbind: \x1b[1m",
         addr: b"\x00\x7f\xff~!",
-        ..set(from_here(), Owner::Uid(0), false)
+        ..set(from_here(), Owner::Uid(0), Some(Refusal::NoAddress))
     };
     assert_eq!(rt;
         format!(in rt.alloc(); "{line}")?.as_str(),
-        "rpcbind: SET 100003 3 tcp?rpcbind:??[1m ???~! of 0 by 127.0.0.1:900: refused"
+        "rpcbind: SET 100003 3 tcp?rpcbind:??[1m ???~! of 0 by 127.0.0.1:900: refused: no address"
     );
     Ok(())
 }
@@ -143,7 +144,7 @@ fn longest_line_has_room(rt: HostRuntime) -> Result<(), Fail> {
             source: Source::Inet(Peer::new(Host::V6([0xff; 16]), u16::MAX)),
             ..stranger()
         },
-        is_accepted: true,
+        refusal: Some(Refusal::NothingToRemove),
     };
     for adds in [false, true] {
         let line = ChangeLine { adds, ..line };
