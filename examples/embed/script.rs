@@ -3,7 +3,7 @@
 use crate::driver::{Input, Outside, drive};
 use rb_address::{Host, Peer, Source, Trust, Who};
 use rb_core::{CoreFault, Limits, Listener, Metered};
-use rb_proto::{Announced, Terms};
+use rb_proto::{Announced, Reserved, Terms};
 use std::alloc::{AllocError, Global};
 use std::test::Fail;
 
@@ -91,6 +91,7 @@ fn new_core(alloc: Global) -> Result<Metered, CoreFault> {
         port: 111,
         local: None,
         terms: Terms::OPEN,
+        reserved: Reserved::new(),
     };
     Metered::new(alloc, limits, listener, 1000, 0)
 }

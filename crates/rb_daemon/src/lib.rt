@@ -18,7 +18,7 @@ pub use daemon::Daemon;
 pub use laws::{served_cores_are_bounded, served_records_are_read};
 pub use rb_model::Limits;
 pub use rb_policy::Rate;
-pub use rb_proto::{Announced, Forwarding, Terms};
+pub use rb_proto::{Announced, Forwarding, Reserved, Terms};
 pub use rb_sockets::{
     DaemonFault, Few, LocalSocket, Logged, Settings, Shortage, SocketFault, Step,
 };

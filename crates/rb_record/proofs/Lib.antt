@@ -1,3 +1,4 @@
+pub mod Reserves
 pub mod Prints
 pub mod RunTexts
 pub mod Tapes

@@ -107,11 +107,15 @@ reserve_text r = codes " --reserve " ++ reservation_text r
 abbrev pub reserved_text : List Reservation → List ℕ
 reserved_text reserved = flat_map reserve_text reserved
 
--- the announced host of each family, the port, the path of the local socket, the terms, and the reservations
+-- the path of the local socket, the terms, and the reservations
+abbrev pub rest_text : Listener → List ℕ
+rest_text listener = local_text listener.local ++ (terms_text listener.terms ++ reserved_text listener.reserved)
+
+-- the announced host of each family, the port, and these
 abbrev pub listener_text : Listener → List ℕ
 listener_text listener =
     inet_text listener.announced.inet ++ (inet6_text listener.announced.inet6
-    ++ (codes " --port " ++ (decimal listener.port ++ (local_text listener.local ++ (terms_text listener.terms ++ reserved_text listener.reserved)))))
+    ++ (codes " --port " ++ (decimal listener.port ++ rest_text listener)))
 
 -- LINE-4: The first line of a record is a comment with the command that checks it.
 abbrev pub options_text : Limits → Listener → ℕ → ℕ → List ℕ

@@ -1,11 +1,11 @@
 //! The options of the replay of a run.
 ghost use Rattle.std.specs.Prelude.{◌≡◌, ◌≤◌, ◌+◌, ◌*◌, ◌++◌, length};
-ghost use Rattle.rb_record.specs.Entries.{limits_text, announce_text, inet_text, inet6_text, local_text, lists_text, forwarding_text, last_text, reserve_text, reserved_text, listener_text, options_of};
+ghost use Rattle.rb_record.specs.Entries.{limits_text, announce_text, inet_text, inet6_text, local_text, lists_text, forwarding_text, last_text, reserve_text, reserved_text, terms_text, rest_text, listener_text, options_of};
 
 use crate::front::Front;
 use rb_address::Host;
 use rb_model::Limits;
-use rb_proto::{Forwarding, Listener, Reservation};
+use rb_proto::{Forwarding, Listener, Reservation, Terms};
 use rb_uaddr::AddressText;
 
 /// The room for the options of a replay, in bytes, which have less with 20 digits for each number.
@@ -147,26 +147,44 @@ fn push_reserved(front: &mut Front<MAX_OPTIONS>, all: &[Reservation])
     }
 }
 
+/// On which terms callers are served.
+fn push_terms(front: &mut Front<MAX_OPTIONS>, terms: &Terms)
+    requires { length front.old.text.items + 38 ≤ MAX_OPTIONS }
+    ensures text { front.new.text.items ≡ front.old.text.items ++ terms_text terms.now }
+    ensures short { length front.new.text.items ≤ length front.old.text.items + 38 }
+{
+    push_lists(front, terms.long_replies);
+    push_forwarding(front, terms.forwarding);
+}
+
+/// What stands behind the port.
+fn push_rest(front: &mut Front<MAX_OPTIONS>, listener: &Listener)
+    requires { length front.old.text.items + 4849 ≤ MAX_OPTIONS }
+    ensures text { front.new.text.items ≡ front.old.text.items ++ rest_text listener.now }
+    ensures short { length front.new.text.items ≤ length front.old.text.items + 4849 }
+{
+    let Listener {
+        announced: _,
+        port: _,
+        local,
+        terms,
+        reserved,
+    } = listener;
+    push_local(front, local);
+    push_terms(front, terms);
+    push_reserved(front, reserved.as_slice());
+}
+
 fn push_listener(front: &mut Front<MAX_OPTIONS>, listener: &Listener)
     requires { length front.old.text.items + 5067 ≤ MAX_OPTIONS }
     ensures text { front.new.text.items ≡ front.old.text.items ++ listener_text listener.now }
     ensures short { length front.new.text.items ≤ length front.old.text.items + 5067 }
 {
-    let Listener {
-        announced,
-        port,
-        local,
-        terms,
-        reserved,
-    } = listener;
-    push_inet(front, announced.inet);
-    push_inet6(front, announced.inet6);
+    push_inet(front, listener.announced.inet);
+    push_inet6(front, listener.announced.inet6);
     front.push(b" --port ");
-    front.push_number(u64::from(*port));
-    push_local(front, local);
-    push_lists(front, terms.long_replies);
-    push_forwarding(front, terms.forwarding);
-    push_reserved(front, reserved.as_slice());
+    front.push_number(u64::from(listener.port));
+    push_rest(front, listener);
 }
 
 /// A comment line: the command that checks a record of a run that begins so.

@@ -1,8 +1,8 @@
 //! The daemon of a test, whose turns the test itself takes, and whose clocks it sets.
 use rb_address::{Host as Address, Network};
 use rb_daemon::{
-    Announced, Daemon, DaemonFault, Few, Limits, LocalSocket, Logged, Settings, Shortage,
-    SocketFault, Terms,
+    Announced, Daemon, DaemonFault, Few, Limits, LocalSocket, Logged, Reserved, Settings,
+    Shortage, SocketFault, Terms,
 };
 use std::cell::Cell;
 use std::fs::Files;
@@ -128,6 +128,7 @@ pub(crate) fn plain(hosts: &[Address], conns: usize) -> Settings<'static> {
             forwards: 4,
         },
         terms: Terms::OPEN,
+        reserve: Reserved::new(),
         udp_rate: None,
         record_limit: 0,
         keep: None,

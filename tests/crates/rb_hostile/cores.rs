@@ -2,7 +2,7 @@
 
 use rb_address::{Host, Peer, Source, Trust, Who};
 use rb_core::{CoreFault, Limits, Listener, Metered};
-use rb_proto::{Announced, Terms};
+use rb_proto::{Announced, Reserved, Terms};
 use std::alloc::{AllocError, Global};
 
 /// Who calls: nothing is known but what it says.
@@ -24,6 +24,7 @@ pub(crate) fn listener() -> Listener {
         port: 111,
         local: None,
         terms: Terms::OPEN,
+        reserved: Reserved::new(),
     }
 }
 

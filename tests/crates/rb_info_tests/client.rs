@@ -1,7 +1,7 @@
 //! A client that asks a daemon in the same process. Its sockets never wait, since the daemon's turns are taken by the same
 //! thread.
 use rb_address::{Host, Network, Transport};
-use rb_daemon::{Announced, Daemon, Few, Limits, LocalSocket, Logged, Settings, Terms};
+use rb_daemon::{Announced, Daemon, Few, Limits, LocalSocket, Logged, Reserved, Settings, Terms};
 use rb_plans::{Aim, Answer, Course, End, Stage, asked, begin, called_at, next};
 use rb_show::{
     Ask, Form, HeldBytes, InfoFault, Shown, show_datagram, show_reply, write_call,
@@ -58,6 +58,7 @@ pub fn daemon_everywhere(rt: &HostRuntime) -> Option<Daemon<'_, HostRuntime>> {
             forwards: 1,
         },
         terms: Terms::OPEN,
+        reserve: Reserved::new(),
         udp_rate: None,
         record_limit: 0,
         keep: None,

@@ -1,7 +1,7 @@
 //! A daemon and a client in one process, on port 20113 of 127.0.0.1. The client never waits: the test itself takes the
 //! daemon's turns.
 use rb_address::{Host, Network};
-use rb_daemon::{Announced, Daemon, Few, Limits, Logged, Settings, Terms};
+use rb_daemon::{Announced, Daemon, Few, Limits, Logged, Reserved, Settings, Terms};
 use std::alloc::AllocError;
 use std::io::{Read, Write};
 use std::net::{Ipv4Addr, SocketAddr, TcpStream};
@@ -63,6 +63,7 @@ pub fn daemon_of(rt: &HostRuntime, port: u16, conns: usize) -> Option<Daemon<'_,
         port,
         limits,
         terms: Terms::OPEN,
+        reserve: Reserved::new(),
         udp_rate: None,
         record_limit: 0,
         keep: None,

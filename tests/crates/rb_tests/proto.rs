@@ -3,8 +3,8 @@ use rb_address::{Host, Peer};
 use rb_arguments::{ArgumentFault, read_args};
 use rb_forward::{Forward, FwdId};
 use rb_proto::{
-    Announced, Answer, Books, Call, Context, ListReply, Listener, Listing, Terms, answer,
-    own_row_count, put_forwarded, put_results, refusal,
+    Announced, Answer, Books, Call, Context, ListReply, Listener, Listing, Reserved, Terms,
+    answer, own_row_count, put_forwarded, put_results, refusal,
 };
 use rb_registry::RegistryFault;
 use rb_rpc::{CallHead, Caller, Credential, Kind, ReplyStatus};
@@ -26,6 +26,7 @@ pub(crate) fn listener() -> Listener {
         port: 111,
         local: None,
         terms: Terms::OPEN,
+        reserved: Reserved::new(),
     }
 }
 
@@ -68,10 +69,11 @@ const LIMIT: usize = 8;
 const CLOCK: u64 = 1_000_000_000_500;
 
 // What a call from 127.0.0.1 sees that came in a datagram.
-fn context() -> Context {
+fn context(reserved: &Reserved) -> Context<'_> {
     Context {
         announced: ANNOUNCED,
         terms: Terms::OPEN,
+        reserved: reserved.lend(),
         limit: LIMIT,
         forwards: 1,
         clock: CLOCK,
@@ -111,7 +113,8 @@ fn serve(
     meter: &mut Meter,
 ) -> Result<(), Fail> {
     let head = head(vers, proc);
-    let context = context();
+    let reserved = Reserved::new();
+    let context = context(&reserved);
     books.note_call(&head);
     let request = read_args(vers, proc, args)?;
     let (retained, _) = books.registry.retained_since(meter);
@@ -184,7 +187,7 @@ fn set_wants_room(books: &Books, meter: &mut Meter) -> Result<bool, ArgumentFaul
         head: head(2, 1),
         request: read_args(2, 1, TCP_ROW)?,
     };
-    Ok(books.wants_room(&context(), &call, meter))
+    Ok(books.wants_room(&context(&Reserved::new()), &call, meter))
 }
 
 // It wants room until the row is there.
@@ -287,6 +290,7 @@ fn own_rows_have_room(rt: HostRuntime) -> Result<(), Fail> {
         port: 111,
         local: Some(AddressText::new(b"/run/rpcbind.sock")),
         terms: Terms::OPEN,
+        reserved: Reserved::new(),
     };
     assert_eq!(rt; has_own_rows(rt.alloc(), &listener(), 6), Ok(true));
     assert_eq!(rt; has_own_rows(rt.alloc(), &over_ipv6, 4), Ok(true));
