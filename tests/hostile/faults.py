@@ -3,8 +3,6 @@
 Each fault is one call that fails with one error for three seconds, while clients come over UDP, over TCP and on the
 local socket. A daemon of its own bears it, several of them side by side. It must not end, must not take more than a
 tenth of a processor, and must answer all three again afterwards, with as many descriptors as before.
-
-Of a wait that fails it bears three in a row. If all fail from then on, it ends with status 1, and says why.
 """
 
 import concurrent.futures
@@ -41,15 +39,11 @@ ERRORS = {
     " ENOTCONN ENOTSOCK EOPNOTSUPP EPIPE EPERM EHOSTUNREACH ENETUNREACH",
     "close": "EINTR EIO ENOSPC EDQUOT",
     "ioctl": "EFAULT EINVAL ENOTTY",
-    "epoll_wait": "EINTR EBADF EFAULT EINVAL",
+    "epoll_wait": "EINTR",
 }
-
-# Those of these calls that nothing can mend if they go on.
-ENDING = [("epoll_wait", "EINVAL")]
 
 # An interrupted accept is made again by the library that makes it, as often as it is interrupted, so only every second is.
 WHEN = {("accept4", "EINTR"): ":when=1+2"}
-WHEN.update({("epoll_wait", error): ":when=1..3" for error in ["EBADF", "EFAULT", "EINVAL"]})
 
 FAULTS = [(name, error) for name, errors in ERRORS.items() for error in errors.split()]
 
@@ -174,10 +168,10 @@ def let_go(clients):
 # ---- strace
 
 
-def attach(daemon, name, error, counts, when=""):
-    """An strace that lets these calls fail, and counts them; None if it could not be attached."""
+def attach(daemon, name, error, counts):
+    """An strace that lets each of these calls fail, and counts them; None if it could not be attached."""
     pid = daemon.process.pid
-    inject = f"inject={name}:error={error}{when}"
+    inject = f"inject={name}:error={error}" + WHEN.get((name, error), "")
     options = ["-qq", "-c", "-o", counts, "-e", f"trace={name}", "-e", inject, "-p", str(pid)]
     tracer = subprocess.Popen(["strace", *options], stdout=subprocess.DEVNULL, stderr=subprocess.DEVNULL)
     for _ in range(100):
@@ -233,7 +227,7 @@ def bear(daemon, name, error, counts):
     if unanswered(daemon):
         return ["it did not answer before"], ""
     before = daemon.descriptors()
-    tracer = attach(daemon, name, error, counts, WHEN.get((name, error), ""))
+    tracer = attach(daemon, name, error, counts)
     if tracer is None:
         return ["strace could not be attached"], ""
     used, begin = daemon.processor_seconds(), time.monotonic()
@@ -265,38 +259,17 @@ def judge(daemon, name, before, share, failed):
     return faults
 
 
-# WAIT-6
-def end_by(daemon, name, error, counts):
-    """What is wrong about how a daemon ends by a fault that stays, and what is told of it."""
-    if not within(RECOVERY, lambda: not daemon.is_there() or daemon.said().count("listening") == 2):
-        return ["it does not listen"], ""
-    tracer = attach(daemon, name, error, counts)
-    if tracer is None:
-        return ["strace could not be attached"], ""
-    let_go(call_for(SECONDS, daemon, STAYING))
-    ends = within(RECOVERY, lambda: not daemon.is_there())
-    detach(tracer, daemon.process)
-    if not ends:
-        return ["it has not ended"], ""
-    told = daemon.last_words()
-    return ["it did not say why"] * (daemon.process.returncode != 1 or len(told.split("; ")) < 2), f"it has ended: {told}"
-
-
-def label_of(judged, name, error):
-    return f"{name}_{error}" + "_for_ever" * (judged is end_by)
-
-
-def run_fault(port, judged, name, error):
+def run_fault(port, name, error):
     """Runs a fault, prints its line, and returns whether it passed."""
     with tempfile.TemporaryDirectory() as folder:
         daemon = Daemon(port, folder)
         try:
-            wrong, told = judged(daemon, name, error, os.path.join(folder, "counts"))
+            wrong, told = bear(daemon, name, error, os.path.join(folder, "counts"))
         except OSError as fault:
             wrong, told = [f"{type(fault).__name__}: {fault}"], ""
         daemon.end()
     told = "; ".join([told] * bool(told) + wrong)
-    print(f"{'failed' if wrong else 'passed'}: {label_of(judged, name, error)}: {told}", flush=True)
+    print(f"{'failed' if wrong else 'passed'}: {name}_{error}: {told}", flush=True)
     return not wrong
 
 
@@ -321,8 +294,7 @@ def why_not():
 # RECEIVE-1 TURN-5
 def run_faults(names):
     """Runs the faults of these names, or of these calls, or all if there is no name; how many passed, and failed."""
-    faults = [(bear, *fault) for fault in FAULTS] + [(end_by, *fault) for fault in ENDING]
-    faults = [fault for fault in faults if not names or {fault[1], label_of(*fault), "faults"} & set(names)]
+    faults = [(name, error) for name, error in FAULTS if not names or {name, f"{name}_{error}", "faults"} & set(names)]
     if not faults:
         return 0, 0
     missing = why_not()
