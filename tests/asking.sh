@@ -50,6 +50,11 @@ run_rpcinfo_over_sockets() {
     echo 'portmapper 100000 sunrpc' > "$work/programs"
     ask_form "--programs $work/programs -t 127.0.0.1 portmapper 2" "$two"
     ask_form "--programs $work/programs -T udp 127.0.0.1 sunrpc 3" "$three"
+    # WORDS-11: whoever opened this pipe for reading would wait for a writer.
+    mkfifo "$work/unread"
+    ask_form "--programs $work/unread -t 127.0.0.1 100000 2" "$two"
+    ask_form "--programs $work/unread --json -p 127.0.0.1" '{"program":100000,"version":'{4,3,2}',"protocol":6,"port":20112}' \
+        '{"program":100000,"version":'{4,3,2}',"protocol":17,"port":20112}'
     ask_form "127.0.0.1" '100000 '{4,3}' tcp6 ::.78.144 superuser' '100000 '{4,3}' udp6 ::.78.144 superuser' \
         '100000 '{4,3,2}' tcp 0.0.0.0.78.144 superuser' '100000 '{4,3,2}' udp 0.0.0.0.78.144 superuser' \
         '100000 '{4,3}" local $local_socket superuser"

@@ -16,6 +16,8 @@ use Rattle.rb_words.specs.declared.plan.Way.{Way}
 use Rattle.rb_words.specs.declared.plan.Way.TheVariants as ways
 use Rattle.rb_words.specs.declared.shape.Shape.{Shape}
 use Rattle.rb_words.specs.declared.refusal.Refusal.{Refusal}
+use Rattle.rb_words.specs.declared.refusal.Expected.{Expected}
+use Rattle.rb_words.specs.declared.refusal.Expected.TheVariants as wants
 use Rattle.rb_words.specs.Refusals.{refusal_lines}
 use Rattle.rb_words.specs.Words.{request_of}
 use Rattle.rb_show.specs.declared.ask.Ask.{Ask}
@@ -44,6 +46,27 @@ form_by plan layout services = layout_form layout services
 -- how the words ask for a list
 abbrev pub form_of : Request → Bor (List Service) → Form
 form_of request services = form_by request.plan request.layout services
+
+-- ---- names of programs
+
+abbrev pub has_names : Form → Bool
+has_names (Named services) = true
+has_names Plain = false
+has_names Json = false
+
+abbrev pub is_program : Expected → Bool
+is_program wants.Program = true
+is_program wanted = false
+
+abbrev pub wants_by : Bor (List Service) → Result Request Refusal → Bool
+wants_by services (Ok request) = has_names (form_of request services)
+wants_by services (Err refusal) = is_program refusal.wanted
+
+-- WORDS-11: Names of programs are read only if they are shown, or if without them a word stands for no program.
+abbrev pub wants_names : Shape → Bool
+wants_names shape = wants_by shape.services (request_of shape)
+
+-- ---- networks
 
 -- The network of `--broadcast` is the IPv4 address that its text writes, if it is given.
 abbrev pub IsNetworkOf : Option (Bor (List ℕ)) → Option Ipv4Addr → Type 0

@@ -2,7 +2,7 @@
 ghost use Rattle.std.specs.Prelude.{◌≡◌, ◌≢◌, true, [], IfErr, IfOk, OnOk};
 ghost use Rattle.rb_words.specs.Refusals.{refusal_lines};
 ghost use Rattle.rb_plans.specs.Ending.{Says};
-ghost use Rattle.rb_plans.specs.Invocations.{ask_of, first_word, form_of, is_at_host, is_named, names_host, AreOf, IsNetworkOf, ReadsShape};
+ghost use Rattle.rb_plans.specs.Invocations.{ask_of, first_word, form_of, has_names, is_program, wants_names, is_at_host, is_named, names_host, AreOf, IsNetworkOf, ReadsShape};
 
 use crate::ending::{Ending, UNREADABLE};
 use rb_show::{Ask, Form, Question};
@@ -48,6 +48,30 @@ fn form_of<'a>(request: &Request, services: &'a [Service]) -> Form<'a>
         (Plan::Show(Listing::Summary, _), _) | (_, Some(Layout::Names)) => Form::Named(services),
         (_, Some(Layout::Json)) => Form::Json,
         (_, None) => Form::Plain,
+    }
+}
+
+/// Whether names of programs are shown in this form.
+fn has_names(form: Form<'_>) -> bool
+    ensures { result ≡ has_names form.entry }
+{
+    matches!(form, Form::Named(_))
+}
+
+fn is_program(wanted: Expected) -> bool
+    ensures { result ≡ is_program wanted }
+{
+    matches!(wanted, Expected::Program)
+}
+
+/// Returns whether words want names of programs, by their shape without any: names are shown, or a word that is no number
+/// stands for a program.
+pub fn wants_names(shape: &Shape<'_, '_, '_>) -> bool
+    ensures { result ≡ wants_names shape.now }
+{
+    match read_words(shape) {
+        Ok(request) => has_names(form_of(&request, shape.services)),
+        Err(refusal) => is_program(refusal.wanted),
     }
 }
 

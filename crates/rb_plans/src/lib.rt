@@ -28,10 +28,11 @@ pub use errors::{host_fault, look_up_fault, reply_fault, socket_fault};
 pub use fall_back::fallback;
 pub use fault::Fault;
 pub use input::{FIRST_XID, show_input};
-pub use invocation::{Invocation, read_invocation};
+pub use invocation::{Invocation, read_invocation, wants_names};
 pub use lack::show_lack;
 pub use laws::{
-    addresses_are_asked_in_order, courses_are_whole, objects_are_shown, texts_are_hexadecimal, versions_are_asked_once,
+    addresses_are_asked_in_order, courses_are_whole, objects_are_shown, texts_are_hexadecimal,
+    versions_are_asked_once,
 };
 pub use networks::{LONGEST_ROUTES, are_read_whole, read_networks};
 pub use places::called_at;

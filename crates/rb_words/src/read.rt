@@ -2,12 +2,12 @@
 ghost use Rattle.std.specs.Prelude.{◌≡◌, ◌<◌};
 ghost use Rattle.rb_words.specs.Words.{flag_of, option_number, number_at, program_of, program_at, ends_at, source_of, source_at, host_at, show_plan, entries_plan, ping_plan, ping_plan_at_host, program_and_version, option_netid, option_address, by_netid, by_transport, without_flag, delete_plan, plan_of, is_ping, is_broadcast, broadcast_plan, may_have_netid, is_here, wanted_with, has_layout, layout_of, only_where, check_options, request_of};
 
+use crate::number::number_in;
 use crate::plan::{Layout, Listing, Plan, Request, Source, Way};
 use crate::refusal::{Expected, Refusal, Spot};
+use crate::services::{Service, number_of};
 use crate::shape::{Flag, Shape};
 use rb_address::{Netid, Transport};
-use crate::number::number_in;
-use crate::services::{Service, number_of};
 use rb_uaddr::Uaddr;
 
 /// The portmapper's port.

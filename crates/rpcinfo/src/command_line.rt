@@ -4,7 +4,7 @@ ghost use Rattle.rpcinfo.specs.Running.{EndsSaying, EndsUnread};
 
 use clap::error::ErrorKind;
 use clap::{Arg, ArgAction, ArgMatches, Command, Error};
-use rb_plans::{Ending, Fault, Invocation, UNREADABLE, explain, read_invocation};
+use rb_plans::{Ending, Fault, Invocation, UNREADABLE, explain, read_invocation, wants_names};
 use rb_show::InfoFault;
 use rb_words::{Flag, Layout, Service, Shape};
 use std::alloc::{AllocError, Global};
@@ -265,6 +265,36 @@ fn layouts_of(alloc: Global, matches: &ArgMatches<'_>) -> Result<Vec<Layout>, Al
     Ok(layouts)
 }
 
+/// The shape of the words, with these flags, layouts and names of programs.
+fn shape_of<'s, 'a, 'n>(
+    matches: &'s ArgMatches<'a>,
+    flags: &'s [Flag],
+    layouts: &'s [Layout],
+    services: &'n [Service],
+) -> Shape<'s, 'a, 'n> {
+    Shape {
+        flags,
+        port: matches.get_str("port"),
+        uid: matches.get_str("uid"),
+        target: matches.get_str("target"),
+        netid: matches.get_str("netid"),
+        address: matches.get_str("address"),
+        local: matches.get_str("local"),
+        broadcast: matches.get_str("broadcast"),
+        layouts,
+        words: matches.get_strs("words").unwrap_or(&[]),
+        services,
+    }
+}
+
+/// Whether the words want names of programs.
+pub fn needs_names(alloc: Global, matches: &ArgMatches<'_>) -> Result<bool, AllocError> {
+    let flags = flags_of(alloc, matches)?;
+    let layouts = layouts_of(alloc, matches)?;
+    let shape = shape_of(matches, &flags, &layouts, &[]);
+    Ok(wants_names(&shape))
+}
+
 /// What the words ask for; programs may be given by these names. Faults are written, and then the `Err` says how
 /// the command ended.
 pub fn read_matches<'a, 'n, E: Write>(
@@ -282,18 +312,6 @@ pub fn read_matches<'a, 'n, E: Write>(
     let Ok(layouts) = layouts_of(alloc, matches) else {
         return Err(explain(Fault::Info(InfoFault::Memory), faults));
     };
-    let shape = Shape {
-        flags: &flags,
-        port: matches.get_str("port"),
-        uid: matches.get_str("uid"),
-        target: matches.get_str("target"),
-        netid: matches.get_str("netid"),
-        address: matches.get_str("address"),
-        local: matches.get_str("local"),
-        broadcast: matches.get_str("broadcast"),
-        layouts: &layouts,
-        words: matches.get_strs("words").unwrap_or(&[]),
-        services,
-    };
+    let shape = shape_of(matches, &flags, &layouts, services);
     read_invocation(&shape, faults)
 }

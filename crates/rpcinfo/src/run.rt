@@ -5,8 +5,8 @@ ghost use Rattle.rpcinfo.specs.Running.{Answers, IsExplained, IsNoticed, IsSilen
 
 use crate::asking::{Answered, ask_here, ask_named, ping, silently};
 use crate::broadcast::broadcast;
-use crate::command_line::{matches_of, programs_path, read_matches, show};
-use crate::programs::services_at;
+use crate::command_line::{matches_of, read_matches, show};
+use crate::programs::services_for;
 use rb_plans::{
     Ending, Fault, Invocation, ask_input, conclude, explain, flush_answer, plan_question,
 };
@@ -98,7 +98,7 @@ pub fn run_info<N: Net + Clock + Files, S: AsStr, I: Read, O: Write, E: Write>(
         Ok(matches) => matches,
         Err(error) => return show(&error, output, faults),
     };
-    let services = match services_at(alloc, net, programs_path(&matches)) {
+    let services = match services_for(alloc, net, &matches) {
         Ok(services) => services,
         Err(fault) => return explain(Fault::Info(fault), faults),
     };
