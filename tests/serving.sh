@@ -44,8 +44,7 @@ run_without_descriptors() {
 }
 
 # TABLES-6
-# Connections from this host that come at once wait for a reading of the system's tables, each 20 milliseconds after the one
-# before, though nothing else comes.
+# Connections from this host that come at once are all served, and none waits for another.
 run_connections_at_once() {
     local daemon
     start_daemon "$work/listening" --port 20112

@@ -113,10 +113,12 @@ impl<'a, R: Clock, H: Files> Daemon<'a, R, H> {
     /// end if there is neither, and not at all if something is left from the last turn. Then it serves all that the
     /// wait showed, in this order: datagrams, what comes back for forwarded calls, connections, those that are owed
     /// bytes last, and what is due, unless the turn is behind: then the next one does not wait. It closes Lost
-    /// connections, and accepts connections as far as there are free places. Those from this host over TCP it opens by
     /// what the kernel's tables, which are files of `host`, show of them. A wait that fails is as one that showed nothing,
     /// after a pause. After a fault, `Socket` of many waits that failed one after another or of the clock, what was handed
     /// to the core stands, and the daemon can do no more.
+    /// connections, and accepts connections as far as there are free places. If calls over TCP from this host wait until it
+    /// is known whose they are, it reads a slice of the kernel's tables, which are files of `host`. After a fault,
+    /// `Socket` of the wait or the clock, what was handed to the core stands, and the daemon can do no more.
     pub fn turn(&mut self, host: &H, longest: Option<u64>) -> Result<(), DaemonFault> {
         let is_work_left = self.serving.is_work_left();
         let deadline = self.serving.next_deadline();
@@ -236,8 +238,7 @@ impl<'a, R: Clock, H: Files> Daemon<'a, R, H> {
     }
 }
 
-/// A descriptor is for one of the kernel's tables of connections, while that is read, or for the file of the rows that are
-/// kept, while that is written.
+/// A descriptor is for one of the kernel's tables of connections, while that is read.
 const TABLE: u64 = 1;
 
 /// How many places there are for connections, and the shortage, if they are fewer than the settings ask for.
@@ -247,6 +248,7 @@ fn places_of(settings: &Settings<'_>, sockets: &Sockets) -> (usize, Option<Short
     let others = sockets
         .count_descriptors()
         .saturating_add(u64::from(settings.record_limit > 0))
+        .saturating_add(u64::from(settings.keep.is_some()))
         .saturating_add(TABLE);
     let places = place_count(asked, limit, others);
     if places == asked {

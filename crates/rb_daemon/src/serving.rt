@@ -588,6 +588,7 @@ impl<H: Files> Serving<H> {
         }
     }
 
+    // TABLES-6: A pass through the kernel's tables begins at once when a call needs one, unless one goes on, and is for all that wait then; who comes meanwhile waits for the next.
     /// Reads a slice of the kernel's tables, if a call waits for them and this turn may: each turn may in which nothing
     /// else was to be done. A pass begins at once, unless one goes on, and is for all that wait then.
     pub(crate) fn look_in_tables(&mut self, rt: &H, is_idle: bool) {

@@ -1,5 +1,8 @@
 //! What is done with a connection that is ready: bytes go from its socket to the core, and replies from the core to its
 //! socket.
+ghost use Rattle.std.specs.Prelude.{◌≡◌, false};
+ghost use Rattle.rb_links.specs.Holding.{must_wait};
+
 use crate::engine::Engine;
 use crate::keeping::Keeper;
 use crate::outbox::{exchange, write_into};
@@ -86,7 +89,9 @@ fn serve_calls<H: Files>(
 // handed in; Owing, the reply is taken over; if it Sends, the forwarded call is sent; Awaiting, it
 // waits; Lost, it is closed.
 /// Hands in what was read, which must not be held back. Returns whether the core took it.
-fn hand_in(link: &mut Link, engine: &mut Engine, id: u64) -> bool {
+fn hand_in(link: &mut Link, engine: &mut Engine, id: u64) -> bool
+    requires { must_wait link.old ≡ false }
+{
     let done = exchange(engine, id, link.inbox.bytes(), &mut link.outbox);
     engine.tell_call();
     let Ok(done) = done else {

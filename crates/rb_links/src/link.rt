@@ -186,6 +186,7 @@ impl Link {
     pub(crate) fn begin_pass(&mut self) {
         if let Some(held) = &mut self.held {
             held.passes = held.passes.saturating_add(1);
+            held.known = Evidence::NotFound;
         }
     }
 
@@ -199,15 +200,18 @@ impl Link {
         }
     }
 
-    /// Notes what a walk has seen of it, if that came to the end of its table.
+    /// Notes what a walk has seen of it, if it takes part in the pass, and if the walk came to the end of its table.
     pub(crate) fn note_seen(&mut self, is_whole: bool, sight: &Sight) {
         if let Some(held) = &mut self.held {
-            held.known = evidence_of(is_whole, sight);
+            if held.passes > 0 {
+                held.known = evidence_of(is_whole, sight);
+            }
         }
     }
 
     // TABLES-5: What the kernel's tables show counts only if the connection is still connected after
     // they were read; otherwise its owner is unknown.
+    // TABLES-5: What the kernel's tables show counts only if the connection is still connected after they were read; otherwise its owner is unknown.
     /// A pass has ended: who it is, if it took part, by what the tables showed. They say nothing of it if it is no
     /// longer connected: another connection may have its two ends by then. If it is, and the first pass showed nothing, it
     /// waits for another one.
@@ -301,6 +305,7 @@ impl Link {
         self.is_waiting = !self.is_free();
     }
 
+    // DOOR-9: A connection whose call is held back counts as one that makes progress now: it waits for the system, and not for its client.
     /// What `admit` is decided by, of the connection that has the place.
     pub(crate) fn holder(&self) -> Option<Holder> {
         if self.is_free() {
@@ -309,7 +314,7 @@ impl Link {
         Some(Holder {
             origin: self.origin,
             standing: self.standing_outside(),
-            since: self.since,
+            since: if self.is_held() { u64::MAX } else { self.since },
         })
     }
 

@@ -192,6 +192,9 @@ impl Places {
             return None;
         }
         self.taken = self.taken.saturating_sub(1);
+        if let Some(sight) = self.sights.get_mut(key) {
+            *sight = None;
+        }
         link.close(&mut self.long_outbox)
     }
 

@@ -6,6 +6,13 @@ use rb_daemon::{Daemon, DaemonFault};
 #[test]
 fn refused_memory_of_a_daemon(rt: HostRuntime) {
     let clock = Stopped::new(&rt);
-    let made = Daemon::new(rt.alloc(), &rt, &clock, &plain(&HERE, 2), &[]);
+    let settings = plain(&HERE, 2);
+    let made: Result<Daemon<'_, Stopped, HostRuntime>, DaemonFault> = Daemon::new(
+        rt.alloc(),
+        &rt,
+        &clock,
+        &settings,
+        &[],
+    );
     assert!(rt; matches!(made, Ok(_) | Err(DaemonFault::Memory(_))));
 }

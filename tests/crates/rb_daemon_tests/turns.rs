@@ -86,7 +86,7 @@ impl Clock for Stopped {
 /// The daemon, and whether each of its turns was without a fault.
 #[derive(Drop)]
 pub(crate) struct Host<'a> {
-    daemon: Daemon<'a, Stopped>,
+    daemon: Daemon<'a, Stopped, HostRuntime>,
     /// It has the kernel's tables of connections.
     rt: HostRuntime,
     is_well: bool,

@@ -34,7 +34,7 @@ pub fn portmapper6() -> SocketAddr {
 }
 
 /// A daemon on 127.0.0.1, [::1] and the local socket, which forwards calls.
-pub fn daemon_everywhere(rt: &HostRuntime) -> Option<Daemon<'_, HostRuntime>> {
+pub fn daemon_everywhere(rt: &HostRuntime) -> Option<Daemon<'_, HostRuntime, HostRuntime>> {
     let here = Host::V4([127, 0, 0, 1]);
     let mut bind = Few::new(here);
     bind.push(here);
@@ -122,7 +122,7 @@ impl<'r, 'f> Client<'r, 'f> {
     /// Asks over a connection that is there.
     pub fn ask_stream<S: Read + Write>(
         &mut self,
-        daemon: &mut Daemon<'_, HostRuntime>,
+        daemon: &mut Daemon<'_, HostRuntime, HostRuntime>,
         stream: &mut S,
         ask: &Ask,
         xid: u32,
@@ -146,7 +146,7 @@ impl<'r, 'f> Client<'r, 'f> {
 
     fn ask_datagram(
         &mut self,
-        daemon: &mut Daemon<'_, HostRuntime>,
+        daemon: &mut Daemon<'_, HostRuntime, HostRuntime>,
         address: SocketAddr,
         ask: &Ask,
         xid: u32,
@@ -163,7 +163,7 @@ impl<'r, 'f> Client<'r, 'f> {
     /// Asks at a place of a host.
     fn ask_at(
         &mut self,
-        daemon: &mut Daemon<'_, HostRuntime>,
+        daemon: &mut Daemon<'_, HostRuntime, HostRuntime>,
         at: (Transport, SocketAddr),
         ask: &Ask,
         xid: u32,
@@ -182,7 +182,7 @@ impl<'r, 'f> Client<'r, 'f> {
     /// Asks the portmapper over TCP.
     pub fn ask(
         &mut self,
-        daemon: &mut Daemon<'_, HostRuntime>,
+        daemon: &mut Daemon<'_, HostRuntime, HostRuntime>,
         portmapper: SocketAddr,
         ask: &Ask,
     ) -> Option<Result<Shown, InfoFault>> {
@@ -192,7 +192,7 @@ impl<'r, 'f> Client<'r, 'f> {
     /// Follows a course to its end.
     pub fn follow(
         &mut self,
-        daemon: &mut Daemon<'_, HostRuntime>,
+        daemon: &mut Daemon<'_, HostRuntime, HostRuntime>,
         portmapper: SocketAddr,
         course: &Course,
         aim: Aim,
@@ -261,7 +261,7 @@ impl Caller {
     pub fn first_word(
         &self,
         rt: &HostRuntime,
-        daemon: &mut Daemon<'_, HostRuntime>,
+        daemon: &mut Daemon<'_, HostRuntime, HostRuntime>,
     ) -> Option<(u32, SocketAddr)> {
         let mut room = [0; 1024];
         for _ in 0..TURNS {
@@ -278,7 +278,7 @@ impl Caller {
     pub fn receive(
         &self,
         rt: &HostRuntime,
-        daemon: &mut Daemon<'_, HostRuntime>,
+        daemon: &mut Daemon<'_, HostRuntime, HostRuntime>,
     ) -> Option<Vec<u8>> {
         let mut room = [0; 1024];
         for _ in 0..TURNS {

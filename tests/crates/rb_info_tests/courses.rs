@@ -17,7 +17,7 @@ const QUESTIONS: u32 = 10;
 /// Asks what a stage asks, over a connection of its own, and says what follows of the answer.
 fn step(
     rt: &HostRuntime,
-    daemon: &mut Daemon<'_, HostRuntime>,
+    daemon: &mut Daemon<'_, HostRuntime, HostRuntime>,
     course: &Course,
     stage: Stage,
     xid: u32,

@@ -94,7 +94,11 @@ fn rows_over_the_local_socket(rt: HostRuntime) -> Result<(), Fail> {
 }
 
 /// SET of program 200001 version 1 over a protocol (6 or 17) at TARGET, by version 2.
-fn sets_target(rt: &HostRuntime, daemon: &mut Daemon<'_, HostRuntime>, prot: u32) -> Option<()> {
+fn sets_target(
+    rt: &HostRuntime,
+    daemon: &mut Daemon<'_, HostRuntime, HostRuntime>,
+    prot: u32,
+) -> Option<()> {
     let caller = Caller::new(rt, 0)?;
     let set = [9, 0, 2, 100_000, 2, 1, 0, 0, 0, 0, 200_001, 1, prot, 20_121];
     caller.send(rt, &set, portmapper())?;

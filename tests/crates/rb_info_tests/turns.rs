@@ -41,7 +41,11 @@ fn reply(rt: &HostRuntime) -> Result<Vec<u8>, AllocError> {
     Ok(bytes)
 }
 
-pub fn daemon_of(rt: &HostRuntime, port: u16, conns: usize) -> Option<Daemon<'_, HostRuntime>> {
+pub fn daemon_of(
+    rt: &HostRuntime,
+    port: u16,
+    conns: usize,
+) -> Option<Daemon<'_, HostRuntime, HostRuntime>> {
     let limits = Limits {
         conns,
         rows: 8,
@@ -76,7 +80,7 @@ pub fn daemon_of(rt: &HostRuntime, port: u16, conns: usize) -> Option<Daemon<'_,
 /// Takes turns until something has come, and says how many bytes.
 pub fn receive(
     rt: &HostRuntime,
-    daemon: &mut Daemon<'_, HostRuntime>,
+    daemon: &mut Daemon<'_, HostRuntime, HostRuntime>,
     stream: &mut TcpStream,
     got: &mut [u8; 256],
 ) -> usize {
@@ -91,7 +95,10 @@ pub fn receive(
     0
 }
 
-fn answers_dump(rt: &HostRuntime, daemon: &mut Daemon<'_, HostRuntime>) -> Option<bool> {
+fn answers_dump(
+    rt: &HostRuntime,
+    daemon: &mut Daemon<'_, HostRuntime, HostRuntime>,
+) -> Option<bool> {
     let mut stream = TcpStream::connect(rt, SocketAddr::from((Ipv4Addr::LOCALHOST, PORT))).ok()?;
     stream.set_nonblocking(true).ok()?;
     let mut call = Vec::new(rt.alloc());

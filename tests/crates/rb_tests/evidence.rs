@@ -1,7 +1,9 @@
 //! Whose a connection is, by tables that Linux 6.18 showed of listeners of uid 0 and clients whose uids were known.
 use rb_address::{Host, Peer};
-use rb_evidence::{uid_of, uid_of_mapped};
+use rb_evidence::{Lines, Sight};
 use std::alloc::{AllocError, Global};
+use std::io;
+use std::io::Read;
 use std::process::Abort;
 use std::test::Fail;
 
@@ -193,8 +195,64 @@ pub(crate) fn table_at(alloc: Global, door: &Door) -> Result<Vec<u8>, AllocError
     table_of(alloc, HEAD, door.lines)
 }
 
+/// A table of which at most so many bytes come at once.
+#[derive(Drop)]
+struct Slices<'a> {
+    text: &'a [u8],
+    most: usize,
+}
+
+impl Read for Slices<'_> {
+    fn read(&mut self, room: &mut [u8]) -> io::Result<usize> {
+        let count = self.most.min(room.len()).min(self.text.len());
+        let (slice, rest) = self.text.split_at(count);
+        for (place, byte) in room.iter_mut().zip(slice) {
+            *place = *byte;
+        }
+        self.text = rest;
+        Ok(count)
+    }
+}
+
+/// What is looked for, after a walk through a table that comes in such slices.
+pub(crate) fn walked(alloc: Global, table: &[u8], most: usize, sight: Sight) -> Option<Sight> {
+    let mut sights = Vec::new(alloc);
+    sights.push(Some(sight)).ok()?;
+    let mut lines = Lines::new(alloc, true).ok()?;
+    let mut slices = Slices { text: table, most };
+    for _ in 0..=table.len() {
+        if lines.read(&mut slices).ok()? == 0 {
+            break;
+        }
+        lines.look_at_whole(sights.as_mut_slice());
+    }
+    lines.look_at_last(sights.as_mut_slice());
+    sights.pop()?
+}
+
+fn found_in(alloc: Global, table: &[u8], most: usize, sight: Sight) -> Option<u32> {
+    walked(alloc, table, most, sight)?.uid()
+}
+
+/// Whom the table shows, which comes in slices that cut its lines.
+fn uid_of(alloc: Global, table: &[u8], theirs: &Peer, ours: &Peer) -> Option<u32> {
+    found_in(alloc, table, 100, Sight::new(theirs, ours))
+}
+
+/// The same in IPv6's form.
+fn uid_of_mapped(alloc: Global, table: &[u8], theirs: &Peer, ours: &Peer) -> Option<u32> {
+    found_in(alloc, table, 100, Sight::new_mapped(theirs, ours))
+}
+
 /// The clients' ends show the uid of the two that are connected, and our own ends that of the one that is accepted.
-fn ends_are_shown(rt: &impl Abort, table: &[u8], door: &Door, host: Host, our_uid: Option<u32>) {
+fn ends_are_shown(
+    rt: &impl Abort,
+    alloc: Global,
+    table: &[u8],
+    door: &Door,
+    host: Host,
+    our_uid: Option<u32>,
+) {
     let Door {
         port,
         clients,
@@ -203,12 +261,12 @@ fn ends_are_shown(rt: &impl Abort, table: &[u8], door: &Door, host: Host, our_ui
     } = door;
     let ours = Peer::new(host, *port);
     let [first, second, third, fourth] = clients.map(|port| Peer::new(host, port));
-    assert_eq!(rt; uid_of(table, &first, &ours), Some(*uid));
-    assert_eq!(rt; uid_of(table, &second, &ours), None);
-    assert_eq!(rt; uid_of(table, &third, &ours), None);
-    assert_eq!(rt; uid_of(table, &fourth, &ours), Some(*uid));
-    assert_eq!(rt; uid_of(table, &ours, &first), our_uid);
-    assert_eq!(rt; uid_of(table, &ours, &fourth), None);
+    assert_eq!(rt; uid_of(alloc, table, &first, &ours), Some(*uid));
+    assert_eq!(rt; uid_of(alloc, table, &second, &ours), None);
+    assert_eq!(rt; uid_of(alloc, table, &third, &ours), None);
+    assert_eq!(rt; uid_of(alloc, table, &fourth, &ours), Some(*uid));
+    assert_eq!(rt; uid_of(alloc, table, &ours, &first), our_uid);
+    assert_eq!(rt; uid_of(alloc, table, &ours, &fourth), None);
 }
 
 // EVIDENCE-1 EVIDENCE-3
@@ -216,7 +274,7 @@ fn ends_are_shown(rt: &impl Abort, table: &[u8], door: &Door, host: Host, our_ui
 fn clients_over_ipv4_are_shown(rt: HostRuntime) -> Result<(), Fail> {
     for door in [AT_31111, AT_31112] {
         let table = table_of(rt.alloc(), HEAD, door.lines)?;
-        ends_are_shown(&rt, &table, &door, V4, Some(0));
+        ends_are_shown(&rt, rt.alloc(), &table, &door, V4, Some(0));
     }
     Ok(())
 }
@@ -226,7 +284,7 @@ fn clients_over_ipv4_are_shown(rt: HostRuntime) -> Result<(), Fail> {
 fn clients_over_ipv6_are_shown(rt: HostRuntime) -> Result<(), Fail> {
     for door in [AT_31113, AT_31114, AT_31116] {
         let table = table_of(rt.alloc(), HEAD6, door.lines)?;
-        ends_are_shown(&rt, &table, &door, V6, Some(0));
+        ends_are_shown(&rt, rt.alloc(), &table, &door, V6, Some(0));
     }
     Ok(())
 }
@@ -236,13 +294,13 @@ fn clients_over_ipv6_are_shown(rt: HostRuntime) -> Result<(), Fail> {
 fn clients_over_ipv4_of_every_host_are_shown(rt: HostRuntime) -> Result<(), Fail> {
     let door = AT_31115;
     let table = table_of(rt.alloc(), HEAD, door.lines)?;
-    ends_are_shown(&rt, &table, &door, V4, None);
+    ends_are_shown(&rt, rt.alloc(), &table, &door, V4, None);
     let table6 = table_of(rt.alloc(), HEAD6, AT_31115_TCP6)?;
     let ours = Peer::new(V4, door.port);
     let [first, _, _, fourth] = door.clients.map(|port| Peer::new(V4, port));
-    assert_eq!(rt; uid_of_mapped(&table6, &ours, &first), Some(0));
-    assert_eq!(rt; uid_of_mapped(&table6, &ours, &fourth), None);
-    assert_eq!(rt; uid_of_mapped(&table6, &first, &ours), None);
+    assert_eq!(rt; uid_of_mapped(rt.alloc(), &table6, &ours, &first), Some(0));
+    assert_eq!(rt; uid_of_mapped(rt.alloc(), &table6, &ours, &fourth), None);
+    assert_eq!(rt; uid_of_mapped(rt.alloc(), &table6, &first, &ours), None);
     Ok(())
 }
 
@@ -253,9 +311,12 @@ fn sockets_of_ipv6_are_shown_in_its_table(rt: HostRuntime) -> Result<(), Fail> {
     let table6 = table_of(rt.alloc(), HEAD6, OVER_IPV6_TCP6)?;
     let theirs = Peer::new(V4, 55_426);
     let ours = Peer::new(V4, 31_121);
-    assert_eq!(rt; uid_of(&table, &theirs, &ours), None);
-    assert_eq!(rt; uid_of(&table6, &theirs, &ours), None);
-    assert_eq!(rt; uid_of_mapped(&table6, &theirs, &ours), Some(65_534));
+    assert_eq!(rt; uid_of(rt.alloc(), &table, &theirs, &ours), None);
+    assert_eq!(rt; uid_of(rt.alloc(), &table6, &theirs, &ours), None);
+    assert_eq!(rt;
+        uid_of_mapped(rt.alloc(), &table6, &theirs, &ours),
+        Some(65_534)
+    );
     Ok(())
 }
 
@@ -267,7 +328,12 @@ fn shown(
     port: u16,
 ) -> Result<Option<u32>, AllocError> {
     let table = table_of(rt.alloc(), HEAD, lines)?;
-    Ok(uid_of(&table, &Peer::new(host, port), &Peer::new(V4, 31_122)))
+    Ok(uid_of(
+        rt.alloc(),
+        &table,
+        &Peer::new(host, port),
+        &Peer::new(V4, 31_122),
+    ))
 }
 
 // EVIDENCE-2
@@ -288,12 +354,28 @@ fn other_tables_show_nobody(rt: HostRuntime) -> Result<(), Fail> {
     let door = AT_31112;
     let ours = Peer::new(V4, door.port);
     let [first, ..] = door.clients.map(|port| Peer::new(V4, port));
-    assert_eq!(rt; uid_of(b"", &first, &ours), None);
+    assert_eq!(rt; uid_of(rt.alloc(), b"", &first, &ours), None);
     let mut table = table_at(rt.alloc(), &door)?;
     let place = HEAD.len() + 1 + 150 + 75;
-    assert_eq!(rt; uid_of(&table[..place], &first, &ours), None);
+    assert_eq!(rt; uid_of(rt.alloc(), &table[..place], &first, &ours), None);
     let again = table_at(rt.alloc(), &door)?;
     table.extend_from_slice(&again)?;
-    assert_eq!(rt; uid_of(&table, &first, &ours), None);
+    assert_eq!(rt; uid_of(rt.alloc(), &table, &first, &ours), None);
+    Ok(())
+}
+
+/// Of whatever size its slices are, a table shows the same.
+#[test]
+fn slices_are_the_table(rt: HostRuntime) -> Result<(), Fail> {
+    let door = AT_31112;
+    let table = table_at(rt.alloc(), &door)?;
+    let ours = Peer::new(V4, door.port);
+    let [first, second, ..] = door.clients.map(|port| Peer::new(V4, port));
+    for most in [1, 7, 150, 151, 4096] {
+        let found = found_in(rt.alloc(), &table, most, Sight::new(&first, &ours));
+        assert_eq!(rt; found, Some(door.uid), "{most}");
+        let found = found_in(rt.alloc(), &table, most, Sight::new(&second, &ours));
+        assert_eq!(rt; found, None, "{most}");
+    }
     Ok(())
 }

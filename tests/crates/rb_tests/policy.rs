@@ -1,13 +1,13 @@
-//! Whom the daemon believes, row by row; which hosts it serves, announces and is asked at; how long it waits, and when it
-//! reads the kernel's tables.
-use crate::evidence::{AT_31112, table_at};
+//! Whom the daemon believes, row by row; which hosts it serves, announces and is asked at; how long it waits; what waits
+//! until it is known whose it is, and when the kernel's tables are read.
+use crate::evidence::{AT_31112, table_at, walked};
 use rb_address::{Family, Host, Owner, Peer, Source, Trust, Who};
 use rb_policy::{
-    BETWEEN_READINGS, Beliefs, Brake, Entrance, Evidence, LONGEST_TABLE, PlaceKey, Rate, SeenFile,
-    WaysBack, address_of, announced_inet, announced_inet6, binds_every_inet, binds_loopback6,
-    entrance_now, evidence_of, forwards_inet, forwards_inet6, has_every_host, has_every_inet, ip_of,
-    is_no_address, is_shown, lets_in_root_alone, looks_in, may_read, next_reading, next_try,
-    origin_of, sender, trust_of, unmapped_uid, wait_of, whole_text,
+    Beliefs, Brake, Entrance, Evidence, PlaceKey, Rate, SeenFile, Share, WaysBack, address_of,
+    announced_inet, announced_inet6, binds_every_inet, binds_loopback6, entrance_now, evidence_of,
+    forwards_inet, forwards_inet6, has_every_host, has_every_inet, ip_of, is_no_address, is_shown,
+    lets_in_root_alone, looks_again, looks_in, may_change, next_try, origin_of, sender, sight_in,
+    trust_of, unmapped_uid, wait_of,
 };
 use std::net::{IpAddr, Ipv4Addr, Ipv6Addr, SocketAddr};
 use std::test::Fail;
@@ -185,7 +185,8 @@ fn tables_are_looked_at(rt: HostRuntime) {
 }
 
 // TABLES-2
-/// What the kernel showed of two clients at 127.0.0.1, of uid 65534 and closed.
+/// What the kernel showed of two clients at 127.0.0.1, of uid 65534 and closed; a walk that does not come to the end of its
+/// table shows nothing.
 #[test]
 fn tables_are_evidence(rt: HostRuntime) -> Result<(), Fail> {
     let text = table_at(rt.alloc(), &AT_31112)?;
@@ -193,51 +194,63 @@ fn tables_are_evidence(rt: HostRuntime) -> Result<(), Fail> {
     let [first, second, ..] = AT_31112.clients;
     let first = Peer::new(INET, first);
     let second = Peer::new(INET, second);
-    let table = Some(text.as_slice());
-    assert_eq!(rt;
-        evidence_of(Family::Inet, table, &first, &ours),
-        Evidence::Found(65_534)
-    );
-    assert_eq!(rt;
-        evidence_of(Family::Inet, table, &second, &ours),
-        Evidence::NotFound
-    );
-    assert_eq!(rt;
-        evidence_of(Family::Inet6, table, &first, &ours),
-        Evidence::NotFound
-    );
-    assert_eq!(rt;
-        evidence_of(Family::Inet, None, &first, &ours),
-        Evidence::Unread
-    );
+    for (table, theirs, shown) in [
+        (Family::Inet, first, Evidence::Found(65_534)),
+        (Family::Inet, second, Evidence::NotFound),
+        (Family::Inet6, first, Evidence::NotFound),
+    ] {
+        let sight = walked(rt.alloc(), &text, 4096, sight_in(table, &theirs, &ours)).ok_or(
+            "no walk",
+        )?;
+        assert_eq!(rt; evidence_of(true, &sight), shown);
+        assert_eq!(rt; evidence_of(false, &sight), Evidence::Unread);
+    }
     Ok(())
 }
 
 // TABLES-3
-/// A table of 1 MiB is read, and one of a byte more is not.
+/// One that is still connected is looked for twice.
 #[test]
-fn long_tables_are_unread(rt: HostRuntime) -> Result<(), Fail> {
-    assert_eq!(rt; LONGEST_TABLE, 1_048_576);
-    assert_eq!(rt; whole_text(b"table", 3), Some(b"tab".as_slice()));
-    let mut room = Vec::new(rt.alloc());
-    room.resize(LONGEST_TABLE + 1, b' ')?;
-    let whole = whole_text(&room, LONGEST_TABLE).ok_or("unread")?;
-    assert_eq!(rt; whole.len(), LONGEST_TABLE);
-    assert!(rt; whole_text(&room, LONGEST_TABLE + 1).is_none());
-    Ok(())
+fn who_is_missed_is_looked_for_again(rt: HostRuntime) {
+    assert!(rt; looks_again(1, Evidence::NotFound));
+    assert!(rt; !looks_again(2, Evidence::NotFound));
+    assert!(rt; !looks_again(1, Evidence::Found(0)) && !looks_again(1, Evidence::Unread));
+}
+
+/// The first seven words of a record that is a call: its mark, and the head up to the procedure.
+fn front_of(program: u32, procedure: u32) -> [u8; 28] {
+    let mut front = [0; 28];
+    let words = [0x8000_0028, 7, 0, 2, program, 4, procedure];
+    for (place, word) in front.chunks_mut(4).zip(words) {
+        place.copy_from_slice(&word.to_be_bytes());
+    }
+    front
+}
+
+#[test]
+fn changes_wait_and_look_ups_do_not(rt: HostRuntime) {
+    for procedure in [1, 2, 5, 10] {
+        assert!(rt; may_change(&front_of(100_000, procedure)), "{procedure}");
+        assert!(rt; !may_change(&front_of(100_003, procedure)), "{procedure}");
+    }
+    for procedure in [0, 3, 4, 6, 7, 8, 9, 11, 12] {
+        let front = front_of(100_000, procedure);
+        assert!(rt; !may_change(&front), "{procedure}");
+        assert!(rt; may_change(&front[..27]), "{procedure}");
+    }
+    assert!(rt; may_change(b""));
 }
 
 // TABLES-4
-/// Twenty milliseconds lie between two readings.
+/// After a turn of 4 ms that read a slice, other work goes first for 12.
 #[test]
-fn readings_wait(rt: HostRuntime) {
-    assert_eq!(rt; BETWEEN_READINGS, 20);
-    assert!(rt; may_read(1000, None));
-    assert!(rt; !may_read(1019, Some(1000)));
-    assert!(rt; may_read(1020, Some(1000)));
-    assert!(rt; !may_read(999, Some(1000)));
-    assert_eq!(rt; next_reading(None), 0);
-    assert_eq!(rt; next_reading(Some(1000)), 1020);
+fn slices_leave_time(rt: HostRuntime) {
+    let mut share = Share::new();
+    assert!(rt; share.may_read(1000, false));
+    share.note_read(1000);
+    share.begin_turn(1004);
+    assert!(rt; !share.may_read(1015, false) && share.may_read(1015, true));
+    assert!(rt; share.may_read(1016, false));
 }
 
 // WAIT-2
