@@ -34,6 +34,7 @@ ask_form() {
     judge $? "rpcinfo over sockets: $1"
 }
 
+# WORDS-11
 # The forms that ask over sockets, of the daemon on 127.0.0.1, [::1] and a local socket. Their answers are the daemon's own
 # rows, and that procedure 0 of its versions answers; 20112 is 78 times 256, and 144.
 run_rpcinfo_over_sockets() {
@@ -50,7 +51,7 @@ run_rpcinfo_over_sockets() {
     echo 'portmapper 100000 sunrpc' > "$work/programs"
     ask_form "--programs $work/programs -t 127.0.0.1 portmapper 2" "$two"
     ask_form "--programs $work/programs -T udp 127.0.0.1 sunrpc 3" "$three"
-    # WORDS-11: whoever opened this pipe for reading would wait for a writer.
+    # Whoever opened this pipe for reading would wait for a writer.
     mkfifo "$work/unread"
     ask_form "--programs $work/unread -t 127.0.0.1 100000 2" "$two"
     ask_form "--programs $work/unread --json -p 127.0.0.1" '{"program":100000,"version":'{4,3,2}',"protocol":6,"port":20112}' \

@@ -514,13 +514,6 @@ impl<H: Files> Serving<H> {
         self.fault.take()
     }
 
-    // TABLES-6: A connection over TCP from this host has its place at once, and is opened once the
-    // kernel's tables were read. One reading serves all that wait for it; any other connection waits
-    // for none.
-    // DOOR-7: The connection that is given up is closed for the core before the one that takes its
-    // place is opened.
-    /// Gives a connection a free place, or that of one that is given up for it, and opens it. If the kernel's tables
-    /// must show whose it is, it is nobody's known until a call needs more. One that may not ask is closed at once.
     /// The first fault of one of the kernel's tables, if it is yet to be told.
     pub(crate) fn take_table_fault(&mut self) -> Option<TableFault> {
         self.table_fault.take()
@@ -536,8 +529,10 @@ impl<H: Files> Serving<H> {
         self.sockets.take_name(host, self.turn.moment)
     }
 
-    /// Gives a connection a free place, or that of one that is given up for it, and opens it, unless the kernel's
-    /// tables must show first whose it is. One that is nobody's is closed at once.
+    // DOOR-7: The connection that is given up is closed for the core before the one that takes its
+    // place is opened.
+    /// Gives a connection a free place, or that of one that is given up for it, and opens it. If the kernel's tables
+    /// must show whose it is, it is nobody's known until a call needs more. One that may not ask is closed at once.
     fn open(&mut self, registry: &Registry, stream: Stream, from: Option<Visitor>) {
         let Some(visitor) = from else {
             return;
@@ -588,7 +583,8 @@ impl<H: Files> Serving<H> {
         }
     }
 
-    // TABLES-6: A pass through the kernel's tables begins at once when a call needs one, unless one goes on, and is for all that wait then; who comes meanwhile waits for the next.
+    // TABLES-6: A pass through the kernel's tables begins at once when a call needs one, unless one
+    // goes on, and is for all that wait then; who comes meanwhile waits for the next.
     /// Reads a slice of the kernel's tables, if a call waits for them and this turn may: each turn may in which nothing
     /// else was to be done. A pass begins at once, unless one goes on, and is for all that wait then.
     pub(crate) fn look_in_tables(&mut self, rt: &H, is_idle: bool) {

@@ -211,7 +211,6 @@ impl Link {
 
     // TABLES-5: What the kernel's tables show counts only if the connection is still connected after
     // they were read; otherwise its owner is unknown.
-    // TABLES-5: What the kernel's tables show counts only if the connection is still connected after they were read; otherwise its owner is unknown.
     /// A pass has ended: who it is, if it took part, by what the tables showed. They say nothing of it if it is no
     /// longer connected: another connection may have its two ends by then. If it is, and the first pass showed nothing, it
     /// waits for another one.
@@ -305,7 +304,8 @@ impl Link {
         self.is_waiting = !self.is_free();
     }
 
-    // DOOR-9: A connection whose call is held back counts as one that makes progress now: it waits for the system, and not for its client.
+    // DOOR-9: A connection whose call is held back counts as one that makes progress now: it waits for
+    // the system, and not for its client.
     /// What `admit` is decided by, of the connection that has the place.
     pub(crate) fn holder(&self) -> Option<Holder> {
         if self.is_free() {

@@ -68,7 +68,8 @@ impl CallSocket {
         Ok((len, who))
     }
 
-    // ASKED-1: A datagram asked the host to which its socket is bound; if that is 0.0.0.0 or `::`, it is not known which.
+    // ASKED-1: A datagram asked the host to which its socket is bound; if that is 0.0.0.0 or `::`, it
+    // is not known which.
     /// Who sent a datagram.
     fn who(&self, peer: Peer) -> Who {
         Who {

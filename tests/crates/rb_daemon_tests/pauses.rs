@@ -145,7 +145,6 @@ fn waits_for_a_line(
     Some((wait, is_early, host.take_log()?.as_slice() == LEFT_OUT))
 }
 
-// WAIT-2
 /// A call of version 9 in a record of 40 bytes, and how many bytes its reply has there.
 const VERSION_9: [u32; 11] = [0x8000_0028, 7, 0, 2, 100_000, 9, 0, 0, 0, 0, 0];
 
@@ -180,6 +179,7 @@ fn owners_have_lines_of_their_own(rt: HostRuntime) -> Result<(), Fail> {
     Ok(())
 }
 
+// WAIT-2
 #[test]
 fn turn_waits_until_a_line(rt: HostRuntime) -> Result<(), Fail> {
     let clock = Stopped::new(&rt);

@@ -364,6 +364,7 @@ fn other_tables_show_nobody(rt: HostRuntime) -> Result<(), Fail> {
     Ok(())
 }
 
+// EVIDENCE-5 EVIDENCE-6
 /// Of whatever size its slices are, a table shows the same.
 #[test]
 fn slices_are_the_table(rt: HostRuntime) -> Result<(), Fail> {

@@ -365,7 +365,6 @@ fn mapped_sources_are_nobody(rt: HostRuntime) {
     }
 }
 
-// MAPPED-2
 #[test]
 fn peers_have_addresses(rt: HostRuntime) {
     let ipv4 = IpAddr::V4(Ipv4Addr::from(OCTETS));
