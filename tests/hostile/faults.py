@@ -2,7 +2,8 @@
 
 Each fault is one call that fails with one error for three seconds, while clients come over UDP, over TCP and on the
 local socket. A daemon of its own bears it, several of them side by side. It must not end, must not take more than a
-tenth of a processor, and must answer all three again afterwards, with as many descriptors as before.
+tenth of a processor, and must answer all three again afterwards, with as many descriptors as before. Waits for events
+that fail for longer than five seconds end it, with their reason.
 """
 
 import concurrent.futures
@@ -39,11 +40,16 @@ ERRORS = {
     " ENOTCONN ENOTSOCK EOPNOTSUPP EPIPE EPERM EHOSTUNREACH ENETUNREACH",
     "close": "EINTR EIO ENOSPC EDQUOT",
     "ioctl": "EFAULT EINVAL ENOTTY",
-    "epoll_wait": "EINTR",
+    "epoll_wait": "EFAULT EINTR EINVAL",
 }
 
 # An interrupted accept is made again by the library that makes it, as often as it is interrupted, so only every second is.
 WHEN = {("accept4", "EINTR"): ":when=1+2"}
+
+# how long waits for events fail at most until the daemon ends, and what it says then
+END = 30.0
+FAILED = "rpcbind: wait for events: Invalid argument (os error 22)"
+LAST_WORDS = f"{FAILED}; it is tried again; {FAILED}; rpcbind: socket failed; status 1"
 
 FAULTS = [(name, error) for name, errors in ERRORS.items() for error in errors.split()]
 
@@ -273,6 +279,25 @@ def run_fault(port, name, error):
     return not wrong
 
 
+# WAIT-6
+def run_end(port):
+    """Runs waits for events that fail until the daemon ends, prints the line, and returns whether that passed."""
+    with tempfile.TemporaryDirectory() as folder:
+        daemon = Daemon(port, folder)
+        within(RECOVERY, lambda: daemon.said().count("listening") == 2)
+        tracer = attach(daemon, "epoll_wait", "EINVAL", os.path.join(folder, "counts"))
+        begin = time.monotonic()
+        has_ended = tracer is not None and within(END, lambda: not daemon.is_there())
+        took = time.monotonic() - begin
+        daemon.end()
+        if tracer is not None:
+            tracer.wait()
+    told = daemon.last_words()
+    passed = has_ended and took >= SECONDS and told == LAST_WORDS
+    print(f"{'passed' if passed else 'failed'}: epoll_wait_end: after {took:.1f} s: {told}", flush=True)
+    return passed
+
+
 def why_not():
     """Why no fault can be injected here, or None."""
     sleeper = subprocess.Popen(["sleep", "10"])
@@ -295,7 +320,8 @@ def why_not():
 def run_faults(names):
     """Runs the faults of these names, or of these calls, or all if there is no name; how many passed, and failed."""
     faults = [(name, error) for name, error in FAULTS if not names or {name, f"{name}_{error}", "faults"} & set(names)]
-    if not faults:
+    ends = not names or bool({"epoll_wait", "epoll_wait_end", "faults"} & set(names))
+    if not faults and not ends:
         return 0, 0
     missing = why_not()
     if missing:
@@ -303,4 +329,7 @@ def run_faults(names):
         return 0, 0
     with concurrent.futures.ThreadPoolExecutor(WORKERS) as pool:
         passed = sum(pool.map(lambda fault: run_fault(FIRST_PORT + fault[0], *fault[1]), enumerate(faults)))
-    return passed, len(faults) - passed
+    if not ends:
+        return passed, len(faults) - passed
+    passed += run_end(FIRST_PORT + len(FAULTS))
+    return passed, len(faults) + 1 - passed
