@@ -1,8 +1,8 @@
 //! The daemon of a test, whose turns the test itself takes, and whose clocks it sets.
 use rb_address::{Host as Address, Network};
 use rb_daemon::{
-    Announced, Daemon, DaemonFault, Few, Limits, LocalSocket, Logged, Reserved, Settings,
-    Shortage, SocketFault, Terms,
+    Announced, Daemon, DaemonFault, Few, Limits, LocalSocket, Logged, Reserved, Settings, Shortage,
+    SocketFault, Terms,
 };
 use std::cell::Cell;
 use std::fs::Files;

@@ -3,8 +3,8 @@ use rb_address::{Host, Peer};
 use rb_arguments::{ArgumentFault, read_args};
 use rb_forward::{Forward, FwdId};
 use rb_proto::{
-    Announced, Answer, Books, Call, Context, ListReply, Listener, Listing, Reserved, Terms,
-    answer, own_row_count, put_forwarded, put_results, refusal,
+    Announced, Answer, Books, Call, Context, ListReply, Listener, Listing, Reserved, Terms, answer,
+    own_row_count, put_forwarded, put_results, refusal,
 };
 use rb_registry::RegistryFault;
 use rb_rpc::{CallHead, Caller, Credential, Kind, ReplyStatus};
