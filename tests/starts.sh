@@ -110,6 +110,10 @@ udp-rate:0:a number from 1 to 1000, or two as 20,5,
 udp-rate:1001:a number from 1 to 1000, or two as 20,5,
 udp-rate:20,:a number from 1 to 1000, or two as 20,5,
 udp-rate:20,5,1:a number from 1 to 1000, or two as 20,5,
+reserve:100003:a reservation as 100003=0 or 100003-100005=0
+reserve:100003=root:a reservation as 100003=0 or 100003-100005=0
+reserve:100003-100002=0:a reservation as 100003=0 or 100003-100005=0
+reserve:100003-4294967296=0:a reservation as 100003=0 or 100003-100005=0
 record-limit:999:a number from 1000 to 16777216
 record-limit:16777217:a number from 1000 to 16777216
 keep::the path of a file
@@ -187,8 +191,8 @@ run_version_of() {
 run_helps() {
     run_help_of '' help version
     run_help_of serve bind from announce local local-mode loopback6 port conns rows forwards udp-lists forward-for \
-        udp-rate turns record record-limit keep keep-check log help version
-    run_help_of replay announce local port conns rows forwards udp-lists forward-for check steps xid now help version
+        reserve udp-rate turns record record-limit keep keep-check log help version
+    run_help_of replay announce local port conns rows forwards udp-lists forward-for reserve check steps xid now help version
     run_version_of '' rpcbind
     run_version_of serve rpcbind-serve
     run_version_of replay rpcbind-replay
