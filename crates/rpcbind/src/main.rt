@@ -8,6 +8,7 @@ mod record;
 mod service;
 mod start;
 mod telling;
+mod users;
 
 use rb_commands::{Words, command_words, read_words};
 use rb_lines::{Beginning, Fault, explain};
@@ -16,6 +17,7 @@ use service::run_service;
 use std::io;
 use std::io::BufWriter;
 use std::process::ExitCode;
+use users::name_users;
 
 /// Runs the command `replay` over standard input and output. The answer is the exit status.
 fn replay(rt: &HostRuntime, beginning: &Beginning) -> u8
@@ -62,10 +64,13 @@ fn read_command<'a>(rt: &HostRuntime, words: &'a [String]) -> Result<Words<'a>, 
 }
 
 fn main(rt: HostRuntime) -> ExitCode {
-    let words = match command_words(&rt, &mut rt.stderr()) {
+    let mut words = match command_words(&rt, &mut rt.stderr()) {
         Ok(words) => words,
         Err(status) => return ExitCode::from(status),
     };
+    if let Err(status) = name_users(&rt, &mut words, &mut rt.stderr()) {
+        return ExitCode::from(status);
+    }
     let status = match read_command(&rt, &words) {
         Ok(Words::Serve(serve)) => run_service(&rt, &serve, &mut rt.stderr()),
         Ok(Words::Replay(beginning)) => replay(&rt, &beginning),

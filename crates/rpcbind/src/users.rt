@@ -1,0 +1,119 @@
+//! Users by their names in `--reserve` of `serve`: /etc/passwd has their uids (passwd(5)).
+ghost use Rattle.std.specs.Prelude.{◌≤◌, ◌≡◌, IfErr};
+
+use rb_address::{cut, plain_number};
+use std::alloc::{AllocError, Global};
+use std::fs::{self, Files};
+use std::io;
+use std::io::{Read, Write};
+
+const PASSWD: &str = "/etc/passwd";
+
+/// The most bytes of /etc/passwd that are read.
+const LONGEST_PASSWD: u64 = 1_048_576;
+
+const OPTION: &str = "--reserve";
+
+/// The uid of the user of this name, if the line is that user's.
+fn uid_in(line: &[u8], name: &[u8]) -> Option<u32> {
+    let (own, rest) = cut(line, b':')?;
+    if own != name {
+        return None;
+    }
+    let (_, rest) = cut(rest, b':')?;
+    let (uid, _) = cut(rest, b':')?;
+    let uid = plain_number(uid, 1 << 32)?;
+    Some(uid as u32)
+}
+
+/// The uid of the user of this name: that of the first such line.
+fn uid_of(passwd: &[u8], name: &[u8]) -> Option<u32> {
+    for line in passwd.split(|byte| *byte == b'\n') {
+        let uid = uid_in(line, name);
+        if uid.is_some() {
+            return uid;
+        }
+    }
+    None
+}
+
+/// The programs and the user of a value of the option, if it names a user by something else than a number.
+fn user_named(value: &str) -> Option<(&str, &str)> {
+    let (programs, name) = value.split_once('=')?;
+    let first = name.as_bytes().first()?;
+    if first.is_ascii_digit() {
+        None
+    } else {
+        Some((programs, name))
+    }
+}
+
+fn read_passwd<R: Files>(rt: &R, alloc: Global) -> io::Result<Vec<u8>> {
+    let file = fs::open(rt, PASSWD)?;
+    let mut text = Vec::new(alloc);
+    file.take(LONGEST_PASSWD).read_to_end(&mut text)?;
+    Ok(text)
+}
+
+/// The value with the uid in the name's place; none if there is no such user.
+fn with_uid<R: Files>(
+    rt: &R,
+    alloc: Global,
+    programs: &str,
+    name: &str,
+) -> io::Result<Option<String>> {
+    let passwd = read_passwd(rt, alloc)?;
+    match uid_of(&passwd, name.as_bytes()) {
+        Some(uid) => Ok(Some(format!(in alloc; "{programs}={uid}")?)),
+        None => Ok(None),
+    }
+}
+
+/// Puts uids in the places of users' names in the values of `--reserve`, if the words are those of `serve`. If there is no
+/// user of a name, or the names can't be read, that is said, and the error is the exit status.
+pub fn name_users<R: Files + AllocGlobal, E: Write>(
+    rt: &R,
+    words: &mut [String],
+    faults: &mut E,
+) -> Result<(), u8>
+    ensures { IfErr result (λ status. status ≤ 2) }
+{
+    let mut is_value = false;
+    for (place, word) in words.iter_mut().enumerate() {
+        if place == 1 && word.as_str() != "serve" {
+            return Ok(());
+        }
+        if is_value {
+            name_user(rt, word, faults)?;
+        }
+        is_value = word.as_str() == OPTION;
+    }
+    Ok(())
+}
+
+/// Puts the uid in the place of a user's name in one value.
+fn name_user<R: Files + AllocGlobal, E: Write>(
+    rt: &R,
+    value: &mut String,
+    faults: &mut E,
+) -> Result<(), u8>
+    ensures { IfErr result (λ status. status ≤ 2) }
+{
+    let Some((programs, name)) = user_named(value.as_str()) else {
+        return Ok(());
+    };
+    match with_uid(rt, rt.alloc(), programs, name) {
+        Ok(Some(with_uid)) => {
+            *value = with_uid;
+            Ok(())
+        }
+        Ok(None) => {
+            let _ = writeln!(faults, "rpcbind: {OPTION}: {PASSWD} has no user {name}");
+            Err(2)
+        }
+        Err(error) => {
+            let _ = writeln!(faults, "rpcbind: read {PASSWD}: {error}");
+            Err(1)
+        }
+    }
+}
