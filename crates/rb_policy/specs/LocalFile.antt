@@ -72,7 +72,7 @@ is_roots_still made (Some found) =
     made.device == found.device && made.inode == found.inode && made.uid == found.uid && lets_in_root_alone found.mode
 
 -- TRUST-12: The local socket is root's no longer, for good, once the file at its path is gone, is another one, belongs to another
--- user, or lets in others: that is looked at before each accept.
+-- user, or lets in others: that is looked at after each accept.
 abbrev pub entrance_now : Entrance → SeenFile → Option SeenFile → Entrance
 entrance_now RootSocket made found = if is_roots_still made found then RootSocket else OpenSocket
 entrance_now other made found = other
