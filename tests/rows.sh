@@ -372,8 +372,10 @@ run_rpcinfo_help() {
 
 # ---- which are run
 
-# Those that take long, beside all others.
+# Those that take long and need no port, beside all others.
 run_long_ones_beside() {
+    beside run_rpcbind_over_files
+    beside run_rpcinfo_over_files
     beside run_rpcinfo_endless_reply
     beside run_rpcinfo_long_reply_cut_off
     beside run_rpcinfo_longest_texts

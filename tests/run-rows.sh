@@ -96,10 +96,8 @@ part() {
 
 if [ "$failed" -eq 0 ]; then
     part run_long_ones_beside
-    part run_rpcbind_over_files
     part run_starts
     part run_records
-    part run_rpcinfo_over_files
     part run_asking
     part run_serving
     part run_keep_rows

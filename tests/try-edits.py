@@ -16,14 +16,15 @@ What was refused is kept on this machine, where `rt ci` keeps its own work, unde
 crates are worked on side by side as RT_JOBS says.
 """
 
-import concurrent.futures, dataclasses, fcntl, functools, glob, hashlib, os, re, shutil, subprocess, sys, tempfile, threading
-import time
+import concurrent.futures, dataclasses, fcntl, functools, glob, hashlib, os, re, shutil, signal, subprocess, sys, tempfile
+import threading, time
 
 from kit import KIT, below, read, read_uses
 
 PARTS = "src", "specs", "proofs"
 TICKS = os.sysconf("SC_CLK_TCK")
 KEPT_DAYS = 30  # since it was last asked for
+RUNNING = set()  # the checks
 
 FUNCTION = re.compile(r"( *)(?:pub(?:\([^)]*\))? )?(?:(?:const|final|unsafe) )*fn (\w+)")
 OWNER = re.compile(r"(?:pub(?:\([^)]*\))? )?(?:impl\b(?:<.*?>)? (?:.* for )?|trait )(\w+)")
@@ -226,11 +227,13 @@ def check(uses, crate, batch, kept):
         how = {"stdin": subprocess.DEVNULL, "stdout": subprocess.PIPE, "stderr": subprocess.STDOUT}
         lines, seconds, before = [], {}, 0
         with subprocess.Popen(words, cwd=room, **how, text=True, errors="replace") as process:
+            RUNNING.add(process)
             for line in process.stdout:
                 lines.append(line.rstrip("\n"))
                 if found := re.match(r"checked (\S+), \d+ of", line):
                     now = processor_seconds(process.pid)
                     seconds[found[1]], before = now - before, now
+            RUNNING.discard(process)
         return Said(lines or [""], seconds)
 
 
@@ -371,6 +374,23 @@ def try_crate(uses, crate, store, count):
     count.end(f"{crate}: its {len(edits)} edits are tried, in {time.monotonic() - begun:.0f} s")
 
 
+def stop(room):
+    """Ends all checks at a signal, and leaves nothing behind."""
+    for process in list(RUNNING):
+        process.kill()
+    shutil.rmtree(room, ignore_errors=True)
+    os._exit(1)
+
+
+def try_crates(uses, crates, is_anew):
+    store, count = Store(is_anew), Count(len(crates))
+    with concurrent.futures.ThreadPoolExecutor(int(os.environ.get("RT_JOBS") or 1)) as pool:
+        for it in [pool.submit(try_crate, uses, crate, store, count) for crate in crates]:
+            it.result()
+    print(f"{count.passed} passed, {count.failed} failed")
+    return count.failed > 0
+
+
 def main():
     os.chdir(os.path.dirname(os.path.abspath(__file__)) + "/..")
     uses, words = read_uses(), [it for it in sys.argv[1:] if it != "--anew"]
@@ -380,12 +400,11 @@ def main():
     folders = [os.open(f"crates/{it}", os.O_RDONLY) for it in uses]
     for folder in folders:
         fcntl.flock(folder, fcntl.LOCK_SH)
-    store, count = Store("--anew" in sys.argv), Count(len(crates))
-    with concurrent.futures.ThreadPoolExecutor(int(os.environ.get("RT_JOBS") or 1)) as pool:
-        for it in [pool.submit(try_crate, uses, crate, store, count) for crate in crates]:
-            it.result()
-    print(f"{count.passed} passed, {count.failed} failed")
-    return count.failed > 0
+    with tempfile.TemporaryDirectory(prefix="try-edits-") as room:
+        tempfile.tempdir = room
+        for number in (signal.SIGINT, signal.SIGTERM, signal.SIGHUP):
+            signal.signal(number, lambda *_: stop(room))
+        return try_crates(uses, crates, "--anew" in sys.argv)
 
 
 if __name__ == "__main__":
