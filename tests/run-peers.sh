@@ -172,6 +172,15 @@ await_netid() {
     return 1
 }
 
+# Waits until what a service has registered is its own user's: rpc.rwalld registers, removes that, and registers again.
+await_owner() {
+    for _ in $(seq 100); do
+        [ "$(registered "$2" | awk '{ print $NF }' | sort -u)" != "$(owner_of "$1")" ] || return 0
+        sleep 0.1
+    done
+    return 1
+}
+
 # Ends the service of this name. Its process has another number than the one that started if it goes into the
 # background.
 end_service() {
@@ -203,9 +212,9 @@ run_service() {
         await_netid "$program_number" "$netid"
         judge $? "$name is registered on $netid"
     done
-    registered "$program_number" | sed 's/^/    /'
-    [ "$(registered "$program_number" | awk '{ print $NF }' | sort -u)" = "$(owner_of "$name")" ]
+    await_owner "$name" "$program_number"
     judge $? "$name is registered as its own user"
+    registered "$program_number" | sed 's/^/    /'
     [ -z "$client" ] || "$client"
     end_service "$(basename "$1")"
     [ "$name" != rpc.rwalld ] || return
