@@ -4,7 +4,7 @@ use crate::serving::serve_default;
 use clap::{Arg, ArgAction, Command};
 use std::alloc::{AllocError, Global};
 
-const VERSION: &str = "0.2.0";
+const VERSION: &str = "0.3.0";
 
 /// What the help says of `--udp-lists`.
 const UDP_LISTS: &str =

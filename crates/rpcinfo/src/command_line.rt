@@ -11,7 +11,7 @@ use std::alloc::{AllocError, Global};
 use std::convert::AsStr;
 use std::io::Write;
 
-const VERSION: &str = "0.2.0";
+const VERSION: &str = "0.3.0";
 
 /// The names of programs.
 const PROGRAMS: &str = "/etc/rpc";
