@@ -2,7 +2,7 @@
 use Rattle.std.specs.Prelude.{Any, ◌==◌, nat_le, not, ◌||◌}
 use Rattle.std.specs.List.{list_any}
 use Rattle.std.proofs.Common.{◌≡◌, ◌≤◌, ℕ, Bool, true, false, ◌&&◌, ◌⊎◌, inl, inr, List, refl, sym, ap, ◌∙◌}
-use Rattle.std.proofs.lemmas.Bool.{and_parts, and_from, eqb-true, leb-true, le-leb}
+use Rattle.std.proofs.lemmas.Bool.{and_parts, and_from, eqb-true, eq-eqb, leb-true, le-leb}
 use Rattle.std.proofs.lemmas.List.Folds.{Any-from_list_any, list_any-from_Any}
 use Rattle.rb_address.specs.declared.who.Owner.{Owner}
 use Rattle.rb_address.specs.declared.who.Owner.TheVariants.{Unknown, Uid}
@@ -20,17 +20,21 @@ covered_is prog r e = let parts = and_parts _ _ e in record { from = leb-true _ 
 covered_of : (prog : ℕ) (r : Reservation) → Covers prog r → is_covered prog r ≡ true
 covered_of prog r c = and_from _ _ (le-leb _ _ c.from) (le-leb _ _ c.to)
 
-same_uid : (a b : ℕ) → Uid a ≡ Uid b → a ≡ b
-same_uid a b e = ap uid_or e
-  where
-    uid_or : Owner → ℕ
-    uid_or Unknown = a
-    uid_or (Uid uid) = uid
-
 by_is : (prog uid : ℕ) (r : Reservation) → is_reserved_by prog uid r ≡ true → Covers prog r × (Uid uid ≡ Uid r.uid)
 by_is prog uid r e =
     let parts = and_parts _ _ e in
     (covered_is prog r parts.0, ap (λ (n : ℕ). Uid n) (sym (eqb-true r.uid uid parts.1)))
+
+or_true : (b : Bool) → (b || true) ≡ true
+or_true true = refl
+or_true false = refl
+
+abbrev uid_or : ℕ → Owner → ℕ
+uid_or other Unknown = other
+uid_or other (Uid uid) = uid
+
+same_uid : (a b : ℕ) → Uid a ≡ Uid b → a ≡ b
+same_uid a b e = ap (uid_or a) e
 
 module _ (reserved : List Reservation) (row : Row) where
   reserved_is : Any (Covers row.prog) reserved → is_reserved reserved row.prog ≡ true
@@ -45,9 +49,9 @@ module _ (reserved : List Reservation) (row : Row) where
       owner_may false b e h = absurd cc
 
       by_uid : (uid : ℕ) (a b : Bool) → (uid == 0) ≡ a → list_any (is_reserved_by row.prog uid) reserved ≡ b → (a || b) ≡ true → (Uid uid ≡ Uid 0) ⊎ IsReservedFor reserved row.prog (Uid uid)
-      by_uid uid true b root for h = inl (ap (λ (n : ℕ). Uid n) (eqb-true uid 0 root))
-      by_uid uid false true root for h = inr (any_also _ _ (by_is row.prog uid) reserved (Any-from_list_any (is_reserved_by row.prog uid) reserved for))
-      by_uid uid false false root for h = absurd cc
+      by_uid uid true b root theirs h = inl (ap (λ (n : ℕ). Uid n) (eqb-true uid 0 root))
+      by_uid uid false true root theirs h = inr (any_also _ _ (by_is row.prog uid) reserved (Any-from_list_any (is_reserved_by row.prog uid) reserved theirs))
+      by_uid uid false false root theirs h = absurd cc
 
       by_owner : (owner : Owner) → row.owner ≡ owner → is_its_owner reserved row.prog row.owner ≡ true → (row.owner ≡ Uid 0) ⊎ IsReservedFor reserved row.prog row.owner
       by_owner Unknown is h = absurd (rw is at h)
@@ -58,19 +62,12 @@ module _ (reserved : List Reservation) (row : Row) where
   owned_of its = by_test (is_reserved reserved row.prog) refl
     where
       same_owner : (uid : ℕ) (r : Reservation) → Covers row.prog r × (Uid uid ≡ Uid r.uid) → is_reserved_by row.prog uid r ≡ true
-      same_owner uid r p = and_from _ _ (covered_of row.prog r p.0) (rw (same_uid _ _ p.1) (refl_test r.uid))
-        where
-          refl_test : (n : ℕ) → (n == n) ≡ true
-          refl_test n = search
+      same_owner uid r p = and_from _ _ (covered_of row.prog r p.0) (eq-eqb r.uid uid (sym (same_uid _ _ p.1)))
 
       owner_may : (owner : Owner) → (owner ≡ Uid 0) ⊎ IsReservedFor reserved row.prog owner → is_its_owner reserved row.prog owner ≡ true
       owner_may owner (inl root) = rw root refl
       owner_may Unknown (inr (k, r, low, at, covers, is)) = absurd cc
       owner_may (Uid uid) (inr some) = rw (list_any-from_Any (is_reserved_by row.prog uid) reserved (any_also _ _ (same_owner uid) reserved some)) (or_true (uid == 0))
-        where
-          or_true : (b : Bool) → (b || true) ≡ true
-          or_true true = refl
-          or_true false = refl
 
       by_test : (b : Bool) → is_reserved reserved row.prog ≡ b → (not b || is_its_owner reserved row.prog row.owner) ≡ true
       by_test false is = refl
