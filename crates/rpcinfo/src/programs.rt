@@ -8,11 +8,7 @@ use std::alloc::Global;
 use std::rt::Files;
 
 /// The names of programs in a file.
-fn services_at<F: Files>(
-    alloc: Global,
-    files: &F,
-    path: &str,
-) -> Result<Vec<Service>, InfoFault> {
+fn services_at<F: Files>(alloc: Global, files: &F, path: &str) -> Result<Vec<Service>, InfoFault> {
     let text = text_of(alloc, files, path, LONGEST_SERVICES as u64 + 1)?;
     match read_services(alloc, &text) {
         Ok(services) => Ok(services),
