@@ -83,11 +83,6 @@ fn serve_calls<H: Files>(
     }
 }
 
-// EVENT-3: A piece with which no record ends is one event, and nothing else is asked of the core
-// for it.
-// EVENT-2: What is done with a connection is what the core says is next: Idle or Reading, bytes are
-// handed in; Owing, the reply is taken over; if it Sends, the forwarded call is sent; Awaiting, it
-// waits; Lost, it is closed.
 /// Hands in what was read, which must not be held back. Returns whether the core took it.
 fn hand_in(link: &mut Link, engine: &mut Engine, id: u64) -> bool
     requires { must_wait link.old ≡ false }
@@ -101,9 +96,14 @@ fn hand_in(link: &mut Link, engine: &mut Engine, id: u64) -> bool
     true
 }
 
+// EVENT-3: A piece with which no record ends is one event, and nothing else is asked of the core
+// for it.
+// EVENT-2: What is done with a connection is what the core says is next: Idle or Reading, bytes are
+// handed in; Owing, the reply is taken over; if it Sends, the forwarded call is sent; Awaiting, it
+// waits; Lost, it is closed.
 /// Does what the core says is next, until it wants bytes that are not there, holds back a call that needs an owner, waits
-/// for the end of a forwarded call, or owes more than the outbox has room for. A forwarded call is sent at once: no other one is unsent, since each was sent
-/// when it came. Returns whether the connection goes on.
+/// for the end of a forwarded call, or owes more than the outbox has room for. A forwarded call is sent at once: no other
+/// one is unsent, since each was sent when it came. Returns whether the connection goes on.
 fn make_exchanges(link: &mut Link, engine: &mut Engine, forwards: &ForwardSockets) -> bool {
     let Some(id) = link.id() else {
         return false;

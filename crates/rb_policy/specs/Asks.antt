@@ -14,7 +14,8 @@ changes procedure = procedure == 1 || procedure == 2 || procedure == 5 || proced
 abbrev pub has_short_fragment : List ℕ → Bool
 has_short_fragment front = nat_lt (word 0 front % 2 ^ 31) 24
 
--- ASK-1: A call over TCP from this machine waits for the kernel's tables if it may be a SET, an UNSET or a call to be forwarded; in doubt it waits, and no other call does.
+-- ASK-1: A call over TCP from this machine waits for the kernel's tables if it may be a SET, an
+-- UNSET or a call to be forwarded; in doubt it waits, and no other call does.
 abbrev pub may_change : List ℕ → Bool
 may_change front =
     nat_lt (length front) 28 || has_short_fragment front
