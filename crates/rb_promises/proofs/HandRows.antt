@@ -83,7 +83,7 @@ accepted_at netid addr address = record {
   local = AtTheLoopback (record { host = hosts.V4 loopback; port = 900 }) refl refl (0 ∷ 0 ∷ 1 ∷ [], refl);
   foreign = λ e. omega (arith, e);
   address = address;
-  owned = λ (k, r, low, is, covers). omega (arith, low);
+  owned = λ (k, r, low, is, covers). absurd (omega (arith, low));
   is_new = λ other there same. omega (arith, there.1);
   fits = omega arith;
   quarter = λ owner known other. absurd cc;

@@ -1,7 +1,7 @@
 -- Whose the rows of reserved programs are.
 use Rattle.std.specs.Prelude.{Any, ◌==◌, nat_le, not, ◌||◌}
 use Rattle.std.specs.List.{list_any}
-use Rattle.std.proofs.Common.{◌≡◌, ◌≤◌, ℕ, Bool, true, false, ◌&&◌, ◌⊎◌, inl, inr, List, refl, sym, ap, ◌∙◌}
+use Rattle.std.proofs.Common.{◌≡◌, ◌≤◌, ℕ, Bool, true, false, ◌&&◌, ◌⊎◌, inl, inr, List, refl, sym, ap, ◌∙◌, true≢false}
 use Rattle.std.proofs.lemmas.Bool.{and_parts, and_from, eqb-true, eq-eqb, leb-true, le-leb}
 use Rattle.std.proofs.lemmas.List.Folds.{Any-from_list_any, list_any-from_Any}
 use Rattle.rb_address.specs.declared.who.Owner.{Owner}
@@ -54,7 +54,7 @@ module _ (reserved : List Reservation) (row : Row) where
       by_uid uid false false root theirs h = absurd cc
 
       by_owner : (owner : Owner) → row.owner ≡ owner → is_its_owner reserved row.prog row.owner ≡ true → (row.owner ≡ Uid 0) ⊎ IsReservedFor reserved row.prog row.owner
-      by_owner Unknown is h = absurd (rw is at h)
+      by_owner Unknown is h = absurd (true≢false (sym (rw is at h)))
       by_owner (Uid uid) is h = rw is (by_uid uid (uid == 0) (list_any (is_reserved_by row.prog uid) reserved) refl refl (rw is at h))
 
   pub owned_of : IsItsOwners reserved row → may_own reserved row ≡ true
@@ -66,7 +66,7 @@ module _ (reserved : List Reservation) (row : Row) where
 
       owner_may : (owner : Owner) → (owner ≡ Uid 0) ⊎ IsReservedFor reserved row.prog owner → is_its_owner reserved row.prog owner ≡ true
       owner_may owner (inl root) = rw root refl
-      owner_may Unknown (inr (k, r, low, at, covers, is)) = absurd cc
+      owner_may Unknown (inr (k, r, low, at, holds)) = let is = holds.1 in absurd cc
       owner_may (Uid uid) (inr some) = rw (list_any-from_Any (is_reserved_by row.prog uid) reserved (any_also _ _ (same_owner uid) reserved some)) (or_true (uid == 0))
 
       by_test : (b : Bool) → is_reserved reserved row.prog ≡ b → (not b || is_its_owner reserved row.prog row.owner) ≡ true

@@ -288,16 +288,16 @@ values_read most Spells value_at write place (text ∷ texts) (x ∷ xs) a =
     (followed (values_from value_at (place + 1) texts) _ xs (x ∷ xs) (values_read most Spells value_at write (place + 1) texts xs (record { each = a.each.1; few = omega (arith, few) })) refl)
 
 pub hosts_are : (texts : List (Bor (List ℕ))) (hosts : List Host) → values_from host_at 0 texts ≡ Ok hosts → AreSpelled 16 SpellsHost 0 texts hosts
-hosts_are texts hosts h = values_are most SpellsHost host_at host_placed 0 texts hosts (omega arith) h
+hosts_are texts hosts h = values_are 16 SpellsHost host_at host_placed 0 texts hosts (omega arith) h
 
 pub hosts_read : (texts : List (Bor (List ℕ))) (hosts : List Host) → AreSpelled 16 SpellsHost 0 texts hosts → values_from host_at 0 texts ≡ Ok hosts
-hosts_read texts hosts a = values_read most SpellsHost host_at host_at_place 0 texts hosts a
+hosts_read texts hosts a = values_read 16 SpellsHost host_at host_at_place 0 texts hosts a
 
 pub networks_are : (texts : List (Bor (List ℕ))) (networks : List Network) → values_from network_at_place 0 texts ≡ Ok networks → AreSpelled 16 SpellsNetwork 0 texts networks
-networks_are texts networks h = values_are most SpellsNetwork network_at_place network_placed 0 texts networks (omega arith) h
+networks_are texts networks h = values_are 16 SpellsNetwork network_at_place network_placed 0 texts networks (omega arith) h
 
 pub networks_read : (texts : List (Bor (List ℕ))) (networks : List Network) → AreSpelled 16 SpellsNetwork 0 texts networks → values_from network_at_place 0 texts ≡ Ok networks
-networks_read texts networks a = values_read most SpellsNetwork network_at_place network_there 0 texts networks a
+networks_read texts networks a = values_read 16 SpellsNetwork network_at_place network_there 0 texts networks a
 
 -- ---- the mode
 
