@@ -167,6 +167,13 @@ serves_with() {
     systemctl restart $ours && serves
 }
 
+# With the reservations that the file of settings has in a comment.
+serves_everywhere() {
+    local reserved
+    reserved=$(sed -n 's/^#\(RPCBIND_OPTIONS="--reserve .*\)/\1/p' /checks/source/packaging/rpcbind-proved.default)
+    [ -n "$reserved" ] && serves_with 'RPCBIND_ADDRESSES="--bind :: --announce 127.0.0.1 --announce ::1"' "$reserved"
+}
+
 # A start that can't succeed is over before the time that a start may take, and leaves nothing.
 fails_with() {
     local begin=$SECONDS
@@ -450,6 +457,11 @@ first() {
     check "NFS is mounted, with nothing restarted" mounts_all
     check "a row whose program is gone stays, and goes with --keep-check" drops_what_is_gone
     check "services remove their rows at their end" services_remove_their_rows
+    check "it serves at every address, with the usual programs reserved" serves_everywhere
+    check "rpc.statd and rpc.mountd register there" statd_and_mountd_register
+    check "nfs-ganesha registers there" ganesha_registers
+    check "NFS is mounted there" mounts_all
+    check "services remove their rows there" services_remove_their_rows
     check "it serves with its defaults, and without rows" serves_with
     check "it serves at another port" serves_with 'RPCBIND_OPTIONS="--port 1111"'
     check "it serves at another address" serves_with 'RPCBIND_ADDRESSES="--bind 127.0.0.2"'
