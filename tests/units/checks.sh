@@ -171,6 +171,7 @@ serves_with() {
 serves_everywhere() {
     local reserved
     reserved=$(sed -n 's/^#\(RPCBIND_OPTIONS="--reserve .*\)/\1/p' /checks/source/packaging/rpcbind-proved.default)
+    systemctl reset-failed
     [ -n "$reserved" ] && serves_with 'RPCBIND_ADDRESSES="--bind :: --announce 127.0.0.1 --announce ::1"' "$reserved"
 }
 
