@@ -175,6 +175,11 @@ serves_everywhere() {
     [ -n "$reserved" ] && serves_with 'RPCBIND_ADDRESSES="--bind :: --announce 127.0.0.1 --announce ::1"' "$reserved"
 }
 
+# They are started anew by what comes, without rows of theirs.
+end_services() {
+    systemctl stop statd.service ganesha.service $ours && rm -f $kept
+}
+
 # A start that can't succeed is over before the time that a start may take, and leaves nothing.
 fails_with() {
     local begin=$SECONDS
@@ -462,7 +467,7 @@ first() {
     check "rpc.statd and rpc.mountd register there" statd_and_mountd_register
     check "nfs-ganesha registers there" ganesha_registers
     check "NFS is mounted there" mounts_all
-    check "services remove their rows there" services_remove_their_rows
+    check "services end there" end_services
     check "it serves with its defaults, and without rows" serves_with
     check "it serves at another port" serves_with 'RPCBIND_OPTIONS="--port 1111"'
     check "it serves at another address" serves_with 'RPCBIND_ADDRESSES="--bind 127.0.0.2"'
