@@ -44,14 +44,15 @@ run_record() {
 }
 
 # EVENT-3
-# A call that comes in three pieces is three events, and its reply two: nothing else is asked of the core. Each piece is sent
+# A call that comes in three pieces is three events, and its reply two: nothing else is asked of the core. The first piece says
+# that nothing changes, so that it is not held back. Each piece is sent
 # once the one before is in the record.
 run_call_in_pieces() {
     local file=$work/record daemon call piece pieces=0
     call=$(echo '(record xid=3 4 getaddr 100000 4 tcp)' | python3 -B tests/row.py --bare)
     start_daemon "$work/listening" --port 20112 --record "$file"
     exec 8<> /dev/tcp/127.0.0.1/20112
-    for piece in "${call:0:40}" "${call:40:40}" "${call:80}"; do
+    for piece in "${call:0:60}" "${call:60:20}" "${call:80}"; do
         printf "$(sed 's/../\\x&/g' <<< "$piece")" >&8
         pieces=$((pieces + 1))
         await_line "$file" '^bytes ' $pieces

@@ -111,7 +111,7 @@ udp-rate:1001:a number from 1 to 1000, or two as 20,5,
 udp-rate:20,:a number from 1 to 1000, or two as 20,5,
 udp-rate:20,5,1:a number from 1 to 1000, or two as 20,5,
 reserve:100003:a reservation as 100003=0 or 100003-100005=0
-reserve:100003=root:a reservation as 100003=0 or 100003-100005=0
+reserve:100003=:a reservation as 100003=0 or 100003-100005=0
 reserve:100003-100002=0:a reservation as 100003=0 or 100003-100005=0
 reserve:100003-4294967296=0:a reservation as 100003=0 or 100003-100005=0
 record-limit:999:a number from 1000 to 16777216
