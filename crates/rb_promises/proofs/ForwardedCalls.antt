@@ -89,6 +89,14 @@ module _ (context : Context) (remote : RemoteCall) where
   is_going None goes_to = absurd goes_to
   is_going (Some row) c = goes row c
 
+  -- it goes there or it does not
+  pub goes_or_not : (found : Option Row) → GoesTo context remote found ⊎ ¬ (GoesTo context remote found)
+  goes_or_not found = by_address (address_at found) refl
+    where
+      by_address : (o : Option Uaddr) → address_at found ≡ o → GoesTo context remote found ⊎ ¬ (GoesTo context remote found)
+      by_address None nowhere = inr (λ there. let (u, is) = is_going found there in none-some u (sym nowhere ∙ is))
+      by_address (Some u) is = inl (goes_is found u is)
+
 -- ---- what is answered
 
 refused : (kind : Kind) (status : ReplyStatus) → IsRefused kind status (refusal kind status)
@@ -113,6 +121,14 @@ module _ (context : Context) (l : Ledger) where
   is_room : HasRoom context l → can_start context.forwards l.forwards ≡ true
   unfolding can_start
   is_room r = rw (lt-ltb (length l.forwards.all) context.forwards r.place, le-leb l.forwards.next (2 ^ 64 - 1) r.number) refl
+
+  -- there is room or there is none
+  pub room_or_not : HasRoom context l ⊎ ¬ (HasRoom context l)
+  room_or_not = by_test (can_start context.forwards l.forwards) refl
+    where
+      by_test : (b : Bool) → can_start context.forwards l.forwards ≡ b → HasRoom context l ⊎ ¬ (HasRoom context l)
+      by_test true room = inl (room_is room)
+      by_test false full = inr (λ room. false≢true (sym full ∙ is_room room))
 
 module _ (context : Context) (head : CallHead) (kind : Kind) (remote : RemoteCall) (arguments : List ℕ) (l : Ledger) where
   abbrev netid : Netid

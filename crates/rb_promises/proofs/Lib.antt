@@ -37,3 +37,8 @@ pub mod PlainStrings
 pub mod Utf8Texts
 pub mod WorkedJson
 pub mod ShownMembers
+pub mod OneAnswer
+pub mod GivenResults
+pub mod AnswersSaid
+pub mod AnsweredRuns
+pub mod Headline

@@ -29,8 +29,8 @@ use Rattle.rb_words.specs.Services.{borrowed_texts}
 use Rattle.rb_commands.specs.declared.options.Valued.{Valued}
 use Rattle.rb_commands.specs.declared.options.Valued.TheVariants as valueds
 use Rattle.rb_policy.specs.declared.brake.Rate.{Rate}
-use Rattle.rb_sockets.specs.declared.settings.Logged.{Logged}
-use Rattle.rb_sockets.specs.declared.settings.Logged.TheVariants.{Nothing, Changes, All as Everything}
+use Rattle.rb_policy.specs.declared.log_choice.Logged.{Logged}
+use Rattle.rb_policy.specs.declared.log_choice.Logged.TheVariants.{Nothing, Changes, All as Everything}
 use Rattle.rb_commands.specs.Options.{value_of, values_from, forward_for}
 use Rattle.rb_commands.specs.Serving.{host_at, network_at as network_at_place, is_octal, read_mode, if_between, rate_number, rate_of_parts, rate_of, udp_rate, log_named, log_of}
 use Rattle.rb_promises.specs.WordForms.{SpellsWithin, MayHave}

@@ -49,10 +49,10 @@ module _ {Item : Type 0} (test : Row → Bool) (item_of : Row → Item) (IsListe
 
 -- ---- DUMP of version 2
 
-inet_exactly : (row : Row) → (is_inet row ≡ true) ↔ IsOverIpv4 row.netid
+pub inet_exactly : (row : Row) → (is_inet row ≡ true) ↔ IsOverIpv4 row.netid
 inet_exactly row = (among_ipv4 row.netid, ipv4_among row.netid)
 
-protocol_on : (netid : Netid) → IsOverIpv4 netid → IsByProtocol (prot_on netid) netid
+pub protocol_on : (netid : Netid) → IsOverIpv4 netid → IsByProtocol (prot_on netid) netid
 protocol_on netid (inl on) = rw on (inl (refl, refl))
 protocol_on netid (inr on) = rw on (inr (refl, refl))
 
@@ -71,7 +71,7 @@ pmap_dump_lists context head arguments l = record {
 
 -- ---- DUMP of versions 3 and 4
 
-owner_named : (owner : Owner) → NamesOwner owner (owner_text owner)
+pub owner_named : (owner : Owner) → NamesOwner owner (owner_text owner)
 unfolding owner_text
 owner_named Unknown = refl
 owner_named (Uid uid) = by_test (uid == 0) refl
@@ -94,13 +94,13 @@ dump_lists context head arguments l =
 
 -- ---- GETADDRLIST
 
-version_exactly : (prog vers : ℕ) (row : Row) → (is_version prog vers row ≡ true) ↔ IsOfVersion prog vers row
+pub version_exactly : (prog vers : ℕ) (row : Row) → (is_version prog vers row ≡ true) ↔ IsOfVersion prog vers row
 version_exactly prog vers row = (
   λ e. let (same, version) = and_parts (row.prog == prog) (row.vers == vers) e in (eqb-true row.prog prog same, eqb-true row.vers vers version),
   λ is. rw (eq-eqb row.prog prog is.0, eq-eqb row.vers vers is.1) refl,
 )
 
-described : (netid : Netid) → IsDescribed netid (semantics_of netid) (family_text netid) (proto_text netid)
+pub described : (netid : Netid) → IsDescribed netid (semantics_of netid) (family_text netid) (proto_text netid)
 described Tcp = (refl, refl, refl)
 described Udp = (refl, refl, refl)
 described Tcp6 = (refl, refl, refl)
@@ -159,7 +159,7 @@ module _ (context : Context) (h : HasHosts context) (row : Row) where
   on_netid Udp6 is = at_v6 (parse_ipv6 row.addr) refl (inr is)
   on_netid Local is = IsNoAddress (rw is tt) refl
 
-  is_entry : IsEntryOf context row (entry_of (hosts_in context) row)
+  pub is_entry : IsEntryOf context row (entry_of (hosts_in context) row)
   unfolding shown_text
   is_entry = record { maddr = on_netid row.netid refl; netid = refl; described = described row.netid }
 

@@ -13,6 +13,9 @@ pub mod Refusals
 pub mod Connections
 pub mod Entries
 pub mod Contents
+pub mod Answers
+pub mod AnsweredRuns
+pub mod Headline
 pub mod RowLists
 pub mod Pieces
 pub mod LiveRows

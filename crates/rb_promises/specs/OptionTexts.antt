@@ -12,8 +12,8 @@ use Rattle.rb_proto.specs.declared.listener.Announced.{Announced}
 use Rattle.rb_proto.specs.declared.listener.Forwarding.{Forwarding}
 use Rattle.rb_proto.specs.declared.listener.Forwarding.TheVariants.{Anywhere, ForAll, ForLocal}
 use Rattle.rb_policy.specs.declared.brake.Rate.{Rate}
-use Rattle.rb_sockets.specs.declared.settings.Logged.{Logged}
-use Rattle.rb_sockets.specs.declared.settings.Logged.TheVariants.{Nothing, Changes, All as Everything}
+use Rattle.rb_policy.specs.declared.log_choice.Logged.{Logged}
+use Rattle.rb_policy.specs.declared.log_choice.Logged.TheVariants.{Nothing, Changes, All as Everything}
 use Rattle.rb_proto.specs.declared.reserved.Reservation.{Reservation}
 use Rattle.rb_promises.specs.WordForms.{SpellsWithin, SpellsNumber}
 

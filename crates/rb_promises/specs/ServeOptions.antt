@@ -3,8 +3,8 @@ use Rattle.std.specs.Prelude.{◌≡◌, ◌≢◌, ◌↔◌, ⊤, ℕ, ◌<◌
 use Rattle.std.specs.Borrow.{Bor}
 use Rattle.rb_words.specs.Services.{borrowed_texts}
 use Rattle.rb_proto.specs.declared.listener.Forwarding.TheVariants.{Anywhere}
-use Rattle.rb_sockets.specs.declared.settings.Logged.{Logged}
-use Rattle.rb_sockets.specs.declared.settings.Logged.TheVariants.{Nothing}
+use Rattle.rb_policy.specs.declared.log_choice.Logged.{Logged}
+use Rattle.rb_policy.specs.declared.log_choice.Logged.TheVariants.{Nothing}
 use Rattle.rb_sockets.specs.declared.settings.Settings.{Settings}
 use Rattle.rb_commands.specs.declared.serving.ServeTexts.{ServeTexts}
 use Rattle.rb_commands.specs.declared.serving.Serve.{Serve}

@@ -3,6 +3,7 @@
 //! Each public function is a law: it does nothing, and its contract is what is proved.
 #![tactic(auto)]
 
+mod answers;
 mod connections;
 mod contents;
 mod entries;
@@ -22,6 +23,7 @@ mod turned_addresses;
 mod word_forms;
 mod worked;
 
+pub use answers::{messages_are_answered_as_said, runs_are_served_within_bounds};
 pub use connections::{
     gaves_are_capped, lost_connections_stay, numbers_are_distinct, only_openings_add,
 };

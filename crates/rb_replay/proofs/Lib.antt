@@ -3,6 +3,5 @@ pub mod RunSteps
 pub mod Runs
 pub mod StepBounds
 pub mod WholeRuns
-pub mod Headline
 pub mod Inputs
 pub mod Comparing

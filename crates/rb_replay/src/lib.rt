@@ -1,16 +1,14 @@
-//! Runs: lists of events on a core, with the output of each, what they cost, and what is promised of every run. And the
+//! Runs: lists of events on a core, with the output of each, and what they cost. And the
 //! commands that run event lines, over any reader and writer: `replay`, and `replay --check`.
 #![tactic(auto)]
 
 mod checking;
 mod events;
-mod laws;
 mod run;
 mod run_bound;
 mod running;
 
 pub use checking::{check_text, run_check};
-pub use laws::runs_are_served_within_bounds;
 pub use rb_core::Core;
 pub use rb_model::{Event, Output};
 pub use rb_xdr::Meter;

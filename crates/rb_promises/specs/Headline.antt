@@ -1,36 +1,19 @@
--- What is promised of every run from an opening, in one law.
-use Rattle.std.specs.Prelude.{◌≡◌, ◌≤◌, ℕ, true, List}
+-- What is promised of every run, in one law.
+use Rattle.std.specs.Prelude.{◌≡◌, ◌≤◌, ℕ, true, List, ◌∷◌, ◌++◌, Contains}
 use Rattle.rb_address.specs.declared.who.Who.{Who}
-use Rattle.rb_feed.specs.Feeds.{arguments_of}
 use Rattle.rb_proto.specs.declared.listener.Listener.{Listener}
 use Rattle.rb_model.specs.declared.types.Limits.{Limits}
-use Rattle.rb_model.specs.Calls.{message_of, Outcome, outcome}
-use Rattle.rb_model.specs.Calls.Outcome.{NoCall, Reply, Forwarded, Silent}
-use Rattle.rb_model.specs.State.{State, are_good, opening, at_moment}
-use Rattle.rb_model.specs.Step.{sender, context_in, Event, Output, Output as outputs, step, after}
+use Rattle.rb_model.specs.State.{State, are_good, opening}
+use Rattle.rb_model.specs.Step.{Event, Output, step, after}
 use Rattle.rb_model.specs.Step.Event.{Datagram}
 use Rattle.rb_model.specs.ChangeLaws.{changes_by}
 use Rattle.rb_model.specs.HistoryLaws.{history_by}
-use Rattle.rb_model.specs.ForwardLaws.{UdpCallersAreTold}
-use Rattle.rb_model.specs.Sessions.{session, IsWholeSession}
+use Rattle.rb_model.specs.Sessions.{Exchange, session, IsWholeSession}
 use Rattle.rb_model.specs.Costs.{event_cost}
 use Rattle.rb_model.specs.Bounds.{bytes_bound, bytes_in, bytes_out, steps_bound}
 use Rattle.rb_core.specs.StandsFor.{CoreView, StandsFor}
 use Rattle.rb_core.specs.HeldBytes.{held, IsListener}
-
--- what the sender of a datagram gets
-abbrev pub shown_as : Outcome → Output
-shown_as NoCall = outputs.Silent
-shown_as (Reply reply stamp) = outputs.Replied reply
-shown_as Forwarded = outputs.Forwarded
-shown_as Silent = outputs.Silent
-
--- A datagram that comes now has exactly the reply that is defined over the SETs and UNSETs accepted before it.
-abbrev pub AnswersDatagrams : State → Type 0
-AnswersDatagrams s =
-    (now : ℕ) (who : Who) (content : List ℕ)
-    → (step s (Datagram now who content)).0
-    ≡ shown_as (outcome (context_in (at_moment now s) (sender s who content)) (message_of content) (arguments_of content) s.ledger).0
+use Rattle.rb_promises.specs.AnsweredRuns.{IsAnsweredIn, IsDatagramAnswered}
 
 -- After these events, at these limits:
 pub record IsServedWithin (limits : Limits) (start : State) (events : List Event) : Type 0 where
@@ -38,11 +21,12 @@ pub record IsServedWithin (limits : Limits) (start : State) (events : List Event
   pub changes : (after start events).ledger.changes ≡ changes_by start events
   -- statistics count the calls that reached their procedures and how forwarded calls ended, and nothing else;
   pub history : (after start events).ledger.history ≡ history_by start events
-  -- each completed call on a connection has exactly its reply, and on UDP too;
+  -- each call of a connection was answered as the page of answers says, of what these left when it came, and each datagram;
+  pub calls : (id : ℕ) (call : Exchange) → Contains (session start id events).calls call → IsAnsweredIn id start events call
+  pub datagrams : (before later : List Event) (now : ℕ) (who : Who) (content : List ℕ) → events ≡ before ++ Datagram now who content ∷ later
+      → IsDatagramAnswered (after start before) now who content
+  -- the calls of a connection are the records in its bytes, and the bytes given are their replies, in order;
   pub sessions : (id : ℕ) → IsWholeSession id (after start events) (session start id events)
-  pub datagrams : AnswersDatagrams (after start events)
-  -- a call that was forwarded over UDP gets at its end what its target said, or what the deadline says;
-  pub later : UdpCallersAreTold (after start events)
   -- what is held has not passed its bound;
   pub bytes : (core : CoreView) → StandsFor core (after start events) → held core ≤ bytes_bound limits
   -- and whatever event is next, its steps stay within theirs.
