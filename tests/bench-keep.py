@@ -25,7 +25,7 @@ HOST = "127.0.0.1"
 ROUNDS = 7
 SECONDS = 0.3
 AT_ONCE = 16
-ROWS = [20, 4000]
+ROWS = [20, 1000, 4000]
 
 ENCODER = Encoder()
 

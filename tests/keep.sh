@@ -17,7 +17,7 @@ stop_daemon() {
 # tests/ask.py, each with its answer, a number.
 answers_are() {
     cat > "$work/wanted-answers"
-    sed 's/: [0-9]*$//' "$work/wanted-answers" | PORT=20112 timeout 60 python3 -B tests/ask.py > "$work/answers"
+    sed 's/: [0-9]*$//' "$work/wanted-answers" | PORT=20112 PATIENCE=60 python3 -B tests/ask.py > "$work/answers"
     same "$work/wanted-answers" "$work/answers" answers
 }
 
@@ -29,10 +29,10 @@ lines_for() {
     }' "$1" | tests/row.py --bare
 }
 
-# Whether the file keeps these rows, in their order, and nothing else. The moments are the daemon's own.
+# Whether the lines of the file leave these rows, in their order, and nothing else. The moments are the daemon's own.
 keeps() {
     lines_for "$1" > "$work/wanted-lines"
-    sed 's/^datagram [0-9]* /datagram 0 /' "$file" > "$work/lines"
+    tests/kept.py "$file" | sed 's/^datagram [0-9]* /datagram 0 /' > "$work/lines"
     same "$work/wanted-lines" "$work/lines" "the file of kept rows"
 }
 
@@ -42,13 +42,20 @@ lists() {
     same "$1" "$work/listed" rows
 }
 
+# The same of many rows, however long that takes: rpcinfo, which waits for a minute, reads the reply out of a file.
+lists_all() {
+    PORT=20112 PATIENCE=60 python3 -B tests/ask.py --records <<< 'tcp 127.0.0.1 4 dump' > "$work/reply"
+    "$rpcinfo" - < "$work/reply" | grep -v '^100000 ' > "$work/listed"
+    same "$1" "$work/listed" rows
+}
+
 # Whether what it said, but for where it listens, is just this.
 said_is() {
     grep -v listening "$work/said" > "$work/said-else"
     same "$1" "$work/said-else" "what the daemon said"
 }
 
-# A file that was written anew has another one.
+# A file that was written to has another one.
 stamp_of() {
     stat -c '%i %y %z' "$file"
 }
@@ -92,7 +99,7 @@ END
     stop_daemon
     keeps "$work/rows-1"
     judge $? "rows are kept after a stop"
-    yes "$true_reply" | head -n 6 > "$work/wanted"
+    yes "$true_reply" | head -n 8 > "$work/wanted"
     run "$file" replay
     as_wanted "$work/wanted" /dev/null 0
     judge $? "a replay of kept rows"
@@ -163,8 +170,9 @@ END
     stop_daemon
 }
 
-# The calls of the system by which changes are kept and answered: the file reaches the disk, takes the place of the one
-# before, and then the reply goes out. Of calls that change nothing there is the reply alone.
+# The calls of the system by which changes are kept and answered: at the first change a file reaches the disk and takes the
+# place of the one before, then lines that are added to it reach the disk, and then the reply goes out. Of calls that change
+# nothing there is the reply alone.
 run_keep_before_reply() {
     local file=$work/rows-traced traced=$program program=$work/tracing
     if ! strace -D -o /dev/null true 2> /dev/null; then
@@ -184,7 +192,7 @@ END
     judge $? "a daemon whose calls are traced"
     stop_daemon
     sed -nE '/"(datagram|rpcbind:) /d; s/^(fdatasync|rename|write|send).*/\1/p' "$work/trace" | sed 's/^write$/send/' > "$work/order"
-    printf '%s\n' fdatasync rename send send fdatasync rename send send fdatasync rename send > "$work/wanted"
+    printf '%s\n' fdatasync rename send send fdatasync send send fdatasync send > "$work/wanted"
     same "$work/wanted" "$work/order" "calls of the system"
     judge $? "a change is kept before its reply goes out"
 }
@@ -212,7 +220,7 @@ run_keep_at_other_starts() {
     before=$(stamp_of)
     start_daemon "$work/listening" --port 20112
     run /dev/null serve --port 20112 --turns 1 --keep "$file"
-    [ "$got" -eq 1 ] && [ "$(stamp_of)" = "$before" ]
+    [ "$got" -eq 3 ] && [ "$(stamp_of)" = "$before" ]
     judge $? "a file of kept rows beside a daemon that has the port"
     stop_daemon
     start_keeper --record "$work/record" --record-limit 1000 && lists "$work/rows-1" && stop_daemon
@@ -233,7 +241,7 @@ run_keep_of_most_rows() {
         printf "%d 1 local /run/%0123d %s\n", $1, $1, owner
     }' > "$work/rows-1"
     lines_for "$work/rows-1" > "$file"
-    start_keeper --rows 4096 && lists "$work/rows-1" && said_is /dev/null
+    start_keeper --rows 4096 && lists_all "$work/rows-1" && said_is /dev/null
     judge $? "4,096 rows of 128 bytes are there after a start"
     answers_are << 'END'
 udp 127.0.0.1 4 set 200001 1 udp 127.0.0.1.8.1: 0
@@ -241,7 +249,7 @@ udp 127.0.0.1 4 unset 300001 1: 1
 END
     judge $? "4,096 kept rows are as many as there may be"
     sed 1d "$work/rows-1" > "$work/rows-2"
-    lists "$work/rows-2" && keeps "$work/rows-2"
+    lists_all "$work/rows-2" && keeps "$work/rows-2"
     judge $? "4,095 rows of 128 bytes are kept"
     stop_daemon
 }
@@ -276,14 +284,14 @@ left_out() {
 
 # ---- files that are refused
 
-# Starts with a file that is refused: this is said of it, with status 1, and it stays as it is.
+# Starts with a file that is refused: this is said of it, with status 3, and it stays as it is.
 refuses() {
     local name=$1 said=$2 before
     before=$(stat -c '%i %y %z %a %u' "$file")
     [ ! -f "$file" ] || cp "$file" "$work/copy"
-    printf 'rpcbind: %s\n' "$file: $said" 'read failed' > "$work/wanted-said"
+    printf 'rpcbind: %s\n' 'read failed' "$file: $said" > "$work/wanted-said"
     run /dev/null serve --port 20112 --turns 1 --keep "$file"
-    as_wanted /dev/null "$work/wanted-said" 1 && [ "$(stat -c '%i %y %z %a %u' "$file")" = "$before" ] \
+    as_wanted /dev/null "$work/wanted-said" 3 && [ "$(stat -c '%i %y %z %a %u' "$file")" = "$before" ] \
         && { [ ! -f "$file" ] || cmp -s "$file" "$work/copy"; }
     judge $? "a file of kept rows: $name"
 }
@@ -328,10 +336,97 @@ open 0 127.0.0.1:0
 lost
 zero
 END
-    lines_for <(echo 200001 1 tcp 127.0.0.1.8.1 superuser) | head -c -21 > "$file"
+    { lines_for <(echo 200001 1 tcp 127.0.0.1.8.1 superuser) | head -c -21; echo; } > "$file"
     refuses "a line that is cut off" 'line 1: sets no row that was kept'
-    lines_for <(echo 200001 1 tcp 127.0.0.1.8.1 superuser) | head -c -20 > "$file"
+    { lines_for <(echo 200001 1 tcp 127.0.0.1.8.1 superuser) | head -c -20; echo; } > "$file"
     refuses "a line that is cut off within a byte" 'line 1: bad event'
+}
+
+# KEEP-13
+# What stands behind the last line feed is left out and said, whatever part of a line it is; the file stays until the first
+# change, which writes it anew.
+run_keep_of_torn_lines() {
+    local file=$work/rows-torn left torn
+    rows_of 1001 1002 > "$work/rows-1"
+    lines_for "$work/rows-1" > "$work/whole"
+    lines_for <(rows_of 1003) > "$work/last"
+    for left in 1 20 100 $(($(stat -c %s "$work/last") - 1)); do
+        { cat "$work/whole"; head -c "$left" "$work/last"; } > "$file"
+        cp "$file" "$work/copy"
+        echo "rpcbind: $file: its last line is not whole, and is left out ($left bytes)" > "$work/wanted-said"
+        start_keeper && lists "$work/rows-1" && said_is "$work/wanted-said" && cmp -s "$file" "$work/copy"
+        judge $? "a last line of which $left bytes are there"
+        stop_daemon
+    done
+    start_keeper && sets_all 1004 && rows_of 1001 1002 1004 > "$work/rows-1" && keeps "$work/rows-1" \
+        && [ "$(wc -l < "$file")" -eq 3 ] && [ -z "$(tail -c 1 "$file" | tr -d '\n')" ]
+    judge $? "the first change leaves no part of a line"
+    stop_daemon
+}
+
+# KEEP-11 KEEP-12 KEEP-15
+# A change is a line, and an UNSET of version 2 leaves tcp6, udp6 and local. The file is written anew when its lines would be
+# more than twice the rows and 64.
+run_keep_of_changes() {
+    local file=$work/rows-changes inode
+    start_keeper && answers_are << 'END'
+udp 127.0.0.1 4 set 200001 1 tcp 127.0.0.1.8.1: 1
+udp 127.0.0.1 4 set 200001 1 udp 127.0.0.1.8.1: 1
+udp 127.0.0.1 4 set 200001 1 udp6 ::1.8.1: 1
+udp 127.0.0.1 4 set 200001 1 local /run/x: 1
+udp 127.0.0.1 2 unset 200001 1 tcp: 1
+END
+    printf '%s\n' '200001 1 udp6 ::1.8.1 unknown' '200001 1 local /run/x unknown' > "$work/rows-1"
+    keeps "$work/rows-1" && [ "$(wc -l < "$file")" -eq 6 ]
+    judge $? "an UNSET of version 2 has a line for tcp and one for udp"
+    inode=$(stat -c %i "$file")
+    for _ in {1..31}; do
+        printf '%s\n' 'udp 127.0.0.1 4 set 200002 1 tcp 127.0.0.1.8.1: 1' 'udp 127.0.0.1 4 unset 200002 1: 1'
+    done | answers_are && keeps "$work/rows-1" && [ "$(wc -l < "$file")" -eq 68 ] && [ "$(stat -c %i "$file")" = "$inode" ]
+    judge $? "62 changes have 62 lines"
+    answers_are <<< 'udp 127.0.0.1 4 unset 200001 1: 1' && [ "$(wc -l < "$file")" -eq 0 ]
+    judge $? "a file of more lines than twice the rows and 64 is written anew"
+    stop_daemon
+}
+
+# FILE-6
+# A file that was taken away, replaced, or written to from outside is said, and written anew.
+run_keep_of_exchanged_files() {
+    local file=$work/rows-exchanged said
+    said="rpcbind: keep $file: somebody else changed it; all rows were written anew"
+    start_keeper && sets_all 1001 1002 && said_is /dev/null
+    judge $? "a file that nobody else changes"
+    rm "$file"
+    rows_of 1001 1002 1003 > "$work/rows-1"
+    echo "$said" > "$work/wanted-said"
+    sets_all 1003 && keeps "$work/rows-1" && said_is "$work/wanted-said"
+    judge $? "a file that was taken away"
+    cp "$file" "$work/other" && mv "$work/other" "$file"
+    rows_of 1001 1002 1003 1004 > "$work/rows-1"
+    echo "$said" >> "$work/wanted-said"
+    sets_all 1004 && keeps "$work/rows-1" && said_is "$work/wanted-said"
+    judge $? "a file that was replaced"
+    : > "$file"
+    rows_of 1001 1002 1003 1004 1005 > "$work/rows-1"
+    echo "$said" >> "$work/wanted-said"
+    sets_all 1005 && keeps "$work/rows-1" && said_is "$work/wanted-said"
+    judge $? "a file that was emptied"
+    stop_daemon
+}
+
+# KEEP-17 FILE-7
+# A second daemon does not start with the file, and leaves it; after a kill another one starts at once.
+run_keep_of_two_daemons() {
+    local file=$work/rows-locked
+    start_keeper && sets_all 1001
+    printf 'rpcbind: %s\n' 'read failed' "$file: another daemon keeps its rows there" > "$work/wanted-said"
+    run /dev/null serve --port 20113 --turns 1 --keep "$file"
+    as_wanted /dev/null "$work/wanted-said" 3 && rows_of 1001 > "$work/rows-1" && keeps "$work/rows-1"
+    judge $? "a second daemon does not start"
+    kill -9 "$daemon" && wait "$daemon" 2> /dev/null
+    start_keeper && lists "$work/rows-1" && said_is /dev/null
+    judge $? "another daemon starts after a kill"
+    stop_daemon
 }
 
 # KEEP-6
@@ -382,6 +477,11 @@ fails_by() {
     echo "rpcbind: keep $file: $1; it is tried again at the next change"
 }
 
+# What is said of the first write that goes well after one that failed.
+goes_well() {
+    echo "rpcbind: keep $file: it is written again"
+}
+
 # SETs of these programs, each answered TRUE.
 sets_all() {
     local program
@@ -398,8 +498,8 @@ rows_of() {
     printf '%s 1 tcp 127.0.0.1.8.1 unknown\n' "$@"
 }
 
-# A file may have 1,024 bytes, in which five rows have room. That there is no more is said once, and again after a write
-# that went well. The daemon serves on, the file stays, and the next change tries again.
+# A file may have 1,024 bytes, in which five rows have room. That there is no more is said once, and so is the next write that
+# goes well; then it is said again. The daemon serves on, no row leaves the file, and the next change tries again.
 run_keep_without_room() {
     local file=$work/rows-small
     (
@@ -420,13 +520,14 @@ run_keep_without_room() {
     judge $? "the daemon serves on"
     unsets_all 1001 1002 1003 && rows_of 1004 1005 1006 1007 1008 > "$work/rows-1" && keeps "$work/rows-1"
     judge $? "rows are kept at the next change for which there is room"
-    fails_by 'File too large (os error 27)' >> "$work/wanted-said"
+    { goes_well; fails_by 'File too large (os error 27)'; } >> "$work/wanted-said"
     sets_all 1009 1010 && said_is "$work/wanted-said" && keeps "$work/rows-1"
     judge $? "it is said again behind a write that went well"
     if command -v prlimit > /dev/null; then
         prlimit --pid "$daemon" --fsize=unlimited && sets_all 1011
         rows_of 1004 1005 1006 1007 1008 1009 1010 1011 > "$work/rows-1"
-        keeps "$work/rows-1"
+        goes_well >> "$work/wanted-said"
+        keeps "$work/rows-1" && said_is "$work/wanted-said"
         judge $? "rows are kept once there is room"
     fi
     kill "$daemon"
@@ -440,17 +541,19 @@ run_keep_without_room() {
 # A folder that is not there is made while the daemon runs.
 run_keep_without_folder() {
     local file=$work/folder/rows
-    start_keeper && sets_all 1001 1002 && fails_by 'No such file or directory (os error 2)' > "$work/wanted-said"
-    said_is "$work/wanted-said"
+    echo "rpcbind: $file.lock: No such file or directory (os error 2); $file is not locked" > "$work/wanted-said"
+    fails_by 'No such file or directory (os error 2)' >> "$work/wanted-said"
+    start_keeper && sets_all 1001 1002 && said_is "$work/wanted-said"
     judge $? "a folder that is not there is said once"
     mkdir "$work/folder"
+    goes_well >> "$work/wanted-said"
     sets_all 1003 && rows_of 1001 1002 1003 > "$work/rows-1" && keeps "$work/rows-1" && said_is "$work/wanted-said"
     judge $? "rows are kept once their folder is there"
     stop_daemon
 }
 
 # A plain file that was left behind in the place of the new file goes. A link and a folder stay, and are said; nothing is
-# written where the link leads, and rows are kept once they are gone.
+# written where the link leads, and rows are kept once they are gone. Lines are added beside them.
 run_keep_beside_new_file() {
     local file=$work/rows-beside
     echo left > "$file.new"
@@ -459,19 +562,24 @@ run_keep_beside_new_file() {
     echo kept > "$work/victim"
     chmod 666 "$work/victim"
     ln -s "$work/victim" "$file.new"
+    sets_all 1002 && rows_of 1001 1002 > "$work/rows-1" && keeps "$work/rows-1" && said_is /dev/null
+    judge $? "a line is added beside a link"
+    stop_daemon
     fails_by 'what is there is no plain file, and stays' > "$work/wanted-said"
-    sets_all 1002 1003 && keeps "$work/rows-1" && said_is "$work/wanted-said" && [ -L "$file.new" ] \
+    start_keeper && sets_all 1003 1004 && keeps "$work/rows-1" && said_is "$work/wanted-said" && [ -L "$file.new" ] \
         && [ "$(cat "$work/victim")" = kept ] && [ "$(stat -c %a "$work/victim")" = 666 ]
     judge $? "a link in the place of the new file is said once, and not followed"
     rm "$file.new"
-    sets_all 1004 && rows_of 1001 1002 1003 1004 > "$work/rows-1" && keeps "$work/rows-1" && said_is "$work/wanted-said"
+    goes_well >> "$work/wanted-said"
+    sets_all 1005 && rows_of 1001 1002 1003 1004 1005 > "$work/rows-1" && keeps "$work/rows-1" && said_is "$work/wanted-said"
     judge $? "rows are kept once the link is gone"
+    stop_daemon
     mkdir "$file.new"
-    fails_by 'what is there is no plain file, and stays' >> "$work/wanted-said"
-    sets_all 1005 && keeps "$work/rows-1" && said_is "$work/wanted-said"
+    fails_by 'what is there is no plain file, and stays' > "$work/wanted-said"
+    start_keeper && sets_all 1006 && keeps "$work/rows-1" && said_is "$work/wanted-said"
     judge $? "a folder in the place of the new file is said"
     rmdir "$file.new"
-    sets_all 1006 && rows_of 1001 1002 1003 1004 1005 1006 > "$work/rows-1" && keeps "$work/rows-1"
+    sets_all 1007 && rows_of 1001 1002 1003 1004 1005 1006 1007 > "$work/rows-1" && keeps "$work/rows-1"
     judge $? "rows are kept once the folder is gone"
     stop_daemon
 }
@@ -491,7 +599,8 @@ run_keep_in_folder_of_others() {
     lines_for <(rows_of 1001) > "$file"
     chmod 644 "$file"
     chmod 555 "$folder"
-    fails_by 'Permission denied (os error 13)' > "$work/wanted-said"
+    echo "rpcbind: $file.lock: Permission denied (os error 13); $file is not locked" > "$work/wanted-said"
+    fails_by 'Permission denied (os error 13)' >> "$work/wanted-said"
     start_keeper && sets_all 1002 1003 && said_is "$work/wanted-said" && rows_of 1001 > "$work/rows-1" && keeps "$work/rows-1"
     judge $? "a folder that may not be written to is said once, and the file stays"
     rows_of 1001 1002 1003 > "$work/rows-1"
@@ -503,16 +612,18 @@ run_keep_in_folder_of_others() {
     stop_daemon
 }
 
-# On a device of 16 KiB that something else fills.
+# On a device of 16 KiB that something else fills, with a page of 4 KiB for rows.
 keep_on_full_device() {
     local bad=0 file=$work/device/rows
     mkdir "$work/device" && mount -t tmpfs -o size=16k tmpfs "$work/device" || return 1
     start_keeper && sets_all 1001 && rows_of 1001 > "$work/rows-1" && keeps "$work/rows-1" || bad=1
     cat /dev/zero > "$work/device/filler" 2> /dev/null
     fails_by 'No space left on device (os error 28)' > "$work/wanted-said"
-    sets_all 1002 1003 && said_is "$work/wanted-said" && keeps "$work/rows-1" || bad=1
+    sets_all $(seq 1002 1040) && said_is "$work/wanted-said" || bad=1
+    rows_of $(seq 1001 1040) | head -n "$(tests/kept.py "$file" | wc -l)" > "$work/rows-1" && keeps "$work/rows-1" || bad=1
     rm "$work/device/filler"
-    sets_all 1004 && rows_of 1001 1002 1003 1004 > "$work/rows-1" && keeps "$work/rows-1" && said_is "$work/wanted-said" || bad=1
+    goes_well >> "$work/wanted-said"
+    sets_all 1041 && rows_of $(seq 1001 1041) > "$work/rows-1" && keeps "$work/rows-1" && said_is "$work/wanted-said" || bad=1
     stop_daemon
     return $bad
 }
@@ -524,7 +635,7 @@ run_keep_on_full_device() {
     fi
     export program rpcinfo work
     export -f keep_on_full_device start_keeper start_daemon stop_daemon sets_all answers_are rows_of keeps lines_for same \
-        said_is fails_by
+        said_is fails_by goes_well
     unshare --mount --propagation private "$BASH" -c keep_on_full_device
     judge $? "a full device is said once, and rows are kept once there is room"
 }
@@ -535,7 +646,7 @@ run_keep_on_full_device() {
 # Of rows of this host on tcp, udp, tcp6 and udp6 those are left out, and said, at whose port nobody answers a call; whoever
 # answers anything stays, and so does who is not asked. The ports are 78 times 256 and 60 to 67.
 run_keep_check() {
-    local file=$work/rows-checked answers begin
+    local file=$work/rows-checked answers begin unasked
     : > "$work/listening"
     python3 -B tests/answers.py tcp-garbage:20028 tcp-null:20029 tcp-silent:20030 udp-garbage:20031 udp-null:20032 \
         udp-silent:20033 tcp6-null:20034 udp6-null:20035 >> "$work/listening" 2>&1 &
@@ -559,13 +670,16 @@ run_keep_check() {
 1015 1 udp 192.0.2.77.8.1 superuser
 END
     lines_for "$work/rows-all" > "$file"
-    start_keeper && lists "$work/rows-all" && said_is /dev/null
+    begin=$(date +%s%N)
+    start_keeper
+    unasked=$(($(date +%s%N) - begin))
+    lists "$work/rows-all" && said_is /dev/null
     judge $? "no kept row is asked without --keep-check"
     stop_daemon
     grep -v -e '^1003 ' -e '^1004 ' -e '^1007 ' -e '^1008 ' -e '^1011 ' -e '^1012 ' "$work/rows-all" > "$work/rows-1"
     unanswered '1003 1 tcp' '1004 1 tcp' '1007 1 udp' '1008 1 udp' '1011 1 tcp6' '1012 1 udp6' > "$work/wanted-said"
     begin=$(date +%s%N)
-    start_keeper --keep-check && [ $((($(date +%s%N) - begin) / 1000000)) -lt 4000 ]
+    start_keeper --keep-check && [ $(($(date +%s%N) - begin)) -lt $((2500000000 + 10 * unasked)) ]
     judge $? "kept rows are asked within two seconds"
     lists "$work/rows-1"
     judge $? "kept rows at whose ports nobody answers are left out"
@@ -590,6 +704,10 @@ run_keep_rows() {
     run_keep_of_most_rows
     run_keep_of_rows_that_cannot_be_set
     run_keep_of_other_lines
+    run_keep_of_torn_lines
+    run_keep_of_changes
+    run_keep_of_exchanged_files
+    run_keep_of_two_daemons
     run_keep_of_long_files
     run_keep_in_the_way
     run_keep_without_room

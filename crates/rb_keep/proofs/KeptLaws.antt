@@ -1,7 +1,7 @@
--- What is kept of a state is read as its rows.
+-- A line keeps and removes its row, and no other.
 use Rattle.std.specs.Prelude.{All, decimal, bytes_eq}
 use Rattle.std.specs.Fmt.{digits}
-use Rattle.std.proofs.Common.{◌≡◌, ℕ, suc, ◌+◌, ◌*◌, ◌^◌, ◌<◌, ◌≤◌, ◌&&◌, ◌==◌, Bool, true, false, cond, codes, Option, Some, None, Ok, Err, List, [], ◌∷◌, ◌++◌, length, slice_index, refl, sym, ap, ◌∙◌, append-nil, append_assoc, length-append, arith}
+use Rattle.std.proofs.Common.{◌≡◌, ℕ, suc, ◌+◌, ◌*◌, ◌^◌, ◌<◌, ◌≤◌, ◌&&◌, ◌==◌, Bool, true, false, cond, codes, Option, Some, None, Ok, Err, List, [], ◌∷◌, ◌++◌, length, slice_index, get_or, refl, sym, ap, ◌∙◌, append-nil, append_assoc, length-append, arith}
 use Rattle.std.proofs.Math.Seq.{drop-append_seam}
 use Rattle.std.proofs.lemmas.Bool.{and_parts, eqb-true, lt-ltb, le-ltb}
 use Rattle.std.proofs.lemmas.Option.{same_Some}
@@ -46,18 +46,17 @@ use Rattle.rb_record.specs.Entries.{who_line}
 use Rattle.rb_laws.proofs.Ledgers.{settable-short}
 use Rattle.rb_laws.proofs.Restoring.{rows_can_be_set}
 use Rattle.rb_laws.proofs.Spelling.{rows_are_spelled, kept_calls_are_short}
-use Rattle.rb_lines.specs.Lines.{Line, line, lines_of, longest_input}
+use Rattle.rb_xdr.specs.Xdr.{number}
+use Rattle.rb_lines.specs.Lines.{Line, line, lines_of}
 use Rattle.rb_lines.specs.Lines.Line.{Happens, Skipped as SaysNothing, Bad as SaysNoEvent}
 use Rattle.rb_lines.specs.RecordLaws.{AreBytes, HasLine}
 use Rattle.rb_lines.proofs.LineWords.{line_of}
 use Rattle.rb_lines.proofs.Recorded.{IsLine, lines_behind, IsEventLine, event_line}
 use Rattle.rb_keep.specs.declared.reading.KeptLine.{KeptLine}
-use Rattle.rb_keep.specs.declared.reading.KeptLine.TheVariants.{Keeps}
-use Rattle.rb_keep.specs.declared.fault.KeepFault.TheVariants.{TooMany}
-use Rattle.rb_keep.specs.Kept.{row_line, rows_text}
-use Rattle.rb_keep.specs.Reading.{is_this_machine, is_here, only_claims, row_of_reading, row_by_verdict, row_asked, row_set_by, row_set, kept_row, keeps_or_not, kept_by, kept_line, most_rows, with_line, rows_from, read}
-use Rattle.rb_keep.specs.KeptLaws.{SetsAgain, LinesKeepTheirRows, LinesOfRowsKeepThem, KeptTextIsRead}
-use Rattle.rb_keep.proofs.Walks.{kept_lines}
+use Rattle.rb_keep.specs.declared.reading.KeptLine.TheVariants.{Keeps, Removes}
+use Rattle.rb_keep.specs.Kept.{row_line, rows_text, unset_head, key_for, unset_bytes, unset_call}
+use Rattle.rb_keep.specs.Reading.{is_this_machine, is_here, only_claims, row_of_reading, row_by_verdict, row_asked, row_set_by, row_set, row_unset_by, row_unset, kept_row, gone_row, keeps_or_not, kept_by, kept_line, rows_from}
+use Rattle.rb_keep.specs.KeptLaws.{SetsAgain, RemovesIt, LinesKeepTheirRows, LinesRemoveTheirRows, LinesOfRowsKeepThem}
 use mathlib.Core.Bool.{true≢false}
 
 -- ---- the bytes of a call are read as its row
@@ -102,11 +101,11 @@ request_read : (bytes : List ℕ) → read_request set_vers set_proc bytes ≡ o
 unfolding is_known procedure_at
 request_read bytes = refl
 
-asked : (row : Row) → IsSpelled row → length row.addr ≤ 128 → row_asked (set_bytes row) ≡ Some row
+asked : (row : Row) → IsSpelled row → length row.addr ≤ 128 → row_asked 1 (set_bytes row) ≡ Some row
 unfolding row_asked
 asked row is few =
     let spelling : List ℕ = rpcb_spelling (rpcb_for row) in
-    ap (row_by_verdict (set_bytes row)) (written_again (set_head row) spelling (head_fits row) is.owner)
+    ap (row_by_verdict 1 (set_bytes row)) (written_again (set_head row) spelling (head_fits row) is.owner)
     ∙ ap (λ (bytes : List ℕ). row_of_reading (owner_named (credential_for row.owner)) (read_request set_vers set_proc bytes)) (drop-append_seam (call_bytes (set_head row)) spelling)
     ∙ ap (row_of_reading (owner_named (credential_for row.owner))) (request_read spelling ∙ ap or_garbage (asked_request set_vers set_proc spelling (requests.Rpcb rpcbs.Set (rpcb_for row)) (asks-set row is few)))
     ∙ told row
@@ -125,7 +124,83 @@ kept now row is few = rw here (set row is few)
 
 pub lines_of_rows_keep_them : LinesOfRowsKeepThem
 unfolding kept_line
-lines_of_rows_keep_them text row is few again = ap kept_by again.event ∙ ap keeps_or_not (kept again.now row is few)
+lines_of_rows_keep_them text row is few again =
+    ap kept_by again.event ∙ ap (λ (o : Option Row). keeps_or_not o (gone_row (set_call again.now row))) (kept again.now row is few)
+
+-- ---- the bytes of the other call are read as its row, without the address
+
+-- the row as it is named
+abbrev pub keyed : Row → Row
+keyed row = record row { addr = [] }
+
+pub key-fits : (row : Row) → IsSpelled row → IsRpcb (key_for row)
+key-fits row is = record { prog = is.prog; vers = is.vers; netid = netid_is_content row.netid; addr = nothing 128; owner = nothing 128 }
+
+abbrev unset_proc : ℕ
+unset_proc = 2
+
+asks-unset : (row : Row) → IsSpelled row → Asks set_vers unset_proc (requests.Rpcb rpcbs.Unset (key_for row)) (rpcb_spelling (key_for row))
+unfolding procedure_at
+asks-unset row is = (refl, record { fits = key-fits row is; rest = []; whole = sym (append-nil (rpcb_spelling (key_for row))) })
+
+unset-head-fits : (row : Row) → IsHead (unset_head row)
+unset-head-fits row = record { xid = omega arith; prog = omega arith; vers = omega arith; proc = omega arith }
+
+key-told : (row : Row) → row_of_rpcb (owner_named (credential_for row.owner)) (key_for row) ≡ Some (keyed row)
+unfolding row_of_rpcb
+key-told row = rw (named row.netid, owned row.owner) refl
+
+unset-read : (bytes : List ℕ) → read_request set_vers unset_proc bytes ≡ or_garbage (request set_vers unset_proc bytes)
+unfolding is_known procedure_at
+unset-read bytes = refl
+
+unset-asked : (row : Row) → IsSpelled row → row_asked 2 (unset_bytes row) ≡ Some (keyed row)
+unfolding row_asked
+unset-asked row is =
+    let spelling : List ℕ = rpcb_spelling (key_for row) in
+    ap (row_by_verdict 2 (unset_bytes row)) (written_again (unset_head row) spelling (unset-head-fits row) is.owner)
+    ∙ ap (λ (bytes : List ℕ). row_of_reading (owner_named (credential_for row.owner)) (read_request set_vers unset_proc bytes)) (drop-append_seam (call_bytes (unset_head row)) spelling)
+    ∙ ap (row_of_reading (owner_named (credential_for row.owner))) (unset-read spelling ∙ ap or_garbage (asked_request set_vers unset_proc spelling (requests.Rpcb rpcbs.Unset (key_for row)) (asks-unset row is)))
+    ∙ key-told row
+
+unset : (row : Row) → IsSpelled row → row_unset (unset_bytes row) ≡ Some (keyed row)
+unfolding row_unset
+unset row is =
+    ap (row_unset_by (unset_bytes row)) (unset-asked row is)
+    ∙ ap (λ (b : Bool). cond b (Some (keyed row)) None) ((bytes_eq-Decides (unset_bytes row) (unset_bytes row)).1 refl)
+
+-- the procedure's number stands in the bytes
+one-or-two : (m n : ℕ) → m ≡ 1 → n ≡ 2 → m ≡ n → ⊥
+one-or-two m n a b e = omega arith
+
+never-set : (row other : Row) → set_bytes other ≡ unset_bytes row → ⊥
+unfolding call_bytes number
+never-set row other e =
+    one-or-two (get_or (set_bytes other) 23 0) (get_or (unset_bytes row) 23 0) refl refl (ap (λ (bytes : List ℕ). get_or bytes 23 0) e)
+
+not-set : (row : Row) → row_set (unset_bytes row) ≡ None
+unfolding row_set
+not-set row = by_row (row_asked 1 (unset_bytes row))
+  where
+    by_test : (other : Row) (b : Bool) → bytes_eq (set_bytes other) (unset_bytes row) ≡ b → cond b (Some other) None ≡ None
+    by_test other true same = absurd (never-set row other ((bytes_eq-Decides (set_bytes other) (unset_bytes row)).0 same))
+    by_test other false same = refl
+
+    by_row : (o : Option Row) → row_set_by (unset_bytes row) o ≡ None
+    by_row None = refl
+    by_row (Some other) = by_test other (bytes_eq (set_bytes other) (unset_bytes row)) refl
+
+not-kept : (now : ℕ) (row : Row) → kept_row (unset_call now row) ≡ None
+unfolding kept_row
+not-kept now row = rw here (not-set row)
+
+gone : (now : ℕ) (row : Row) → IsSpelled row → gone_row (unset_call now row) ≡ Some (keyed row)
+unfolding gone_row
+gone now row is = rw here (unset row is)
+
+pub removes : (text : List ℕ) (now : ℕ) (row : Row) → IsSpelled row → line text ≡ Happens (unset_call now row) → kept_line text ≡ Removes (keyed row)
+unfolding kept_line
+removes text now row is says = ap kept_by says ∙ rw (not-kept now row, gone now row is) refl
 
 -- ---- a line keeps no other row
 
@@ -153,7 +228,7 @@ who_is who e =
 
 bytes_are : (bytes : List ℕ) (row : Row) → row_set bytes ≡ Some row → bytes ≡ set_bytes row
 unfolding row_set
-bytes_are bytes row e = by_row (row_asked bytes) e
+bytes_are bytes row e = by_row (row_asked 1 bytes) e
   where
     by_test : (other : Row) (b : Bool) → bytes_eq (set_bytes other) bytes ≡ b → cond b (Some other) None ≡ Some row → bytes ≡ set_bytes row
     by_test other true same e = sym ((bytes_eq-Decides (set_bytes other) bytes).0 same) ∙ ap set_bytes (same_Some other row e)
@@ -186,9 +261,10 @@ pub lines_keep_their_rows : LinesKeepTheirRows
 unfolding kept_line
 lines_keep_their_rows text row e = by_line (line text) refl e
   where
-    by_row : (event : Event) → line text ≡ Happens event → (o : Option Row) → kept_row event ≡ o → keeps_or_not o ≡ Keeps row → SetsAgain text row
-    by_row event is None kept e = absurd cc
-    by_row event is (Some other) kept e =
+    by_row : (event : Event) → line text ≡ Happens event → (o g : Option Row) → kept_row event ≡ o → keeps_or_not o g ≡ Keeps row → SetsAgain text row
+    by_row event is None None kept e = absurd cc
+    by_row event is None (Some other) kept e = absurd cc
+    by_row event is (Some other) g kept e =
         let same : other ≡ row = cc e in
         let found = call_is event other kept in
         record { now = found.0; event = is ∙ ap Happens (found.1 ∙ ap (set_call found.0) same) }
@@ -196,43 +272,78 @@ lines_keep_their_rows text row e = by_line (line text) refl e
     by_line : (said : Line) → line text ≡ said → kept_by said ≡ Keeps row → SetsAgain text row
     by_line SaysNothing is e = absurd cc
     by_line SaysNoEvent is e = absurd cc
-    by_line (Happens event) is e = by_row event is (kept_row event) refl e
+    by_line (Happens event) is e = by_row event is (kept_row event) (gone_row event) refl e
+
+-- ---- and takes no other row out
+
+gone-bytes : (bytes : List ℕ) (row : Row) → row_unset bytes ≡ Some row → bytes ≡ unset_bytes row
+unfolding row_unset
+gone-bytes bytes row e = by_row (row_asked 2 bytes) e
+  where
+    by_test : (other : Row) (b : Bool) → bytes_eq (unset_bytes other) bytes ≡ b → cond b (Some other) None ≡ Some row → bytes ≡ unset_bytes row
+    by_test other true same e = sym ((bytes_eq-Decides (unset_bytes other) bytes).0 same) ∙ ap unset_bytes (same_Some other row e)
+    by_test other false same e = absurd cc
+
+    by_row : (o : Option Row) → row_unset_by bytes o ≡ Some row → bytes ≡ unset_bytes row
+    by_row None e = absurd cc
+    by_row (Some other) e = by_test other (bytes_eq (unset_bytes other) bytes) refl e
+
+gone-call : (event : Event) (row : Row) → gone_row event ≡ Some row → (now : ℕ) × (event ≡ unset_call now row)
+unfolding gone_row
+gone-call (Datagram now who bytes) row e = by_test (is_this_machine who) refl e
+  where
+    by_test : (b : Bool) → is_this_machine who ≡ b → cond b (row_unset bytes) None ≡ Some row → (moment : ℕ) × (Datagram now who bytes ≡ unset_call moment row)
+    by_test true is e = (now, ap (λ (w : Who). Datagram now w bytes) (who_is who is) ∙ ap (Datagram now this_machine) (gone-bytes bytes row e))
+    by_test false is e = absurd cc
+gone-call (Open now from) row e = absurd cc
+gone-call (Bytes now id bytes) row e = absurd cc
+gone-call (Pending id) row e = absurd cc
+gone-call (Gave now id n) row e = absurd cc
+gone-call (Closed id) row e = absurd cc
+gone-call NextLost row e = absurd cc
+gone-call Unsent row e = absurd cc
+gone-call (Sent number) row e = absurd cc
+gone-call (Forward now from bytes) row e = absurd cc
+gone-call (Expire now) row e = absurd cc
+gone-call ZeroStats row e = absurd cc
+
+pub lines_remove_their_rows : LinesRemoveTheirRows
+unfolding kept_line
+lines_remove_their_rows text row e = by_line (line text) refl e
+  where
+    by_row : (event : Event) → line text ≡ Happens event → (o g : Option Row) → gone_row event ≡ g → keeps_or_not o g ≡ Removes row → RemovesIt text row
+    by_row event is (Some other) g went e = absurd cc
+    by_row event is None None went e = absurd cc
+    by_row event is None (Some other) went e =
+        let same : other ≡ row = cc e in
+        let found = gone-call event other went in
+        record { now = found.0; event = is ∙ ap Happens (found.1 ∙ ap (unset_call found.0) same) }
+
+    by_line : (said : Line) → line text ≡ said → kept_by said ≡ Removes row → RemovesIt text row
+    by_line SaysNothing is e = absurd cc
+    by_line SaysNoEvent is e = absurd cc
+    by_line (Happens event) is e = by_row event is (kept_row event) (gone_row event) refl e
 
 -- ---- the line of a row
 
-all_bytes : (xs : List ℕ) → ((i : ℕ) → slice_index xs i < 256) → AreBytes xs
+pub all_bytes : (xs : List ℕ) → ((i : ℕ) → slice_index xs i < 256) → AreBytes xs
 all_bytes [] are = tt
 all_bytes (x ∷ xs) are = (are 0, all_bytes xs (λ i. are (suc i)))
 
-is-who : IsWho this_machine
+pub is-who : IsWho this_machine
 is-who = grind arith
 
-has-line : (now : ℕ) (row : Row) → now < 2 ^ 64 → HasShortCall row → HasLine (set_call now row)
+pub has-line : (now : ℕ) (row : Row) → now < 2 ^ 64 → HasShortCall row → HasLine (set_call now row)
 has-line now row fits short = (fits, is-who, all_bytes (set_bytes row) short.bytes)
 
-keeps : (now : ℕ) (row : Row) → IsSpelled row → length row.addr ≤ 128 → (l : IsEventLine (set_call now row)) → kept_line l.body ≡ Keeps row
+pub keeps : (now : ℕ) (row : Row) → IsSpelled row → length row.addr ≤ 128 → (l : IsEventLine (set_call now row)) → kept_line l.body ≡ Keeps row
 keeps now row is few l = lines_of_rows_keep_them l.body row is few (record { now = now; event = line_of l.body (set_call now row) l.spelled })
 
 -- ---- the lines of rows
 
-empty_line : (k : ℕ) (rows : List Row) → rows_from k (lines_of []) (Ok rows) ≡ Ok rows
+pub empty_line : (k : ℕ) (rows : List Row) → rows_from k (lines_of []) (Ok rows) ≡ Ok rows
 unfolding rows_from lines_of kept_line line
 empty_line k rows = refl
-
-rows-read : (now : ℕ) → now < 2 ^ 64 → (rows : List Row) → All IsSpelled rows → All (λ row. can_be_set row ≡ true) rows → All HasShortCall rows
-    → (k : ℕ) (front : List Row) → length front + length rows ≤ most_rows → rows_from k (lines_of (rows_text now rows)) (Ok front) ≡ Ok (front ++ rows)
-unfolding rows_from
-rows-read now fits [] are may short k front few = empty_line k front ∙ ap Ok (sym (append-nil front))
-rows-read now fits (row ∷ rows) are may short k front few =
-    let e : IsEventLine (set_call now row) = event_line (set_call now row) (has-line now row fits (All-head HasShortCall row rows short)) in
-    let l : IsLine (row_line now row) = record { body = e.body; whole = e.whole; apart = e.apart } in
-    let is : kept_line e.body ≡ Keeps row = keeps now row (All-head IsSpelled row rows are) (settable-short row (All-head (λ r. can_be_set r ≡ true) row rows may)) e in
-    let room : length front < most_rows = omega (arith, few) in
-    ap (λ (ts : List (List ℕ)). rows_from k ts (Ok front)) (lines_behind (row_line now row) (rows_text now rows) l)
-    ∙ ap (λ (said : KeptLine). rows_from (k + 1) (lines_of (rows_text now rows)) (with_line k front said)) is
-    ∙ ap (λ (b : Bool). rows_from (k + 1) (lines_of (rows_text now rows)) (cond b (Ok (front ++ row ∷ [])) (Err (TooMany k)))) (lt-ltb (length front) most_rows room)
-    ∙ rows-read now fits rows (All-tail IsSpelled row rows are) (All-tail (λ r. can_be_set r ≡ true) row rows may) (All-tail HasShortCall row rows short) (k + 1) (front ++ row ∷ []) (omega (arith, few, length-append front (row ∷ [])))
-    ∙ ap Ok (append_assoc front (row ∷ []) rows)
 
 -- ---- they are short
 
@@ -259,15 +370,7 @@ line_short now row fits short =
       length-append (hex_text (set_bytes row)) (codes "\n"),
     )
 
-lines_short : (now : ℕ) → now < 2 ^ 64 → (rows : List Row) → All HasShortCall rows → length (rows_text now rows) ≤ 1000 * length rows
+pub lines_short : (now : ℕ) → now < 2 ^ 64 → (rows : List Row) → All HasShortCall rows → length (rows_text now rows) ≤ 1000 * length rows
 lines_short now fits [] short = omega arith
 lines_short now fits (row ∷ rows) short =
     omega (arith, line_short now row fits (All-head HasShortCall row rows short), lines_short now fits rows (All-tail HasShortCall row rows short), length-append (row_line now row) (rows_text now rows))
-
-pub kept_text_is_read : KeptTextIsRead
-unfolding read longest_input
-kept_text_is_read s r fits few =
-    let short : All HasShortCall (set_rows s) = kept_calls_are_short s r in
-    let small : length (rows_text s.clock (set_rows s)) ≤ longest_input = omega (arith, few, lines_short s.clock fits (set_rows s) short) in
-    ap read (kept_lines s.clock (set_rows s))
-    ∙ rw (le-ltb longest_input (length (rows_text s.clock (set_rows s))) small) (rows-read s.clock fits (set_rows s) (rows_are_spelled s r) (rows_can_be_set s r.reached) short 1 [] (omega (arith, few)))

@@ -1,7 +1,10 @@
-pub mod Written
 pub mod Calls
+pub mod SameRows
 pub mod Walks
 pub mod Turns
+pub mod Parts
+pub mod Distinct
 pub mod KeptLaws
 pub mod TextLaws
+pub mod Leads
 pub mod OnLiterals

@@ -7,10 +7,10 @@ pub enum KeepFault {
     /// The line of this number is no event line.
     #[error("line {0}: bad event")]
     BadLine(usize),
-    /// The line of this number is an event line, but not that of a row that was kept.
+    /// The line of this number is an event line, but not that of a row that was kept or went.
     #[error("line {0}: sets no row that was kept")]
     NotKept(usize),
-    /// The line of this number keeps a row after 4,096 others.
+    /// The line of this number adds a row to 4,096 others.
     #[error("line {0}: too many rows")]
     TooMany(usize),
     /// The text has over 16,777,216 bytes.

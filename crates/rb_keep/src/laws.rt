@@ -1,11 +1,13 @@
 //! What holds of the definitions.
-ghost use Rattle.rb_keep.specs.KeptLaws.{LinesKeepTheirRows, LinesOfRowsKeepThem, ReadsTheRows, KeptTextIsRead};
+ghost use Rattle.rb_keep.specs.KeptLaws.{LinesKeepTheirRows, LinesRemoveTheirRows, LinesOfRowsKeepThem, ReadsTheRows, KeptTextIsRead, FirstChangesAreWhole, ChangesAreRead};
 
-/// A line keeps no row but the one that it sets again; and if bytes can spell a row, at an address of at most 128
-/// bytes, a line that sets it again keeps it. A text reads as the rows of its lines, exactly if it is short enough,
-/// each line that says something keeps one, and they are at most 4,096.
+/// A line keeps no row but the one that it sets again, and takes out none but the one that it removes; and if bytes can
+/// spell a row, at an address of at most 128 bytes, a line that sets it again keeps it. A text reads as the rows that
+/// its lines leave, one after another, exactly if it is short enough, each line that says something is one of a row,
+/// and the rows never are more than 4,096.
 pub fn kept_lines_are_read()
     ensures lines { LinesKeepTheirRows }
+    ensures removals { LinesRemoveTheirRows }
     ensures rows { LinesOfRowsKeepThem }
     ensures text { ReadsTheRows }
 {}
@@ -14,4 +16,12 @@ pub fn kept_lines_are_read()
 /// as the rows that were set, in their order.
 pub fn kept_text_is_read()
     ensures { KeptTextIsRead }
+{}
+
+/// The lines of a change from no rows are all that is kept of a state. The lines of changes from no rows through any
+/// such states, one after another, are read as the rows of the last one, in their order, also if a line behind them
+/// was not written to its end.
+pub fn changes_are_read()
+    ensures first { FirstChangesAreWhole }
+    ensures changes { ChangesAreRead }
 {}

@@ -1,13 +1,14 @@
-//! A text of kept rows is read: each line that says something has to be that of a row.
+//! A text of kept rows is read: each line that says something has to be that of a row that came or went.
 ghost use Rattle.std.specs.Prelude.{◌≡◌, [], IfOk};
 ghost use Rattle.rb_proto.specs.Callers.{owner_named};
 ghost use Rattle.rb_proto.specs.Answers.{row_of_rpcb};
 ghost use Rattle.rb_model.specs.Plain.{event_of};
 ghost use Rattle.rb_lines.specs.Lines.{lines_of};
-ghost use Rattle.rb_keep.specs.Reading.{is_this_machine, row_of_request, row_asked, row_set, kept_row, kept_line, with_text, rows_from, read, Gives, after_line, result_items};
+ghost use Rattle.rb_keep.specs.Reading.{is_this_machine, row_of_request, row_asked, row_set, row_unset, kept_row, gone_row, kept_line, is_named, without, with_text, rows_from, whole_part, read, Gives, after_line, result_items};
 
-use crate::call::{set_call, this_machine};
+use crate::call::{SET, UNSET, set_call, this_machine, unset_call};
 use crate::fault::KeepFault;
+use crate::writing::is_same_owner;
 use rb_address::{Netid, Owner, Who};
 use rb_arguments::{LentRpcb, Request, RpcbProcedure, read_args};
 use rb_lines::{Line, longest_input, read_line};
@@ -28,6 +29,8 @@ pub enum KeptLine {
     Skipped,
     /// This row.
     Keeps(Row),
+    /// It takes out the row of this program, version, netid and owner.
+    Removes(Row),
     /// It is the line of another event.
     NotKept,
     /// It is no event line.
@@ -67,25 +70,25 @@ fn row_of(owner: Owner, rpcb: &LentRpcb) -> Option<Row>
     })
 }
 
-/// The row that a request asks to be set, of this owner.
+/// The row that a request asks to be set or removed, of this owner.
 fn row_of_request(owner: Owner, request: &Request<'_>) -> Option<Row>
     ensures { result ≡ row_of_request owner request.now }
 {
     match request {
-        Request::Rpcb(RpcbProcedure::Set, rpcb) => row_of(owner, rpcb),
+        Request::Rpcb(RpcbProcedure::Set | RpcbProcedure::Unset, rpcb) => row_of(owner, rpcb),
         _ => None,
     }
 }
 
-/// The row that a SET of version 4 in these bytes asks for.
+/// The row that a call of this procedure of version 4 in these bytes asks for.
 #[tactic(auto, unfolding(crate::specs::Reading::row_asked))]
-fn row_asked(bytes: &[u8]) -> Option<Row>
-    ensures { result ≡ row_asked bytes.now }
+fn row_asked(proc: u32, bytes: &[u8]) -> Option<Row>
+    ensures { result ≡ row_asked proc bytes.now }
 {
     let Verdict::Call(head, used) = read_call(bytes) else {
         return None;
     };
-    let Ok(request) = read_args(4, 1, &bytes[used..]) else {
+    let Ok(request) = read_args(4, proc, &bytes[used..]) else {
         return None;
     };
     row_of_request(owner_named(head.cred), &request)
@@ -96,8 +99,21 @@ fn row_asked(bytes: &[u8]) -> Option<Row>
 fn row_set(bytes: &[u8]) -> Option<Row>
     ensures { result ≡ row_set bytes.now }
 {
-    let row = row_asked(bytes)?;
+    let row = row_asked(SET, bytes)?;
     if set_call(&row).as_slice() == bytes {
+        Some(row)
+    } else {
+        None
+    }
+}
+
+/// The row that these bytes remove: they are just those of its call.
+#[tactic(auto, unfolding(crate::specs::Reading::row_unset))]
+fn row_unset(bytes: &[u8]) -> Option<Row>
+    ensures { result ≡ row_unset bytes.now }
+{
+    let row = row_asked(UNSET, bytes)?;
+    if unset_call(&row).as_slice() == bytes {
         Some(row)
     } else {
         None
@@ -115,6 +131,17 @@ fn kept_row(event: &Event) -> Option<Row>
     }
 }
 
+/// The row that an event removes.
+#[tactic(auto, unfolding(crate::specs::Reading::gone_row))]
+fn gone_row(event: &Event) -> Option<Row>
+    ensures { result ≡ gone_row (event_of event.now) }
+{
+    match event {
+        Event::Datagram(_, who, content) if is_this_machine(who) => row_unset(content),
+        _ => None,
+    }
+}
+
 /// What a line keeps.
 #[tactic(auto, unfolding(crate::specs::Reading::kept_line))]
 fn kept_line(alloc: Global, text: &[u8]) -> Result<KeptLine, NoMemory>
@@ -125,13 +152,35 @@ fn kept_line(alloc: Global, text: &[u8]) -> Result<KeptLine, NoMemory>
         Line::Bad => KeptLine::Bad,
         Line::Happens(event) => match kept_row(&event) {
             Some(row) => KeptLine::Keeps(row),
-            None => KeptLine::NotKept,
+            None => match gone_row(&event) {
+                Some(row) => KeptLine::Removes(row),
+                None => KeptLine::NotKept,
+            },
         },
     };
     Ok(kept)
 }
 
-/// Adds what the line of this number keeps.
+/// Whether the row is the one that went: its address is not named.
+#[tactic(auto, unfolding(rb_registry::specs::Rows::is_row, rb_registry::specs::Rows::is_on))]
+fn is_named(gone: &Row, row: &Row) -> bool
+    ensures { result ≡ is_named gone.now row.now }
+{
+    gone.prog == row.prog
+        && gone.netid.is(row.netid)
+        && gone.vers == row.vers
+        && is_same_owner(gone.owner, row.owner)
+}
+
+/// Takes the row out that went.
+#[tactic(auto, unfolding(crate::specs::Reading::without))]
+fn take_out(gone: &Row, rows: &mut Vec<Row>)
+    ensures { rows.new.items ≡ without gone.now rows.old.items }
+{
+    rows.retain(|row| !is_named(gone, row));
+}
+
+/// Adds what the line of this number keeps, or takes out what it removes.
 fn take_line(
     alloc: Global,
     rows: &mut Vec<Row>,
@@ -145,6 +194,10 @@ fn take_line(
         Ok(KeptLine::Skipped) => Ok(()),
         Ok(KeptLine::Bad) => Err(KeepFault::BadLine(number)),
         Ok(KeptLine::NotKept) => Err(KeepFault::NotKept(number)),
+        Ok(KeptLine::Removes(row)) => {
+            take_out(&row, rows);
+            Ok(())
+        }
         Ok(KeptLine::Keeps(_)) if rows.len() >= MOST_ROWS => Err(KeepFault::TooMany(number)),
         Ok(KeptLine::Keeps(row)) => rows.push(row).map_err(|_| KeepFault::NoMemory),
     }
@@ -163,13 +216,25 @@ fn read_lines(alloc: Global, text: &[u8]) -> Result<Vec<Row>, KeepFault>
     Ok(rows)
 }
 
-/// The rows of a text of kept rows, in their order. Each line that says something has to be that of a row, as
-/// `write_rows` writes it, at any moment: a datagram from port 0 of 127.0.0.1 with the bytes of the call that sets
-/// the row again.
+/// The part of a text up to its last line feed. What is behind it was not written whole, and is not read.
+#[tactic(auto, unfolding(crate::specs::Reading::whole_part))]
+pub fn whole_part(text: &[u8]) -> &[u8]
+    ensures { result.now ≡ whole_part text.now }
+{
+    let mut end = text.len();
+    'feed: while end > 0 && text[end - 1] != b'\n' {
+        end -= 1;
+    }
+    &text[..end]
+}
+
+/// The rows that the lines of a text of kept rows leave, in their order, up to its last line feed. Each line that says
+/// something has to be one that `write_changes` writes, at any moment: a datagram from port 0 of 127.0.0.1 with the
+/// bytes of the call that sets a row, which adds it, or of the call that removes it, which takes it out.
 ///
 /// The first line that is not names the fault: `BadLine` if it is no event line, `NotKept` if it is another, and
-/// `TooMany` if it is that of a row after 4,096 others. A text of more than 16,777,216 bytes is `TooLong`,
-/// whatever it says. `NoMemory` if an allocation was refused.
+/// `TooMany` if it adds a row to 4,096 others. A text of more than 16,777,216 bytes is `TooLong`, whatever it says.
+/// `NoMemory` if an allocation was refused.
 #[tactic(auto, unfolding(crate::specs::Reading::read))]
 pub fn read_rows(alloc: Global, text: &[u8]) -> Result<Vec<Row>, KeepFault>
     ensures { Gives (result_items result) (read text.now) }
@@ -177,5 +242,5 @@ pub fn read_rows(alloc: Global, text: &[u8]) -> Result<Vec<Row>, KeepFault>
     if text.len() > longest_input() {
         return Err(KeepFault::TooLong);
     }
-    read_lines(alloc, text)
+    read_lines(alloc, whole_part(text))
 }
