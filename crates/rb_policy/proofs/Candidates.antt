@@ -10,7 +10,7 @@ use Rattle.std.specs.Ordering.{is_lt, ordering_reverse}
 use Rattle.std.specs.Cmp.{IsTotalOrder, bool_cmp_total}
 use Rattle.std.proofs.lemmas.Cmp.{nat_cmp_total, on_total, then_total}
 use Rattle.std.proofs.lemmas.Bool.{cond-true}
-use Rattle.rb_policy.specs.declared.door.Origin.{Origin}
+use Rattle.rb_policy.specs.declared.origin.Origin.{Origin}
 use Rattle.rb_policy.specs.declared.door.Holder.{Holder}
 use Rattle.rb_policy.specs.declared.door.Candidate.{Candidate}
 use Rattle.rb_policy.specs.Door.{Places, rank, candidate_of, by_precedence, GoesBefore, MayBeGivenUp, IsGivenUp}
@@ -18,12 +18,13 @@ use Rattle.rb_policy.specs.Candidates.{candidate_at, held_candidate, first_of, I
 
 pub by_precedence_total : IsTotalOrder by_precedence
 by_precedence_total =
-    then_total (then_total (then_total (then_total (then_total
-    (on_total (λ s. s.is_within_share) bool_cmp_total)
+    then_total (then_total (then_total (then_total (then_total (then_total
+    (on_total (λ s. s.class) nat_cmp_total)
+    (on_total (λ s. s.is_within_share) bool_cmp_total))
     (on_total (λ s. s.is_local) bool_cmp_total))
     (on_total (λ s. s.is_active) bool_cmp_total))
     (on_total (λ s. rank s.standing) nat_cmp_total))
-    (on_total (λ s. s.since) nat_cmp_total))
+    (on_total (λ s. s.goes_by) nat_cmp_total))
     (on_total (λ s. s.place) nat_cmp_total)
 
 less_is : (o : Ordering) → is_lt o ≡ true → o ≡ Less

@@ -3,12 +3,14 @@ use Rattle.std.proofs.Common.{◌≡◌, ◌<◌, ◌+◌, ℕ, suc, Bool, true,
 use Rattle.std.specs.Prelude.{count_by, position}
 use Rattle.std.proofs.lemmas.Bool.Decides.{nat_tests}
 use Rattle.std.proofs.lemmas.List.Sums.{sum_by-cons}
-use Rattle.rb_policy.specs.declared.door.Origin.{Origin}
+use Rattle.rb_policy.specs.declared.origin.Origin.{Origin}
+use Rattle.rb_policy.specs.declared.origin.Origin.TheVariants.{Host, User, Nobody, New, Waiting, Ended}
+use Rattle.rb_policy.specs.Origins.{share_of, is_roots}
 use Rattle.rb_policy.specs.declared.door.Holder.{Holder}
-use Rattle.rb_policy.specs.Door.{Places, is_free, is_held_by, count_held_by, share, may_hold_more}
+use Rattle.rb_policy.specs.Door.{Places, is_free, is_held_by, count_held_by, may_hold_more}
 use Rattle.rb_policy.specs.Candidates.{NobodyMayBeGivenUp}
 
-some_counted : {X : Type 0} (p : X → Bool) (xs : List X) → 0 < count_by p xs → (k : ℕ) × (x : X) × (slice_get xs k ≡ Some x) × (p x ≡ true)
+pub some_counted : {X : Type 0} (p : X → Bool) (xs : List X) → 0 < count_by p xs → (k : ℕ) × (x : X) × (slice_get xs k ≡ Some x) × (p x ≡ true)
 some_counted p [] some = absurd (omega (arith, some))
 some_counted {X} p (x ∷ xs) some = at (p x) refl (λ more. some_counted p xs more)
   where
@@ -21,16 +23,24 @@ some_counted {X} p (x ∷ xs) some = at (p x) refl (λ more. some_counted p xs m
         let found = further (omega (arith, some_more)) in
         (suc found.0, found.1, found.2, found.3)
 
-at_share : (local : Bool) (held all : ℕ) → (local || nat_lt held (share all)) ≡ false → 0 < held
-at_share local held all e = grind (arith, nat_tests, e)
+some_share : (origin : Origin) (all : ℕ) → 0 < share_of origin all
+some_share (Host host) all = grind (arith, nat_tests)
+some_share (User uid) all = grind (arith, nat_tests)
+some_share Nobody all = grind (arith, nat_tests)
+some_share New all = grind (arith, nat_tests)
+some_share Waiting all = grind (arith, nat_tests)
+some_share Ended all = grind (arith, nat_tests)
+
+at_share : (root : Bool) (held share : ℕ) → (root || nat_lt held share) ≡ false → 0 < share → 0 < held
+at_share root held share e some = grind (arith, nat_tests, e, some)
 
 own : (places : Places) (newcomer : Origin) → may_hold_more places newcomer ≡ false → ¬ NobodyMayBeGivenUp places newcomer
 own places newcomer full nobody =
-    let some = at_share newcomer.is_local (count_held_by places newcomer.host) (length places) full in
-    let found = some_counted (is_held_by newcomer.host) places some in
+    let some = at_share (is_roots newcomer) (count_held_by places newcomer) _ full (some_share newcomer (length places)) in
+    let found = some_counted (is_held_by newcomer) places some in
     of found.0 found.1 found.2 found.3
   where
-    of : (k : ℕ) (held : Option Holder) → slice_get places k ≡ Some held → is_held_by newcomer.host held ≡ true → ⊥
+    of : (k : ℕ) (held : Option Holder) → slice_get places k ≡ Some held → is_held_by newcomer held ≡ true → ⊥
     of k None at e = grind (arith, e)
     of k (Some holder) at e = nobody k holder (record { holds = at; may = grind (arith, e) })
 

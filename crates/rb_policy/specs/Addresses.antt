@@ -1,5 +1,5 @@
 -- The hosts that the daemon is given, which of them it binds, and what it announces and forwards from.
-use Rattle.std.specs.Prelude.{ℕ, Bool, true, false, not, ◌&&◌, ◌||◌, List, [], ◌∷◌, Option, Some, None}
+use Rattle.std.specs.Prelude.{ℕ, ◌==◌, if◌then◌else◌, Bool, true, false, not, ◌&&◌, ◌||◌, List, [], ◌∷◌, Option, Some, None}
 use Rattle.std.specs.List.{list_any}
 use Rattle.rb_address.specs.declared.host.Host.{Host}
 use Rattle.rb_address.specs.declared.host.Host.TheVariants.{V4, V6}
@@ -94,14 +94,14 @@ inet_or_loopback (Some octets) = V4 octets
 inet_or_loopback None = V4 loopback
 
 -- BIND-3: Calls are forwarded to a target from the first host of its family that is listened on; to
--- one of IPv4 from 127.0.0.1 if there is none.
-abbrev pub forwards_inet : List Host → Host
-forwards_inet hosts = inet_or_loopback (served_inet hosts)
+-- one of IPv4 from 127.0.0.1 if there is none. With `--forwards 0` no socket is opened for them.
+abbrev pub forwards_inet : List Host → ℕ → Option Host
+forwards_inet hosts most = if most == 0 then None else Some (inet_or_loopback (served_inet hosts))
 
 abbrev pub inet6_host : Option (List ℕ) → Option Host
 inet6_host (Some octets) = Some (V6 octets)
 inet6_host None = None
 
 -- BIND-3
-abbrev pub forwards_inet6 : List Host → Bool → Option Host
-forwards_inet6 hosts wanted = inet6_host (served_inet6 hosts wanted)
+abbrev pub forwards_inet6 : List Host → Bool → ℕ → Option Host
+forwards_inet6 hosts wanted most = if most == 0 then None else inet6_host (served_inet6 hosts wanted)

@@ -1,17 +1,16 @@
 -- For the search of who is given up: the holder of each place, and which of two goes first.
-use Rattle.std.specs.Prelude.{◌≡◌, ℕ, ◌<◌, ◌||◌, slice_get, Option, Some, None, if◌then◌else◌}
+use Rattle.std.specs.Prelude.{◌≡◌, ℕ, ◌<◌, slice_get, Option, Some, None, if◌then◌else◌}
 use Rattle.std.specs.Ordering.{is_lt}
-use Rattle.rb_address.specs.Hosts.{is_same_host}
-use Rattle.rb_policy.specs.declared.door.Origin.{Origin}
+use Rattle.rb_policy.specs.declared.origin.Origin.{Origin}
 use Rattle.rb_policy.specs.declared.door.Holder.{Holder}
 use Rattle.rb_policy.specs.declared.door.Candidate.{Candidate}
-use Rattle.rb_policy.specs.Door.{Places, candidate_of, by_precedence, may_hold_more, GoesBefore, MayBeGivenUp}
+use Rattle.rb_policy.specs.Door.{Places, candidate_of, by_precedence, may_hold_more, may_go, GoesBefore, MayBeGivenUp}
 
 abbrev pub held_candidate : Places → Origin → ℕ → ℕ → Option (Option Holder) → Option Candidate
 held_candidate places newcomer now place None = None
 held_candidate places newcomer now place (Some None) = None
 held_candidate places newcomer now place (Some (Some holder)) =
-    if may_hold_more places newcomer || is_same_host holder.origin.host newcomer.host then Some (candidate_of places now place holder) else None
+    if may_go (may_hold_more places newcomer) newcomer holder.origin then Some (candidate_of places now place holder) else None
 
 -- the holder of a place, if there is one that may be given up for the newcomer
 abbrev pub candidate_at : Places → Origin → ℕ → ℕ → Option Candidate

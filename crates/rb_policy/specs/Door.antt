@@ -1,21 +1,17 @@
 -- Who gets a place for a connection, and who is given up for it.
-use Rattle.std.specs.Prelude.{◌≡◌, ℕ, ◌-◌, ◌/◌, max, true, false, nat_lt, Bool, not, ◌||◌, if◌then◌else◌, IsTrue, List, [], ◌∷◌, length, slice_get, count_by, position, Option, Some, None}
+use Rattle.std.specs.Prelude.{◌≡◌, ℕ, true, false, nat_lt, Bool, not, ◌||◌, if◌then◌else◌, IsTrue, List, [], length, slice_get, count_by, position, Option, Some, None}
 use Rattle.std.specs.declared.cmp.Ordering.{Ordering}
 use Rattle.std.specs.declared.cmp.Ordering.TheVariants.{Less}
 use Rattle.std.specs.Ordering.{nat_cmp, bool_cmp, on, then_cmp}
-use Rattle.rb_address.specs.declared.host.Host.{Host}
-use Rattle.rb_address.specs.declared.host.Host.TheVariants.{V4}
-use Rattle.rb_address.specs.declared.who.Source.{Source}
-use Rattle.rb_address.specs.declared.who.Source.TheVariants.{Inet, Local}
-use Rattle.rb_address.specs.Hosts.{is_loopback, is_same_host}
 use Rattle.rb_forward.specs.Forwards.{later}
 use Rattle.rb_model.specs.declared.types.Standing.{Standing}
 use Rattle.rb_model.specs.declared.types.Standing.TheVariants.{Idle, Reading, Owing, Awaiting, Sends, Lost}
-use Rattle.rb_policy.specs.declared.door.Origin.{Origin}
+use Rattle.rb_policy.specs.declared.origin.Origin.{Origin}
 use Rattle.rb_policy.specs.declared.door.Holder.{Holder}
 use Rattle.rb_policy.specs.declared.door.Candidate.{Candidate}
 use Rattle.rb_policy.specs.declared.door.Admission.{Admission}
 use Rattle.rb_policy.specs.declared.door.Admission.TheVariants.{Take, GiveUp, Close}
+use Rattle.rb_policy.specs.Origins.{is_same_origin, is_roots, is_ended, share_of, class_of, is_local, is_active, goes_by}
 
 -- of the places for connections, each is free or has a holder
 abbrev pub Places : Type 0
@@ -30,12 +26,6 @@ is_free (Some holder) = false
 -- A connection's progress is its opening, a record that ended, and bytes of a reply that its socket took. It is
 -- Awaiting while its call is forwarded, Owing while its socket has not taken all that it is owed, Reading while its
 -- first call, or the rest of one, is still to come, and otherwise Idle.
-
--- DOOR-5: A client is of this host if it comes from 127.0.0.0/8, from ::1 or by the local socket,
--- which has the host 127.0.0.1 as far as shares go.
-abbrev pub origin_of : Source → Origin
-origin_of (Inet peer) = record { host = peer.host; is_local = is_loopback peer.host }
-origin_of Local = record { host = V4 (127 ∷ 0 ∷ 0 ∷ 1 ∷ []); is_local = true }
 
 -- where it stands outside: what the core gave is owed until the socket has taken it
 -- DOOR-6: A connection whose outbox holds bytes is Owing, though the core counts them as given,
@@ -67,25 +57,21 @@ stuck_at since = later since owed_for
 
 -- ---- shares
 
--- the number of places that one host may hold while others want some
-abbrev pub share : ℕ → ℕ
-share places = max (places / 2) 1
+abbrev pub is_held_by : Origin → Option Holder → Bool
+is_held_by origin None = false
+is_held_by origin (Some holder) = is_same_origin holder.origin origin
 
-abbrev pub is_held_by : Host → Option Holder → Bool
-is_held_by host None = false
-is_held_by host (Some holder) = is_same_host holder.origin.host host
+abbrev pub count_held_by : Places → Origin → ℕ
+count_held_by places origin = count_by (is_held_by origin) places
 
-abbrev pub count_held_by : Places → Host → ℕ
-count_held_by places host = count_by (is_held_by host) places
-
--- whether a peer may hold one place more; of this host it always may
+-- whether an origin may hold one place more; root always may
 -- DOOR-4
 abbrev pub may_hold_more : Places → Origin → Bool
-may_hold_more places peer = peer.is_local || nat_lt (count_held_by places peer.host) (share (length places))
+may_hold_more places origin = is_roots origin || nat_lt (count_held_by places origin) (share_of origin (length places))
 
--- whether a peer's host holds no more than its share; this host never does
+-- whether an origin holds no more than its share; root never does
 abbrev pub is_within_share : Places → Origin → Bool
-is_within_share places peer = peer.is_local || not (nat_lt (share (length places)) (count_held_by places peer.host))
+is_within_share places origin = is_roots origin || not (nat_lt (share_of origin (length places)) (count_held_by places origin))
 
 -- ---- who is given up
 
@@ -98,50 +84,50 @@ rank Owing = 2
 rank Awaiting = 3
 rank Sends = 3
 
--- for how long after its last progress a connection is active, in milliseconds
-abbrev pub active_for : ℕ
-active_for = 1000
-
 -- the holder of a place, as it stands at a moment
 abbrev pub candidate_of : Places → ℕ → ℕ → Holder → Candidate
 candidate_of places now place holder = record {
+  class = class_of holder.origin;
   is_within_share = is_within_share places holder.origin;
-  is_local = holder.origin.is_local;
-  is_active = nat_lt (now - holder.since) active_for;
+  is_local = is_local holder.origin;
+  is_active = is_active holder.origin holder.since now;
   standing = holder.standing;
-  since = holder.since;
+  goes_by = goes_by holder.origin holder.since;
   place = place;
 }
 
 -- The order in which holders are given up. Of two that differ in one of these, and in none before it, first goes: who
--- is over the share; who is of another host; who made no progress of late; who stands earlier; who has made none for
--- longer; and who has the lower place.
--- DOOR-2: Of the connections that may be given up it is the one that no other goes before: first
--- goes one of a host over its share, then one that is not of this host.
+-- has ended, and last root; who is over the share; who is of another host; who made no progress of late; who stands
+-- earlier; who has made none for longer, or came later to wait for the tables; and who has the lower place.
+-- DOOR-2: Of the connections that may be given up it is the one that no other goes before: of those that are equal by
+-- DOOR-10, first goes one that counts among more than their share, then one that is not of this host.
 -- DOOR-3: Of several connections that are equal by DOOR-2, first goes one without progress in the
 -- last 1,000 ms; then Idle (and Lost) before Reading before Owing before Awaiting (and Sends); then
 -- the one without progress for longest; then the one of the lower place.
 abbrev pub by_precedence : Candidate → Candidate → Ordering
 by_precedence =
-    then_cmp (then_cmp (then_cmp (then_cmp (then_cmp
-    (on (λ s. s.is_within_share) bool_cmp)
+    then_cmp (then_cmp (then_cmp (then_cmp (then_cmp (then_cmp
+    (on (λ s. s.class) nat_cmp)
+    (on (λ s. s.is_within_share) bool_cmp))
     (on (λ s. s.is_local) bool_cmp))
     (on (λ s. s.is_active) bool_cmp))
     (on (λ s. rank s.standing) nat_cmp))
-    (on (λ s. s.since) nat_cmp))
+    (on (λ s. s.goes_by) nat_cmp))
     (on (λ s. s.place) nat_cmp)
 
 abbrev pub GoesBefore : Candidate → Candidate → Type 0
 GoesBefore a b = by_precedence a b ≡ Less
 
--- The holder of a place may be given up for a newcomer: any, if the newcomer may hold one place more, and else one
--- of its own host.
--- DOOR-4: One host may hold half of the places, and at least one, while others want some: if it
--- holds as many, a client of it takes the place of another of its own. Clients of this host are not
--- counted in this way.
+-- A connection may be given up for a newcomer: any, if the newcomer's origin may hold one place more, and else one of the
+-- same origin, or one that has ended.
+-- DOOR-4
+abbrev pub may_go : Bool → Origin → Origin → Bool
+may_go may_be_any newcomer origin = may_be_any || (is_same_origin origin newcomer || is_ended origin)
+
+-- DOOR-4
 pub record MayBeGivenUp (places : Places) (newcomer : Origin) (place : ℕ) (holder : Holder) : Type 0 where
   pub holds : slice_get places place ≡ Some (Some holder)
-  pub may : IsTrue (may_hold_more places newcomer || is_same_host holder.origin.host newcomer.host)
+  pub may : IsTrue (may_go (may_hold_more places newcomer) newcomer holder.origin)
 
 -- DOOR-2
 pub record IsGivenUp (places : Places) (newcomer : Origin) (now : ℕ) (place : ℕ) : Type 0 where

@@ -41,6 +41,7 @@ evidence_in None = NotFound
 
 -- by the uid that a walk through a table has seen, if it came to the end
 -- TABLES-2
+-- TABLES-3: A table of which a walk did not come to the end counts as one that can't be read.
 abbrev pub evidence_of : Bool → Option ℕ → Evidence
 evidence_of is_whole uid = if is_whole then evidence_in uid else Unread
 
@@ -49,9 +50,20 @@ is_not_found (Found uid) = false
 is_not_found NotFound = true
 is_not_found Unread = false
 
--- TABLES-4: Between two readings of the kernel's tables lie at least 20 ms. If connections wait for
--- one, a turn waits no longer than until it may come.
--- TABLES-3: A table of the kernel of more than 1,048,576 bytes counts as one that can't be read.
--- TABLES-7: A connection that is still connected though a pass through the kernel's tables shows no user of it is looked for in one more pass.
+-- TABLES-7: A connection that is still connected though a pass through the kernel's tables shows no user of it is looked for
+-- in one more pass, unless its client has ended what it sends.
 abbrev pub looks_again : ℕ → Evidence → Bool
 looks_again passes known = is_not_found known && nat_lt passes 2
+
+-- by what was found and whether it is connected still
+abbrev pub known_of : Evidence → Bool → Evidence
+known_of (Found uid) is_connected = if is_connected then Found uid else NotFound
+known_of NotFound is_connected = NotFound
+known_of Unread is_connected = Unread
+
+-- what is known after so many passes, by what the last one shows; none if there is one more
+-- TABLES-5: The uid that the kernel's tables show counts only if the connection is still connected after they were read;
+-- otherwise its owner is unknown.
+abbrev pub shown_after : ℕ → Evidence → Bool → Bool → Option Evidence
+shown_after passes known is_connected has_ended =
+    if looks_again passes known && (is_connected && not has_ended) then None else Some (known_of known is_connected)

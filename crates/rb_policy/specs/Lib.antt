@@ -20,10 +20,14 @@ pub mod Recents
 pub mod Places
 pub mod Brake
 pub mod BrakeLaws
+pub mod Origins
 pub mod Door
 pub mod Candidates
 pub mod DoorLaws
 pub mod CallerRates
 pub mod LogRate
 pub mod LogLines
+pub mod LogChoice
 pub mod LogLaws
+pub mod Handed
+pub mod Watchdogs

@@ -41,10 +41,10 @@ wait_of false now due longest = sooner_of (time_until now due) longest
 
 -- how many connections a turn accepts, if this many of all places are free when it begins to accept
 -- ACCEPT-3: Connections are accepted last in a turn, on all listeners together at most 64, and no
--- more than places are free then; if none is free, at most half of the places change hands, or the
--- only one.
+-- more than places are free then; if none is free, at most an eighth of the places change hands, and at
+-- least one.
 abbrev pub accept_count : ℕ → ℕ → ℕ
-accept_count free all = if free == 0 then min (max (all / 2) 1) socket_calls else min free socket_calls
+accept_count free all = if free == 0 then min (max (all / 8) 1) socket_calls else min free socket_calls
 
 -- how many places there are, of this many that are asked for, if of this many descriptors that many are others': one
 -- more is kept for whoever comes when all places are taken

@@ -24,7 +24,7 @@ fn is_any6(host: Host) -> bool
     }
 }
 
-fn is_same(a: Host, b: Host) -> bool
+pub(crate) fn is_same(a: Host, b: Host) -> bool
     ensures { result ≡ is_same a b }
 {
     a == b
@@ -135,20 +135,28 @@ pub fn announced_inet6(
     }
 }
 
-/// The host that calls to targets of IPv4 are forwarded from: the first that is listened on, or 127.0.0.1.
-pub fn forwards_inet(hosts: &[Host]) -> Host
-    ensures { result ≡ forwards_inet hosts.now }
+/// The host that calls to targets of IPv4 are forwarded from, if there may be this many at a time: the first that is listened
+/// on, or 127.0.0.1; none if none is forwarded.
+pub fn forwards_inet(hosts: &[Host], most: usize) -> Option<Host>
+    ensures { result ≡ forwards_inet hosts.now most }
 {
+    if most == 0 {
+        return None;
+    }
     match served_inet(hosts) {
-        Some(first) => Host::V4(first),
-        None => Host::V4(LOOPBACK),
+        Some(first) => Some(Host::V4(first)),
+        None => Some(Host::V4(LOOPBACK)),
     }
 }
 
-/// The host that calls to targets of IPv6 are forwarded from: the first that is listened on, if there is one.
-pub fn forwards_inet6(hosts: &[Host], is_loopback6: bool) -> Option<Host>
-    ensures { result ≡ forwards_inet6 hosts.now is_loopback6 }
+/// The host that calls to targets of IPv6 are forwarded from, if there may be this many at a time: the first that is listened
+/// on, if there is one; none if none is forwarded.
+pub fn forwards_inet6(hosts: &[Host], is_loopback6: bool, most: usize) -> Option<Host>
+    ensures { result ≡ forwards_inet6 hosts.now is_loopback6 most }
 {
+    if most == 0 {
+        return None;
+    }
     match served_inet6(hosts, is_loopback6) {
         Some(first) => Some(Host::V6(first)),
         None => None,

@@ -1,13 +1,12 @@
 //! Who gets a place for a connection, and who is given up for it if all are taken.
 ghost use Rattle.std.specs.Prelude.{◌≡◌, ◌<◌, length, position, IfNone, IfSome};
-ghost use Rattle.rb_policy.specs.Door.{is_free, count_held_by, is_held_by, share, may_hold_more, is_within_share, IsGivenUp, IsAdmitted, origin_of, rank, standing_outside, stuck_at};
+ghost use Rattle.rb_policy.specs.Door.{is_free, count_held_by, is_held_by, may_hold_more, is_within_share, may_go, IsGivenUp, IsAdmitted, rank, standing_outside, stuck_at};
 ghost use Rattle.rb_policy.specs.Candidates.{candidate_at, first_of, NobodyMayBeGivenUp};
 
-use rb_address::{Host, Source};
+use crate::origin::{
+    Origin, class_of, goes_by, is_active, is_ended, is_local, is_roots, is_same_origin, share_of,
+};
 use rb_model::Standing;
-
-/// The milliseconds after its last progress for which a connection is active.
-pub const ACTIVE: u64 = 1_000;
 
 /// The milliseconds that bytes that are owed may wait for the socket to take some.
 pub const OWED: u64 = 30_000;
@@ -40,36 +39,10 @@ fn rank(standing: Standing) -> u8
     }
 }
 
-/// Where a connection came from.
-#[derive(Clone, Copy)]
-pub struct Origin {
-    /// The peer's host.
-    pub host: Host,
-    /// Whether that is of this host.
-    pub is_local: bool,
-}
-
-/// Where a connection came from, by its source: of this host are 127.0.0.0/8, ::1 and the local socket, which has the
-/// host 127.0.0.1 here. Nobody else may register, unless what callers claim is believed.
-pub fn origin_of(source: Source) -> Origin
-    ensures { result ≡ origin_of source }
-{
-    match source {
-        Source::Inet(peer) => Origin {
-            host: peer.host(),
-            is_local: peer.is_loopback(),
-        },
-        Source::Local => Origin {
-            host: Host::V4([127, 0, 0, 1]),
-            is_local: true,
-        },
-    }
-}
-
 /// What is kept of the connection that holds a place.
 #[derive(Clone, Copy)]
 pub struct Holder {
-    /// Where it came from.
+    /// Among whose connections it counts.
     pub origin: Origin,
     /// Where it stands. It is Owing, too, while its socket has not taken all of its replies.
     pub standing: Standing,
@@ -101,11 +74,12 @@ pub enum Admission {
 /// A connection that may be given up, as far as that decides who is.
 #[derive(Clone, Copy)]
 struct Candidate {
+    class: u8,
     is_within_share: bool,
     is_local: bool,
     is_active: bool,
     standing: Standing,
-    since: u64,
+    goes_by: u64,
     place: usize,
 }
 
@@ -164,16 +138,24 @@ fn candidate_at(
     ensures { result ≡ candidate_at places.now newcomer.now now place }
 {
     match &places[place] {
-        Some(holder) if may_be_any || holder.origin.host == newcomer.host => Some(Candidate {
+        Some(holder) if may_go(may_be_any, newcomer, &holder.origin) => Some(Candidate {
+            class: class_of(&holder.origin),
             is_within_share: is_within_share(places, &holder.origin),
-            is_local: holder.origin.is_local,
-            is_active: now.saturating_sub(holder.since) < ACTIVE,
+            is_local: is_local(&holder.origin),
+            is_active: is_active(&holder.origin, holder.since, now),
             standing: holder.standing,
-            since: holder.since,
+            goes_by: goes_by(&holder.origin, holder.since),
             place,
         }),
         Some(_) | None => None,
     }
+}
+
+/// Whether a connection may be given up for a newcomer, by whether any may.
+fn may_go(may_be_any: bool, newcomer: &Origin, origin: &Origin) -> bool
+    ensures { result ≡ may_go may_be_any newcomer.now origin.now }
+{
+    may_be_any || is_same_origin(origin, newcomer) || is_ended(origin)
 }
 
 impl Candidate {
@@ -185,12 +167,13 @@ impl Candidate {
     fn goes_before(&self, other: &Candidate) -> bool
         ensures { result ≡ is_lt (by_precedence self.now other.now) }
     {
-        self.is_within_share
-            .cmp(&other.is_within_share)
+        self.class
+            .cmp(&other.class)
+            .then(self.is_within_share.cmp(&other.is_within_share))
             .then(self.is_local.cmp(&other.is_local))
             .then(self.is_active.cmp(&other.is_active))
             .then(rank(self.standing).cmp(&rank(other.standing)))
-            .then(self.since.cmp(&other.since))
+            .then(self.goes_by.cmp(&other.goes_by))
             .then(self.place.cmp(&other.place))
             .is_lt()
     }
@@ -209,39 +192,32 @@ fn first_of(a: Option<Candidate>, b: Option<Candidate>) -> Option<Candidate>
     }
 }
 
-fn may_hold_more(places: &[Option<Holder>], peer: &Origin) -> bool
-    ensures { result ≡ may_hold_more places.now peer.now }
+fn may_hold_more(places: &[Option<Holder>], newcomer: &Origin) -> bool
+    ensures { result ≡ may_hold_more places.now newcomer.now }
 {
-    peer.is_local || count_held_by(places, &peer.host) < share(places.len())
+    is_roots(newcomer) || count_held_by(places, newcomer) < share_of(newcomer, places.len())
 }
 
-fn is_within_share(places: &[Option<Holder>], peer: &Origin) -> bool
-    ensures { result ≡ is_within_share places.now peer.now }
+fn is_within_share(places: &[Option<Holder>], origin: &Origin) -> bool
+    ensures { result ≡ is_within_share places.now origin.now }
 {
-    peer.is_local || count_held_by(places, &peer.host) <= share(places.len())
+    is_roots(origin) || count_held_by(places, origin) <= share_of(origin, places.len())
 }
 
-/// The number of places that one host may hold while others want some.
-fn share(places: usize) -> usize
-    ensures { result ≡ share places }
-{
-    (places / 2).max(1)
-}
-
-fn count_held_by(places: &[Option<Holder>], host: &Host) -> usize
-    ensures { result ≡ count_held_by places.now host.now }
+fn count_held_by(places: &[Option<Holder>], origin: &Origin) -> usize
+    ensures { result ≡ count_held_by places.now origin.now }
 {
     places
         .iter()
-        .filter(|place| is_held_by(place, host))
+        .filter(|place| is_held_by(place, origin))
         .count()
 }
 
-fn is_held_by(place: &Option<Holder>, host: &Host) -> bool
-    ensures { result ≡ is_held_by host.now place.now }
+fn is_held_by(place: &Option<Holder>, origin: &Origin) -> bool
+    ensures { result ≡ is_held_by origin.now place.now }
 {
     match place {
-        Some(holder) => holder.origin.host == *host,
+        Some(holder) => is_same_origin(&holder.origin, origin),
         None => false,
     }
 }

@@ -1,7 +1,7 @@
 //! What the kernel's tables of connections show of one from this host.
 ghost use Rattle.std.specs.Prelude.{◌≡◌};
 ghost use Rattle.rb_evidence.specs.Walks.{uid_seen};
-ghost use Rattle.rb_policy.specs.Evidence.{is_shown, looks_in, IsSightIn, evidence_of, evidence_in, looks_again};
+ghost use Rattle.rb_policy.specs.Evidence.{is_shown, looks_in, IsSightIn, evidence_of, evidence_in, looks_again, shown_after};
 
 use rb_address::{Family, Peer};
 use rb_evidence::Sight;
@@ -68,9 +68,29 @@ fn evidence_in(uid: Option<u32>) -> Evidence
     }
 }
 
-/// Whether it is looked for in a further pass, as it is still connected after this many, of which the last shows this of
-/// it: the kernel shows a table a part at a time, and may leave a connection out that it moves meanwhile.
-pub fn looks_again(passes: u8, known: Evidence) -> bool
+/// What is known of a connection after so many passes through the tables, of which the last shows this of it; none if it is
+/// looked for in one more. Of one that is no longer connected nothing is: another one may have its two ends by then. One
+/// whose peer has ended what it sends is not established, and so is not found.
+pub fn shown_after(
+    passes: u8,
+    known: Evidence,
+    is_connected: bool,
+    has_ended: bool,
+) -> Option<Evidence>
+    ensures { result ≡ shown_after passes known is_connected has_ended }
+{
+    if looks_again(passes, known) && is_connected && !has_ended {
+        return None;
+    }
+    match known {
+        Evidence::Found(_) if !is_connected => Some(Evidence::NotFound),
+        known => Some(known),
+    }
+}
+
+/// Whether one more pass may show more: the kernel shows a table a part at a time, and may leave a connection out that it
+/// moves meanwhile.
+fn looks_again(passes: u8, known: Evidence) -> bool
     ensures { result ≡ looks_again passes known }
 {
     matches!(known, Evidence::NotFound) && passes < 2

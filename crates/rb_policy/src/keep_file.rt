@@ -67,7 +67,7 @@ fn action_on_file(own: u32, file: Writers) -> KeepAction
     }
 }
 
-fn is_trusted(own: u32, owner: u32) -> bool
+pub(crate) fn is_trusted(own: u32, owner: u32) -> bool
     ensures { result ≡ is_trusted own owner }
 {
     owner == 0 || owner == own

@@ -4,16 +4,22 @@ ghost use Rattle.rb_policy.specs.Trusts.{OthersNeedNoTable, OthersAreStrangers, 
 ghost use Rattle.rb_policy.specs.Asks.{ChangesWait};
 ghost use Rattle.rb_policy.specs.Shares.{SlicesAreAQuarter};
 ghost use Rattle.rb_policy.specs.BrakeLaws.{NeverMore, NeverHeldBack, HaveOnePlace, AreNetworks, StrangersCount, OneSecondIsServed, PlacesGoByTheKey};
-ghost use Rattle.rb_policy.specs.DoorLaws.{SharesAreKept, OneIsGivenUp};
+ghost use Rattle.rb_policy.specs.DoorLaws.{SharesAreKept, OneIsGivenUp, RootStays, EndedGoFirst, EarlierWaits, OthersKeepAQuarter};
 ghost use Rattle.rb_policy.specs.LogLaws.{FewOfASecond, FewInAll, NoneIsLost, OwnCountsAreApart, OwnersAndHostsAreApart, TheyAreToldThen};
 ghost use Rattle.rb_policy.specs.Networks.{WhoMayAsk, AskersOfOneNetwork};
 ghost use Rattle.rb_policy.specs.WaysBack.{EndsGoBack, OthersStay};
 
-/// If a connection is given up for a client that comes, it is one and no other, and the client's host holds no
-/// more than its share then, or no more than before, unless it is this host.
+/// If a connection is given up for a client that comes, it is one and no other, and those among whom the client counts hold no
+/// more than their share then, or no more than before, unless it is root. One of root is given up only if all are root's, and
+/// one that is held back whose client has ended goes first. Of those whose calls wait for the kernel's tables the one
+/// that came last is given up. Whatever a user of this host does, a quarter of the places is left to others.
 pub fn door_laws()
     ensures one { OneIsGivenUp }
     ensures shares { SharesAreKept }
+    ensures root { RootStays }
+    ensures ended { EndedGoFirst }
+    ensures turns { EarlierWaits }
+    ensures others { OthersKeepAQuarter }
 {}
 
 /// Everybody may ask if no networks are given, else this machine and those in one of them, and no others; and worked

@@ -9,13 +9,16 @@ mod checked;
 mod deadlines;
 mod door;
 mod evidence;
+pub mod handed;
 mod keep_file;
 pub mod laws;
 mod local_file;
+pub mod log_choice;
 pub mod log_lines;
 pub mod log_rate;
 mod moments;
 mod networks;
+mod origin;
 mod outcome;
 mod peers;
 mod places;
@@ -26,6 +29,7 @@ mod trust;
 mod turns;
 mod user_namespace;
 mod waits;
+mod watchdog;
 mod ways_back;
 
 pub use addresses::{
@@ -36,10 +40,8 @@ pub use asks::may_change;
 pub use brake::{Brake, Rate};
 pub use checked::checked_at;
 pub use deadlines::{Deadlines, MOST_PUT_OFF, is_behind};
-pub use door::{
-    ACTIVE, Admission, Holder, OWED, Origin, admit, origin_of, standing_outside, stuck_at,
-};
-pub use evidence::{Evidence, evidence_of, is_shown, looks_again, looks_in, sight_in};
+pub use door::{Admission, Holder, OWED, admit, standing_outside, stuck_at};
+pub use evidence::{Evidence, evidence_of, is_shown, looks_in, shown_after, sight_in};
 pub use keep_file::{Distrust, KeepAction, KeepState, Writers, keep_action};
 pub use local_file::{
     FileAction, FileState, SeenFile, entrance_now, entrance_of, file_action, is_nothing_there,
@@ -47,6 +49,7 @@ pub use local_file::{
 };
 pub use moments::Moments;
 pub use networks::{asker, may_ask};
+pub use origin::{ACTIVE, Origin, origin_now, origin_of};
 pub use outcome::{
     Next, SocketResult, after_accept, after_read, after_receive, after_write, outcome_of,
     outcome_of_count,
@@ -62,4 +65,5 @@ pub use turns::{
 };
 pub use user_namespace::unmapped_uid;
 pub use waits::{AfterWait, Waits};
+pub use watchdog::{Watchdog, watchdog_pause};
 pub use ways_back::WaysBack;

@@ -73,12 +73,12 @@ pub fn reads_on(count: usize, room: usize, may_end: bool) -> bool
 
 /// How many connections a turn accepts, on all listeners together, if this many of all places are free when it
 /// begins to accept: as many as are free, since the next turn may first free some that are taken now. If none is free,
-/// half of all places, and at least one: so whoever takes one is served before others of this kind push it out. At most
+/// an eighth of all places, and at least one: so whoever takes one is served before others that come push it out. At most
 /// as many as socket calls of a turn.
 pub fn accept_count(free: usize, all: usize) -> usize
     ensures { result ≡ accept_count free all }
 {
-    let most = if free == 0 { (all / 2).max(1) } else { free };
+    let most = if free == 0 { (all / 8).max(1) } else { free };
     most.min(SOCKET_CALLS)
 }
 
