@@ -1,13 +1,18 @@
-//! Sockets made by calls of libc, since the kit's own calls make none of IPv6 alone, and none that share a port. All unsafe
-//! code of the repository is here.
+//! Sockets made by calls of libc, since the kit's own calls make none of IPv6 alone, and none that share a port; those that a
+//! service manager hands over, and what it is told. All unsafe code of the repository is here.
 #![tactic(auto)]
 
 ghost use Rattle.std.specs.Prelude.{◌≡◌, ◌↔◌, ◌≤◌, ◌+◌, pos, ◌≤ℤ◌, List, ℕ, ◌++◌, length, IsOk};
 ghost use Rattle.std.specs.Net.SockAddr.{family_and_port, sockaddr_in, sockaddr_in6, sockaddr, sockaddr_len, in_storage};
 ghost use Rattle.libc.specs.Net.{Kind};
 
+mod handed;
+mod notify;
+
+pub use handed::{Asked, AskedInet, Descriptors, ask};
 use libc::net as c;
 use mio::net::{TcpListener, UdpSocket};
+pub use notify::Notifier;
 use os::FromRawFd;
 use std::io;
 use std::net::{Net, SocketAddr, SocketAddrV4, SocketAddrV6};
@@ -62,6 +67,14 @@ fn new_socket(address: SocketAddr, kind: i32) -> io::Result<OwnedFd>
             check(unsafe { c::setsockopt(fd, c::IPPROTO_IPV6, c::IPV6_V6ONLY, &on, 4) })?;
             Ok(socket)
         }
+    }
+}
+
+/// The least number that no descriptor of the process has; the greatest number if it may have no more.
+pub fn least_free(_net: &impl Net) -> u64 {
+    match owned(unsafe { c::socket(c::AF_UNIX, DATAGRAMS, 0) }) {
+        Ok(socket) => u64::from(socket.as_raw_fd().unsigned_abs()),
+        Err(_) => u64::MAX,
     }
 }
 

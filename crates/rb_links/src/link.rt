@@ -6,13 +6,13 @@ ghost use Rattle.rb_links.specs.Outgoing.{nothing_in, own_room};
 use crate::inbox::{Inbox, READ_AHEAD};
 use crate::outbox::{OWN_ROOM, Outbox};
 use mio::{Registry, Token};
-use rb_address::{Family, Host, Who};
+use rb_address::{Family, Who};
 use rb_evidence::Sight;
 use rb_model::Standing;
 use rb_policy::{
     Evidence, Holder, Next, Origin, Round, after_read, after_write, evidence_of, is_cut_off,
-    looks_again, looks_in, may_change, outcome_of_count, reads_on, round_of, sight_in,
-    standing_outside, stuck_at,
+    looks_in, may_change, origin_now, origin_of, outcome_of_count, reads_on, round_of, shown_after,
+    sight_in, standing_outside, stuck_at,
 };
 use rb_sockets::{Ends, Stream};
 use std::alloc::{AllocError, Global};
@@ -26,9 +26,9 @@ pub struct Turn {
     pub moment: u64,
 }
 
-/// A connection whose call is held back until the kernel's tables show whose it is.
+/// A connection of which the kernel's tables are to show whose it is.
 #[derive(Clone, Copy)]
-struct Held {
+struct Sought {
     ends: Ends,
     /// How many passes through the tables it takes part in, or did.
     passes: u8,
@@ -47,6 +47,18 @@ fn is_between_records(standing: Standing) -> bool
     }
 }
 
+/// What is sought of a connection of these ends, if something is already or it is not known whose it is.
+fn sought_from(sought: Option<Sought>, unknown: Option<Ends>) -> Option<Sought> {
+    match (sought, unknown) {
+        (None, Some(ends)) => Some(Sought {
+            ends,
+            passes: 0,
+            known: Evidence::NotFound,
+        }),
+        (sought, _) => sought,
+    }
+}
+
 /// The place of an accepted connection. Its memory is taken before the first connection has it, and stays for the
 /// next.
 #[derive(Drop)]
@@ -59,11 +71,16 @@ pub struct Link {
     unknown: Option<Ends>,
     /// Whether the next byte to be handed in begins a record.
     is_between: bool,
-    /// Whether its call is held back, and what for.
-    held: Option<Held>,
+    /// What the kernel's tables are to show of it, if they are.
+    sought: Option<Sought>,
+    /// Whether its call is held back until they did.
+    is_held: bool,
+    /// Whether its peer has ended what it sends, or has reset it, as far as an event showed.
+    has_ended: bool,
+    /// Among whose connections it counts when its call is not held back.
     origin: Origin,
     /// The moment of its last progress, or of its opening, in milliseconds. A record that ended is progress, and so
-    /// are bytes of a reply that the outbox took over, and those that the socket took.
+    /// are bytes of a reply that the outbox took over, those that the socket took, and begin and end of being held back.
     since: u64,
     /// Whether it made progress in the turn that serves it.
     made_progress: bool,
@@ -95,11 +112,10 @@ impl Link {
             stream: None,
             unknown: None,
             is_between: true,
-            held: None,
-            origin: Origin {
-                host: Host::V4([0; 4]),
-                is_local: false,
-            },
+            sought: None,
+            is_held: false,
+            has_ended: false,
+            origin: Origin::Nobody,
             since: 0,
             made_progress: false,
             standing: Standing::Reading,
@@ -134,7 +150,9 @@ impl Link {
         self.stream = Some(stream);
         self.unknown = None;
         self.is_between = true;
-        self.held = None;
+        self.sought = None;
+        self.is_held = false;
+        self.has_ended = false;
         self.origin = origin;
         self.since = moment;
         self.standing = Standing::Reading;
@@ -167,34 +185,59 @@ impl Link {
         if !self.must_wait() {
             return false;
         }
-        if let (None, Some(ends)) = (&self.held, self.unknown) {
-            self.held = Some(Held {
-                ends,
-                passes: 0,
-                known: Evidence::NotFound,
-            });
-        }
+        self.sought = sought_from(self.sought, self.unknown);
+        self.made_progress |= !self.is_held;
+        self.is_held = true;
         true
     }
 
-    /// Whether its call is held back.
-    pub(crate) fn is_held(&self) -> bool {
-        self.held.is_some()
+    /// The kernel's tables are to show whose it is, if they were not asked yet. Whether they are.
+    pub(crate) fn seek(&mut self) -> bool {
+        if self.sought.is_none() && matches!(self.origin, Origin::New) {
+            self.sought = sought_from(None, self.unknown);
+        }
+        self.awaits_pass()
     }
 
-    /// A pass through the kernel's tables begins, in which it takes part if its call is held back.
+    /// Whether the kernel's tables are to show whose it is.
+    pub(crate) fn is_sought(&self) -> bool {
+        self.sought.is_some()
+    }
+
+    /// Whether it waits for a pass through the kernel's tables that has not begun.
+    pub(crate) fn awaits_pass(&self) -> bool {
+        self.sought.is_some_and(|sought| sought.passes == 0)
+    }
+
+    /// An event shows that its peer has ended what it sends, or has reset it.
+    pub(crate) fn note_ended(&mut self) {
+        self.has_ended = true;
+    }
+
+    /// Notes whether its peer has ended what it sends, or has reset it, if its call is held back: that may have happened
+    /// since its last event.
+    pub(crate) fn look_for_end(&mut self) {
+        if let (true, Some(stream)) = (self.is_held, &self.stream) {
+            self.has_ended |= stream.has_ended();
+        }
+    }
+
+    /// A pass through the kernel's tables begins, in which it takes part if they are to show whose it is.
     pub(crate) fn begin_pass(&mut self) {
-        if let Some(held) = &mut self.held {
-            held.passes = held.passes.saturating_add(1);
-            held.known = Evidence::NotFound;
+        if let Some(sought) = &mut self.sought {
+            sought.passes = sought.passes.saturating_add(1);
+            sought.known = Evidence::NotFound;
         }
     }
 
     /// What a walk through the table of a family looks for, if it must look for it.
     pub(crate) fn sight_in(&self, table: Family) -> Option<Sight> {
-        let held = self.held.as_ref()?;
-        if held.passes > 0 && looks_in(table, held.ends.theirs.family(), held.known) {
-            Some(sight_in(table, &held.ends.theirs, &held.ends.ours))
+        let sought = self.sought.as_ref()?;
+        if sought.passes > 0
+            && !self.has_ended
+            && looks_in(table, sought.ends.theirs.family(), sought.known)
+        {
+            Some(sight_in(table, &sought.ends.theirs, &sought.ends.ours))
         } else {
             None
         }
@@ -202,38 +245,45 @@ impl Link {
 
     /// Notes what a walk has seen of it, if it takes part in the pass, and if the walk came to the end of its table.
     pub(crate) fn note_seen(&mut self, is_whole: bool, sight: &Sight) {
-        if let Some(held) = &mut self.held {
-            if held.passes > 0 {
-                held.known = evidence_of(is_whole, sight);
+        if let Some(sought) = &mut self.sought {
+            if sought.passes > 0 {
+                sought.known = evidence_of(is_whole, sight);
             }
         }
     }
 
-    // TABLES-5: What the kernel's tables show counts only if the connection is still connected after
-    // they were read; otherwise its owner is unknown.
-    /// A pass has ended: who it is, if it took part, by what the tables showed. They say nothing of it if it is no
-    /// longer connected: another connection may have its two ends by then. If it is, and the first pass showed nothing, it
-    /// waits for another one.
-    pub(crate) fn shown(&mut self) -> Option<Who> {
-        let held = self.held?;
-        if held.passes == 0 {
+    // TABLES-5
+    /// A pass has ended at this moment, in milliseconds. If it showed whose this is, that is where it counts from here on; and
+    /// if its call is held back, the answer is who it is. It may wait for one more pass.
+    pub(crate) fn shown(&mut self, moment: u64) -> Option<Who> {
+        let sought = self.sought?;
+        if sought.passes == 0 {
             return None;
         }
-        let is_connected = self
-            .stream
-            .as_ref()
-            .is_some_and(|stream| stream.is_connected());
-        if is_connected && looks_again(held.passes, held.known) {
+        let evidence = shown_after(
+            sought.passes,
+            sought.known,
+            self.is_connected(),
+            self.has_ended,
+        )?;
+        let who = sought.ends.who(evidence);
+        self.sought = None;
+        self.origin = origin_of(&who);
+        if !self.is_held {
             return None;
         }
-        self.held = None;
+        self.is_held = false;
         self.unknown = None;
-        let evidence = if is_connected {
-            held.known
-        } else {
-            Evidence::NotFound
-        };
-        Some(held.ends.who(evidence))
+        self.since = moment;
+        Some(who)
+    }
+
+    /// Whether the system says that it is connected still.
+    fn is_connected(&self) -> bool {
+        match &self.stream {
+            Some(stream) => stream.is_connected(),
+            None => false,
+        }
     }
 
     /// Its number, which is its own no longer.
@@ -265,7 +315,8 @@ impl Link {
     pub(crate) fn close(&mut self, long_outbox: &mut Outbox) -> Option<u64> {
         self.stream = None;
         self.unknown = None;
-        self.held = None;
+        self.sought = None;
+        self.is_held = false;
         self.outbox.clear();
         long_outbox.take_longer(&mut self.outbox);
         self.is_waiting = false;
@@ -291,7 +342,7 @@ impl Link {
 
     /// Where it stands, as its client sees it: bytes are owed on it until its socket has taken them.
     fn standing_outside(&self) -> Standing {
-        standing_outside(self.standing, !self.outbox.is_empty(), self.is_held())
+        standing_outside(self.standing, !self.outbox.is_empty(), self.is_held)
     }
 
     /// The round of a turn in which it is served.
@@ -304,17 +355,16 @@ impl Link {
         self.is_waiting = !self.is_free();
     }
 
-    // DOOR-9: A connection whose call is held back counts as one that makes progress now: it waits for
-    // the system, and not for its client.
+    // DOOR-12
     /// What `admit` is decided by, of the connection that has the place.
     pub(crate) fn holder(&self) -> Option<Holder> {
         if self.is_free() {
             return None;
         }
         Some(Holder {
-            origin: self.origin,
+            origin: origin_now(self.origin, self.is_held, self.has_ended),
             standing: self.standing_outside(),
-            since: if self.is_held() { u64::MAX } else { self.since },
+            since: self.since,
         })
     }
 

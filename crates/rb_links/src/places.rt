@@ -25,14 +25,16 @@ pub struct Places {
     taken: usize,
     /// What the walk through one of the kernel's tables looks for, at each place.
     sights: Vec<Option<Sight>>,
-    /// Whether calls may be held back for which no pass through the tables has begun.
-    are_held: bool,
+    /// Whether connections may wait for a pass through the tables that has not begun.
+    are_sought: bool,
     /// Whether bytes may wait for the sockets of some.
     are_owed: bool,
     /// Whether connections must be served though no event shows them.
     are_left: bool,
     /// The key at which the last round of the next turn begins.
     first_left: usize,
+    /// The last turn in which all places were taken when a client came.
+    pressed_in: u64,
 }
 
 // PLACES-2: There are as many places as connections may be, or as descriptors are left for, and
@@ -71,16 +73,22 @@ impl Places {
             holders,
             sights: no_sights(alloc, count)?,
             taken: 0,
-            are_held: false,
+            are_sought: false,
             are_owed: false,
             are_left: false,
             first_left: 0,
+            pressed_in: 0,
         })
     }
 
     /// How many places there are.
     pub fn count(&self) -> usize {
         self.links.len()
+    }
+
+    /// How many of them have connections.
+    pub fn taken(&self) -> usize {
+        self.taken
     }
 
     /// How many connections a turn accepts, as the places are now.
@@ -163,7 +171,7 @@ impl Places {
     /// A turn has served the connection at a place: bytes may wait for its socket from here on, and its call for a pass.
     pub fn note_served(&mut self, key: usize) {
         self.are_owed |= self.stuck_at(key).is_some();
-        self.are_held |= self.links.get(key).is_some_and(|link| link.is_held());
+        self.are_sought |= self.links.get(key).is_some_and(|link| link.awaits_pass());
     }
 
     /// The moment, in milliseconds, at which the connection at a place is given up, if its socket takes nothing of what
@@ -198,14 +206,40 @@ impl Places {
         link.close(&mut self.long_outbox)
     }
 
-    /// What is done with a newcomer at this moment, in milliseconds, as the connections stand now.
-    pub fn admit(&mut self, newcomer: &Origin, moment: u64) -> Admission {
+    /// What is done with a newcomer in a turn, as the connections stand now. If one is given up, the kernel's tables are to
+    /// show of all from this host whose they are.
+    pub fn admit(&mut self, newcomer: &Origin, turn: Turn) -> Admission {
+        self.look_for_ends(turn);
         for key in 0..self.links.len() {
             if let (Some(holder), Some(link)) = (self.holders.get_mut(key), self.links.get(key)) {
                 *holder = link.holder();
             }
         }
-        admit(self.holders.as_slice(), newcomer, moment)
+        let admission = admit(self.holders.as_slice(), newcomer, turn.moment);
+        if let Admission::GiveUp(_) = admission {
+            for link in &mut self.links {
+                self.are_sought |= link.seek();
+            }
+        }
+        admission
+    }
+
+    /// Looks once in a turn, and only if all places are taken, which of those whose calls are held back have ended.
+    fn look_for_ends(&mut self, turn: Turn) {
+        if self.taken < self.links.len() || self.pressed_in == turn.number {
+            return;
+        }
+        self.pressed_in = turn.number;
+        for link in &mut self.links {
+            link.look_for_end();
+        }
+    }
+
+    /// An event shows that the peer of the connection at a place has ended what it sends, or has reset it.
+    pub fn note_ended(&mut self, key: usize) {
+        if let Some(link) = self.links.get_mut(key) {
+            link.note_ended();
+        }
     }
 
     /// Gives a connection a place at this moment, in milliseconds. It is not opened yet.
@@ -232,14 +266,14 @@ impl Places {
         }
     }
 
-    /// Whether calls may be held back for which no pass through the kernel's tables has begun.
-    pub fn are_held(&self) -> bool {
-        self.are_held
+    /// Whether connections may wait for a pass through the kernel's tables that has not begun.
+    pub fn are_sought(&self) -> bool {
+        self.are_sought
     }
 
-    /// A pass through the kernel's tables begins, for all whose calls are held back now.
+    /// A pass through the kernel's tables begins, for all of which they are to show now whose they are.
     pub fn begin_pass(&mut self) {
-        self.are_held = false;
+        self.are_sought = false;
         for link in &mut self.links {
             link.begin_pass();
         }
@@ -273,11 +307,12 @@ impl Places {
         }
     }
 
-    /// A pass has ended: who is at a place, if that was looked for. One that is looked for again waits for the next pass.
-    pub fn shown(&mut self, key: usize) -> Option<Who> {
+    /// A pass has ended at this moment, in milliseconds: who is at a place, if a call is held back there and need not wait for
+    /// one more.
+    pub fn shown(&mut self, key: usize, moment: u64) -> Option<Who> {
         let link = self.links.get_mut(key)?;
-        let who = link.shown();
-        self.are_held |= link.is_held();
+        let who = link.shown(moment);
+        self.are_sought |= link.is_sought();
         who
     }
 

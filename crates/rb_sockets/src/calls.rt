@@ -31,16 +31,21 @@ pub struct CallSocket {
 }
 
 impl CallSocket {
-    /// At this host and port. If it shares them, so may others that do.
+    /// At this host and port, by a socket that was handed over, if there is one. If it shares them, so may others that do.
     pub(crate) fn bind(
         net: &impl Net,
+        handed: Option<UdpSocket>,
         host: Host,
         port: u16,
         shares: bool,
         beliefs: Beliefs,
     ) -> Result<CallSocket, BindFault> {
+        let socket = match handed {
+            Some(socket) => socket,
+            None => bind_udp(net, host, port, shares)?,
+        };
         Ok(CallSocket {
-            socket: bind_udp(net, host, port, shares)?,
+            socket,
             bound: host,
             beliefs,
         })
@@ -171,11 +176,11 @@ impl ForwardSocket {
     }
 }
 
-/// The sockets of forwarded calls, one for each family of targets.
+/// The sockets of forwarded calls, one for each family of targets; none if no calls are forwarded.
 #[derive(Drop)]
 pub struct ForwardSockets {
     /// For targets of IPv4.
-    pub inet: Watched<ForwardSocket>,
+    pub inet: Option<Watched<ForwardSocket>>,
     /// For targets of IPv6, if IPv6 is served.
     pub inet6: Option<Watched<ForwardSocket>>,
 }
@@ -183,17 +188,15 @@ pub struct ForwardSockets {
 impl ForwardSockets {
     /// Sends a forwarded call. One that no socket takes is lost.
     pub fn call(&self, call: &[u8], target: Peer) {
-        match (target.family(), &self.inet6) {
-            (Family::Inet, _) => self.inet.socket.call(call, target),
-            (Family::Inet6, Some(inet6)) => inet6.socket.call(call, target),
-            (Family::Inet6, None) => {}
+        if let Some(forwards) = self.of(target.family()) {
+            forwards.socket.call(call, target);
         }
     }
 
     /// The socket for targets of a family.
     pub fn of(&self, family: Family) -> Option<&Watched<ForwardSocket>> {
         match family {
-            Family::Inet => Some(&self.inet),
+            Family::Inet => self.inet.as_ref(),
             Family::Inet6 => self.inet6.as_ref(),
         }
     }
@@ -201,17 +204,19 @@ impl ForwardSockets {
     /// The socket for targets of a family.
     pub fn of_mut(&mut self, family: Family) -> Option<&mut Watched<ForwardSocket>> {
         match family {
-            Family::Inet => Some(&mut self.inet),
+            Family::Inet => self.inet.as_mut(),
             Family::Inet6 => self.inet6.as_mut(),
         }
     }
 
     pub(crate) fn is_left(&self) -> bool {
-        self.inet.is_left() || self.inet6.as_ref().is_some_and(|inet6| inet6.is_left())
+        let (inet, inet6) = (self.inet.as_ref(), self.inet6.as_ref());
+        inet.is_some_and(|inet| inet.is_left()) || inet6.is_some_and(|inet6| inet6.is_left())
     }
 
     pub(crate) fn is_tried_again(&self) -> bool {
-        let inet6 = self.inet6.as_ref();
-        self.inet.is_tried_again() || inet6.is_some_and(|inet6| inet6.is_tried_again())
+        let (inet, inet6) = (self.inet.as_ref(), self.inet6.as_ref());
+        inet.is_some_and(|inet| inet.is_tried_again())
+            || inet6.is_some_and(|inet6| inet6.is_tried_again())
     }
 }

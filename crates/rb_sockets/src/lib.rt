@@ -4,8 +4,11 @@
 
 mod calls;
 mod descriptors;
+mod environment;
 mod faults;
 mod few;
+mod handed;
+mod hosts;
 mod listener;
 mod local;
 mod settings;
@@ -17,10 +20,14 @@ mod watched;
 
 pub use calls::{CallSocket, CallSockets, ForwardSocket, ForwardSockets};
 pub use descriptors::{Shortage, open_files};
+pub use environment::{own_notifier, own_watchdog_pause, take_handed};
 pub use faults::{BindFault, DaemonFault, SocketFault, Step};
 pub use few::{Few, MOST};
+pub use handed::{Handed, HandedFault, HandedOver, HandedSocket};
+pub use hosts::{lacks_loopback6, missing_host};
 pub use listener::{Ends, Listener, Visitor};
-pub use settings::{LocalSocket, Logged, Settings};
+pub use rb_policy::log_choice::Logged;
+pub use settings::{LocalSocket, Settings};
 pub use sockets::{Shown, Sockets};
 pub use stream::{Incoming, Outgoing, Stream};
 pub use tables::{Slice, Table, TableFault};

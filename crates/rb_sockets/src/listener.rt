@@ -63,12 +63,17 @@ pub enum Listener {
 }
 
 impl Listener {
+    /// At this host, by a socket that was handed over, if there is one.
     pub(crate) fn bind_tcp(
         net: &impl Net,
+        handed: Option<TcpListener>,
         host: Host,
         port: u16,
         beliefs: Beliefs,
     ) -> Result<Listener, BindFault> {
+        if let Some(listener) = handed {
+            return Ok(Listener::Tcp(listener, beliefs));
+        }
         let address = SocketAddr::new(ip_of(host), port);
         match tcp_listener(net, address) {
             Ok(listener) => Ok(Listener::Tcp(listener, beliefs)),

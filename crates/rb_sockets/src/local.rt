@@ -5,6 +5,7 @@ ghost use Rattle.rb_policy.specs.LocalFile.{IsRootsByMode};
 use crate::settings::LocalSocket;
 use mio::net::{UnixListener, UnixStream};
 use rb_address::Trust;
+use rb_policy::handed::entrance_handed;
 use rb_policy::{
     Beliefs, Entrance, FileAction, FileState, SeenFile, entrance_now, entrance_of, file_action,
     is_nothing_there, next_try, obstacle_text, state_by_connect, trust_of,
@@ -32,16 +33,21 @@ pub struct LocalListener {
 }
 
 impl LocalListener {
-    /// Listens there, in a new file of its mode. The memory for the path is taken first.
+    /// Listens there, by a socket that was handed over, or in a new file of its mode. The memory for the path is taken first.
     pub(crate) fn bind<R: Files + Net>(
         alloc: Global,
         rt: &R,
+        handed: Option<UnixListener>,
         local: &LocalSocket<'_>,
         beliefs: Beliefs,
     ) -> Result<io::Result<LocalListener>, AllocError> {
         let mut path = String::new(alloc);
         path.push_str(local.path)?;
-        match listen(rt, local) {
+        let listening = match handed {
+            Some(listener) => Ok(listening_by(rt, local, listener)),
+            None => listen(rt, local),
+        };
+        match listening {
             Ok(listening) => Ok(Ok(LocalListener {
                 listener: listening.listener,
                 path,
@@ -112,6 +118,16 @@ pub fn listen<R: Files + Net>(rt: &R, local: &LocalSocket<'_>) -> io::Result<Lis
         entrance,
         made,
     })
+}
+
+/// Listens on the local socket that was handed over, whose file is at the path: its mode and owner say who comes in there.
+fn listening_by<R: Files>(rt: &R, local: &LocalSocket<'_>, listener: UnixListener) -> Listening {
+    let made = seen_at(rt, local.path);
+    Listening {
+        listener,
+        entrance: entrance_handed(libc::geteuid(), made),
+        made,
+    }
 }
 
 /// The file at the path, if the system tells it.

@@ -5,6 +5,7 @@ ghost use Rattle.rb_sockets.specs.Settings.{path_of};
 use crate::few::Few;
 use rb_address::{Host, Network};
 use rb_model::Limits;
+use rb_policy::log_choice::Logged;
 use rb_policy::{Rate, announced_inet, announced_inet6};
 use rb_proto::{Announced, Listener, Reserved, Terms};
 use rb_uaddr::{AddressText, MAX_KEPT};
@@ -17,17 +18,6 @@ pub struct LocalSocket<'a> {
     /// The mode of its file: whoever may write to it may connect. If that is root and its owner alone, and was so from
     /// the start, callers are root.
     pub mode: u32,
-}
-
-/// What a daemon has lines of in its log.
-#[derive(Clone, Copy)]
-pub enum Logged {
-    /// Nothing.
-    Nothing,
-    /// Each SET and UNSET, accepted or refused.
-    Changes,
-    /// The same, and refused calls and connections that are given up.
-    All,
 }
 
 /// What a daemon is started with. A field has the name of its option of `serve`.

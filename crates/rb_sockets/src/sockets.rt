@@ -4,21 +4,24 @@ ghost use Rattle.rb_sockets.specs.Events.{shown_by, family_at, MayBeShown};
 
 use crate::calls::{CallSocket, CallSockets, ForwardSocket, ForwardSockets};
 use crate::faults::{BindFault, Step};
+use crate::handed::Handed;
 use crate::listener::Listener;
 use crate::local::{AbstractName, LocalListener};
 use crate::settings::{LocalSocket, Settings};
 use crate::user_namespace::unmapped;
 use crate::watched::Watched;
+use mio::net::UnixListener;
 use mio::{Registry, Token};
 use rb_address::{Family, Host, Network};
+use rb_descriptors::least_free;
 use rb_policy::{
     ANY, Beliefs, LOOPBACK, LOOPBACK6, WaysBack, binds_every_inet, binds_loopback6, forwards_inet,
     forwards_inet6, has_every_host, has_every_inet, ip_of, takes_abstract_name,
 };
 use std::alloc::{AllocError, Global};
-use std::fs::Files;
+use std::fs::{File, Files};
 use std::io;
-use std::io::ErrorKind;
+use std::io::{ErrorKind, Read};
 use std::net::{Net, SocketAddr};
 use std::os::fd::AsRawFd;
 
@@ -65,43 +68,27 @@ pub struct Sockets {
 }
 
 impl Sockets {
-    /// Binds sockets to all that the settings name, or tells the first step that failed: `Memory` if an allocation is
-    /// refused, else `Socket`. The local socket comes last: a second daemon ends at a port that is in use, and leaves
-    /// the file alone.
+    /// Sockets at all that the settings name: those that were handed over, and others that are bound. Else the first step that
+    /// failed: `Memory` if an allocation is refused, else `Socket`. The local socket comes last: a second daemon ends at a port
+    /// that is in use, and leaves the file alone.
     pub fn bind<R: Files + Net>(
         alloc: Global,
         rt: &R,
         settings: &Settings<'_>,
+        handed: Handed,
     ) -> Result<Sockets, BindFault> {
-        let most = settings.bind.len().saturating_add(3);
-        let beliefs = Beliefs {
-            claims: settings.believe_claims,
-            unmapped: unmapped(rt),
-        };
-        let mut inet = Inet {
-            listeners: Vec::with_capacity(alloc, most)?,
-            calls: Vec::with_capacity(alloc, most)?,
-            port: settings.port,
-            beliefs,
-        };
-        inet.bind_all(rt, settings)?;
-        let forwards = bind_forwards(rt, settings)?;
-        let Inet {
-            mut listeners,
-            calls: all,
-            port,
-            ..
-        } = inet;
-        let mut abstract_name = None;
-        if let Some(local) = &settings.local {
-            put(&mut listeners, bind_local(alloc, rt, local, beliefs)?)?;
-            if takes_abstract_name(port) {
-                abstract_name = Some(AbstractName::new(rt));
-            }
-        }
         let mut networks = Vec::with_capacity(alloc, settings.from.len())?;
         networks.extend_from_slice(settings.from.as_slice())?;
         let ways_back = WaysBack::new(alloc, settings.limits.forwards)?;
+        let mut inet = Inet::bind(alloc, rt, settings, handed)?;
+        let forwards = bind_forwards(rt, settings)?;
+        let abstract_name = inet.bind_local(alloc, rt, settings)?;
+        let Inet {
+            listeners,
+            calls: all,
+            beliefs,
+            ..
+        } = inet;
         Ok(Sockets {
             calls: CallSockets { all, ways_back },
             forwards,
@@ -113,12 +100,13 @@ impl Sockets {
     }
 
     /// The number of descriptors of the process that are not for connections: the system gives the least free number, so
-    /// when the last of these sockets got its own, all below that were taken. One is for the abstract name, if that is yet to be
-    /// taken.
-    pub fn count_descriptors(&self) -> u64 {
-        let mut last = self.forwards.inet.socket.as_raw_fd();
-        if let Some(inet6) = &self.forwards.inet6 {
-            last = last.max(inet6.socket.as_raw_fd());
+    /// when the last of these sockets got its own, all below that were taken, unless it was handed over. One is for the abstract
+    /// name, if that is yet to be taken.
+    pub fn count_descriptors(&self, net: &impl Net) -> u64 {
+        let mut last = 0;
+        let ForwardSockets { inet, inet6 } = &self.forwards;
+        for forwards in [inet, inet6].into_iter().flatten() {
+            last = last.max(forwards.socket.as_raw_fd());
         }
         for calls in &self.calls.all {
             last = last.max(calls.socket.as_raw_fd());
@@ -126,22 +114,24 @@ impl Sockets {
         for listener in &self.listeners {
             last = last.max(listener.socket.as_raw_fd());
         }
-        let mut more = 1;
+        let mut to_come = 0;
         if let Some(name) = &self.abstract_name {
             match &name.held {
                 Some(held) => last = last.max(held.as_raw_fd()),
-                None => more = 2,
+                None => to_come = 1,
             }
         }
-        u64::try_from(last).unwrap_or(0).saturating_add(more)
+        let taken = u64::try_from(last).unwrap_or(0).saturating_add(1);
+        taken.max(least_free(net)).saturating_add(to_come)
     }
 
     /// Writes to as much of the stack as a turn needs, so that its memory is the process's from here on: an array
-    /// there is handed to a receive. What is received before a call was forwarded is no reply to one. The array goes
-    /// when this returns, so it must not be inlined.
+    /// there is handed to a read. The array goes when this returns, so it must not be inlined.
     #[inline(never)]
-    pub fn write_stack(&self) {
-        let _ = self.forwards.inet.socket.receive(&mut [0; STACK]);
+    pub fn write_stack<R: Files>(&self, rt: &R) {
+        if let Ok(mut file) = File::open(rt, "/proc/self/uid_map") {
+            let _ = file.read(&mut [0; STACK]);
+        }
     }
 
     /// The moment at which the abstract name is tried again, in milliseconds, if it is to be held and is not.
@@ -167,8 +157,10 @@ impl Sockets {
     /// Their events are shown from here on.
     pub fn register(&mut self, registry: &Registry) -> io::Result<()> {
         let ForwardSockets { inet, inet6 } = &mut self.forwards;
-        let inet_token = token_of(Shown::Forwards(Family::Inet));
-        inet.socket.register(registry, inet_token)?;
+        if let Some(inet) = inet {
+            let inet_token = token_of(Shown::Forwards(Family::Inet));
+            inet.socket.register(registry, inet_token)?;
+        }
         if let Some(inet6) = inet6 {
             let inet6_token = token_of(Shown::Forwards(Family::Inet6));
             inet6.socket.register(registry, inet6_token)?;
@@ -277,16 +269,59 @@ fn family_at(key: usize) -> Family
     }
 }
 
-/// The sockets of TCP and UDP, as they are bound: of each host one of TCP and one of UDP.
+/// The sockets as they are bound: of each host one of TCP and one of UDP, then the local socket.
 #[derive(Drop)]
 struct Inet {
     listeners: Vec<Watched<Listener>>,
     calls: Vec<Watched<CallSocket>>,
     port: u16,
     beliefs: Beliefs,
+    /// What was handed over, and is not taken yet.
+    handed: Handed,
 }
 
 impl Inet {
+    /// Binds all that the settings name but the local socket, and that was not handed over.
+    fn bind<R: Files + Net>(
+        alloc: Global,
+        rt: &R,
+        settings: &Settings<'_>,
+        handed: Handed,
+    ) -> Result<Inet, BindFault> {
+        let most = settings.bind.len().saturating_add(3);
+        let mut inet = Inet {
+            listeners: Vec::with_capacity(alloc, most)?,
+            calls: Vec::with_capacity(alloc, most)?,
+            port: settings.port,
+            beliefs: Beliefs {
+                claims: settings.believe_claims,
+                unmapped: unmapped(rt),
+            },
+            handed,
+        };
+        inet.bind_all(rt, settings)?;
+        Ok(inet)
+    }
+
+    /// Binds the local socket, if one is asked for, and tries to take its abstract name, if that is to be held.
+    fn bind_local<R: Files + Net>(
+        &mut self,
+        alloc: Global,
+        rt: &R,
+        settings: &Settings<'_>,
+    ) -> Result<Option<AbstractName>, BindFault> {
+        let Some(local) = &settings.local else {
+            return Ok(None);
+        };
+        let listener = bind_local(alloc, rt, self.handed.take_local(), local, self.beliefs)?;
+        put(&mut self.listeners, listener)?;
+        if takes_abstract_name(self.port) {
+            Ok(Some(AbstractName::new(rt)))
+        } else {
+            Ok(None)
+        }
+    }
+
     /// Binds all of the hosts, of TCP before UDP.
     fn bind_all<R: Net>(&mut self, rt: &R, settings: &Settings<'_>) -> Result<(), BindFault> {
         let hosts = settings.bind.as_slice();
@@ -329,7 +364,8 @@ impl Inet {
 
     /// Binds a UDP socket there beside that of every host, unless the machine does not have the host.
     fn bind_loopback(&mut self, rt: &impl Net, host: Host) -> Result<(), BindFault> {
-        match CallSocket::bind(rt, host, self.port, true, self.beliefs) {
+        let handed = self.handed.take_udp(host);
+        match CallSocket::bind(rt, handed, host, self.port, true, self.beliefs) {
             Ok(calls) => put(&mut self.calls, calls),
             Err(BindFault::Socket(fault)) if is_no_host(&fault.error) => Ok(()),
             Err(fault) => Err(fault),
@@ -348,41 +384,51 @@ impl Inet {
     }
 
     fn bind_tcp(&mut self, rt: &impl Net, host: Host) -> Result<(), BindFault> {
-        let listener = Listener::bind_tcp(rt, host, self.port, self.beliefs)?;
+        let handed = self.handed.take_tcp(host);
+        let listener = Listener::bind_tcp(rt, handed, host, self.port, self.beliefs)?;
         put(&mut self.listeners, listener)
     }
 
     fn bind_udp(&mut self, rt: &impl Net, host: Host) -> Result<(), BindFault> {
-        let calls = CallSocket::bind(rt, host, self.port, false, self.beliefs)?;
+        let handed = self.handed.take_udp(host);
+        let calls = CallSocket::bind(rt, handed, host, self.port, false, self.beliefs)?;
         put(&mut self.calls, calls)
     }
 }
 
 /// Whether the system says that the machine does not have the host of an address.
-fn is_no_host(error: &io::Error) -> bool {
+pub(crate) fn is_no_host(error: &io::Error) -> bool {
     error.kind() == ErrorKind::AddrNotAvailable
 }
 
 fn bind_forwards<R: Net>(rt: &R, settings: &Settings<'_>) -> Result<ForwardSockets, BindFault> {
     let hosts = settings.bind.as_slice();
-    let inet = ForwardSocket::bind(rt, forwards_inet(hosts))?;
-    let inet6 = match forwards_inet6(hosts, settings.loopback6) {
-        Some(host) => Some(Watched::new(ForwardSocket::bind(rt, host)?)),
-        None => None,
-    };
+    let most = settings.limits.forwards;
     Ok(ForwardSockets {
-        inet: Watched::new(inet),
-        inet6,
+        inet: forwards_from(rt, forwards_inet(hosts, most))?,
+        inet6: forwards_from(rt, forwards_inet6(hosts, settings.loopback6, most))?,
     })
+}
+
+/// A socket for forwarded calls, if they go out from a host.
+fn forwards_from<R: Net>(
+    rt: &R,
+    host: Option<Host>,
+) -> Result<Option<Watched<ForwardSocket>>, BindFault> {
+    match host {
+        Some(host) => Ok(Some(Watched::new(ForwardSocket::bind(rt, host)?))),
+        None => Ok(None),
+    }
 }
 
 fn bind_local<R: Files + Net>(
     alloc: Global,
     rt: &R,
+    handed: Option<UnixListener>,
     local: &LocalSocket<'_>,
     beliefs: Beliefs,
 ) -> Result<Listener, BindFault> {
-    match LocalListener::bind(alloc, rt, local, beliefs)? {
+    match LocalListener::bind(alloc, rt, handed, local, beliefs)? {
         Ok(listener) => Ok(Listener::Local(listener)),
         Err(error) => Err(BindFault::Socket(Step::BindLocal.failed(error))),
     }

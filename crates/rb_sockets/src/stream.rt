@@ -2,7 +2,7 @@
 use mio::net::{TcpStream, UnixStream};
 use mio::{Interest, Registry, Token};
 use rb_address::{Host, Peer};
-use rb_policy::ANY;
+use rb_policy::{ANY, Next, after_read, outcome_of_count};
 use std::io;
 use std::io::{Read, Write};
 
@@ -44,6 +44,17 @@ impl Stream {
         match self {
             Stream::Tcp(stream) => stream.peer_addr().is_ok(),
             Stream::Local(_) => true,
+        }
+    }
+
+    /// Whether its peer has ended what it sends, or has reset it, and all that came before was read.
+    pub fn has_ended(&self) -> bool {
+        match self {
+            Stream::Tcp(stream) => {
+                let came = stream.peek(&mut [0]);
+                matches!(after_read(outcome_of_count(&came), false), Next::Close)
+            }
+            Stream::Local(_) => false,
         }
     }
 

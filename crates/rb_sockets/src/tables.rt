@@ -1,13 +1,16 @@
 //! The kernel's tables of connections, read in slices.
 use rb_address::Family;
-use rb_evidence::{Lines, Sight};
+use rb_evidence::{Lines, SLICE, Sight};
 use rb_policy::is_nothing_there;
 use std::alloc::{AllocError, Global};
 use std::fs::{File, Files};
 use std::io::ErrorKind;
 use std::{fs, io};
 
-/// What a read of a table gave.
+/// The most reads of a slice: the system gives a page at a time, of 4,096 bytes.
+const READS: usize = SLICE / 4096;
+
+/// What the read of a slice gave.
 #[derive(Clone, Copy)]
 pub enum Slice {
     /// More of it.
@@ -69,6 +72,22 @@ impl<H: Files> Table<H> {
     /// Reads the next slice, and looks at the lines that are whole then, for all of the connections that are looked
     /// for. At the end it looks at the last line, and the table is closed; and so it is if it can't be read.
     pub fn read(&mut self, sights: &mut [Option<Sight>]) -> Result<Slice, TableFault> {
+        let mut count = 0usize;
+        for _ in 0..READS {
+            let came = self.read_once(sights)?;
+            if came == 0 {
+                return Ok(Slice::End);
+            }
+            count = count.saturating_add(came);
+            if count >= SLICE {
+                break;
+            }
+        }
+        Ok(Slice::More)
+    }
+
+    /// Reads once, and says how many bytes came.
+    fn read_once(&mut self, sights: &mut [Option<Sight>]) -> Result<usize, TableFault> {
         let Some(file) = &mut self.file else {
             return Err(self.fault(io::Error::new(ErrorKind::NotFound, "it is not open")));
         };
@@ -76,11 +95,11 @@ impl<H: Files> Table<H> {
             Ok(0) => {
                 self.lines.look_at_last(sights);
                 self.file = None;
-                Ok(Slice::End)
+                Ok(0)
             }
-            Ok(_) => {
+            Ok(count) => {
                 self.lines.look_at_whole(sights);
-                Ok(Slice::More)
+                Ok(count)
             }
             Err(error) => {
                 self.file = None;
