@@ -11,8 +11,8 @@ use Rattle.rb_address.specs.Networks.{network_of, plain_host_of}
 use Rattle.rb_proto.specs.declared.listener.Terms.{Terms}
 use Rattle.rb_policy.specs.declared.brake.Rate.{Rate}
 use Rattle.rb_sockets.specs.declared.settings.LocalSocket.{LocalSocket}
-use Rattle.rb_sockets.specs.declared.settings.Logged.{Logged}
-use Rattle.rb_sockets.specs.declared.settings.Logged.TheVariants.{Nothing, Changes, All as Everything}
+use Rattle.rb_policy.specs.declared.log_choice.Logged.{Logged}
+use Rattle.rb_policy.specs.declared.log_choice.Logged.TheVariants.{Nothing, Changes, All as Everything}
 use Rattle.rb_sockets.specs.declared.settings.Settings.{Settings}
 use Rattle.rb_commands.specs.declared.options.Valued.{Valued}
 use Rattle.rb_commands.specs.declared.options.Valued.TheVariants.{Announce, Bind, From, Local, LocalMode, Port, Conns, Rows, Forwards, UdpLists, ForwardFor, ReplayForwardFor, UdpRate, Xid, Now, Turns, RecordLimit, Keep, Log, Reserve}

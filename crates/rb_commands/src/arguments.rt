@@ -1,5 +1,7 @@
 //! The words of the command line: two commands and their options.
 ghost use Rattle.std.specs.Prelude.{◌≡◌, ◌≤◌, IfErr};
+ghost use Rattle.clap.specs.Words.{kind_of};
+ghost use Rattle.rb_commands.specs.Faults.{EndsWith};
 ghost use Rattle.rb_commands.specs.Wanted.{is_the_record};
 
 use crate::command::command;
@@ -50,23 +52,26 @@ pub fn read_words<'a, S: AsStr, O: Write, E: Write>(
 
 /// Writes help, or what is wrong with the words, and gives the status.
 fn show<O: Write, E: Write>(error: &Error, output: &mut O, faults: &mut E) -> u8
-    ensures { result ≤ 2 }
+    ensures { EndsWith (kind_of error.now) result }
 {
-    if error.kind() == ErrorKind::OutOfMemory {
-        return explain(Fault::NoMemory, faults).status;
+    match error.kind() {
+        ErrorKind::OutOfMemory => explain(Fault::NoMemory, faults).status,
+        ErrorKind::DisplayHelp | ErrorKind::DisplayVersion => {
+            if write!(output, "{error}").is_err() || output.flush().is_err() {
+                explain(Fault::WriteFailed, faults).status
+            } else {
+                0
+            }
+        }
+        _ => {
+            let _ = write!(faults, "{error}");
+            2
+        }
     }
-    if error.use_stderr() {
-        let _ = write!(faults, "{error}");
-        return 2;
-    }
-    if write!(output, "{error}").is_err() || output.flush().is_err() {
-        return explain(Fault::WriteFailed, faults).status;
-    }
-    0
 }
 
 fn read_matches<'a, E: Write>(matches: &ArgMatches<'a>, faults: &mut E) -> Result<Words<'a>, u8>
-    ensures { IfErr result (λ status. status ≤ 2) }
+    ensures { IfErr result (λ status. status ≡ 2) }
 {
     match words_of(matches) {
         Ok(words) => Ok(words),

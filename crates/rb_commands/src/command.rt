@@ -130,6 +130,7 @@ fn fill_serve<'a>(alloc: Global, args: &mut Vec<Arg<'a>>) -> Result<(), AllocErr
     add_sockets(alloc, args)?;
     add_record(alloc, args)?;
     add_keep(alloc, args)?;
+    add_options(alloc, args)?;
     add_limits(
         alloc,
         args,
@@ -271,6 +272,17 @@ fn add_keep<'a>(alloc: Global, args: &mut Vec<Arg<'a>>) -> Result<(), AllocError
         "log",
         "WHAT",
         "Tell on standard error of changes: changes, or of refused calls and closed connections too: all [default: nothing]",
+    )
+}
+
+/// Options of Debian's rpcbind(8). The program puts words of `serve` in their place before these are read.
+fn add_options<'a>(alloc: Global, args: &mut Vec<Arg<'a>>) -> Result<(), AllocError> {
+    add(
+        alloc,
+        args,
+        "options",
+        "TEXT",
+        "Options of Debian's rpcbind, as in /etc/default/rpcbind: those that have a like here are taken",
     )
 }
 

@@ -1,7 +1,7 @@
 //! The words that the program was called with.
-ghost use Rattle.std.specs.Prelude.{◌≡◌, ◌≤◌, IfErr};
+ghost use Rattle.std.specs.Prelude.{◌≡◌, IfErr};
 ghost use Rattle.std.specs.IoError.{error_kind};
-ghost use Rattle.rb_commands.specs.Faults.{words_fault};
+ghost use Rattle.rb_commands.specs.Faults.{words_fault, IsFailure};
 
 use rb_lines::{Fault, explain};
 use std::env::Env;
@@ -14,12 +14,12 @@ fn words_of<R: Env + AllocGlobal>(rt: &R) -> io::Result<Vec<String>> {
 }
 
 /// The words of the command line, if each is text. If one is not, or memory is refused, that is said, and the
-/// error is the exit status.
+/// error is the exit status: 2 or 1.
 pub fn command_words<R: Env + AllocGlobal, E: Write>(
     rt: &R,
     faults: &mut E,
 ) -> Result<Vec<String>, u8>
-    ensures { IfErr result (λ status. status ≤ 2) }
+    ensures { IfErr result IsFailure }
 {
     match words_of(rt) {
         Ok(words) => Ok(words),

@@ -3,3 +3,4 @@ pub mod Moves
 pub mod Recording
 pub mod ServedLaws
 pub mod PlainCallers
+pub mod Keeping

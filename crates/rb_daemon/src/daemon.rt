@@ -1,18 +1,19 @@
 //! The daemon and its turns.
-ghost use Rattle.std.specs.Prelude.{◌≡◌, ◌↔◌, IsTrue, IsErrOf, IfOk, OnOk, not};
-ghost use Rattle.rb_model.specs.State.{are_good};
+ghost use Rattle.std.specs.Prelude.{◌≡◌, ◌↔◌, IsTrue, IsErrOf, IfOk, OnOk, false, not};
 ghost use Rattle.rb_daemon.specs.Served.{has_good_limits};
 
 use crate::engine::Engine;
-use crate::keeping::Keeper;
-use crate::secrets::{Secrets, brake_of, draw, first_xid};
-use crate::serving::Serving;
+use crate::keeping::{KeepNews, Keeper};
+use crate::load::Load;
+use crate::secrets::{brake_of, draw, first_xid};
+use crate::serving::{Room, Serving};
 use crate::waiting::{EVENTS, Waiting};
-use rb_core::{CoreFault, Limits, Listener};
+use mio::Registry;
+use rb_lines::bad_limit;
 use rb_policy::{Moments, place_count, wait_of};
 use rb_registry::Row;
 use rb_sockets::{
-    BindFault, DaemonFault, Logged, Settings, Shortage, SocketFault, Sockets, Step, TableFault,
+    BindFault, DaemonFault, Handed, Settings, Shortage, SocketFault, Sockets, Step, TableFault,
 };
 use std::alloc::{AllocError, Global};
 use std::fs::Files;
@@ -39,8 +40,8 @@ impl<'a, R: Clock, H: Files> Daemon<'a, R, H> {
     // LIMITS-2: The fault is `Limits` if and only if a limit is out of its range: before memory is
     // taken and sockets are bound.
     /// A daemon that listens where the settings say: over TCP and UDP on each of their hosts, and also on ::1 and on a
-    /// local socket if they are asked for. Before that it sets the rows again that were kept. Its secrets are of the
-    /// randomness of `host`. `Limits` if a limit is out of its range, or the rows have no room for the own ones and two
+    /// local socket if they are asked for, at some of them by sockets that were handed over. Before that it sets the rows
+    /// again that were kept. Its secrets are of the randomness of `host`. `Limits` if a limit is out of its range, or the rows have no room for the own ones and two
     /// more; else `Memory` or `Socket`, whichever occurs first.
     pub fn new<B: Files + Net + RandomSource>(
         alloc: Global,
@@ -48,49 +49,53 @@ impl<'a, R: Clock, H: Files> Daemon<'a, R, H> {
         clock: &'a R,
         settings: &Settings<'_>,
         kept: &[Row],
+        handed: Handed,
     ) -> Result<Daemon<'a, R, H>, DaemonFault>
         ensures bad { IsErrOf result DaemonFault.Limits
             ↔ IsTrue (not (has_good_limits settings.now)) }
         ensures good { OnOk result (IsTrue (has_good_limits settings.now)) }
     {
-        let limits = settings.limits;
-        let listener = settings.listener();
-        let secrets = draw(host);
-        let (mut engine, moments) = engine_of(
-            alloc,
-            limits,
-            listener,
-            settings.record_limit,
-            settings.log,
-            read_clocks(clock),
-            &secrets,
-        )?;
-        let brake = brake_of(alloc, settings.udp_rate, secrets)?;
-        let left_out = restore(alloc, &mut engine, kept).map_err(DaemonFault::Memory)?;
-        let made = Keeper::new(alloc, settings.keep, limits.rows, engine.changes());
-        let keeper = made.map_err(DaemonFault::Memory)?;
-        let waiting = Waiting::new(alloc, host)?;
-        let sockets = match Sockets::bind(alloc, host, settings) {
-            Ok(sockets) => sockets,
-            Err(BindFault::Memory(error)) => return Err(DaemonFault::Memory(error)),
-            Err(BindFault::Socket(fault)) => return Err(DaemonFault::Socket(fault)),
+        check_limits(settings)?;
+        let first = match read_clocks(clock) {
+            Ok(first) => first,
+            Err(error) => return Err(DaemonFault::Socket(Step::Clock.failed(error))),
         };
-        sockets.write_stack();
-        let (places, shortage) = places_of(settings, &sockets);
-        let most_due = limits.conns.saturating_add(limits.forwards);
-        let made = Serving::new(alloc, engine, keeper, sockets, places, most_due, brake);
-        let mut serving = made.map_err(DaemonFault::Memory)?;
-        if let Err(error) = serving.register(waiting.registry()) {
-            return Err(DaemonFault::Socket(Step::Prepare.failed(error)));
-        }
+        let secrets = draw(host);
+        let xid = first_xid(&secrets, first.wall);
+        let brake = brake_of(alloc, settings.udp_rate, secrets)?;
+        // What has many parts is made last, since each `?` lets go all that was made before it.
+        let inner = begin(alloc, settings, xid, first.wall, kept)?;
+        let outer = open(alloc, host, settings, handed)?;
+        outer.sockets.write_stack(host);
+        let Inner {
+            engine,
+            keeper,
+            left_out,
+        } = inner;
+        let Outer {
+            waiting,
+            sockets,
+            room,
+            shortage,
+        } = outer;
         Ok(Daemon {
             clock,
-            moments,
+            moments: Moments::new(first.wall, first.monotonic),
             waiting,
-            serving,
+            serving: Serving::new(engine, keeper, sockets, room, settings.limits, brake),
             shortage,
             left_out,
         })
+    }
+
+    /// The moment of the last turn, in milliseconds since the start of 1970.
+    pub fn moment(&self) -> u64 {
+        self.moments.last()
+    }
+
+    /// How much it serves. It goes through all rows.
+    pub fn load(&self) -> Load {
+        self.serving.load()
     }
 
     // START-2
@@ -113,12 +118,10 @@ impl<'a, R: Clock, H: Files> Daemon<'a, R, H> {
     /// end if there is neither, and not at all if something is left from the last turn. Then it serves all that the
     /// wait showed, in this order: datagrams, what comes back for forwarded calls, connections, those that are owed
     /// bytes last, and what is due, unless the turn is behind: then the next one does not wait. It closes Lost
-    /// what the kernel's tables, which are files of `host`, show of them. A wait that fails is as one that showed nothing,
-    /// after a pause. After a fault, `Socket` of many waits that failed one after another or of the clock, what was handed
-    /// to the core stands, and the daemon can do no more.
     /// connections, and accepts connections as far as there are free places. If calls over TCP from this host wait until it
-    /// is known whose they are, it reads a slice of the kernel's tables, which are files of `host`. After a fault,
-    /// `Socket` of the wait or the clock, what was handed to the core stands, and the daemon can do no more.
+    /// is known whose they are, it reads a slice of the kernel's tables, which are files of `host`. A wait that fails is as
+    /// one that showed nothing, after a pause. After a fault, `Socket` of many waits that failed one after another or of the
+    /// clock, what was handed to the core stands, and the daemon can do no more.
     pub fn turn(&mut self, host: &H, longest: Option<u64>) -> Result<(), DaemonFault> {
         let is_work_left = self.serving.is_work_left();
         let deadline = self.serving.next_deadline();
@@ -157,10 +160,10 @@ impl<'a, R: Clock, H: Files> Daemon<'a, R, H> {
         }
     }
 
-    /// The error of a write of the rows that are kept, only once if more follow: the daemon goes on, and tries again at
-    /// the next change.
-    pub fn take_keep_fault(&mut self) -> Option<io::Error> {
-        self.serving.take_keep_fault()
+    /// What there is to tell of the rows that are kept, once: that they could not be written, and the daemon tries again
+    /// at the next change; that they are written again; that another file was in their place.
+    pub fn take_keep_news(&mut self) -> Option<KeepNews> {
+        self.serving.take_keep_news()
     }
 
     /// The first fault of one of the kernel's tables, once: while they can't be read whole, nobody registers over TCP.
@@ -241,14 +244,21 @@ impl<'a, R: Clock, H: Files> Daemon<'a, R, H> {
 /// A descriptor is for one of the kernel's tables of connections, while that is read.
 const TABLE: u64 = 1;
 
+/// Descriptors are for the file of kept rows, for the one that takes its place, and for their lock.
+const KEPT: u64 = 3;
+
 /// How many places there are for connections, and the shortage, if they are fewer than the settings ask for.
-fn places_of(settings: &Settings<'_>, sockets: &Sockets) -> (usize, Option<Shortage>) {
+fn places_of<N: Net>(
+    host: &N,
+    settings: &Settings<'_>,
+    sockets: &Sockets,
+) -> (usize, Option<Shortage>) {
     let asked = settings.limits.conns;
     let limit = settings.open_files;
     let others = sockets
-        .count_descriptors()
+        .count_descriptors(host)
         .saturating_add(u64::from(settings.record_limit > 0))
-        .saturating_add(u64::from(settings.keep.is_some()))
+        .saturating_add(KEPT * u64::from(settings.keep.is_some()))
         .saturating_add(TABLE);
     let places = place_count(asked, limit, others);
     if places == asked {
@@ -297,32 +307,126 @@ fn millis(time: Duration) -> u64 {
     u64::try_from(time.as_millis()).unwrap_or(u64::MAX)
 }
 
-/// An engine at the moment `first` that the clocks gave, and the source of later moments. Bad limits are reported
-/// before a clock that failed.
+/// `Limits` if a limit is out of its range.
+fn check_limits(settings: &Settings<'_>) -> Result<(), DaemonFault>
+    ensures bad { IsErrOf result DaemonFault.Limits
+        ↔ IsTrue (not (has_good_limits settings.now)) }
+    ensures good { OnOk result (IsTrue (has_good_limits settings.now)) }
+{
+    match bad_limit(&settings.limits, &settings.listener()) {
+        None => Ok(()),
+        Some(_) => Err(DaemonFault::Limits),
+    }
+}
+
+/// The core with the rows that were kept, and what keeps them.
+#[derive(Drop)]
+struct Inner<H: Files> {
+    engine: Engine,
+    keeper: Keeper<H>,
+    /// Which of the rows are not set again.
+    left_out: Vec<usize>,
+}
+
+/// What is around the core: the wait, the sockets whose events it shows, and the memory with which they are served.
+#[derive(Drop)]
+struct Outer<H: Files> {
+    waiting: Waiting,
+    sockets: Sockets,
+    room: Room<H>,
+    shortage: Option<Shortage>,
+}
+
+/// An engine at this moment, whose first forwarded call has this xid. `Memory` if an allocation is refused.
 fn engine_of(
     alloc: Global,
-    limits: Limits,
-    listener: Listener,
-    record_limit: usize,
-    logged: Logged,
-    first: io::Result<Times>,
-    secrets: &io::Result<Secrets>,
-) -> Result<(Engine, Moments), DaemonFault>
-    ensures bad { IsErrOf result DaemonFault.Limits ↔ IsTrue (not (are_good limits listener)) }
-    ensures good { OnOk result (IsTrue (are_good limits listener)) }
-    ensures record { IfOk result (λ made. made.0.tape.limit ≡ record_limit) }
+    settings: &Settings<'_>,
+    xid: u32,
+    moment: u64,
+) -> Result<Engine, DaemonFault>
+    ensures others { IsErrOf result DaemonFault.Limits → IsTrue false }
+    ensures record { IfOk result (λ engine. engine.tape.limit ≡ settings.now.record_limit) }
 {
-    let (wall, monotonic) = match &first {
-        Ok(Times { wall, monotonic }) => (*wall, *monotonic),
-        Err(_) => (0, 0),
-    };
-    let xid = first_xid(secrets, wall);
-    match Engine::new(alloc, limits, listener, xid, wall, record_limit, logged) {
-        Ok(engine) => match first {
-            Ok(_) => Ok((engine, Moments::new(wall, monotonic))),
-            Err(error) => Err(DaemonFault::Socket(Step::Clock.failed(error))),
-        },
-        Err(CoreFault::BadLimits) => Err(DaemonFault::Limits),
+    let made = Engine::new(
+        alloc,
+        settings.limits,
+        settings.listener(),
+        xid,
+        moment,
+        settings.record_limit,
+        settings.log,
+    );
+    match made {
+        Ok(engine) => Ok(engine),
         Err(_) => Err(DaemonFault::Memory(AllocError)),
+    }
+}
+
+/// Begins at this moment, sets the rows again that were kept, and keeps those from here on. `Memory` if an allocation is
+/// refused.
+fn begin<H: Files>(
+    alloc: Global,
+    settings: &Settings<'_>,
+    xid: u32,
+    moment: u64,
+    kept: &[Row],
+) -> Result<Inner<H>, DaemonFault>
+    ensures others { IsErrOf result DaemonFault.Limits → IsTrue false }
+{
+    let mut engine = engine_of(alloc, settings, xid, moment)?;
+    let left_out = restore(alloc, &mut engine, kept).map_err(DaemonFault::Memory)?;
+    let rows = settings.limits.rows;
+    match Keeper::new(alloc, settings.keep, rows, engine.changes()) {
+        Ok(keeper) => Ok(Inner {
+            engine,
+            keeper,
+            left_out,
+        }),
+        Err(error) => Err(DaemonFault::Memory(error)),
+    }
+}
+
+/// Binds sockets to all that the settings name and that was not handed over, and waits on them from here on. `Memory` or
+/// `Socket`, whichever occurs first.
+fn open<B: Files + Net, H: Files>(
+    alloc: Global,
+    host: &B,
+    settings: &Settings<'_>,
+    handed: Handed,
+) -> Result<Outer<H>, DaemonFault>
+    ensures others { IsErrOf result DaemonFault.Limits → IsTrue false }
+{
+    let waiting = Waiting::new(alloc, host)?;
+    let sockets = bind(alloc, host, settings, handed, waiting.registry())?;
+    let (places, shortage) = places_of(host, settings, &sockets);
+    match Room::new(alloc, places, !sockets.are_claims_believed) {
+        Ok(room) => Ok(Outer {
+            waiting,
+            sockets,
+            room,
+            shortage,
+        }),
+        Err(error) => Err(DaemonFault::Memory(error)),
+    }
+}
+
+/// The sockets that the settings name, registered where their events are shown.
+fn bind<B: Files + Net>(
+    alloc: Global,
+    host: &B,
+    settings: &Settings<'_>,
+    handed: Handed,
+    registry: &Registry,
+) -> Result<Sockets, DaemonFault>
+    ensures others { IsErrOf result DaemonFault.Limits → IsTrue false }
+{
+    let mut sockets = match Sockets::bind(alloc, host, settings, handed) {
+        Ok(sockets) => sockets,
+        Err(BindFault::Memory(error)) => return Err(DaemonFault::Memory(error)),
+        Err(BindFault::Socket(fault)) => return Err(DaemonFault::Socket(fault)),
+    };
+    match sockets.register(registry) {
+        Ok(()) => Ok(sockets),
+        Err(error) => Err(DaemonFault::Socket(Step::Prepare.failed(error))),
     }
 }

@@ -11,13 +11,14 @@ ghost use Rattle.rb_daemon.specs.Recording.{end_entry};
 ghost use Rattle.rb_daemon.specs.Served.{IsServed, ready_of};
 
 use crate::callers::{Caller, Sender};
+use crate::keeping::Kept;
 use crate::log::Log;
 use crate::showing::{
     count_given, record_exchange, record_pieces, record_unsent, show_done, show_opened,
 };
 use rb_address::{Source, Who};
 use rb_core::{CoreFault, Exchanged, Expired, Given, Limits, Listener, Metered, Response, Told};
-use rb_keep::{set_call, write_rows};
+use rb_keep::{set_call, write_changes};
 use rb_model::{Event, Output};
 use rb_record::{Start, Tape};
 use rb_registry::Row;
@@ -152,7 +153,7 @@ impl Engine {
     ghost use Rattle.rb_model.specs.NextDeadlines.{next_deadline};
     ghost use Rattle.rb_model.specs.Step.{open_connection, close_connection, next_lost, zero_stats};
     ghost use Rattle.rb_model.specs.ChangeLaws.{set_call};
-    ghost use Rattle.rb_keep.specs.Writing.{WritesKept};
+    ghost use Rattle.rb_keep.specs.Writing.{WritesChange, AreSetRows};
     ghost use Rattle.rb_connections.specs.Slots.{Shows};
     ghost use Rattle.rb_core.specs.StandsFor.{StandsFor};
     ghost use Rattle.rb_model.specs.Exchanges.{count_given};
@@ -375,8 +376,12 @@ impl Engine {
         }
     }
 
-    /// Sends the reply to the last datagram over the socket on which that came. One that the socket does not take is lost.
-    pub(crate) fn reply(&mut self, who: Who, socket: &CallSocket)
+    // KEEP-16: A reply leaves the daemon only when all changes up to it were taken up by the keeper of rows:
+    // their lines are in the file, or it is told that they could not be written.
+    /// Sends the reply to the last datagram over the socket on which that came, once all changes were kept. One that the
+    /// socket does not take is lost.
+    pub(crate) fn reply(&mut self, who: Who, socket: &CallSocket, kept: Kept)
+        requires { Shows StandsFor change_count self.old.core.core kept.changes }
         ensures stays { Moves (λ s now. s) self.old self.new }
         ensures tape { self.new.tape ≡ self.old.tape }
         ensures moment { self.new.moment ≡ self.old.moment }
@@ -414,15 +419,20 @@ impl Engine {
         self.core.changes()
     }
 
-    /// Writes the lines of the rows that were set, in order.
-    pub(crate) fn write_rows<W: Write>(&mut self, writer: &mut W) -> io::Result<()>
-        ensures kept { OnOk result
-            (WritesKept self.old.core.core W.contents writer.old writer.new) }
+    /// Writes the lines of what changed since these rows were kept, which are those that are set then.
+    pub(crate) fn write_changes<W: Write>(
+        &mut self,
+        kept: &mut Vec<Row>,
+        writer: &mut W,
+    ) -> io::Result<()>
+        ensures written { OnOk result (WritesChange
+            self.old.core.core kept.old.items W.contents writer.old writer.new) }
+        ensures kept { OnOk result (AreSetRows self.old.core.core kept.new.items) }
         ensures core { self.new.core.core ≡ self.old.core.core }
         ensures tape { self.new.tape ≡ self.old.tape }
         ensures moment { self.new.moment ≡ self.old.moment }
     {
-        write_rows(&mut self.core, writer)
+        write_changes(&mut self.core, kept, writer)
     }
 
     /// Takes a datagram in that came where forwarded calls are sent from. The answer is the connection that goes on.

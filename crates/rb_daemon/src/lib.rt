@@ -6,6 +6,7 @@ mod daemon;
 mod engine;
 mod keeping;
 mod laws;
+mod load;
 mod log;
 mod outbox;
 mod secrets;
@@ -15,10 +16,12 @@ mod steps;
 mod waiting;
 
 pub use daemon::Daemon;
+pub use keeping::KeepNews;
 pub use laws::{served_cores_are_bounded, served_records_are_read};
+pub use load::Load;
 pub use rb_model::Limits;
 pub use rb_policy::Rate;
 pub use rb_proto::{Announced, Forwarding, Reserved, Terms};
 pub use rb_sockets::{
-    DaemonFault, Few, LocalSocket, Logged, Settings, Shortage, SocketFault, Step,
+    DaemonFault, Few, Handed, LocalSocket, Logged, Settings, Shortage, SocketFault, Step,
 };

@@ -4,9 +4,9 @@ use rb_address::Source;
 use rb_core::{ChangeAsked, ChangeKind, Seen};
 use rb_forward::sooner;
 use rb_policy::caller_rate::{LogCaller, OWN_COUNTS};
+use rb_policy::log_choice::{Happening, Logged, kind_told};
 use rb_policy::log_lines::{ChangeLine, LogKind, LogLine};
 use rb_policy::log_rate::{LOG_ROOM, LogRate, caller_at, caller_of, has_log_room};
-use rb_sockets::Logged;
 use std::alloc::{AllocError, Global};
 use std::io;
 use std::io::Write;
@@ -55,31 +55,23 @@ impl Log {
 
     /// A call came at this moment, in milliseconds.
     pub(crate) fn note_call(&mut self, now: u64, seen: &Seen) {
-        match (seen, self.logged) {
-            (Seen::Change(change), Logged::Changes | Logged::All) => {
-                let kind = if change.refusal.is_none() {
-                    LogKind::Accepted
-                } else {
-                    LogKind::Refused
-                };
-                let caller = caller_of(&change.who);
-                self.tell(now, kind, caller, &LogLine::Change(line_of(change)));
+        match seen {
+            Seen::Change(change) => {
+                let line = LogLine::Change(line_of(change));
+                let happening = Happening::Change(change.refusal);
+                self.note(now, happening, caller_of(&change.who), &line);
             }
-            (Seen::Refused(call), Logged::All) => {
+            Seen::Refused(call) => {
                 let line = LogLine::RefusedCall(call.who, call.status);
-                self.tell(now, LogKind::Calls, caller_of(&call.who), &line);
+                self.note(now, Happening::RefusedCall, caller_of(&call.who), &line);
             }
-            (Seen::Change(_), Logged::Nothing)
-            | (Seen::Refused(_), Logged::Nothing | Logged::Changes) => {}
         }
     }
 
     /// A connection from there was given up at this moment, in milliseconds.
     pub(crate) fn note_given_up(&mut self, now: u64, source: Source) {
-        if self.logged == Logged::All {
-            let line = LogLine::GivenUp(source);
-            self.tell(now, LogKind::GivenUp, caller_at(source), &line);
-        }
+        let line = LogLine::GivenUp(source);
+        self.note(now, Happening::GivenUp, caller_at(source), &line);
     }
 
     /// The moment, in milliseconds, from which the log tells of lines that were left out, if some were.
@@ -103,6 +95,13 @@ impl Log {
         let done = writer.write_all(self.text.as_slice());
         self.text.clear();
         done
+    }
+
+    /// What came about by this caller, and its line, if it is told.
+    fn note(&mut self, now: u64, happening: Happening, caller: LogCaller, line: &LogLine<'_>) {
+        if let Some(kind) = kind_told(self.logged, happening) {
+            self.tell(now, kind, caller, line);
+        }
     }
 
     /// Adds a line of this caller, after how many of its kind were left out before; or counts it, if the caller has had

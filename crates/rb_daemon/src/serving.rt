@@ -3,15 +3,17 @@ ghost use Rattle.std.specs.Prelude.{◌≤◌, length};
 
 use crate::callers::{Caller, Sender};
 use crate::engine::{Answer, Due, Engine};
-use crate::keeping::Keeper;
+use crate::keeping::{KeepNews, Keeper};
+use crate::load::Load;
 use crate::steps::{Progress, serve};
 use mio::Registry;
 use mio::event::Event;
 use rb_address::{Family, Peer, Source, Who};
 use rb_forward::sooner;
 use rb_links::{Places, Turn};
+use rb_model::Limits;
 use rb_policy::{
-    Admission, Again, Brake, Deadlines, Evidence, Next, RETRY, Round, SOCKET_CALLS, Share,
+    Admission, Again, Brake, Deadlines, Evidence, Next, Origin, RETRY, Round, SOCKET_CALLS, Share,
     after_accept, after_all_calls, after_receive, is_behind, origin_of, outcome_of, serves_another,
 };
 use rb_sockets::{Shown, Slice, SocketFault, Sockets, Step, Stream, Table, TableFault, Visitor};
@@ -32,7 +34,7 @@ const DATAGRAMS: usize = SOCKET_CALLS / 2;
 pub(crate) struct Serving<H: Files> {
     engine: Engine,
     /// Where the rows are kept that were set.
-    keeper: Keeper,
+    keeper: Keeper<H>,
     sockets: Sockets,
     places: Places,
     /// Where the last connection at each place came from.
@@ -59,6 +61,42 @@ pub(crate) struct Serving<H: Files> {
     has_table_failed: bool,
 }
 
+/// The memory with which connections and datagrams are served.
+#[derive(Drop)]
+pub(crate) struct Room<H: Files> {
+    places: Places,
+    sources: Vec<Source>,
+    datagram: Vec<u8>,
+    table: Table<H>,
+}
+
+impl<H: Files> Room<H> {
+    /// With this many places for connections, and with room for a slice of the kernel's tables if they are read. An
+    /// error if an allocation is refused.
+    pub(crate) fn new(
+        alloc: Global,
+        places: usize,
+        are_tables_read: bool,
+    ) -> Result<Room<H>, AllocError> {
+        let datagram = filled(alloc, LONGEST_DATAGRAM, 0)?;
+        let sources = filled(alloc, places, Source::Local)?;
+        let table = Table::new(alloc, are_tables_read)?;
+        Ok(Room {
+            places: Places::new(alloc, places)?,
+            sources,
+            datagram,
+            table,
+        })
+    }
+}
+
+/// So many times the same value. An error if the allocation is refused.
+fn filled<T: Copy>(alloc: Global, count: usize, value: T) -> Result<Vec<T>, AllocError> {
+    let mut values = Vec::with_capacity(alloc, count)?;
+    values.resize(count, value)?;
+    Ok(values)
+}
+
 /// Whether a datagram of this caller is served that came at this moment: each one is, if there is no brake.
 fn passes(brake: &mut Option<Brake>, now: u64, who: &Who) -> bool {
     match brake {
@@ -68,29 +106,29 @@ fn passes(brake: &mut Option<Brake>, now: u64, who: &Who) -> bool {
 }
 
 impl<H: Files> Serving<H> {
-    /// With this many places for connections, and what drops datagrams of strangers if they are limited. An error if an
-    /// allocation is refused.
+    /// A core of these limits, what keeps its rows, and the sockets around it, which are served with this memory; and
+    /// what drops datagrams of strangers, if they are limited.
     pub(crate) fn new(
-        alloc: Global,
         engine: Engine,
-        keeper: Keeper,
+        keeper: Keeper<H>,
         sockets: Sockets,
-        places: usize,
-        most_due: usize,
+        room: Room<H>,
+        limits: Limits,
         brake: Option<Brake>,
-    ) -> Result<Serving<H>, AllocError> {
-        let mut datagram = Vec::with_capacity(alloc, LONGEST_DATAGRAM)?;
-        datagram.resize(LONGEST_DATAGRAM, 0)?;
-        let mut sources = Vec::with_capacity(alloc, places)?;
-        sources.resize(places, Source::Local)?;
-        let table = Table::new(alloc, !sockets.are_claims_believed)?;
-        Ok(Serving {
+    ) -> Serving<H> {
+        let Room {
+            places,
+            sources,
+            datagram,
+            table,
+        } = room;
+        Serving {
             engine,
             keeper,
             sockets,
-            places: Places::new(alloc, places)?,
+            places,
             sources,
-            most_due,
+            most_due: limits.conns.saturating_add(limits.forwards),
             datagram,
             brake,
             table,
@@ -105,12 +143,7 @@ impl<H: Files> Serving<H> {
             fault: None,
             table_fault: None,
             has_table_failed: false,
-        })
-    }
-
-    /// The events of the daemon's own sockets are shown from here on.
-    pub(crate) fn register(&mut self, registry: &Registry) -> io::Result<()> {
-        self.sockets.register(registry)
+        }
     }
 
     /// Writes what was recorded and not yet written.
@@ -123,14 +156,23 @@ impl<H: Files> Serving<H> {
         self.keeper.keep(host, &mut self.engine);
     }
 
-    /// The error of a write of kept rows that is yet to be told.
-    pub(crate) fn take_keep_fault(&mut self) -> Option<io::Error> {
-        self.keeper.take_fault()
+    /// What is yet to be told of the kept rows.
+    pub(crate) fn take_keep_news(&mut self) -> Option<KeepNews> {
+        self.keeper.take_news()
     }
 
     /// Writes the lines of the log that are not written yet.
     pub(crate) fn write_log<W: Write>(&mut self, writer: &mut W) -> io::Result<()> {
         self.engine.write_log(writer)
+    }
+
+    /// How much is served now.
+    pub(crate) fn load(&self) -> Load {
+        Load {
+            changes: self.engine.changes(),
+            connections: self.places.taken(),
+            places: self.places.count(),
+        }
     }
 
     /// Whether the next turn has something to serve at once, beside the kernel's tables.
@@ -140,7 +182,7 @@ impl<H: Files> Serving<H> {
 
     /// Whether the next turn does not wait: it has something to serve, or a slice of the kernel's tables to read.
     pub(crate) fn is_something_left(&self) -> bool {
-        self.is_work_left() || self.walk.is_some() || self.places.are_held()
+        self.is_work_left() || self.walk.is_some() || self.places.are_sought()
     }
 
     /// The next deadline, in milliseconds since the start of 1970, if anything has one: of a connection or a forwarded call,
@@ -150,9 +192,8 @@ impl<H: Files> Serving<H> {
     }
 
     /// The moment at which the next turn comes though nothing shows it, given that it would otherwise come at this
-    /// deadline, if there is one: for a line of the log on those that were left out; for a socket that failed.
-    /// deadline, if there is one: for connections that wait to be opened, when the kernel's tables may be read; for a
-    /// line of the log on those that were left out; for a socket that failed; for the abstract name.
+    /// deadline, if there is one: for a line of the log on those that were left out; for a socket that failed; for the
+    /// abstract name.
     pub(crate) fn next_turn(&self, deadline: Option<u64>) -> Option<u64> {
         let mut next = sooner(deadline, self.engine.next_log_line());
         if self.sockets.is_tried_again() {
@@ -181,6 +222,9 @@ impl<H: Files> Serving<H> {
         let Shown::Connection(key) = Sockets::shown_by(event.token()) else {
             return;
         };
+        if event.is_read_closed() {
+            self.places.note_ended(key);
+        }
         match self.places.round(key) {
             Some(Round::First) => self.serve_at(host, key, event.is_read_closed()),
             Some(Round::Last) => self.places.leave(key),
@@ -309,8 +353,8 @@ impl<H: Files> Serving<H> {
         self.engine.tell_call();
         match answer {
             Answer::Reply => {
-                self.keeper.keep(host, &mut self.engine);
-                self.engine.reply(who, &calls.socket);
+                let kept = self.keeper.keep(host, &mut self.engine);
+                self.engine.reply(who, &calls.socket, kept);
             }
             Answer::Forwarded => {
                 if let Some(number) = self.engine.send_forward(&self.sockets.forwards) {
@@ -537,8 +581,11 @@ impl<H: Files> Serving<H> {
         let Some(visitor) = from else {
             return;
         };
-        let origin = origin_of(visitor.source());
-        let key = match self.places.admit(&origin, self.turn.moment) {
+        let origin = match &visitor {
+            Visitor::Known(who) => origin_of(who),
+            Visitor::Unknown(_) => Origin::New,
+        };
+        let key = match self.places.admit(&origin, self.turn) {
             Admission::Take(key) => key,
             Admission::GiveUp(key) => {
                 self.give_up(key);
@@ -585,11 +632,13 @@ impl<H: Files> Serving<H> {
 
     // TABLES-6: A pass through the kernel's tables begins at once when a call needs one, unless one
     // goes on, and is for all that wait then; who comes meanwhile waits for the next.
-    /// Reads a slice of the kernel's tables, if a call waits for them and this turn may: each turn may in which nothing
+    // TABLES-8: When a connection is given up for a client that comes, a pass shows of all from this
+    // host whose they are.
+    /// Reads a slice of the kernel's tables, if a connection waits for them and this turn may: each turn may in which nothing
     /// else was to be done. A pass begins at once, unless one goes on, and is for all that wait then.
     pub(crate) fn look_in_tables(&mut self, rt: &H, is_idle: bool) {
         let now = self.turn.moment;
-        if self.walk.is_none() && !self.places.are_held() || !self.share.may_read(now, is_idle) {
+        if self.walk.is_none() && !self.places.are_sought() || !self.share.may_read(now, is_idle) {
             return;
         }
         self.share.note_read(now);
@@ -664,11 +713,11 @@ impl<H: Files> Serving<H> {
         }
     }
 
-    /// All tables were looked at: those that waited for it go on, each as who it is.
+    /// All tables were looked at: those whose calls waited for it go on, each as who it is.
     fn end_pass(&mut self) {
         self.walk = None;
         for key in 0..self.places.count() {
-            if let Some(who) = self.places.shown(key) {
+            if let Some(who) = self.places.shown(key, self.turn.moment) {
                 self.open_again(key, who);
             }
         }

@@ -1,10 +1,13 @@
 //! What is done with a connection that is ready: bytes go from its socket to the core, and replies from the core to its
 //! socket.
 ghost use Rattle.std.specs.Prelude.{◌≡◌, false};
+ghost use Rattle.rb_connections.specs.Slots.{Shows};
+ghost use Rattle.rb_core.specs.StandsFor.{StandsFor};
 ghost use Rattle.rb_links.specs.Holding.{must_wait};
+ghost use Rattle.rb_daemon.specs.Served.{change_count};
 
 use crate::engine::Engine;
-use crate::keeping::Keeper;
+use crate::keeping::{Keeper, Kept};
 use crate::outbox::{exchange, write_into};
 use rb_core::Standing;
 use rb_links::{LONG_ROOM, Link, Outbox, READ_AHEAD, Turn};
@@ -34,7 +37,7 @@ pub(crate) fn serve<H: Files>(
     host: &H,
     link: &mut Link,
     engine: &mut Engine,
-    keeper: &mut Keeper,
+    keeper: &mut Keeper<H>,
     forwards: &ForwardSockets,
     long_outbox: &mut Outbox,
     turn: Turn,
@@ -56,7 +59,7 @@ fn serve_calls<H: Files>(
     host: &H,
     link: &mut Link,
     engine: &mut Engine,
-    keeper: &mut Keeper,
+    keeper: &mut Keeper<H>,
     forwards: &ForwardSockets,
     may_end: bool,
 ) -> Progress {
@@ -65,12 +68,12 @@ fn serve_calls<H: Files>(
             break;
         }
         let goes_on = !link.is_for_the_core() || make_exchanges(link, engine, forwards);
-        keeper.keep(host, engine);
+        let kept = keeper.keep(host, engine);
         if !goes_on {
-            let _ = link.write();
+            write_last(link, engine, kept);
             return Progress::Over;
         }
-        match link.call_socket(may_end) {
+        match call_socket(link, engine, kept, may_end) {
             Next::GoOn => {}
             Next::AwaitEvent | Next::AwaitTurn => return Progress::Blocked,
             Next::Close => return Progress::Over,
@@ -81,6 +84,22 @@ fn serve_calls<H: Files>(
     } else {
         Progress::Over
     }
+}
+
+// KEEP-16
+/// Writes to the socket, or reads from it, once all changes were kept.
+fn call_socket(link: &mut Link, engine: &Engine, kept: Kept, may_end: bool) -> Next
+    requires { Shows StandsFor change_count engine.now.core.core kept.changes }
+{
+    link.call_socket(may_end)
+}
+
+// KEEP-16
+/// Writes what is left to the socket of a connection that is given up, once all changes were kept.
+fn write_last(link: &mut Link, engine: &Engine, kept: Kept)
+    requires { Shows StandsFor change_count engine.now.core.core kept.changes }
+{
+    let _ = link.write();
 }
 
 /// Hands in what was read, which must not be held back. Returns whether the core took it.

@@ -31,15 +31,15 @@ WritesFront contents old new front = Appends (contents old) (contents new) (step
 abbrev pub HasWritten : {E : Type 0} → (E → Option (List ℕ)) → E → List ℕ → Type 0
 HasWritten {E} contents old text = (front : E) × Appends (contents old) (contents front) text
 
--- If all was written: the lines of the fault, and nothing else. Of a socket its line is the last, and the step that failed
--- was written at some time, with the address or path. The system's word for the error stands between: nothing is known of
--- it, so nothing ties the two.
--- FAULT-3: If the daemon ends by a step that failed, it writes `rpcbind: ` and that step, of a bind
--- with its address or the path of the local socket; the last line is `rpcbind: socket failed`.
+-- If all was written: the lines of the fault, and nothing else. Of a socket its line is the first, and then the step that
+-- failed was written, with the address or path. The system's word for the error is behind it: nothing is known of it.
+-- FAULT-3: If the daemon ends by a step that failed, it writes `rpcbind: socket failed`, and as the
+-- last line `rpcbind: ` and that step, of a bind with its address or the path of the local socket,
+-- and the system's word.
 abbrev pub TellsFault : {E : Type 0} → Settings → (E → Option (List ℕ)) → E → E → Ending → DaemonFault → Type 0
 TellsFault s contents old new ending (Memory error) = Says contents old new ending (fault_line NoMemory)
 TellsFault s contents old new ending OfLimits = Says contents old new ending (fault_lines s.limits (listener_of s) BadLimits)
 TellsFault {E} s contents old new ending (Socket failed) =
     ending.is_told ≡ true
-    → (front behind : E) × Appends (contents old) (contents front) (fault_front failed s)
-    × Appends (contents behind) (contents new) (fault_line SocketFailed)
+    → (said : E) × Appends (contents old) (contents said) (fault_line SocketFailed)
+    × HasWritten contents said (fault_front failed s)

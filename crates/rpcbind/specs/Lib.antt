@@ -1,2 +1,4 @@
 pub mod Faults
 pub mod Starts
+pub mod Levels
+pub mod Ends

@@ -1,22 +1,23 @@
 //! What `serve` begins with of the rows that were kept, and what it says of them.
-ghost use Rattle.std.specs.Prelude.{◌≡◌, IfErr};
-
+use crate::ending::End;
+use crate::leveled::{Level, Leveled};
 use rb_address::Host;
 use rb_check::{Found, OwnHosts, ask_all};
 use rb_commands::Serve;
-use rb_files::{KeptFileFault, read_kept};
-use rb_keep::{KeepFault, read_rows};
+use rb_daemon::KeepNews;
+use rb_files::{KeptFileFault, LockFault, lock_file, read_kept};
+use rb_keep::{KeepFault, read_rows, whole_part};
 use rb_lines::{Fault, explain, longest_input};
 use rb_proto::Announced;
 use rb_registry::Row;
 use rb_sockets::Settings;
 use std::alloc::{AllocError, Global};
+use std::fmt;
 use std::fmt::{Display, Formatter};
-use std::fs::Files;
+use std::fs::{File, Files};
 use std::io::Write;
 use std::net::Net;
 use std::rt::Clock;
-use std::{fmt, io};
 
 /// Why rows that were kept are not read.
 #[derive(Drop)]
@@ -36,33 +37,94 @@ impl Display for KeepReadFault {
     }
 }
 
-/// The rows of the file at the path; none if nothing is there.
-fn rows_at<R: Files>(rt: &R, alloc: Global, path: &str) -> Result<Vec<Row>, KeepReadFault> {
+// KEEP-17: One daemon at most has the lock of a file of kept rows, at its path with `.lock` after it;
+// a second one does not start.
+/// The lock of the file where rows are kept, if they are: it is had as long as the answer lives. If another daemon has
+/// it, or memory is refused, it is said, and the error is how `serve` ends. If the system refuses it, that is said, and
+/// the daemon goes on without it.
+pub fn lock_keep<R, E>(rt: &R, serve: &Serve<'_>, faults: &mut E) -> Result<Option<File>, End>
+where
+    R: Files<File = File> + AllocGlobal,
+    E: Write,
+{
+    let Some(path) = serve.settings.keep else {
+        return Ok(None);
+    };
+    let Ok(lock) = lock_path(rt.alloc(), path) else {
+        explain(Fault::NoMemory, faults);
+        return Err(End::Failed);
+    };
+    match lock_file(rt, &lock) {
+        Ok(file) => Ok(Some(file)),
+        Err(LockFault::Held) => {
+            explain(Fault::ReadFailed, faults);
+            let _ = writeln!(
+                faults,
+                "rpcbind: {path}: another daemon keeps its rows there"
+            );
+            Err(End::NotStarted)
+        }
+        Err(LockFault::Failed(error)) => {
+            let _ = writeln!(faults, "rpcbind: {lock}: {error}; {path} is not locked");
+            Ok(None)
+        }
+    }
+}
+
+fn lock_path(alloc: Global, path: &str) -> Result<String, AllocError> {
+    let mut lock = String::new(alloc);
+    lock.push_str(path)?;
+    lock.push_str(".lock")?;
+    Ok(lock)
+}
+
+/// The rows of the file at the path; none if nothing is there. If its last line was not written whole, that is said.
+fn rows_at<R: Files, E: Write>(
+    rt: &R,
+    alloc: Global,
+    path: &str,
+    faults: &mut E,
+) -> Result<Vec<Row>, KeepReadFault> {
     match read_kept(rt, alloc, path, longest_input()) {
-        Ok(Some(text)) => read_rows(alloc, &text).map_err(KeepReadFault::Text),
+        Ok(Some(text)) => {
+            say_torn(path, &text, faults);
+            read_rows(alloc, &text).map_err(KeepReadFault::Text)
+        }
         Ok(None) => Ok(Vec::new(alloc)),
         Err(fault) => Err(KeepReadFault::File(fault)),
     }
 }
 
+// KEEP-13
+/// Says how many bytes stand behind the last line feed of a text, if any do.
+fn say_torn<E: Write>(path: &str, text: &[u8], faults: &mut E) {
+    let torn = text.len().saturating_sub(whole_part(text).len());
+    if torn > 0 {
+        let _ = writeln!(
+            faults,
+            "rpcbind: {path}: its last line is not whole, and is left out ({torn} bytes)"
+        );
+    }
+}
+
 /// The rows that were kept, in their order: none if none should be kept, or if nothing is at the path. Those of this
 /// machine at whose port nobody answers are left out and said, if that is asked for. If the rows can't be read, or
-/// memory is refused, it is said why, and the error is the exit status.
-pub fn read_keep<R, E>(rt: &R, serve: &Serve<'_>, faults: &mut E) -> Result<Vec<Row>, u8>
+/// memory is refused, it is said why, and the error is how `serve` ends.
+pub fn read_keep<R, E>(rt: &R, serve: &Serve<'_>, faults: &mut E) -> Result<Vec<Row>, End>
 where
     R: Files + Net + Clock + AllocGlobal,
     E: Write,
-    ensures { IfErr result (λ status. status ≡ 1) }
 {
     let settings = &serve.settings;
     let Some(path) = settings.keep else {
         return Ok(Vec::new(rt.alloc()));
     };
-    let rows = match rows_at(rt, rt.alloc(), path) {
+    let rows = match rows_at(rt, rt.alloc(), path, faults) {
         Ok(rows) => rows,
         Err(fault) => {
+            explain(Fault::ReadFailed, faults);
             let _ = writeln!(faults, "rpcbind: {path}: {fault}");
-            return Err(explain(Fault::ReadFailed, faults).status);
+            return Err(End::NotStarted);
         }
     };
     if !serve.keep_check {
@@ -70,7 +132,10 @@ where
     }
     match without_silent(rt, path, settings, rows, faults) {
         Ok(rows) => Ok(rows),
-        Err(_) => Err(explain(Fault::NoMemory, faults).status),
+        Err(_) => {
+            explain(Fault::NoMemory, faults);
+            Err(End::Failed)
+        }
     }
 }
 
@@ -131,19 +196,28 @@ pub fn say_left_out<E: Write>(
     }
 }
 
-/// Says why the rows could not be written, if that failed.
-pub fn say_keep_fault<E: Write>(settings: &Settings<'_>, fault: Option<io::Error>, faults: &mut E) {
-    if let (Some(path), Some(error)) = (settings.keep, fault) {
-        let _ = writeln!(
+/// Says what there is to tell of the rows that are kept.
+pub fn say_keep_news<E: Write>(settings: &Settings<'_>, news: Option<KeepNews>, faults: &mut E) {
+    let (Some(path), Some(news)) = (settings.keep, news) else {
+        return;
+    };
+    let _ = match news {
+        KeepNews::Failed(error) => writeln!(
             faults,
             "rpcbind: keep {path}: {error}; it is tried again at the next change"
-        );
-    }
+        ),
+        KeepNews::Written => writeln!(faults, "rpcbind: keep {path}: it is written again"),
+        KeepNews::Another => writeln!(
+            faults,
+            "rpcbind: keep {path}: somebody else changed it; all rows were written anew"
+        ),
+    };
 }
 
 /// A line of a row of the file: its program, its version and its netid, and what is said of it.
 fn say_row<E: Write>(path: &str, row: &Row, words: &str, faults: &mut E) {
     let (prog, vers) = (row.prog, row.vers);
     let netid = row.netid.text();
-    let _ = writeln!(faults, "rpcbind: {path}: {prog} {vers} {netid}{words}");
+    let mut warnings = Leveled::new(faults, Level::Warning);
+    let _ = writeln!(warnings, "rpcbind: {path}: {prog} {vers} {netid}{words}");
 }

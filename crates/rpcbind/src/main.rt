@@ -3,19 +3,26 @@
 
 ghost use Rattle.std.specs.Prelude.{◌≤◌, IfErr};
 
+mod ending;
+mod files;
+mod foreign;
 mod keep;
+mod leveled;
+mod manager;
 mod record;
 mod service;
 mod start;
 mod telling;
 mod users;
 
+use foreign::{say_hosts, translate_words};
+use leveled::{Leveled, is_journal};
 use rb_commands::{Words, command_words, read_words};
 use rb_lines::{Beginning, Fault, explain};
 use rb_replay::{Meter, run_check, run_replay};
 use service::run_service;
 use std::io;
-use std::io::BufWriter;
+use std::io::{BufWriter, Write};
 use std::process::ExitCode;
 use users::name_users;
 
@@ -57,22 +64,44 @@ fn check(rt: &HostRuntime, beginning: &Beginning) -> u8
 }
 
 /// What the words of the command line ask for. If nothing needs to be run, the exit status.
-fn read_command<'a>(rt: &HostRuntime, words: &'a [String]) -> Result<Words<'a>, u8>
+fn read_command<'a, E: Write>(
+    rt: &HostRuntime,
+    words: &'a [String],
+    faults: &mut E,
+) -> Result<Words<'a>, u8>
     ensures { IfErr result (λ status. status ≤ 2) }
 {
-    read_words(rt.alloc(), words, &mut io::writer(rt), &mut rt.stderr())
+    read_words(rt.alloc(), words, &mut io::writer(rt), faults)
+}
+
+/// The words of the command line, with those of ours in the place of Debian's, and uids in that of users' names. If they can't
+/// be had, it is said why, and the error is the exit status.
+fn words_of<E: Write>(rt: &HostRuntime, faults: &mut E) -> Result<Vec<String>, u8>
+    ensures { IfErr result (λ status. status ≤ 2) }
+{
+    let words = command_words(rt, faults)?;
+    let mut words = translate_words(rt, words, faults)?;
+    name_users(rt, &mut words, faults)?;
+    Ok(words)
+}
+
+/// Whether the word is the option `--bind`, alone or with its value.
+fn is_bind(word: &str) -> bool {
+    word == "--bind" || word.starts_with("--bind=")
 }
 
 fn main(rt: HostRuntime) -> ExitCode {
-    let mut words = match command_words(&rt, &mut rt.stderr()) {
+    let mut faults = Leveled::standard_error(rt.stderr(), is_journal(&rt));
+    let words = match words_of(&rt, &mut faults) {
         Ok(words) => words,
         Err(status) => return ExitCode::from(status),
     };
-    if let Err(status) = name_users(&rt, &mut words, &mut rt.stderr()) {
-        return ExitCode::from(status);
-    }
-    let status = match read_command(&rt, &words) {
-        Ok(Words::Serve(serve)) => run_service(&rt, &serve, &mut rt.stderr()),
+    let status = match read_command(&rt, &words, &mut faults) {
+        Ok(Words::Serve(serve)) => {
+            say_hosts(&rt, &mut faults);
+            let is_bind_given = words.iter().any(|word| is_bind(word));
+            run_service(&rt, serve, is_bind_given, &mut faults).status()
+        }
         Ok(Words::Replay(beginning)) => replay(&rt, &beginning),
         Ok(Words::Check(beginning)) => check(&rt, &beginning),
         Err(status) => status,

@@ -48,8 +48,9 @@ pub fn make_record<R: Files, E: Write>(
     match new_file(rt, path) {
         Ok(file) => Ok(Recorder { file: Some(file) }),
         Err(error) => {
+            let status = explain(Fault::WriteFailed, faults).status;
             let _ = writeln!(faults, "rpcbind: make {path}: {error}");
-            Err(explain(Fault::WriteFailed, faults).status)
+            Err(status)
         }
     }
 }

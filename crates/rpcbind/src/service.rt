@@ -1,52 +1,149 @@
 //! The command `serve`.
-ghost use Rattle.std.specs.Prelude.{◌≤◌, IfErr};
-
-use crate::keep::{read_keep, say_keep_fault, say_left_out};
+use crate::ending::{End, end_after, end_at_start};
+use crate::keep::{lock_keep, read_keep, say_keep_news, say_left_out};
+use crate::leveled::{Level, Leveled};
+use crate::manager::{Manager, News};
 use crate::record::{Recorder, make_record};
-use crate::telling::{explain_fault, say_local_change, say_name, say_start, say_table_fault};
+use crate::telling::{
+    explain_fault, explain_handed, say_local_change, say_loopback6, say_missing, say_name,
+    say_start, say_table_fault,
+};
+use rb_address::Host;
 use rb_commands::Serve;
-use rb_daemon::{Daemon, DaemonFault, Settings};
-use std::fs::Files;
+use rb_daemon::{Daemon, DaemonFault, Handed, Settings};
+use rb_forward::sooner;
+use rb_sockets::{HandedFault, lacks_loopback6, missing_host, take_handed};
+use std::env::Env;
+use std::fs::{File, Files};
 use std::io::Write;
 use std::net::Net;
 use std::random::RandomSource;
 use std::rt::Clock;
 use std::sync::Wait;
+use std::thread;
+use std::time::Duration;
 
 /// The longest wait of a turn, in milliseconds, if a number of turns is asked for.
 const WAIT: u64 = 100;
 
-/// Serves, and says on standard output where it listens. The answer is the exit status: 0 after the last turn, and 1 if
-/// the limits are out of their ranges, the rows that were kept can't be read, or memory, a socket, standard
-/// output or the file of the record failed. The error message goes to `faults`, after a line that says what failed.
-pub fn run_service<R, E>(rt: &R, serve: &Serve<'_>, faults: &mut E) -> u8
+/// How often a start looks for an address that the machine does not have.
+const HOST_TRIES: u64 = 150;
+
+/// After how many milliseconds it looks again.
+const HOST_PAUSE: u64 = 200;
+
+const _: () = prove!(HOST_TRIES * HOST_PAUSE == 30_000);
+
+/// Serves, and says on standard output where it listens, and to a service manager that it serves. If it can't start, or a turn
+/// fails, the reason goes to `faults`, as the last line.
+/// If `--bind` is not given, it listens at the hosts of sockets that a service manager handed over.
+pub fn run_service<R, E>(rt: &R, mut serve: Serve<'_>, is_bind_given: bool, faults: &mut E) -> End
 where
-    R: Net + Files + Clock + RandomSource + Wait + AllocGlobal + Print,
+    R: Net + Files<File = File> + Clock + RandomSource + Wait + AllocGlobal + Print + Env,
     E: Write,
-    ensures { result ≤ 1 }
 {
-    match begin(rt, serve, faults) {
-        Ok(mut daemon) => serve_until_the_end(rt, &mut daemon, serve, faults),
-        Err(status) => status,
+    let mut manager = Manager::of(rt);
+    let end = match lock_keep(rt, &serve, faults) {
+        Ok(lock) => {
+            let end = run_locked(rt, &mut serve, is_bind_given, &mut manager, faults);
+            drop(lock);
+            end
+        }
+        Err(end) => end,
+    };
+    manager.tell(News::End);
+    end
+}
+
+/// Begins, and takes the turns, while the file of the kept rows is this daemon's.
+fn run_locked<R, E>(
+    rt: &R,
+    serve: &mut Serve<'_>,
+    is_bind_given: bool,
+    manager: &mut Manager,
+    faults: &mut E,
+) -> End
+where
+    R: Net + Files + Clock + RandomSource + Wait + AllocGlobal + Print + Env,
+    E: Write,
+{
+    match begin(rt, serve, is_bind_given, manager, faults) {
+        Ok(mut daemon) => serve_until_the_end(rt, &mut daemon, serve, manager, faults),
+        Err(end) => end,
     }
 }
 
+/// The sockets that were handed over, for the addresses of the settings, whose hosts are those of the sockets if `--bind` is not
+/// given.
+fn take_sockets<R: Env + AllocGlobal>(
+    rt: &R,
+    settings: &mut Settings<'_>,
+    is_bind_given: bool,
+) -> Result<Handed, HandedFault> {
+    let handed = take_handed(rt.alloc(), rt)?;
+    match handed.hosts() {
+        Some(hosts) if !is_bind_given => settings.bind = hosts,
+        Some(_) | None => {}
+    }
+    handed.settle(rt.alloc(), settings)
+}
+
 // KEEP-10: Kept rows are read, and asked, before anything listens.
-/// A daemon that has the rows that were kept, which are read before anything listens; those that it has not are said.
-fn begin<'a, R, E>(rt: &'a R, serve: &Serve<'_>, faults: &mut E) -> Result<Daemon<'a, R, R>, u8>
+/// A daemon that has the rows that were kept, which are read before anything listens; those that it has not are said. It has the
+/// sockets that were handed over.
+fn begin<'a, R, E>(
+    rt: &'a R,
+    serve: &mut Serve<'_>,
+    is_bind_given: bool,
+    manager: &Manager,
+    faults: &mut E,
+) -> Result<Daemon<'a, R, R>, End>
 where
-    R: Net + Files + Clock + RandomSource + AllocGlobal,
+    R: Net + Files + Clock + RandomSource + AllocGlobal + Env,
     E: Write,
-    ensures { IfErr result (λ status. status ≤ 1) }
 {
+    let handed = match take_sockets(rt, &mut serve.settings, is_bind_given) {
+        Ok(handed) => handed,
+        Err(fault) => return Err(explain_handed(&fault, faults)),
+    };
     let settings = &serve.settings;
+    if manager.is_there() {
+        wait_for_hosts(rt, settings, &handed, manager, faults);
+    }
     let rows = read_keep(rt, serve, faults)?;
-    match Daemon::new(rt.alloc(), rt, rt, settings, &rows) {
+    match Daemon::new(rt.alloc(), rt, rt, settings, &rows, handed) {
         Ok(daemon) => {
             say_left_out(settings, &rows, daemon.left_out(), faults);
             Ok(daemon)
         }
-        Err(fault) => Err(explain_fault(&fault, settings, faults).status),
+        Err(fault) => {
+            explain_fault(&fault, settings, faults);
+            Err(end_at_start(&fault))
+        }
+    }
+}
+
+// START-3: If a service manager is told of the start, it waits up to 30 seconds for an address of `--bind` that the machine does
+// not have yet, and says so.
+/// Waits until the machine has each host of the settings, or for 30 seconds.
+fn wait_for_hosts<R: Net + Clock, E: Write>(
+    rt: &R,
+    settings: &Settings<'_>,
+    handed: &Handed,
+    manager: &Manager,
+    faults: &mut E,
+) {
+    let mut told: Option<Host> = None;
+    for _ in 0..HOST_TRIES {
+        let Some(host) = missing_host(rt, settings, handed) else {
+            return;
+        };
+        if told != Some(host) {
+            say_missing(host, &mut Leveled::new(&mut *faults, Level::Notice));
+            manager.tell(News::Missing(host));
+            told = Some(host);
+        }
+        thread::sleep(rt, Duration::from_millis(HOST_PAUSE));
     }
 }
 
@@ -55,49 +152,60 @@ fn serve_until_the_end<R, E>(
     rt: &R,
     daemon: &mut Daemon<'_, R, R>,
     serve: &Serve<'_>,
+    manager: &mut Manager,
     faults: &mut E,
-) -> u8
+) -> End
 where
     R: Files + Net + Clock + Wait + Print,
     E: Write,
-    ensures { result ≤ 1 }
 {
     let settings = &serve.settings;
-    let mut recorder = match make_record(rt, serve.record_path, faults) {
-        Ok(recorder) => recorder,
-        Err(status) => return status,
+    let Ok(mut recorder) = make_record(rt, serve.record_path, faults) else {
+        return End::NotStarted;
     };
-    if let Err(status) = say_start(rt, settings, daemon.shortage(), faults) {
-        return status;
+    say_loopback6(
+        settings,
+        lacks_loopback6(rt),
+        &mut Leveled::new(&mut *faults, Level::Warning),
+    );
+    if say_start(rt, settings, daemon.shortage(), faults).is_err() {
+        return End::NotStarted;
     }
     recorder.write(daemon, faults);
-    match take_turns(rt, daemon, serve, &mut recorder, faults) {
-        Ok(()) => 0,
-        Err(fault) => explain_fault(&fault, settings, faults).status,
+    manager.tell(News::Ready(daemon.load()));
+    let turns = take_turns(rt, daemon, serve, &mut recorder, manager, faults);
+    if let Err(fault) = &turns {
+        explain_fault(fault, settings, faults);
     }
+    end_after(&turns)
 }
 
 /// Takes a turn, which waits this many milliseconds at most, and writes what was recorded of it, the lines of the log,
 /// and one for each listener that failed the first time, for the rows that could not be written, and for what else was found
-/// out of the system. If standard error takes no lines, they are lost.
+/// out of the system. If standard error takes no lines, they are lost. The watchdog is told of it if that is due.
 fn take_turn<R: Clock + Files + Net, F: Write + Drop, E: Write>(
     rt: &R,
     daemon: &mut Daemon<'_, R, R>,
     settings: &Settings<'_>,
     recorder: &mut Recorder<F>,
+    manager: &mut Manager,
     faults: &mut E,
     longest: Option<u64>,
 ) -> Result<(), DaemonFault> {
-    let turned = daemon.turn(rt, longest);
+    let turned = daemon.turn(rt, sooner(longest, manager.wait(daemon.moment())));
     recorder.write(daemon, faults);
-    let _ = daemon.write_log(faults);
+    let _ = daemon.write_log(&mut Leveled::new(&mut *faults, Level::Info));
+    let mut warnings = Leveled::new(faults, Level::Warning);
     if let Some(fault) = daemon.take_fault() {
-        let _ = writeln!(faults, "rpcbind: {fault}; it is tried again");
+        let _ = writeln!(warnings, "rpcbind: {fault}; it is tried again");
     }
-    say_keep_fault(settings, daemon.take_keep_fault(), faults);
-    say_table_fault(daemon.take_table_fault(), faults);
-    say_local_change(settings, daemon.take_local_change(), faults);
-    say_name(daemon.take_name(rt), faults);
+    say_keep_news(settings, daemon.take_keep_news(), &mut warnings);
+    say_table_fault(daemon.take_table_fault(), &mut warnings);
+    say_local_change(settings, daemon.take_local_change(), &mut warnings);
+    say_name(daemon.take_name(rt), &mut warnings);
+    if turned.is_ok() && manager.hears_of_turn(daemon.moment()) {
+        manager.tell(News::Turn(daemon.load()));
+    }
     turned
 }
 
@@ -106,17 +214,18 @@ fn take_turns<R: Clock + Files + Net + Wait, F: Write + Drop, E: Write>(
     daemon: &mut Daemon<'_, R, R>,
     serve: &Serve<'_>,
     recorder: &mut Recorder<F>,
+    manager: &mut Manager,
     faults: &mut E,
 ) -> Result<(), DaemonFault> {
     let settings = &serve.settings;
     if serve.turns > 0 {
         for _ in 0..serve.turns {
-            take_turn(rt, daemon, settings, recorder, faults, Some(WAIT))?;
+            take_turn(rt, daemon, settings, recorder, manager, faults, Some(WAIT))?;
         }
         return Ok(());
     }
     for _ in rt.forever() {
-        take_turn(rt, daemon, settings, recorder, faults, None)?;
+        take_turn(rt, daemon, settings, recorder, manager, faults, None)?;
     }
     unreachable!()
 }

@@ -2,12 +2,16 @@
 ghost use Rattle.std.specs.Prelude.{◌≡◌, IfErr, OnOk};
 ghost use Rattle.rpcbind.specs.Faults.{WritesFront, HasWritten, fault_front, TellsFault};
 
+use crate::ending::End;
+use crate::leveled::{Level, Leveled};
 use crate::start::{ListeningText, ShortageLine, UnannouncedLine};
 use rb_address::Host;
 use rb_lines::{Ending, Fault, explain, explain_run};
 use rb_policy::is_no_address;
 use rb_proto::Announced;
-use rb_sockets::{DaemonFault, LocalSocket, Settings, Shortage, SocketFault, Step, TableFault};
+use rb_sockets::{
+    DaemonFault, HandedFault, LocalSocket, Settings, Shortage, SocketFault, Step, TableFault,
+};
 use std::fmt::{Display, Formatter};
 use std::io::Write;
 use std::{fmt, io};
@@ -23,8 +27,9 @@ pub fn say_start<R: Print, E: Write>(
 ) -> Result<(), u8>
     ensures { IfErr result (λ status. status ≡ 1) }
 {
-    say_shortage(shortage, faults);
-    say_announced(settings, faults);
+    let mut warnings = Leveled::new(&mut *faults, Level::Warning);
+    say_shortage(shortage, &mut warnings);
+    say_announced(settings, &mut warnings);
     match print!(rt; "{}", ListeningText(settings)) {
         Ok(()) => Ok(()),
         Err(_) => Err(explain(Fault::WriteFailed, faults).status),
@@ -87,8 +92,37 @@ pub fn say_name<E: Write>(tried: Option<io::Result<()>>, faults: &mut E) {
     }
 }
 
+/// Says that the start waits for an address that the machine does not have.
+pub fn say_missing<E: Write>(host: Host, faults: &mut E) {
+    let _ = writeln!(faults, "rpcbind: waits for the address {host}");
+}
+
+/// The port of the portmapper (RFC 1833 section 3.1).
+const PORTMAPPER: u16 = 111;
+
+// START-4: If programs of this machine register here, so at port 111, and it makes sockets of IPv6 and has no ::1, a start says
+// what that means for those that are linked with libtirpc.
+/// Says that the machine has no ::1, if programs of it register here, of which those of other users than root need it.
+pub fn say_loopback6<E: Write>(settings: &Settings<'_>, is_missing: bool, faults: &mut E) {
+    if settings.port == PORTMAPPER && is_missing {
+        let _ = writeln!(
+            faults,
+            "rpcbind: ::1 is no address of this machine: users but root register only if /etc/netconfig has no tcp6"
+        );
+    }
+}
+
+/// Says why sockets that a service manager handed over are not taken.
+pub fn explain_handed<E: Write>(fault: &HandedFault, faults: &mut E) -> End {
+    let _ = writeln!(faults, "rpcbind: {fault}");
+    match fault {
+        HandedFault::Memory(_) => End::Failed,
+        HandedFault::Count | HandedFault::Socket(_) => End::NotStarted,
+    }
+}
+
 /// Ends by a fault of the daemon: its lines are written, if they can be. Of a socket, the step that failed comes
-/// first.
+/// last.
 pub fn explain_fault<E: Write>(
     fault: &DaemonFault,
     settings: &Settings<'_>,
@@ -105,13 +139,14 @@ pub fn explain_fault<E: Write>(
             &settings.listener(),
             faults,
         ),
-        DaemonFault::Socket(failed) => match write_step(failed, settings, faults) {
-            Ok(()) => explain(Fault::SocketFailed, faults),
-            Err(_) => Ending {
-                status: explain(Fault::SocketFailed, faults).status,
-                is_told: false,
-            },
-        },
+        DaemonFault::Socket(failed) => {
+            let ending = explain(Fault::SocketFailed, faults);
+            let is_written = write_step(failed, settings, faults).is_ok();
+            Ending {
+                status: ending.status,
+                is_told: ending.is_told && is_written,
+            }
+        }
     }
 }
 

@@ -1,16 +1,14 @@
 //! Users by their names in `--reserve` of `serve`: /etc/passwd has their uids (passwd(5)).
 ghost use Rattle.std.specs.Prelude.{◌≤◌, ◌≡◌, IfErr};
 
+use crate::files::text_of;
 use rb_address::{cut, plain_number};
-use std::alloc::{AllocError, Global};
-use std::fs::{self, Files};
+use std::alloc::Global;
+use std::fs::Files;
 use std::io;
-use std::io::{Read, Write};
+use std::io::Write;
 
 const PASSWD: &str = "/etc/passwd";
-
-/// The most bytes of /etc/passwd that are read.
-const LONGEST_PASSWD: u64 = 1_048_576;
 
 const OPTION: &str = "--reserve";
 
@@ -48,13 +46,6 @@ fn user_named(value: &str) -> Option<(&str, &str)> {
     }
 }
 
-fn read_passwd<R: Files>(rt: &R, alloc: Global) -> io::Result<Vec<u8>> {
-    let file = fs::open(rt, PASSWD)?;
-    let mut text = Vec::new(alloc);
-    file.take(LONGEST_PASSWD).read_to_end(&mut text)?;
-    Ok(text)
-}
-
 /// The value with the uid in the name's place; none if there is no such user.
 fn with_uid<R: Files>(
     rt: &R,
@@ -62,7 +53,7 @@ fn with_uid<R: Files>(
     programs: &str,
     name: &str,
 ) -> io::Result<Option<String>> {
-    let passwd = read_passwd(rt, alloc)?;
+    let passwd = text_of(rt, alloc, PASSWD)?;
     match uid_of(&passwd, name.as_bytes()) {
         Some(uid) => Ok(Some(format!(in alloc; "{programs}={uid}")?)),
         None => Ok(None),

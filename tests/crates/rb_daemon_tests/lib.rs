@@ -30,6 +30,10 @@ mod records;
 #[cfg(test)]
 mod refused;
 #[cfg(test)]
+mod tables;
+#[cfg(test)]
 mod trust;
 #[cfg(test)]
 mod turns;
+#[cfg(test)]
+mod users;

@@ -1,8 +1,9 @@
 //! The daemon of a test, whose turns the test itself takes, and whose clocks it sets.
+use crate::tables::Tables;
 use rb_address::{Host as Address, Network};
 use rb_daemon::{
-    Announced, Daemon, DaemonFault, Few, Limits, LocalSocket, Logged, Reserved, Settings, Shortage,
-    SocketFault, Terms,
+    Announced, Daemon, DaemonFault, Few, Handed, Limits, LocalSocket, Logged, Reserved, Settings,
+    Shortage, SocketFault, Terms,
 };
 use std::cell::Cell;
 use std::fs::Files;
@@ -86,9 +87,9 @@ impl Clock for Stopped {
 /// The daemon, and whether each of its turns was without a fault.
 #[derive(Drop)]
 pub(crate) struct Host<'a> {
-    daemon: Daemon<'a, Stopped, HostRuntime>,
+    daemon: Daemon<'a, Stopped, Tables>,
     /// It has the kernel's tables of connections.
-    rt: HostRuntime,
+    tables: Tables,
     is_well: bool,
 }
 
@@ -168,10 +169,14 @@ impl<'a> Host<'a> {
         system: &H,
         settings: &Settings<'_>,
     ) -> Result<Host<'a>, DaemonFault> {
-        let daemon = Daemon::new(clock.rt.alloc(), system, clock, settings, &[])?;
+        let alloc = clock.rt.alloc();
+        let daemon = Daemon::new(alloc, system, clock, settings, &[], Handed::none(alloc))?;
         Ok(Host {
             daemon,
-            rt: clock.rt,
+            tables: Tables {
+                rt: clock.rt,
+                inet: None,
+            },
             is_well: true,
         })
     }
@@ -188,15 +193,20 @@ impl<'a> Host<'a> {
         self.daemon.take_local_change()
     }
 
+    /// From here on the kernel's table of connections over IPv4 is this file.
+    pub(crate) fn show(&mut self, table: &'static str) {
+        self.tables.inet = Some(table);
+    }
+
     /// The lines of the log that were not taken yet.
     pub(crate) fn take_log(&mut self) -> Option<Vec<u8>> {
-        let mut lines = Vec::new(self.rt.alloc());
+        let mut lines = Vec::new(self.tables.rt.alloc());
         self.daemon.write_log(&mut lines).ok()?;
         Some(lines)
     }
 
     pub(crate) fn turn(&mut self) {
-        if self.daemon.turn(&self.rt, Some(WAIT)).is_err() {
+        if self.daemon.turn(&self.tables, Some(WAIT)).is_err() {
             self.is_well = false;
         }
     }

@@ -1,7 +1,9 @@
 //! A client that asks a daemon in the same process. Its sockets never wait, since the daemon's turns are taken by the same
 //! thread.
 use rb_address::{Host, Network, Transport};
-use rb_daemon::{Announced, Daemon, Few, Limits, LocalSocket, Logged, Reserved, Settings, Terms};
+use rb_daemon::{
+    Announced, Daemon, Few, Handed, Limits, LocalSocket, Logged, Reserved, Settings, Terms,
+};
 use rb_plans::{Aim, Answer, Course, End, Stage, asked, begin, called_at, next};
 use rb_show::{
     Ask, Form, HeldBytes, InfoFault, Shown, show_datagram, show_reply, write_call,
@@ -65,7 +67,7 @@ pub fn daemon_everywhere(rt: &HostRuntime) -> Option<Daemon<'_, HostRuntime, Hos
         log: Logged::Nothing,
         open_files: u64::MAX,
     };
-    Daemon::new(rt.alloc(), rt, rt, &settings, &[]).ok()
+    Daemon::new(rt.alloc(), rt, rt, &settings, &[], Handed::none(rt.alloc())).ok()
 }
 
 fn answer_of(shown: Result<Shown, InfoFault>) -> Option<Answer> {

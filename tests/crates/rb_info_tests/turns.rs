@@ -1,7 +1,7 @@
 //! A daemon and a client in one process, on port 20113 of 127.0.0.1. The client never waits: the test itself takes the
 //! daemon's turns.
 use rb_address::{Host, Network};
-use rb_daemon::{Announced, Daemon, Few, Limits, Logged, Reserved, Settings, Terms};
+use rb_daemon::{Announced, Daemon, Few, Handed, Limits, Logged, Reserved, Settings, Terms};
 use std::alloc::AllocError;
 use std::io::{Read, Write};
 use std::net::{Ipv4Addr, SocketAddr, TcpStream};
@@ -74,7 +74,7 @@ pub fn daemon_of(
         log: Logged::Nothing,
         open_files: u64::MAX,
     };
-    Daemon::new(rt.alloc(), rt, rt, &settings, &[]).ok()
+    Daemon::new(rt.alloc(), rt, rt, &settings, &[], Handed::none(rt.alloc())).ok()
 }
 
 /// Takes turns until something has come, and says how many bytes.

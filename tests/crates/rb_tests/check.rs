@@ -50,3 +50,23 @@ fn silent_programs_are_found(rt: HostRuntime) -> Result<(), Fail> {
     assert_eq!(rt; found.as_slice(), wanted.as_slice());
     Ok(())
 }
+
+// KEEPCHECK-2
+/// More programs than are asked at a time: each place is free once something is known of its row.
+#[test]
+fn places_are_taken_again(rt: HostRuntime) -> Result<(), Fail> {
+    let mut rows = Vec::new(rt.alloc());
+    for _ in 0..70 {
+        for netid in [Netid::Tcp, Netid::Udp] {
+            rows.push(row(netid, AddressText::new(b"127.0.0.1.78.184")))?;
+        }
+    }
+    let own = OwnHosts {
+        bound: &[],
+        announced: &[],
+    };
+    let found = ask_all(&rt, rt.alloc(), rows.as_slice(), own)?;
+    let asked = found.iter().filter(|known| **known == Found::NobodyThere);
+    assert_eq!(rt; asked.count(), rows.len());
+    Ok(())
+}

@@ -1,5 +1,5 @@
-//! Files that are replaced as a whole, and files that are believed.
-use rb_files::{KeptFile, KeptFileFault, new_file, read_kept};
+//! Files that are replaced as a whole and added to, files that are believed, and locks.
+use rb_files::{AppendFault, KeptFile, KeptFileFault, LockFault, lock_file, new_file, read_kept};
 use rb_policy::Distrust;
 use std::fs;
 use std::fs::Permissions;
@@ -31,7 +31,7 @@ fn is_free(rt: &HostRuntime, path: &str) -> bool {
 #[test]
 fn kept_file_is_replaced(rt: HostRuntime) -> Result<(), Fail> {
     let path = "rb_files_replaced.test";
-    let file = KeptFile::new(rt.alloc(), path)?;
+    let mut file = KeptFile::new(rt.alloc(), path)?;
     let none = read_kept(&rt, rt.alloc(), path, MOST);
     assert!(rt; matches!(none, Ok(None)));
     file.replace(&rt, b"old")?;
@@ -53,7 +53,7 @@ fn kept_file_is_replaced(rt: HostRuntime) -> Result<(), Fail> {
 fn file_stays_where_a_step_fails(rt: HostRuntime) -> Result<(), Fail> {
     let path = "rb_files_stays.test";
     let beside = "rb_files_stays.test.new";
-    let file = KeptFile::new(rt.alloc(), path)?;
+    let mut file = KeptFile::new(rt.alloc(), path)?;
     fs::create_dir(&rt, path)?;
     assert!(rt; file.replace(&rt, b"new").is_err());
     assert!(rt; is_free(&rt, beside));
@@ -64,6 +64,53 @@ fn file_stays_where_a_step_fails(rt: HostRuntime) -> Result<(), Fail> {
     assert!(rt; fs::symlink_metadata(&rt, beside)?.is_symlink());
     assert!(rt; has(&rt, path, b"old"));
     fs::remove_file(&rt, beside)?;
+    fs::remove_file(&rt, path)?;
+    Ok(())
+}
+
+/// Whether a text is not added since another file is there.
+fn is_another(added: &Result<(), AppendFault>) -> bool {
+    matches!(added, Err(AppendFault::Another))
+}
+
+// FILE-6
+#[test]
+fn text_is_added_to_the_file_that_was_put_in_place(rt: HostRuntime) -> Result<(), Fail> {
+    let path = "rb_files_added.test";
+    let mut file = KeptFile::new(rt.alloc(), path)?;
+    assert!(rt; is_another(&file.append(&rt, b"a")));
+    file.replace(&rt, b"ab")?;
+    assert!(rt; file.append(&rt, b"cd").is_ok());
+    assert!(rt; file.append(&rt, b"").is_ok());
+    assert!(rt; file.append(&rt, b"ef").is_ok());
+    assert!(rt; has(&rt, path, b"abcdef"));
+    fs::write(&rt, path, b"abcde")?;
+    assert!(rt; is_another(&file.append(&rt, b"g")));
+    assert!(rt; has(&rt, path, b"abcde"));
+    assert!(rt; !file.is_placed());
+    file.replace(&rt, b"ab")?;
+    fs::rename(&rt, path, "rb_files_added.other")?;
+    assert!(rt; is_another(&file.append(&rt, b"c")));
+    assert!(rt; has(&rt, "rb_files_added.other", b"ab"));
+    file.replace(&rt, b"ab")?;
+    fs::rename(&rt, "rb_files_added.other", path)?;
+    assert!(rt; is_another(&file.append(&rt, b"c")));
+    fs::remove_file(&rt, path)?;
+    Ok(())
+}
+
+// FILE-7
+#[test]
+fn one_has_the_lock_of_a_file(rt: HostRuntime) -> Result<(), Fail> {
+    let path = "rb_files_locked.test";
+    let first = lock_file(&rt, path);
+    assert!(rt; first.is_ok());
+    assert!(rt; matches!(lock_file(&rt, path), Err(LockFault::Held)));
+    drop(first);
+    assert!(rt; lock_file(&rt, path).is_ok());
+    fs::remove_file(&rt, path)?;
+    symlink(&rt, "nowhere", path)?;
+    assert!(rt; matches!(lock_file(&rt, path), Err(LockFault::Failed(_))));
     fs::remove_file(&rt, path)?;
     Ok(())
 }

@@ -1,7 +1,9 @@
 //! Rows that are kept: written, read and set again.
 use crate::proto::listener;
 use rb_core::{Limits, Metered, Response};
-use rb_keep::{KeepFault, read_rows, set_call, this_machine, write_rows};
+use rb_keep::{
+    KeepFault, read_rows, set_call, this_machine, unset_call, whole_part, write_changes,
+};
 use std::test::Fail;
 
 const LIMITS: Limits = Limits {
@@ -21,6 +23,13 @@ datagram 8 127.0.0.1:0 \
 000000000000000000030d4200000003000000056c6f63616c0000000000000b2f72756e2f782e736f636b0000000000
 ";
 
+// What it makes of
+// datagram 9 127.0.0.1:0 (xid=0 4 unset 200001 1 tcp)
+const GONE: &[u8] = b"datagram 9 127.0.0.1:0 \
+000000000000000000000002000186a000000004000000020000000000000000000000000000000000030d41000000010000\
+0003746370000000000000000000
+";
+
 // LOOK-1 KEEP-2 KEEP-3 KEEP-5 KEEP-7
 #[test]
 fn kept_rows_are_written_again(rt: HostRuntime) -> Result<(), Fail> {
@@ -34,9 +43,37 @@ fn kept_rows_are_written_again(rt: HostRuntime) -> Result<(), Fail> {
         assert_eq!(rt; told, Response::Reply);
     }
     assert_eq!(rt; core.changes(), 2);
-    let mut written = Vec::new(alloc);
-    write_rows(&mut core, &mut written)?;
+    let (mut kept, mut written) = (Vec::new(alloc), Vec::new(alloc));
+    write_changes(&mut core, &mut kept, &mut written)?;
     assert_eq!(rt; written.as_slice(), KEPT);
+    assert_eq!(rt; kept.len(), 2);
+    Ok(())
+}
+
+// KEEP-11 KEEP-12 KEEP-13 KEEP-14
+#[test]
+fn changes_are_added(rt: HostRuntime) -> Result<(), Fail> {
+    let alloc = rt.alloc();
+    let mut core = Metered::new(alloc, LIMITS, listener(), 1000, 8)?;
+    let rows = read_rows(alloc, KEPT)?;
+    let (mut kept, mut written) = (Vec::new(alloc), Vec::new(alloc));
+    for row in &rows {
+        core.datagram(8, this_machine(), set_call(row).as_slice());
+    }
+    write_changes(&mut core, &mut kept, &mut written)?;
+    write_changes(&mut core, &mut kept, &mut written)?;
+    assert_eq!(rt; written.as_slice(), KEPT);
+    let gone = unset_call(&rows[0]);
+    let told = core.datagram(9, this_machine(), gone.as_slice());
+    assert_eq!(rt; told, Response::Reply);
+    write_changes(&mut core, &mut kept, &mut written)?;
+    assert_eq!(rt; kept.len(), 1);
+    assert_eq!(rt; &written[KEPT.len()..], GONE);
+    written.extend_from_slice(b"datagram 9 12")?;
+    let left = read_rows(alloc, &written)?;
+    assert_eq!(rt; left.len(), 1);
+    assert_eq!(rt; left[0].prog, 200_002);
+    assert_eq!(rt; whole_part(&written).len(), KEPT.len() + GONE.len());
     Ok(())
 }
 

@@ -6,8 +6,8 @@ use rb_policy::{
     Beliefs, Brake, Entrance, Evidence, PlaceKey, Rate, SeenFile, Share, WaysBack, address_of,
     announced_inet, announced_inet6, binds_every_inet, binds_loopback6, entrance_now, evidence_of,
     forwards_inet, forwards_inet6, has_every_host, has_every_inet, ip_of, is_no_address, is_shown,
-    lets_in_root_alone, looks_again, looks_in, may_change, next_try, origin_of, sender, sight_in,
-    trust_of, unmapped_uid, wait_of,
+    lets_in_root_alone, looks_in, may_change, next_try, sender, sight_in, trust_of, unmapped_uid,
+    wait_of,
 };
 use std::net::{IpAddr, Ipv4Addr, Ipv6Addr, SocketAddr};
 use std::test::Fail;
@@ -208,15 +208,6 @@ fn tables_are_evidence(rt: HostRuntime) -> Result<(), Fail> {
     Ok(())
 }
 
-// TABLES-3
-/// One that is still connected is looked for twice.
-#[test]
-fn who_is_missed_is_looked_for_again(rt: HostRuntime) {
-    assert!(rt; looks_again(1, Evidence::NotFound));
-    assert!(rt; !looks_again(2, Evidence::NotFound));
-    assert!(rt; !looks_again(1, Evidence::Found(0)) && !looks_again(1, Evidence::Unread));
-}
-
 /// The first seven words of a record that is a call: its mark, and the head up to the procedure.
 fn front_of(program: u32, procedure: u32) -> [u8; 28] {
     let mut front = [0; 28];
@@ -241,7 +232,7 @@ fn changes_wait_and_look_ups_do_not(rt: HostRuntime) {
     assert!(rt; may_change(b""));
 }
 
-// TABLES-4
+// SHARE-1
 /// After a turn of 4 ms that read a slice, other work goes first for 12.
 #[test]
 fn slices_leave_time(rt: HostRuntime) {
@@ -304,12 +295,14 @@ fn hosts_are_announced(rt: HostRuntime) {
 #[test]
 fn calls_are_forwarded_from_hosts(rt: HostRuntime) {
     let hosts = [ELSEWHERE6, ELSEWHERE, INET];
-    assert_eq!(rt; forwards_inet(&hosts), ELSEWHERE);
-    assert_eq!(rt; forwards_inet(&[ELSEWHERE6]), INET);
-    assert_eq!(rt; forwards_inet(&[ANY6]), ANY);
-    assert_eq!(rt; forwards_inet6(&hosts, false), Some(ELSEWHERE6));
-    assert_eq!(rt; forwards_inet6(&[INET], true), Some(INET6));
-    assert_eq!(rt; forwards_inet6(&[INET], false), None);
+    assert_eq!(rt; forwards_inet(&hosts, 1), Some(ELSEWHERE));
+    assert_eq!(rt; forwards_inet(&[ELSEWHERE6], 1), Some(INET));
+    assert_eq!(rt; forwards_inet(&[ANY6], 1), Some(ANY));
+    assert_eq!(rt; forwards_inet(&hosts, 0), None);
+    assert_eq!(rt; forwards_inet6(&hosts, false, 1), Some(ELSEWHERE6));
+    assert_eq!(rt; forwards_inet6(&[INET], true, 1), Some(INET6));
+    assert_eq!(rt; forwards_inet6(&[INET], false, 1), None);
+    assert_eq!(rt; forwards_inet6(&hosts, false, 0), None);
 }
 
 // WAYBACK-1
@@ -328,17 +321,6 @@ fn ends_go_back(rt: HostRuntime) -> Result<(), Fail> {
     assert_eq!(rt; ways.take(7), Some(1));
     assert_eq!(rt; ways.take(8), Some(3));
     Ok(())
-}
-
-// DOOR-5
-#[test]
-fn sources_have_origins(rt: HostRuntime) {
-    let local = origin_of(Source::Local);
-    assert!(rt; local.is_local && local.host == INET);
-    let here = origin_of(Source::Inet(at(INET6)));
-    assert!(rt; here.is_local && here.host == INET6);
-    let elsewhere = origin_of(Source::Inet(at(ELSEWHERE)));
-    assert!(rt; !elsewhere.is_local && elsewhere.host == ELSEWHERE);
 }
 
 // NOBODY-1
