@@ -1,10 +1,12 @@
 -- What an error of the system means, by its kind.
-use Rattle.std.specs.Prelude.{◌≡◌}
+use Rattle.std.specs.Prelude.{ℕ, ◌≡◌, Bool, true, false, List}
+use Rattle.std.specs.Str.{bytes_eq}
 use Rattle.std.specs.declared.io.ErrorKind.{ErrorKind}
 use Rattle.std.specs.declared.io.ErrorKind.TheVariants as kinds
 use Rattle.rb_ask.specs.declared.fault.InfoFault.TheVariants.{Memory}
 use Rattle.rb_plans.specs.declared.fault.Fault.{Fault}
 use Rattle.rb_plans.specs.declared.fault.Fault.TheVariants.{Info, NoConnection, NoSocket, NoReply, NoHost}
+use Rattle.rb_plans.specs.Addresses.{default_path}
 
 -- UNANSWERED-4: A call is made in memory; that it is not made says that memory was refused.
 abbrev pub IsWantOfMemory : Fault → Type 0
@@ -22,12 +24,18 @@ abbrev pub host_fault : ErrorKind → Fault
 host_fault kinds.OutOfMemory = Info Memory
 host_fault kind = NoConnection
 
--- UNANSWERED-2: Nobody is at a socket if no file is at its path, or nobody listens on it; one that
--- may not be opened is another fault.
-abbrev pub socket_fault : ErrorKind → Fault
-socket_fault kinds.NotFound = NoSocket
-socket_fault kinds.ConnectionRefused = NoSocket
-socket_fault kind = host_fault kind
+-- a socket that may not be opened: the one at which rpcbinds listen counts as absent
+abbrev pub closed_fault : Bool → Fault
+closed_fault true = NoSocket
+closed_fault false = NoConnection
+
+-- UNANSWERED-2: Nobody is at a socket if no file is at its path, if nobody listens on it, or if it is
+-- /run/rpcbind.sock and may not be opened; any other that may not be opened is another fault.
+abbrev pub socket_fault : List ℕ → ErrorKind → Fault
+socket_fault path kinds.NotFound = NoSocket
+socket_fault path kinds.ConnectionRefused = NoSocket
+socket_fault path kinds.PermissionDenied = closed_fault (bytes_eq path default_path)
+socket_fault path kind = host_fault kind
 
 -- no byte of a reply came; that nobody listens may be the answer to a datagram
 -- UNANSWERED-3: If a host is not connected or sends no byte of a reply, nobody answered, unless

@@ -1,7 +1,7 @@
 -- The networks of this machine, as Linux lists its routes: a line each, of fields with tabs between them (proc(5),
 -- /proc/net/route).
 use Rattle.std.specs.Prelude.{◌≡◌, ℕ, ◌-◌, ◌==◌, ◌++◌, Bool, if◌then◌else◌, List, [], ◌∷◌, reverse, codes, bit_or, Option, Some, None, Result, Ok, Err}
-use Rattle.std.specs.List.{slice_split, flat_map}
+use Rattle.std.specs.List.{list_any, slice_split, flat_map}
 use Rattle.std.specs.Global.{Vec}
 use Rattle.std.specs.Vec.{vec_items}
 use Rattle.std.specs.Str.{bytes_eq}
@@ -65,3 +65,8 @@ networks_in routes = flat_map networks_in_line (pieces_of newline routes)
 -- these addresses stand after those that were there
 abbrev pub AddsNetworks : Vec (List ℕ) → Vec (List ℕ) → List (List ℕ) → Type 0
 AddsNetworks old new networks = vec_items new ≡ vec_items old ++ networks
+
+-- what became of a broadcast at each of its networks
+-- BROADCAST-3: A broadcast has gone out if it went to one of its networks at least.
+abbrev pub has_gone_out : List Bool → Bool
+has_gone_out sent = list_any (λ is_sent. is_sent) sent

@@ -42,7 +42,7 @@ pub fn none_asked(family: Option<Family>, count: usize) -> Fault
 }
 
 /// The path at which rpcbinds listen, ours and others.
-const DEFAULT_PATH: &str = "/run/rpcbind.sock";
+pub(crate) const DEFAULT_PATH: &str = "/run/rpcbind.sock";
 
 /// Whether nobody was at a socket.
 fn is_no_socket(answer: Result<Shown, Fault>) -> bool

@@ -2,6 +2,7 @@
 ghost use Rattle.std.specs.Prelude.{◌≡◌};
 ghost use Rattle.rb_plans.specs.Errors.{look_up_fault, host_fault, socket_fault, reply_fault};
 
+use crate::addresses::DEFAULT_PATH;
 use crate::fault::Fault;
 use rb_show::InfoFault;
 use std::io::ErrorKind;
@@ -26,12 +27,14 @@ pub fn host_fault(kind: ErrorKind) -> Fault
     }
 }
 
-/// Why there is no connection to a socket of this machine: nobody is at its path, or it can't be had.
-pub fn socket_fault(kind: ErrorKind) -> Fault
-    ensures { result ≡ socket_fault kind }
+/// Why there is no connection to the socket at a path of this machine: nobody is there, or it can't be had. One that may
+/// not be opened counts as absent at /run/rpcbind.sock, which users who are not root may not open.
+pub fn socket_fault(path: &str, kind: ErrorKind) -> Fault
+    ensures { result ≡ socket_fault path.now kind }
 {
     match kind {
         ErrorKind::NotFound | ErrorKind::ConnectionRefused => Fault::NoSocket,
+        ErrorKind::PermissionDenied if path == DEFAULT_PATH => Fault::NoSocket,
         _ => host_fault(kind),
     }
 }

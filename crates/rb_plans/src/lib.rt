@@ -34,9 +34,9 @@ pub use laws::{
     addresses_are_asked_in_order, courses_are_whole, objects_are_shown, texts_are_hexadecimal,
     versions_are_asked_once,
 };
-pub use networks::{LONGEST_ROUTES, are_read_whole, read_networks};
+pub use networks::{LONGEST_ROUTES, are_read_whole, has_gone_out, read_networks};
 pub use places::called_at;
 pub use plans::{aim_of, course_end, follow, plan_question};
 pub use stages::{asked, begin, next, transport_of, unanswered};
 pub use told::{ask_input, flush_answer};
-pub use waits::{WAITS, Waits, wait_left};
+pub use waits::{CONNECTION, broadcast_wait, datagram_wait, stream_wait};

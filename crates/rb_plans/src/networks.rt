@@ -1,7 +1,7 @@
 //! The networks of this machine, as Linux lists its routes in /proc/net/route (proc(5)): a line each, of fields with tabs
 //! between them.
 ghost use Rattle.std.specs.Prelude.{◌≡◌, length, nat_le, IfOk, OnOk};
-ghost use Rattle.rb_plans.specs.Networks.{longest_routes, AddsNetworks, pieces_of, route_address, broadcast_of, network_of, networks_in_line, networks_in};
+ghost use Rattle.rb_plans.specs.Networks.{longest_routes, AddsNetworks, pieces_of, route_address, broadcast_of, network_of, networks_in_line, networks_in, has_gone_out};
 ghost use Rattle.rb_show.specs.Summary.{borrowed_texts};
 
 use std::alloc::{AllocError, Global};
@@ -69,6 +69,13 @@ fn push_line(alloc: Global, line: &[u8], networks: &mut Vec<[u8; 4]>) -> Result<
         networks.push(network)?;
     }
     Ok(())
+}
+
+/// Whether a broadcast has gone out, if this is what became of it at each of its networks: to one of them at least.
+pub fn has_gone_out(sent: &[bool]) -> bool
+    ensures { result ≡ has_gone_out sent.now }
+{
+    sent.iter().any(|is_sent| *is_sent)
 }
 
 /// Reads the broadcast addresses of the networks that this machine is on, from the text of its routes, in their order. A

@@ -1,9 +1,9 @@
 //! Calls that the portmappers of networks are asked to make.
 use crate::net::LONGEST_DATAGRAM;
 use crate::networks::networks_of;
-use rb_plans::{FIRST_XID, Fault, Invocation, WAITS, call_of, wait_left};
+use rb_plans::{FIRST_XID, Fault, Invocation, broadcast_wait, call_of, has_gone_out};
 use rb_show::{Form, InfoFault, Question, Shown, show_datagram};
-use std::alloc::Global;
+use std::alloc::{AllocError, Global};
 use std::io;
 use std::io::{ErrorKind, Write};
 use std::net::{IpAddr, Ipv4Addr, Net, SocketAddr, UdpSocket};
@@ -13,17 +13,51 @@ use std::time::{Duration, Instant};
 /// The most datagrams that are looked at.
 const MOST_DATAGRAMS: u32 = 4096;
 
-/// A socket from which the call went to the hosts of these networks; `None` if it went to none.
-fn call_all<N: Net>(net: &N, networks: &[[u8; 4]], port: u16, call: &[u8]) -> Option<UdpSocket> {
+/// A socket that may send broadcasts.
+fn broadcast_socket<N: Net>(net: &N) -> Result<UdpSocket, Fault> {
     let any = SocketAddr::new(IpAddr::V4(Ipv4Addr::UNSPECIFIED), 0);
-    let socket = UdpSocket::bind(net, any).ok()?;
-    socket.set_broadcast(true).ok()?;
-    let mut sent = false;
+    let Ok(socket) = UdpSocket::bind(net, any) else {
+        return Err(Fault::NoConnection);
+    };
+    if socket.set_broadcast(true).is_err() {
+        return Err(Fault::NoConnection);
+    }
+    Ok(socket)
+}
+
+/// Sends the call to the hosts of each of these networks, and answers whether it went to each.
+fn call_all(
+    alloc: Global,
+    socket: &UdpSocket,
+    networks: &[[u8; 4]],
+    port: u16,
+    call: &[u8],
+) -> Result<Vec<bool>, AllocError> {
+    let mut sent = Vec::with_capacity(alloc, networks.len())?;
     for network in networks {
         let address = SocketAddr::new(IpAddr::V4(Ipv4Addr::from(*network)), port);
-        sent |= socket.send_to(call, address).is_ok();
+        sent.push(socket.send_to(call, address).is_ok())?;
     }
-    if sent { Some(socket) } else { None }
+    Ok(sent)
+}
+
+/// A socket from which the call went to the hosts of one of these networks at least.
+fn called_from<N: Net>(
+    alloc: Global,
+    net: &N,
+    networks: &[[u8; 4]],
+    port: u16,
+    call: &[u8],
+) -> Result<UdpSocket, Fault> {
+    let socket = broadcast_socket(net)?;
+    let Ok(sent) = call_all(alloc, &socket, networks, port, call) else {
+        return Err(Fault::Info(InfoFault::Memory));
+    };
+    if has_gone_out(&sent) {
+        Ok(socket)
+    } else {
+        Err(Fault::NoConnection)
+    }
 }
 
 /// The next datagram and its sender; none once the time for answers is over.
@@ -36,7 +70,7 @@ fn next_answer<C: Clock>(
     for _ in 0..u64::MAX {
         let passed = Instant::now(clock)?.duration_since(begun).as_millis();
         let passed = u64::try_from(passed).unwrap_or(u64::MAX);
-        let Some(wait) = wait_left(WAITS.broadcast, WAITS.broadcast, passed) else {
+        let Some(wait) = broadcast_wait(passed) else {
             break;
         };
         socket.set_read_timeout(Some(Duration::from_millis(wait)))?;
@@ -120,9 +154,7 @@ pub fn broadcast<N: Net + Clock + Files, O: Write>(
     let question = Question::Callit(prog, vers);
     let call = call_of(alloc, &words.ask(question), FIRST_XID)?;
     let networks = networks_of(alloc, net, words.network)?;
-    let Some(socket) = call_all(net, &networks, words.request.port, &call) else {
-        return Err(Fault::NoConnection);
-    };
+    let socket = called_from(alloc, net, &networks, words.request.port, &call)?;
     let Ok(begun) = Instant::now(net) else {
         return Err(Fault::NoConnection);
     };

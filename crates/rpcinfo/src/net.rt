@@ -1,7 +1,8 @@
 //! Calls over TCP, UDP and sockets of this machine.
 use crate::patient::{Patient, Stream};
 use rb_plans::{
-    Fault, WAITS, call_of, host_fault, marked_call_of, reply_fault, socket_fault, wait_left,
+    CONNECTION, Fault, call_of, datagram_wait, host_fault, marked_call_of, reply_fault,
+    socket_fault,
 };
 use rb_show::{Ask, Form, InfoFault, ReadBytes, Shown, show_datagram, show_reply};
 use std::alloc::Global;
@@ -26,7 +27,7 @@ pub enum Peer<'a> {
 fn connect<N: Net>(net: &N, peer: Peer<'_>) -> io::Result<Stream<N::Stream>> {
     match peer {
         Peer::Host(address) => {
-            let wait = Duration::from_millis(WAITS.connection);
+            let wait = Duration::from_millis(CONNECTION);
             let stream = TcpStream::connect_timeout(net, &address, wait)?;
             Ok(Stream::Host(stream))
         }
@@ -41,7 +42,7 @@ fn connect<N: Net>(net: &N, peer: Peer<'_>) -> io::Result<Stream<N::Stream>> {
 fn connect_fault(peer: Peer<'_>, error: io::Error) -> Fault {
     match peer {
         Peer::Host(_) => host_fault(error.kind()),
-        Peer::Here(_) => socket_fault(error.kind()),
+        Peer::Here(path) => socket_fault(path, error.kind()),
     }
 }
 
@@ -54,7 +55,7 @@ fn open<'a, N: Net + Clock>(
         return Err(Fault::NoConnection);
     };
     match connect(net, peer) {
-        Ok(stream) => Ok(Patient::new(net, stream, begun, WAITS)),
+        Ok(stream) => Ok(Patient::new(net, stream, begun)),
         Err(error) => Err(connect_fault(peer, error)),
     }
 }
@@ -126,7 +127,7 @@ fn receive<C: Clock>(clock: &C, socket: &UdpSocket, datagram: &mut [u8]) -> io::
     for _ in 0..u64::MAX {
         let passed = Instant::now(clock)?.duration_since(begun).as_millis();
         let passed = u64::try_from(passed).unwrap_or(u64::MAX);
-        let Some(wait) = wait_left(WAITS.datagram, WAITS.datagram, passed) else {
+        let Some(wait) = datagram_wait(passed) else {
             break;
         };
         socket.set_read_timeout(Some(Duration::from_millis(wait)))?;

@@ -1,7 +1,7 @@
 //! A connection that waits no longer than it may.
 ghost use Rattle.std.specs.Io.{ReadsAtMost, WritesAtMost};
 
-use rb_plans::{Waits, wait_left};
+use rb_plans::stream_wait;
 use std::io;
 use std::io::{ErrorKind, Read, Write};
 use std::net::OpenStream;
@@ -55,17 +55,15 @@ pub struct Patient<'a, C: Clock, S: Read + Write + OpenStream + Drop> {
     clock: &'a C,
     stream: Stream<S>,
     begun: Instant,
-    waits: Waits,
 }
 
 impl<'a, C: Clock, S: Read + Write + OpenStream + Drop> Patient<'a, C, S> {
     /// Returns a connection whose call counts from `begun` on.
-    pub fn new(clock: &'a C, stream: Stream<S>, begun: Instant, waits: Waits) -> Self {
+    pub fn new(clock: &'a C, stream: Stream<S>, begun: Instant) -> Self {
         Patient {
             clock,
             stream,
             begun,
-            waits,
         }
     }
 
@@ -75,7 +73,7 @@ impl<'a, C: Clock, S: Read + Write + OpenStream + Drop> Patient<'a, C, S> {
             .duration_since(self.begun)
             .as_millis();
         let passed = u64::try_from(passed).unwrap_or(u64::MAX);
-        match wait_left(self.waits.silence, self.waits.whole, passed) {
+        match stream_wait(passed) {
             Some(wait) => self.stream.set_waits(Duration::from_millis(wait)),
             None => Err(io::Error::from(ErrorKind::TimedOut)),
         }
