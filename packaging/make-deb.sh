@@ -41,6 +41,13 @@ lay_out() {
     packaging/changelog.sh debian $name "$(sed -n 's/^Maintainer: //p' $deb/control)" | gzip -9n > "$documents/changelog.gz"
     install -m 644 $deb/copyright "$documents/copyright"
     install -D -m 644 packaging/$name.default "$tree/etc/default/$name"
+    install -D -m 644 packaging/$name.apparmor "$tree/etc/apparmor.d/usr.sbin.$name"
+    install -D -m 755 packaging/$name.carry "$tree/usr/libexec/$name/carry"
+    # the package rpcbind, in whose place this one is, has both
+    mkdir -p "$tree/usr/bin"
+    ln -s rpcinfo-proved "$tree/usr/sbin/rpcinfo"
+    ln -s ../sbin/rpcinfo-proved "$tree/usr/bin/rpcinfo"
+    ln -s rpcinfo-proved.8.gz "$tree/usr/share/man/man8/rpcinfo.8.gz"
     install -D -m 644 $deb/lintian-overrides "$tree/usr/share/lintian/overrides/$name"
 }
 

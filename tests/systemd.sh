@@ -1,20 +1,24 @@
 #!/usr/bin/env bash
-# Boots a Debian with the built programs installed, by its systemd as process 1 of namespaces of its own, and checks what
-# the units of packaging/ do there beside Debian's rpcbind: tests/units/checks.sh has the checks. It boots twice with what
-# `make install` puts there, the second time with ours enabled and /var mounted as NFS is. Then it boots that Debian anew,
-# and has apt install, upgrade and purge the package of `make deb`: tests/units/package.sh has these checks. Nothing of the
-# machine is touched, and no network.
+# Boots a Debian, by its systemd as process 1 of namespaces of its own, where apt puts the package of `make deb` in the place
+# of Debian's rpcbind, and Debian's in its place: tests/units/checks.py has the checks. In the first boot services are
+# registered, and go on while ours is restarted, killed and upgraded and clients come. Then the package is installed in that
+# Debian while it doesn't run, and it boots a few times with services of inetd, and once with /var mounted as NFS is.
+# Nothing of the machine is touched, and no network.
 #
 # The Debian is made by debootstrap, of the machine's own release and from the mirror of its package sources, in a folder
-# under /var/tmp that goes at the end. With CACHE=FOLDER in the environment it is kept there for the next time. Needs root,
-# and says what is missing. Each check is a line 'ok' or 'FAILED'; a line 'package: ' has the SHA-256 sum of the package;
-# the last line is 'N passed, N failed'; the status is 1 if one failed.
+# under /var/tmp that goes at the end. With CACHE=FOLDER in the environment it is kept there for the next time. BOOTS=N has
+# it boot N times with inetd (3). A word runs one part alone: switch, or boots. Needs root, and says what is missing. Each
+# check is a line 'ok' or 'FAILED'; a line 'package: ' has the SHA-256 sum of the package; the last line is 'N passed, N
+# failed'; the status is 1 if one failed.
 set -u
 cd "$(dirname "$0")/.." || exit 1
 
-longest=240 # how many seconds a boot takes at most, with its checks
-# netbase has the /etc/services in which a libtirpc looks for a port; make installs the programs anew
-packages=systemd,systemd-sysv,rpcbind,nfs-common,netbase,nfs-kernel-server,nfs-ganesha-vfs,libnfs-utils,make
+longest=900 # how many seconds a boot takes at most, with its checks
+boots=${BOOTS:-3}
+[ $# -gt 0 ] && parts=("$@") || parts=(switch boots)
+# netbase has the /etc/services in which a libtirpc looks for a port
+packages=systemd,systemd-sysv,rpcbind,nfs-common,netbase,nfs-kernel-server,nfs-ganesha-vfs,libnfs-utils
+packages+=,openbsd-inetd,rusersd,rstatd,rwalld,apparmor
 
 skip() {
     echo "skipped: $*"
@@ -28,7 +32,7 @@ fail() {
 
 [ -x crates/rpcbind/out/rpcbind ] && [ -x crates/rpcinfo/out/rpcinfo ] || fail "no built programs: run 'make' first"
 [ "$(id -u)" -eq 0 ] || skip "namespaces of its own want root"
-for tool in debootstrap apt-get dpkg-deb unshare pivot_root chroot setpriv; do
+for tool in debootstrap apt-get dpkg-deb unshare pivot_root chroot setpriv python3; do
     command -v "$tool" > /dev/null || skip "there is no $tool"
 done
 unshare --pid --fork --mount --net --uts --ipc --cgroup true 2> /dev/null || skip "namespaces are not allowed here"
@@ -58,7 +62,7 @@ mirror_of() {
         awk -v release="$1" '$1 == release && $2 == "main" { print $3; exit }'
 }
 
-# Has one in the folder `kept`.
+# Has one in the folder `kept`, with the packages that it was made of.
 make_debian() {
     local release mirror
     release=$(. /etc/os-release && echo "${VERSION_CODENAME:-}")
@@ -77,34 +81,44 @@ make_debian() {
     fi
 }
 
-# The commands in README.md's lines that begin with sudo, one a line and without it: those from one that begins with the
-# first words up to the next that begins with the second ones.
-commands_of_readme() {
-    sed -nE 's/^    sudo /sudo /p' README.md | sed -E 's/ +#.*//; s/ && /\n/g' | sed -n 's/^sudo //p' |
-        sed -n "/^$1/,/^$2/p"
+# A package of a later version, which differs in that alone, and wants what is of its version in that version.
+make_next() {
+    local version
+    rm -rf "$work/next"
+    dpkg-deb --raw-extract "$1" "$work/next" && version=$(dpkg-deb --field "$1" Version) &&
+        sed -i "s/^Version: .*/&+next/; s/nfs-common (= $version)/nfs-common (= $version+next)/" "$work/next/DEBIAN/control" &&
+        dpkg-deb --root-owner-group --build "$work/next" "$2" > "$work/made" 2>&1 ||
+        fail "no package of a later version: $(tail -n 1 "$work/made")"
 }
 
-# What `make install` takes, for an upgrade in there.
-copy_source() {
-    local source=$tree/checks/source name
-    mkdir "$source"
-    cp -r Makefile LICENSE CHANGELOG ./*.md packaging man "$source/"
-    for name in rpcbind rpcinfo; do
-        mkdir -p "$source/crates/$name/out"
-        cp "crates/$name/out/$name" "$source/crates/$name/out/"
-    done
-}
-
-# The package of `make deb`, and one of a later version, which differs in that alone.
+# The package of `make deb`, and a later one.
 make_packages() {
     local package
     package=$(packaging/make-deb.sh "$packages_made") || fail "no package"
     (cd "$packages_made" && sha256sum "$(basename "$package")") | sed 's/^/package: /'
     mkdir "$packages_made/next"
-    dpkg-deb --raw-extract "$package" "$work/next" &&
-        sed -i 's/^Version: .*/&+next/' "$work/next/DEBIAN/control" &&
-        dpkg-deb --root-owner-group --build "$work/next" "$packages_made/next" > "$work/made" 2>&1 ||
-        fail "no package of a later version: $(tail -n 1 "$work/made")"
+    make_next "$package" "$packages_made/next"
+}
+
+# The packages of the Debian as a repository, with later ones of nfs-common and of the rpcbind that must stay away.
+make_repository() {
+    local repository=$1 package
+    mkdir "$repository"
+    for package in rpcbind nfs-common nfs-kernel-server openbsd-inetd rstatd libtirpc3; do
+        cp "$kept"/var/cache/apt/archives/${package}_*.deb "$repository/" || fail "no package $package in the Debian"
+    done
+    mkdir "$repository/next"
+    for package in rpcbind nfs-common nfs-kernel-server; do
+        make_next "$repository"/${package}_*.deb "$repository/next"
+    done
+    for package in "$repository"/*.deb "$repository"/next/*.deb; do
+        dpkg-deb --field "$package"
+        echo "Filename: ./${package#"$repository/"}"
+        stat --format='Size: %s' "$package"
+        echo "SHA256: $(sha256sum "$package" | cut -d ' ' -f 1)"
+        echo
+    done > "$repository/Packages"
+    echo "deb [trusted=yes] file:/checks/repository ./" > "$tree/etc/apt/sources.list"
 }
 
 # A Debian as it was made, with the checks.
@@ -113,9 +127,10 @@ prepare() {
     rm -rf --one-file-system "$tree"
     cp -a --reflink=auto "$kept" "$tree" || fail "the Debian can't be copied"
     mkdir "$tree/checks"
-    commands_of_readme 'systemctl disable --now rpcbind\.' 'systemctl enable --now rpcbind-proved\.' > "$tree/checks/to-ours"
-    commands_of_readme 'systemctl disable --now rpcbind-proved\.' 'systemctl enable --now rpcbind\.' > "$tree/checks/back"
-    cp tests/units/checks.sh tests/units/package.sh "$tree/checks/"
+    cp tests/units/*.py "$tree/checks/"
+    cp "$tree/usr/sbin/rpcinfo" "$tree/checks/rpcinfo"
+    cp -r "$packages_made" "$tree/checks/packages"
+    make_repository "$tree/checks/repository"
     : > "$tree/etc/machine-id"
     # timers that would ask for the network, and servers of NFS: that of the kernel, and one that the checks start by hand
     for unit in apt-daily.timer apt-daily-upgrade.timer fstrim.timer e2scrub_all.timer \
@@ -123,31 +138,26 @@ prepare() {
         nfs-ganesha.service nfs-ganesha-lock.service nfs-ganesha-config.service; do
         ln -sf /dev/null "$tree/etc/systemd/system/$unit"
     done
+    # a service of another user, tied to rpcbind as ypserv is
+    cat > "$tree/etc/systemd/system/requires-rpcbind.service" << 'END'
+[Unit]
+Requires=rpcbind.service
+After=rpcbind.service
+StartLimitIntervalSec=0
+[Service]
+User=nobody
+ExecStart=/usr/bin/python3 -B /checks/registers.py 200001
+END
     cat > "$tree/etc/systemd/system/checks.service" << 'END'
 [Unit]
 After=multi-user.target
 [Service]
 Type=oneshot
-ExecStart=/bin/sh -c 'exec bash /checks/checks.sh > /checks/output 2>&1'
+ExecStart=/bin/sh -c 'exec python3 -B /checks/checks.py > /checks/output 2>&1'
 ExecStopPost=/bin/systemctl --no-block exit
 END
     mkdir -p "$tree/etc/systemd/system/default.target.wants"
     ln -s ../checks.service "$tree/etc/systemd/system/default.target.wants/"
-}
-
-prepare_installed() {
-    prepare
-    make --no-print-directory install DESTDIR="$tree" > "$work/made" 2>&1 ||
-        fail "make install: $(tail -n 1 "$work/made")"
-    copy_source
-    # README.md's command that makes the user, once; the package does it by itself
-    { grep -m 1 -o 'systemd-sysusers rpcbind-proved.conf' README.md; cat "$tree/checks/to-ours"; } > "$work/to-ours"
-    cp "$work/to-ours" "$tree/checks/to-ours"
-}
-
-prepare_package() {
-    prepare
-    cp -r "$packages_made" "$tree/checks/packages"
 }
 
 # A folder as /var far away: what mounts NFS binds it in place of asking a server. By _netdev it stays a mount of the
@@ -199,30 +209,54 @@ boot() {
     sed '/^end of the checks$/d' "$tree/checks/output" | tee -a "$work/output"
 }
 
-# Whether the package installs and is purged if no systemd runs, as in an image that is being made.
-install_in_chroot() {
-    if (
-        chroot "$tree" sh -c 'apt-get install --yes /checks/packages/rpcbind-proved_*.deb' &&
-            [ -x "$tree/usr/sbin/rpcbind-proved" ] && chroot "$tree" apt-get purge --yes rpcbind-proved &&
-            [ ! -e "$tree/usr/sbin/rpcbind-proved" ]
-    ) > "$work/made" 2>&1; then
-        echo "ok      it installs and is purged where no systemd runs"
+# A check where no systemd runs, as in an image that is being made.
+check_in_chroot() {
+    local name=$1
+    shift
+    if "$@" > "$work/made" 2>&1; then
+        echo "ok      $name"
     else
-        echo "FAILED  it installs and is purged where no systemd runs"
+        echo "FAILED  $name"
         sed 's/^/            /' "$work/made"
-    fi
+    fi | tee -a "$work/output"
+}
+
+installs_in_chroot() {
+    chroot "$tree" apt-get update && chroot "$tree" sh -c 'apt-get install --yes /checks/packages/rpcbind-proved_*.deb' &&
+        [ -x "$tree/usr/sbin/rpcbind-proved" ] && [ ! -e "$tree/sbin/rpcbind" ] &&
+        [ "$(readlink "$tree/etc/systemd/system/rpcbind.socket")" = /lib/systemd/system/rpcbind-proved.socket ]
+}
+
+gives_way_in_chroot() {
+    chroot "$tree" apt-get install --yes rpcbind && chroot "$tree" apt-get purge --yes rpcbind-proved &&
+        [ ! -e "$tree/usr/sbin/rpcbind-proved" ] && [ -x "$tree/sbin/rpcbind" ] &&
+        [ ! -e "$tree/etc/systemd/system/rpcbind.socket" ]
+}
+
+takes_profile() {
+    chroot "$tree" apparmor_parser --skip-kernel-load --skip-cache /etc/apparmor.d/usr.sbin.rpcbind-proved
+}
+
+# The parts: each begins with a Debian as it was made.
+run_switch() {
+    prepare
+    boot switch
+}
+
+run_boots() {
+    prepare
+    check_in_chroot "it is installed where no systemd runs" installs_in_chroot
+    check_in_chroot "apparmor_parser takes its profile" takes_profile
+    for _ in $(seq "$boots"); do boot again; done
+    prepare_far_var
+    boot far
+    check_in_chroot "Debian's takes its place where no systemd runs" gives_way_in_chroot
 }
 
 make_cgroup
 make_debian
 make_packages
-prepare_installed
-boot first
-prepare_far_var
-boot second
-prepare_package
-boot package
-install_in_chroot | tee -a "$work/output"
+for part in "${parts[@]}"; do "run_$part"; done
 passed=$(grep -c '^ok ' "$work/output")
 failed=$(grep -c '^FAILED ' "$work/output")
 echo "$passed passed, $failed failed"
