@@ -1,4 +1,4 @@
-#!/usr/bin/env python3
+#!/usr/bin/env -S python3 -B
 """Makes docs/RULES.md of what comments say of rules. With --check it writes nothing, and says what is wrong with them.
 
 A rule's sentence stands once, after its tag, in the comment above the definition that says it best, or above a function
@@ -11,10 +11,10 @@ import re
 import sys
 from collections import defaultdict
 from dataclasses import dataclass, field
-from pathlib import Path
 from typing import NamedTuple
 
-ROOT = Path(__file__).resolve().parent.parent
+from sources import CLAUSE, CRATES, DEFINITION, FUNCTION, NAME, ROOMS, ROOT, TAG, cited, differences, imports, owner_of, tags_in
+
 RULES = ROOT / "docs" / "RULES.md"
 NOT_SHOWN = ROOT / "tests" / "rules-not-shown"
 DOCUMENTS = ("*.md", "docs/*.md", "man/*", "crates/*/README.md", "tests/crates/*/README.md")
@@ -35,15 +35,8 @@ and that the prover refuses. What is of another crate than its table's says so.
 """
 COLUMNS = ("tag", "rule", "definition", "function", "row or test", "edit")
 
-TAG = r"[A-Z][A-Z0-9]*-[0-9]+"
-TAGS = re.compile(rf"({TAG}(?:,? {TAG})*)(?::.*)?")
 SENTENCE = re.compile(rf"({TAG}): (.+)")
-NAME = r"[A-Za-z_]\w*"
-USE = re.compile(r"\s*(?:ghost |pub )?use Rattle\.(\w+)\.specs\.([\w.]+?)(?:\.\{(.*)\})?(?: as (\w+))?;?")
-DEFINITION = re.compile(r"(?!pub mod|pub use)(?:[a-z]+ )*pub (?:record |data )?([^\s:({]+)")
-FUNCTION = re.compile(rf"(\s*)(?:pub(?:\([a-z]+\))? )?(?:(?:final|const|unsafe) )*fn ({NAME})")
 TEST = re.compile(rf"(?:(?:pub )?fn |def )?({NAME})\(")
-CLAUSE = re.compile(r"\s*(?:(requires|ensures)|ghost (?!use)\w+)\b(.*)")
 
 
 class Place(NamedTuple):
@@ -65,27 +58,6 @@ class Rule:
     shown: list = field(default_factory=list)  # rows and tests, as the table names them
     edits: list = field(default_factory=list)  # each by its crate and its name
     files: list = field(default_factory=list)  # that name it
-
-
-def read_plan():
-    """The rooms of crates.txt, each with its crates."""
-    rooms = []
-    for line in (ROOT / "crates.txt").read_text().splitlines():
-        if line.startswith("# ---- "):
-            rooms.append((line.removeprefix("# ---- "), []))
-        elif found := re.match(rf"({NAME}):", line):
-            rooms[-1][1].append(found[1])
-    return rooms
-
-
-ROOMS = read_plan()
-CRATES = [crate for _, crates in ROOMS for crate in crates]
-
-
-def tags_in(comment):
-    """The tags that begin a comment."""
-    found = TAGS.fullmatch(comment)
-    return re.findall(TAG, found[1]) if found else []
 
 
 def comments(lines, mark, between=("\0",)):
@@ -111,32 +83,6 @@ def comments(lines, mark, between=("\0",)):
             goes_on = False
         elif goes_on:
             told[-1][1] += " " + text
-
-
-def imports(line):
-    """The names that a `use` brings, each with its crate and `File.name`."""
-    if not (found := USE.fullmatch(line)):
-        return {}
-    crate, path, names, alias = found.groups()
-    if names is None:
-        path, _, names = path.rpartition(".")
-        names = f"{names} as {alias}" if alias else names
-    pairs = (name.partition(" as ") for name in names.split(", "))
-    return {alias or name: (crate, f"{path}.{name}") for name, _, alias in pairs}
-
-
-def cited(text, names):
-    """The definitions that a text names, by what their names are there."""
-    words = set(re.findall(r"[^\s(){},;]+", text))
-    return {names[word] for word in words | {word.partition(".")[0] for word in words} if word in names}
-
-
-def owner_of(line):
-    """The type, that of an impl, or the trait that a line of source begins; `None` if it begins none."""
-    found = re.match(r"(?:pub(?:\([a-z]+\))? )?(?:unsafe )?(?:impl|struct|enum|trait)\b(.*)", line)
-    words = re.sub(r"^\s*<[^>]*>+", "", found[1]).split(" for ")[-1] if found else ""
-    found = re.match(rf"\s*(?:\w+::)*({NAME})", words)
-    return found[1] if found else None
 
 
 class Book:
@@ -313,20 +259,12 @@ class Book:
             for tag in sorted(set(re.findall(rf"\b{TAG}\b", file.read_text())) - set(self.rules)):
                 if tag.split("-")[0] in words:
                     yield f"{file.relative_to(ROOT)}: there is no rule {tag}"
-        yield from compare(RULES.read_text().splitlines(), self.text().splitlines())
+        yield from differences(RULES, self.text(), "make-rules.py")
 
 
 def by_number(tag):
     word, number = tag.rsplit("-", 1)
     return word, int(number)
-
-
-def compare(old, new):
-    """Whether the file is as it is made, and if not the first line that is another one."""
-    if old != new:
-        at = next((n for n, (a, b) in enumerate(zip(old, new)) if a != b), min(len(old), len(new)))
-        made = new[at] if at < len(new) else "(nothing)"
-        yield f"docs/RULES.md:{at + 1}: this is not what the comments make; tests/make-rules.py writes: {made}"
 
 
 def main():
