@@ -16,22 +16,29 @@ NAMES = proved
 SUFFIX = $(if $(filter plain,$(NAMES)),,-proved)
 PLACED = sed 's|@PREFIX@|$(PREFIX)|g; s|@SUFFIX@|$(SUFFIX)|g'
 
-.PHONY: all run quick test rows hosts peers memory hostile attacks units bench measure deb release install uninstall clean
+.PHONY: all help documents run quick test rows hosts peers memory hostile attacks units bench measure deb release install uninstall clean
 
 # Proves each crate, side by side, and builds the programs, crates/rpcbind/out/rpcbind and crates/rpcinfo/out/rpcinfo.
 all:
 	@tests/prove.sh
+
+# This list: the targets, by the comments above them.
+help:
+	@awk '/^# /{said = said "    " substr($$0, 3) "\n"; next} \
+		/^[a-z]+:/ && said {sub(/:.*/, ""); printf "make %s\n%s", $$0, said} {said = ""}' Makefile
 
 # The daemon, asked over real sockets of 127.0.0.1, and three calls from bytes to bytes: before any proof.
 # PORT=N takes another port.
 run:
 	@PORT=$(PORT) examples/run.sh
 
-# Each test and each row, in minutes, without any proof.
+# Each test and each row, in minutes, without any proof: the programs are compiled with checks. Needs 8 GiB of memory for four
+# crates at once. The three rows in little memory are left out. The last line is 'N passed, N failed'.
 quick:
 	@tests/run-all.sh --quick
 
-# Each test, every proof from nothing, the edits that must be refused, the rows, and two hosts.
+# The gate: each test, each proof that this machine has not passed before, the edits that must be refused, the rows, and two
+# hosts. It says at its start how long it takes. The last line is 'N passed, N failed'.
 test:
 	@tests/run-all.sh
 
@@ -43,28 +50,30 @@ rows:
 hosts:
 	tests/two-hosts.sh
 
-# Real clients against the built daemon, in a namespace of its own. Needs root; says what was skipped.
+# Real clients against the built daemon, in a namespace of its own: Debian's rpcinfo, libtirpc, rpc.statd and others as their
+# own users, nfs-ganesha with mounts of NFS version 3. Needs root; says what was skipped. RECORD=1 checks a record too.
 peers:
 	tests/run-peers.sh
 
-# What of the built daemon is resident before and after a load of a million calls.
+# What of the built daemon is resident before and after a load of a million calls, over each kind of listener.
 memory:
 	tests/run-memory.sh
 
 # Attacks on the built daemon over sockets, each beside a good client, and faults of its system calls, by strace.
-# PROGRAM=PATH takes another program.
+# 40 kills of a daemon that keeps its rows are among them. PROGRAM=PATH takes another program. With RECORD=1 each record is
+# checked, and no faults are tried.
 hostile:
 	tests/run-hostile.sh
 
 # As another user against the rows of root's and of rpc.statd's, in a namespace of its own, by each door of the built daemon.
-# Needs root; says what was skipped.
+# Needs root; says what was skipped. `tests/attacks.sh PROGRAM CHECK` runs one check.
 attacks:
 	tests/attacks.sh
 
-# The units of systemd with the built programs, and the package, under a systemd of its own in a Debian that debootstrap
-# makes. Needs root. CACHE=FOLDER keeps that Debian there for the next time.
+# The package in the place of Debian's rpcbind, and back, under a systemd of its own in a Debian that debootstrap makes.
+# Needs root. CACHE=FOLDER keeps that Debian there for the next time; BOOTS=N boots it N times (3) with services of inetd.
 units:
-	@CACHE=$(CACHE) tests/systemd.sh
+	@CACHE=$(CACHE) BOOTS=$(BOOTS) tests/systemd.sh
 
 # A package of Debian of the built programs, in this folder. Needs dpkg-deb.
 deb:
@@ -80,15 +89,20 @@ release:
 bench:
 	tests/run-bench.sh
 
+# The documents that scripts make of the sources, docs/RULES.md, ANSWERS.md and BELIEVED.md, and what is drawn in others.
+documents:
+	@status=0; for it in tests/make-*.py tests/draw-*.py; do $$it || status=1; done; exit $$status
+
 # `make test` anew, and where its time goes, by crate, into docs/TIMINGS.md. Nothing else should work beside it.
 measure:
 	tests/measure-gate.py > timings.new && mv timings.new docs/TIMINGS.md
 
 # The built programs, their man pages, completion of bash, and the units of systemd, with PREFIX and the programs' names in
-# them; the line for systemd-sysusers that makes their user, and beside the documents a file of options and two drop-ins.
+# them; the line for systemd-sysusers that makes their user, and beside the documents a file of options and a drop-in.
 install:
 	install -d $(SBINDIR) $(MANDIR) $(DOCDIR) $(COMPLETIONS) $(DESTDIR)$(UNITS) $(DESTDIR)$(SYSUSERS)
-	install -m 644 LICENSE CHANGELOG SECURITY.md packaging/rpcbind-proved.default packaging/*.conf $(DOCDIR)
+	install -m 644 LICENSE CHANGELOG SECURITY.md docs/MIGRATING.md $(DOCDIR)
+	install -m 644 packaging/rpcbind-proved.default packaging/rpcbind-proved.record.conf $(DOCDIR)
 	install -m 644 packaging/rpcbind-proved.sysusers $(DESTDIR)$(SYSUSERS)/rpcbind-proved.conf
 	install -m 755 crates/rpcbind/out/rpcbind $(SBINDIR)/rpcbind$(SUFFIX)
 	install -m 755 crates/rpcinfo/out/rpcinfo $(SBINDIR)/rpcinfo$(SUFFIX)

@@ -4,6 +4,7 @@ still there; for tests/keep.sh.
 
 answers.py WORD:PORT .. prints 'listening' once it listens at all of them, and answers until it is ended. A word is a netid
 and how it answers: `tcp-null` as procedure 0 does, `udp-garbage` by bytes that are no reply, `tcp6-silent` not at all.
+What is no call of procedure 0, or over TCP has no record's mark or over UDP has one, is not answered.
 """
 import socket
 import socketserver
@@ -12,6 +13,13 @@ import sys
 import threading
 
 NULL, GARBAGE, SILENT = "null", "garbage", "silent"
+LENGTH = 40
+MARK = struct.pack(">I", 1 << 31 | LENGTH)
+
+
+def is_null_call(call):
+    """Whether these are the bytes of a call of procedure 0 without credentials (RFC 5531 section 9)."""
+    return len(call) == LENGTH and call[4:12] == struct.pack(">2I", 0, 2) and call[20:] == bytes(20)
 
 
 def answer_to(kind, call):
@@ -23,12 +31,13 @@ def answer_to(kind, call):
 
 class Stream(socketserver.BaseRequestHandler):
     def handle(self):
-        call = self.request.recv(4096)
+        data = self.request.recv(len(MARK) + LENGTH, socket.MSG_WAITALL)
+        mark, call = data[: len(MARK)], data[len(MARK) :]
         kind = self.server.kind
-        if kind == SILENT:
+        if kind == SILENT or mark != MARK or not is_null_call(call):
             self.request.recv(4096)  # until the other side closes
             return
-        answer = answer_to(kind, call[4:])
+        answer = answer_to(kind, call)
         mark = struct.pack(">I", 1 << 31 | len(answer)) if kind == NULL else b""
         self.request.sendall(mark + answer)
 
@@ -36,7 +45,7 @@ class Stream(socketserver.BaseRequestHandler):
 class Datagram(socketserver.BaseRequestHandler):
     def handle(self):
         call, answers = self.request
-        if self.server.kind != SILENT:
+        if self.server.kind != SILENT and is_null_call(call):
             answers.sendto(answer_to(self.server.kind, call), self.client_address)
 
 

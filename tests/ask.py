@@ -10,7 +10,11 @@ stands there. It is printed again, with the answer after it:
     tcp6 2001:db8:1::1 uid=1000 4 set 200001 1 tcp6 ::.8.1: 0
 
 An answer is a number; an address; the netids and addresses of a list, each with a space after it, in their order; an
-address and the results of a call that was forwarded, in hexadecimal; `refused`; or `silent`, if none comes.
+address and the results of a call that was forwarded, in hexadecimal; `refused`; or `silent`, if none comes within 5
+seconds, or PATIENCE of the environment.
+
+With --records the questions are of tcp, and what is printed are the replies alone, in hexadecimal with the marks of their
+records, as rpcinfo reads them.
 """
 import os
 import socket
@@ -20,7 +24,7 @@ import sys
 from row import Encoder
 
 PORT = int(os.environ.get("PORT", "111"))
-PATIENCE = 5.0
+PATIENCE = float(os.environ.get("PATIENCE", "5"))
 
 
 def number_from(data):
@@ -78,6 +82,20 @@ def read_all(connection, length):
     return data
 
 
+def fragments_from(connection):
+    """The fragments of a record (RFC 5531 section 11), each with its mark in front."""
+    is_last = 0
+    while not is_last:
+        mark = read_all(connection, 4)
+        head = number_from(mark)[0]
+        is_last = head >> 31
+        yield mark, read_all(connection, head & 0x7FFFFFFF)
+
+
+def as_record(call):
+    return struct.pack(">I", 1 << 31 | len(call)) + call
+
+
 def reply_over(netid, source, host, call):
     """The reply to a call, or no bytes. Over UDP one from another address than the one that is asked is not seen."""
     family = {"6": socket.AF_INET6, "l": socket.AF_UNIX}.get(netid[-1], socket.AF_INET)
@@ -91,19 +109,26 @@ def reply_over(netid, source, host, call):
             if not is_stream:
                 asker.send(call)
                 return asker.recv(65536)
-            asker.sendall(struct.pack(">I", 1 << 31 | len(call)) + call)
-            reply, is_last = b"", 0
-            while not is_last:
-                head = number_from(read_all(asker, 4))[0]
-                is_last = head >> 31
-                reply += read_all(asker, head & 0x7FFFFFFF)
-            return reply
+            asker.sendall(as_record(call))
+            return b"".join(fragment for _, fragment in fragments_from(asker))
         except OSError:
             return b""
 
 
+def print_records(encoder):
+    for line in sys.stdin:
+        _, host, *words = line.split()
+        with socket.create_connection((host, PORT), PATIENCE) as asker:
+            asker.sendall(as_record(encoder.bytes_of(words)))
+            for mark, fragment in fragments_from(asker):
+                print(mark.hex() + fragment.hex())
+
+
 def main():
     encoder = Encoder()
+    if sys.argv[1:] == ["--records"]:
+        print_records(encoder)
+        return
     for line in sys.stdin:
         question = line.rstrip("\n")
         netid, place, *words = question.split()

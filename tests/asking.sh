@@ -17,6 +17,33 @@ run_rpcinfo_of_nobody() {
     judge $? "rpcinfo where no socket is"
 }
 
+# WAIT-8
+# A portmapper that takes a call and says nothing is waited for 25 seconds over TCP, and for 5 over UDP: beside all others.
+run_rpcinfo_of_silence() {
+    local silent begun waited
+    python3 -c '
+import socket, sys, time
+with socket.create_server(("127.0.0.1", 0)) as silent, socket.socket(socket.AF_INET, socket.SOCK_DGRAM) as deaf:
+    deaf.bind(silent.getsockname())
+    print(silent.getsockname()[1], flush=True)
+    time.sleep(120)' > "$work/port" &
+    silent=$!
+    for _ in $(seq 300); do [ ! -s "$work/port" ] || break; sleep 0.1; done
+    echo 'rpcinfo: no reply' > "$work/wanted"
+    begun=$SECONDS
+    run_rpcinfo /dev/null --port "$(cat "$work/port")" -p 127.0.0.1
+    waited=$((SECONDS - begun))
+    as_wanted /dev/null "$work/wanted" 1 && [ "$waited" -ge 24 ] && [ "$waited" -lt 55 ]
+    judge $? "rpcinfo of a silent portmapper over TCP, after $waited seconds"
+    begun=$SECONDS
+    run_rpcinfo /dev/null -n "$(cat "$work/port")" -u 127.0.0.1 200001 1
+    waited=$((SECONDS - begun))
+    as_wanted /dev/null "$work/wanted" 1 && [ "$waited" -ge 4 ] && [ "$waited" -lt 24 ]
+    judge $? "rpcinfo of a silent program over UDP, after $waited seconds"
+    kill "$silent"
+    wait "$silent" 2> /dev/null
+}
+
 # ADDRESS-1
 # A host is there, and has no address of the netid's family.
 run_rpcinfo_of_other_family() {
@@ -180,8 +207,28 @@ run_rpcinfo_layouts() {
     wait "$daemon" 2> /dev/null
 }
 
+# UNANSWERED-2 ADDRESS-3
+# A user who may not open /run/rpcbind.sock, and names it, is answered at 127.0.0.1: as root alone, with a /run of its own.
+run_rpcinfo_at_closed_socket() {
+    local daemon bad=0
+    [ "$(id -u)" -eq 0 ] && command -v setpriv > /dev/null && unshare -m true 2> /dev/null \
+        || { echo "not tried: a socket that may not be opened, without root, setpriv or a file system of its own"; return; }
+    start_daemon "$work/listening" --port 20112 || { judge 1 "a daemon beside a closed socket"; return; }
+    printf '%s\n' '100000 '{4,3,2}' '{tcp,udp}' 0.0.0.0.78.144 superuser' | sort > "$work/wanted"
+    unshare -m sh -c 'mount -t tmpfs -o mode=755 tmpfs /run && cp "$1" /run/rpcinfo && chmod 755 /run/rpcinfo &&
+        python3 -c "import socket; socket.socket(socket.AF_UNIX).bind(\"/run/rpcbind.sock\")" && chmod 600 /run/rpcbind.sock &&
+        exec setpriv --reuid=65534 --regid=65534 --clear-groups /run/rpcinfo --local /run/rpcbind.sock --port 20112' sh "$rpcinfo" > "$work/told" 2> "$work/stderr"
+    got=$?
+    sort "$work/told" > "$work/stdout"
+    as_wanted "$work/wanted" /dev/null 0 || bad=1
+    kill "$daemon"
+    wait "$daemon" 2> /dev/null
+    judge $bad "rpcinfo at a socket that may not be opened"
+}
+
 run_asking() {
     run_rpcinfo_of_nobody
+    run_rpcinfo_at_closed_socket
     run_rpcinfo_of_other_family
     run_rpcinfo_of_programs
     run_rpcinfo_over_sockets

@@ -4,7 +4,7 @@
 A name in backquotes that looks like one of this repository (it has an underscore, a `::`, a slash, a capital letter inside,
 or ends as a file) has to be one of it, or stand in tests/names-of-others. In docs/CLAIMS.md a name after 'By CRATE:' has
 to stand in that crate. Code that a README shows of an example has to stand there. The picture of the crates has to be
-that of crates.txt (tests/draw-crates.py). docs/RULES.md is made by tests/make-rules.py, which looks at rules.
+that of crates.txt (tests/draw-crates.py). Documents that scripts make of the sources are left out.
 Prints a line for each name that is nowhere; the last line is 'N passed, N failed', the status 1 if one failed.
 """
 import re
@@ -16,8 +16,9 @@ from pathlib import Path
 
 ROOT = Path(__file__).resolve().parent.parent
 CRATES = sorted([p.parent.name for p in ROOT.glob("crates/*/src")] + [p.parent.name for p in ROOT.glob("tests/crates/*/lib.rs")])
+MADE = ("RULES.md", "ANSWERS.md", "BELIEVED.md")
 DOCUMENTS = [file for pattern in ("README.md", "docs/*.md", "crates/*/README.md", "tests/crates/*/README.md")
-             for file in sorted(ROOT.glob(pattern)) if file.name != "RULES.md"]
+             for file in sorted(ROOT.glob(pattern)) if file.name not in MADE]
 # A document whose code is that of another file, word for word.
 SHOWN = {ROOT / "crates" / "rb_core" / "README.md": ROOT / "examples" / "embed" / "driver.rs"}
 OTHERS = set((ROOT / "tests" / "names-of-others").read_text().split())

@@ -10,7 +10,7 @@ import sys
 
 from row import Encoder
 
-PATIENCE = 10.0
+PATIENCE = 60.0
 
 
 def outcome_of(connection, call):

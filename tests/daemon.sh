@@ -1,14 +1,14 @@
 # Sourced by the scripts that run the built daemon: `program` is its path, and `daemon` its number once it was started.
 
 # Starts it with these words after `serve`; what it writes goes to the file. The status is 1 if it doesn't listen, as
-# when it has ended. One with checks may take a minute, on a busy machine, for its memory and to set kept rows again.
+# when it has ended. One with checks may take minutes, on a busy machine, for its memory and to set kept rows again.
 start_daemon() {
     local written=$1
     shift
     : > "$written" # what a daemon before wrote there is not to be taken for its own
     "$program" serve "$@" >> "$written" 2>&1 &
     daemon=$!
-    for _ in $(seq 600); do
+    for _ in $(seq 3000); do
         grep -q listening "$written" && return
         kill -0 "$daemon" 2> /dev/null || break
         sleep 0.1

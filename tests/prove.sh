@@ -235,6 +235,15 @@ skip_above() {
     done
 }
 
+# Says if the verdict on a program rests on another number of functions of C than tests/axioms has.
+compare_axioms() {
+    local reached listed
+    reached=$(sed -nE 's/^logic=proved .* axioms=([0-9]+) .*/\1/p' "$logs/$1")
+    listed=$(grep -cw -- "$1" tests/axioms)
+    [ -z "$reached" ] || [ "$reached" = "$listed" ] \
+        || say "$1 rests on $reached functions of C, and tests/axioms has $listed: run tests/list-axioms.sh"
+}
+
 # Waits until a crate has ended, and takes over what came of it.
 await_one() {
     local name status
@@ -247,6 +256,7 @@ await_one() {
         state[$name]=proved
         say "$name is proved, in $(in_minutes $((SECONDS - since[$name]))) ($(processor_seconds "$name") processor" \
             "seconds): $(count proved) of ${#names[@]} crates"
+        compare_axioms "$name"
         return
     fi
     state[$name]=failed

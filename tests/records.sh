@@ -57,7 +57,7 @@ run_call_in_pieces() {
         pieces=$((pieces + 1))
         await_line "$file" '^bytes ' $pieces
     done
-    timeout 5 head -c 28 <&8 > "$work/reply"
+    timeout 60 head -c 28 <&8 > "$work/reply"
     kill "$daemon"
     wait "$daemon" 2> /dev/null
     exec 8>&-
@@ -86,9 +86,9 @@ run_record_that_ends() {
     got=$?
     as_wanted "$work/wanted" "$work/wanted-stderr" 0
     judge $? "a record that its file does not take"
-    printf 'rpcbind: %s\n' "make $work/none/record: No such file or directory (os error 2)" 'write failed' > "$work/wanted-stderr"
+    printf 'rpcbind: %s\n' 'write failed' "make $work/none/record: No such file or directory (os error 2)" > "$work/wanted-stderr"
     run /dev/null serve --port 20112 --turns 3 --record "$work/none/record"
-    as_wanted /dev/null "$work/wanted-stderr" 1
+    as_wanted /dev/null "$work/wanted-stderr" 3
     judge $? "a record whose file can't be made"
 }
 
@@ -101,9 +101,9 @@ run_record_in_the_way() {
     ln -s "$kept" "$work/link"
     mkfifo "$work/fifo"
     for file in "$work/link" "$work/fifo" "$work" /dev/full; do
-        printf 'rpcbind: %s\n' "make $file: what is there is no plain file, and stays" 'write failed' > "$work/wanted"
+        printf 'rpcbind: %s\n' 'write failed' "make $file: what is there is no plain file, and stays" > "$work/wanted"
         run /dev/null serve --port 20112 --turns 1 --record "$file"
-        as_wanted /dev/null "$work/wanted" 1 && [ -e "$file" ] && [ "$(cat "$kept")" = kept ]
+        as_wanted /dev/null "$work/wanted" 3 && [ -e "$file" ] && [ "$(cat "$kept")" = kept ]
         judge $? "a record at $file"
     done
 }
@@ -115,7 +115,7 @@ run_record_of_another() {
     echo kept > "$file"
     start_daemon "$work/listening" --port 20112
     run /dev/null serve --port 20112 --turns 1 --record "$file"
-    [ "$got" -eq 1 ] && [ "$(cat "$file")" = kept ]
+    [ "$got" -eq 3 ] && [ "$(cat "$file")" = kept ]
     judge $? "a record beside a daemon that has the port"
     kill "$daemon"
     wait "$daemon" 2> /dev/null
@@ -128,13 +128,13 @@ count_switches() {
     sed -n 's/^.*_ctxt_switches:[^0-9]*//p' "/proc/$daemon/status" | paste -s -d ' '
 }
 
-# Waits until the daemon has done what it was about to do: it was on no processor between two looks.
+# Waits until the daemon has done what it was about to do: it sleeps, and was on no processor between two looks.
 await_rest() {
     local before now=
-    for _ in $(seq 100); do
+    for _ in $(seq 300); do
         before=$now
         now=$(count_switches)
-        [ "$now" != "$before" ] || return 0
+        [ "$now" = "$before" ] && grep -q '^State:[[:space:]]*S' "/proc/$daemon/status" && return
         sleep 0.2
     done
     return 1
@@ -177,7 +177,7 @@ sys.path.insert(0, "tests")
 from row import Encoder
 encoder = Encoder()
 with socket.socket(socket.AF_INET, socket.SOCK_DGRAM) as asker:
-    asker.settimeout(5)
+    asker.settimeout(60)
     asker.bind(("127.0.0.1", 20113))
     asker.connect(("127.0.0.1", 20112))
     for line in sys.stdin:
@@ -188,20 +188,19 @@ with socket.socket(socket.AF_INET, socket.SOCK_DGRAM) as asker:
 
 # Waits until a file has this many lines, or more.
 await_lines() {
-    for _ in $(seq 50); do
+    for _ in $(seq 600); do
         [ "$(wc -l < "$1")" -lt "$2" ] || return 0
         sleep 0.1
     done
     return 1
 }
 
-# LOG-2
-# With --log changes the daemon tells of each SET and UNSET, accepted and refused, and of nothing else; a line break in a
-# netid is shown as `?`.
+# LOG-2 LOG-8
+# With --log changes the daemon tells of each SET and UNSET, accepted and refused, but for an UNSET that has nothing to
+# remove, and of nothing else; a line break in a netid is shown as `?`.
 run_log_of_changes() {
     local by='by 127.0.0.1:20113' set='SET 200001 1 tcp 127.0.0.1.8.1 of 1000' bad=0
     printf 'rpcbind: %s\n' 'listening on 127.0.0.1 port 20112' "$set $by: accepted" "$set $by: refused: taken" \
-        "UNSET 200001 1 tcp of 1001 $by: refused: nothing to remove" \
         "SET 200001 1 tcp?rpcbind: 127.0.0.1.8.1 of 1000 $by: refused: no address" \
         "SET 200002 1 udp 0.0.0.0.8.1 of unknown $by: accepted" \
         "UNSET 200001 1 - of 1000 $by: accepted" > "$work/wanted"
@@ -216,7 +215,7 @@ uid=1000 4 set 200001 1 tcp\nrpcbind: 127.0.0.1.8.1
 2 set 200002 1 udp 2049
 uid=1000 4 unset 200001 1
 END
-    await_lines "$work/log" 7 || bad=1
+    await_lines "$work/log" 6 || bad=1
     kill "$daemon"
     wait "$daemon" 2> /dev/null
     same "$work/wanted" "$work/log" "the log" || bad=1
@@ -230,7 +229,7 @@ run_log_of_all() {
     begin=$SECONDS
     yes '9 0' | head -n 100 | send_calls || bad=1
     seconds=$((SECONDS - begin + 2))
-    for _ in $(seq 100); do
+    for _ in $(seq 600); do
         told=$(grep -c '^rpcbind: call by 127.0.0.1:20113 refused: version unavailable$' "$work/log")
         more=$(awk '/^rpcbind: [0-9]+ more refused calls of unknown$/ { sum += $2 } END { print sum + 0 }' "$work/log")
         [ $((told + more)) -lt 100 ] || break
@@ -255,6 +254,52 @@ run_log_of_given_up() {
     judge $bad "a log of a connection that is given up"
 }
 
+# LOG-3 LOG-8
+# With --log all it also tells of an UNSET that has nothing to remove, and of a call whose arguments can't be read.
+run_log_of_nothing_removed() {
+    local by='by 127.0.0.1:20113' bad=0
+    printf 'rpcbind: %s\n' 'listening on 127.0.0.1 port 20112' \
+        "UNSET 200001 1 tcp of unknown $by: refused: nothing to remove" \
+        "call $by refused: garbage arguments" > "$work/wanted"
+    start_daemon "$work/log" --port 20112 --log all || { judge 1 "a log of what was not there"; return; }
+    send_calls <<'END' || bad=1
+4 unset 200001 1 tcp
+4 1 00000001
+END
+    await_lines "$work/log" 3 || bad=1
+    kill "$daemon"
+    wait "$daemon" 2> /dev/null
+    same "$work/wanted" "$work/log" "the log" || bad=1
+    judge $bad "a log of what was not there"
+}
+
+# LOG-7 LOG-8
+# Of a connection that is given up --log changes says nothing; and refused changes, over 20 in a second, are counted as such.
+run_log_of_many_refused() {
+    local bad=0 told more begin seconds
+    local line='^rpcbind: SET 200001 1 tcp\? 127.0.0.1.8.1 of unknown by 127.0.0.1:20113: refused: no address$'
+    start_daemon "$work/log" --port 20112 --conns 1 --log changes || { judge 1 "a log of refused changes"; return; }
+    python3 -B tests/crowd.py 127.0.0.1 20112 <<< $'open a 127.0.0.1\nopen b 127.0.0.1\ncall a' > "$work/stdout"
+    printf '%s\n' 'a answered' 'b answered' 'a closed' > "$work/wanted"
+    same "$work/wanted" "$work/stdout" "what became of connections" || bad=1
+    begin=$SECONDS
+    yes '4 set 200001 1 tcp\n 127.0.0.1.8.1' | head -n 100 | send_calls || bad=1
+    seconds=$((SECONDS - begin + 2))
+    for _ in $(seq 100); do
+        told=$(grep -cE "$line" "$work/log")
+        more=$(awk '/^rpcbind: [0-9]+ more refused changes of unknown$/ { sum += $2 } END { print sum + 0 }' "$work/log")
+        [ $((told + more)) -lt 100 ] || break
+        sleep 0.1
+    done
+    kill "$daemon"
+    wait "$daemon" 2> /dev/null
+    [ $((told + more)) -eq 100 ] && [ "$told" -le $((20 * seconds)) ] || bad=1
+    grep -vE "$line|^rpcbind: [0-9]+ more refused changes of unknown$" "$work/log" > "$work/stdout"
+    echo 'rpcbind: listening on 127.0.0.1 port 20112' > "$work/wanted"
+    same "$work/wanted" "$work/stdout" "the rest of the log" || bad=1
+    judge $bad "a log of refused changes"
+}
+
 run_records() {
     run_idle_daemon
     run_call_in_pieces
@@ -265,4 +310,6 @@ run_records() {
     run_log_of_changes
     run_log_of_all
     run_log_of_given_up
+    run_log_of_nothing_removed
+    run_log_of_many_refused
 }

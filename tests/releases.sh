@@ -8,7 +8,7 @@
 copy_of_sources() {
     local name
     mkdir -p "$1"
-    cp -r Makefile LICENSE CHANGELOG ./*.md packaging man "$1/" || return 1
+    cp -r Makefile LICENSE CHANGELOG ./*.md packaging man docs "$1/" || return 1
     for name in rpcbind rpcinfo; do
         mkdir -p "$1/crates/$name/out"
         cp "crates/$name/out/$name" "$1/crates/$name/out/" || return 1

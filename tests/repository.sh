@@ -35,6 +35,20 @@ check_rules() {
     cat "$work/rules"
 }
 
+# docs/ANSWERS.md is what the comments above laws and calls make it, and each law answers a question of tests/questions.
+check_answers() {
+    tests/make-answers.py --check > "$work/answers"
+    judge $? "tests/questions, or docs/ANSWERS.md: $(wc -l < "$work/answers")"
+    cat "$work/answers"
+}
+
+# docs/BELIEVED.md is what the sources make it.
+check_believed() {
+    tests/make-believed.py --check > "$work/believed"
+    judge $? "docs/BELIEVED.md is not what the sources make: $(wc -l < "$work/believed")"
+    cat "$work/believed"
+}
+
 # tests/row.py makes events from words: those of the example as they stand, and in the rows those below their words.
 check_words() {
     tests/row.py --bare < examples/first.words > "$work/events" \
@@ -44,17 +58,23 @@ check_words() {
     judge $? "words in tests/rows that do not make the bytes below them"
 }
 
-# README.md names every crate.
+# docs/beside-debians.svg is the picture of tables of docs/MEASUREMENTS.md.
+check_figures() {
+    tests/draw-figures.py --check
+    judge $? "the picture beside Debian's"
+}
+
+# docs/ARCHITECTURE.md names every crate.
 check_crates_are_named() {
     local line name unnamed=
     while read -r line; do
         line=${line%%#*}
         name=${line%%[: ]*}
         [ -n "$name" ] || continue
-        grep -qw -- "$name" README.md || unnamed="$unnamed $name"
+        grep -qw -- "$name" docs/ARCHITECTURE.md || unnamed="$unnamed $name"
     done < <(cat crates.txt tests/crates/uses.txt)
     [ -z "$unnamed" ]
-    judge $? "README.md does not name:$unnamed"
+    judge $? "docs/ARCHITECTURE.md does not name:$unnamed"
 }
 
 # The options that a help shows, one a line: what stands before two spaces in a line that begins with one.
@@ -87,7 +107,10 @@ check_repository() {
     check_completion
     check_proofs_by_hand
     check_crates_are_named
+    check_figures
     check_names
     check_rules
+    check_answers
+    check_believed
     check_words
 }

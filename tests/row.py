@@ -1,7 +1,7 @@
 #!/usr/bin/env python3
 """Makes a row from words: `tests/row.py < WORDS > tests/rows/NAME.events`.
 
-A line is an event line (docs/EVENTS.md) in which bytes may stand as words in parentheses; all else is passed on as it
+A line is an event line (man/rpcbind-replay.8) in which bytes may stand as words in parentheses; all else is passed on as it
 is, comments and the `#> ` line below each event among it. No output is decided here: what is expected of a row is
 written by hand from the standards.
 

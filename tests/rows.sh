@@ -265,7 +265,7 @@ run_many_short_outputs() {
 }
 
 # As often as an input can say it. An event and its output take at most 64 bytes of memory for each of their bytes
-# (docs/EVENTS.md), so 2,000,000 KiB; the memory of the process is limited to 600,000 KiB, twice what this takes.
+# (man/rpcbind-replay.8), so 2,000,000 KiB; the memory of the process is limited to 600,000 KiB, twice what this takes.
 run_shortest_outputs_of_bytes() {
     [ -z "$has_checks" ] || { echo 'not run: outputs of no bytes in little memory'; return; }
     { echo 'open 0 127.0.0.1:900'; yes 'pending 1' | head -n 1599997; } > "$work/events"
@@ -383,6 +383,7 @@ run_long_ones_beside() {
     beside run_longest_inputs
     beside run_many_events
     beside run_shortest_outputs_of_bytes
+    beside run_rpcinfo_of_silence
 }
 
 run_rpcbind_over_files() {

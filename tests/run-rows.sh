@@ -7,6 +7,7 @@
 #
 #     rows.sh        rows of tests/rows and tests/rows-rpcinfo, and inputs that no file can hold
 #     starts.sh      starts of the daemon, what it says of them, and help
+#     manager.sh     the daemon under a service manager, which hands over sockets and is told
 #     records.sh     its records and logs, and its rest
 #     serving.sh     a daemon that is short of something, and who may call it
 #     keep.sh        a daemon that keeps its rows
@@ -19,7 +20,7 @@
 set -u
 cd "$(dirname "$0")/.." || exit 1
 
-for part in daemon rows starts records serving keep asking refused releases repository; do
+for part in daemon rows starts manager records serving keep asking refused releases repository; do
     . "tests/$part.sh"
 done
 
@@ -97,6 +98,7 @@ part() {
 if [ "$failed" -eq 0 ]; then
     part run_long_ones_beside
     part run_starts
+    part run_under_a_manager
     part run_records
     part run_asking
     part run_serving

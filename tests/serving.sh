@@ -3,7 +3,7 @@
 
 # Waits until a file has a line for this pattern, this many times or more.
 await_line() {
-    for _ in $(seq 100); do
+    for _ in $(seq 600); do
         [ "$(grep -cE "$2" "$1")" -lt "${3:-1}" ] || return 0
         sleep 0.1
     done
@@ -43,10 +43,21 @@ run_without_descriptors() {
     wait "$client" "$daemon" 2> /dev/null
 }
 
+# Puts a program that runs the built one in the place of `program`, with these of its calls of the system in a file. The
+# status is 1 if there is no strace.
+trace_calls() {
+    strace -D -o /dev/null true 2> /dev/null || return 1
+    printf '#!/bin/sh\nexec strace -D -o "%s" -e trace=%s "%s" "$@"\n' "$1" "$2" "$program" > "$work/tracing"
+    chmod 755 "$work/tracing"
+    program=$work/tracing
+}
+
 # TABLES-6
-# Connections from this host that come at once are all served, and none waits for another.
+# Connections from this host that come at once are all served, and none waits for another, or for a deadline: no wait of
+# the daemon's ends because its time is over.
 run_connections_at_once() {
-    local daemon
+    local daemon program=$program is_traced=1
+    trace_calls "$work/waits" epoll_wait,epoll_pwait || is_traced=
     start_daemon "$work/listening" --port 20112
     printf '%s answered\n' a b c d a > "$work/wanted"
     python3 -B tests/crowd.py 127.0.0.1 20112 > "$work/stdout" << 'END'
@@ -58,6 +69,12 @@ call a
 END
     same "$work/wanted" "$work/stdout" "what became of connections"
     judge $? "connections that come at once"
+    if [ "$is_traced" ]; then
+        grep -q '^epoll_' "$work/waits" && ! grep -E '^epoll_p?wait\(.*, [1-9][0-9]*(, NULL, 8)?\) += 0$' "$work/waits"
+        judge $? "connections that come at once wait for no deadline"
+    else
+        echo "that connections wait for no deadline is not tried: that wants strace"
+    fi
     kill "$daemon"
     wait "$daemon" 2> /dev/null
 }
@@ -83,9 +100,9 @@ signal.pause()
     listener=$!
     await_line "$work/listening" listening
     before=$(stat -c %i "$path")
-    printf 'rpcbind: %s\n' "bind $path: another program listens on it" 'socket failed' > "$work/wanted"
+    printf 'rpcbind: %s\n' 'socket failed' "bind $path: another program listens on it" > "$work/wanted"
     run /dev/null serve --port 20112 --turns 1 --local "$path"
-    as_wanted /dev/null "$work/wanted" 1 && [ "$(stat -c %i "$path")" = "$before" ]
+    as_wanted /dev/null "$work/wanted" 3 && [ "$(stat -c %i "$path")" = "$before" ]
     judge $? "a socket whose queue is full in the way of the local socket"
     kill "$listener"
     wait "$listener" 2> /dev/null
@@ -114,9 +131,9 @@ END
     done
 }
 
-# Whether a call over TCP (t) or UDP (u) to this address of the machine, and so from it, is answered.
+# Whether a call over TCP (t) or UDP (u) to this address of the machine, and so from it, is answered, in these seconds.
 is_answered() {
-    timeout 2 "$rpcinfo" --port 20112 "-$1" "$2" 100000 2 > /dev/null 2>&1
+    timeout "${3:-60}" "$rpcinfo" --port 20112 "-$1" "$2" 100000 2 > /dev/null 2>&1
 }
 
 # In a network namespace whose machine has an address in a network that is served and another one, which is announced. The
@@ -133,7 +150,7 @@ callers_of_networks() {
     is_answered t 198.51.100.1
     status=$?
     [ $status -eq 1 ] || { echo "198.51.100.1 -t: status $status"; bad=1; }
-    ! is_answered u 198.51.100.1 || { echo "198.51.100.1 -u: answered"; bad=1; }
+    ! is_answered u 198.51.100.1 2 || { echo "198.51.100.1 -u: answered"; bad=1; }
     is_answered u 192.0.2.1 || { echo "192.0.2.1 -u: not answered at the end"; bad=1; }
     kill "$daemon"
     wait "$daemon" 2> /dev/null

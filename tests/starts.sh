@@ -27,11 +27,11 @@ run_all_listeners() {
 }
 
 # START-2
-# If the limit of open files is less than the connections need, there are fewer of them, and that is said.
+# If the limit of open files is less than the connections need, there are fewer of them, and that is said. It is the soft one.
 run_few_descriptors() {
     local needed places
     echo 'rpcbind: listening on 127.0.0.1 port 20112' > "$work/wanted"
-    (ulimit -n 24; run /dev/null serve --port 20112 --turns 1 && exit "$got")
+    (ulimit -S -n 24; run /dev/null serve --port 20112 --turns 1 && exit "$got")
     got=$?
     read -r needed places < <(sed -nE 's/^rpcbind: the limit of open files is 24, --conns 64 needs ([0-9]+): ([0-9]+) connections at a time$/\1 \2/p' "$work/stderr")
     [ "$got" -eq 0 ] && same "$work/wanted" "$work/stdout" "standard output" \
@@ -44,9 +44,9 @@ run_few_descriptors() {
 run_file_in_the_way() {
     local file=$work/in-the-way
     echo kept > "$file"
-    printf 'rpcbind: %s\n' "bind $file: the file is no socket, and stays" 'socket failed' > "$work/wanted"
+    printf 'rpcbind: %s\n' 'socket failed' "bind $file: the file is no socket, and stays" > "$work/wanted"
     run /dev/null serve --port 20112 --turns 1 --local "$file"
-    as_wanted /dev/null "$work/wanted" 1 && [ "$(cat "$file")" = kept ]
+    as_wanted /dev/null "$work/wanted" 3 && [ "$(cat "$file")" = kept ]
     judge $? "a file in the way of the local socket"
 }
 
@@ -57,7 +57,7 @@ run_daemon_with_bad_limits() {
     while read -r option value wanted; do
         printf 'rpcbind: %s\n' "--$option $value: $wanted is wanted" 'bad limits' > "$work/wanted"
         run /dev/null serve --port 20112 --turns 1 "--$option" "$value"
-        as_wanted /dev/null "$work/wanted" 1
+        as_wanted /dev/null "$work/wanted" 3
         judge $? "a daemon with --$option $value"
     done << 'END'
 conns 0 1 to 256
@@ -69,10 +69,10 @@ END
 # FAULT-3
 # 192.0.2.1 is no address of this machine.
 run_daemon_elsewhere() {
-    printf 'rpcbind: %s\n' 'bind TCP 192.0.2.1:20112: Cannot assign requested address (os error 99)' 'socket failed' \
+    printf 'rpcbind: %s\n' 'socket failed' 'bind TCP 192.0.2.1:20112: Cannot assign requested address (os error 99)' \
         > "$work/wanted"
     run /dev/null serve --bind 192.0.2.1 --port 20112 --turns 1
-    as_wanted /dev/null "$work/wanted" 1
+    as_wanted /dev/null "$work/wanted" 3
     judge $? "a daemon at an address that is not there"
 }
 
@@ -167,6 +167,147 @@ run_daemon_of_networks() {
     judge $? "a daemon that serves sixteen networks"
 }
 
+# DEBIAN-1 DEBIAN-2
+# Options of Debian's rpcbind(8) without a command: -h binds, with 127.0.0.1 and ::1 beside it, -w keeps rows, -r forwards, -l and -d
+# tell of all and -f is as it is. What has no like here ends the program and is named. Port 111 may be another's here, so each
+# start ends by a word that can't be read.
+run_options_of_debian() {
+    local words taken left
+    while IFS='|' read -r words taken; do
+        {
+            echo "rpcbind: taken as: serve $taken"
+            echo "error: invalid value 'nowhere' for '--bind': an address as 192.0.2.1 or 2001:db8::1 is wanted"
+        } | sed "s/~/$(grep -q '^0\{31\}1 ' /proc/net/if_inet6 2> /dev/null && echo ' --loopback6')/" > "$work/wanted"
+        run /dev/null $words
+        as_wanted /dev/null "$work/wanted" 2
+        judge $? "rpcbind $words"
+    done << 'END'
+-h nowhere|--bind nowhere --bind 127.0.0.1~
+-fhnowhere|--bind nowhere --bind 127.0.0.1~
+-h nowhere -h 127.0.0.1 -h nowhere|--bind nowhere --bind 127.0.0.1~
+-h nowhere -h 0.0.0.0|--bind nowhere --bind 0.0.0.0~
+-h :: -h nowhere|--bind :: --bind nowhere
+-wf -h nowhere|--keep /run/rpcbind-proved/rows --bind nowhere --bind 127.0.0.1~
+-w -w -r -h nowhere|--keep /run/rpcbind-proved/rows --forwards 16 --forward-for all --bind nowhere --bind 127.0.0.1~
+-ld -h nowhere|--log all --bind nowhere --bind 127.0.0.1~
+END
+    while IFS='|' read -r words left; do
+        echo "rpcbind: $left" > "$work/wanted"
+        run /dev/null $words
+        as_wanted /dev/null "$work/wanted" 2
+        judge $? "rpcbind $words"
+    done << 'END'
+-i|-i: other hosts never register here; --believe-claims comes nearest
+-s -w|-s: the user is that of User= in the unit, or of the program that starts it
+-aL|-a: nothing aborts here; -L: not known here
+-w 127.0.0.1|127.0.0.1: not known here
+-w --bind|--bind: not known here
+-w -h|-h: a host is wanted
+END
+    echo "rpcbind: serve -h shows help: give a host as --bind HOST, or in --options='-h HOST'" > "$work/wanted"
+    run /dev/null serve -h 127.0.0.1
+    as_wanted /dev/null "$work/wanted" 2
+    judge $? "rpcbind serve -h 127.0.0.1"
+    run /dev/null -h
+    [ "$got" -eq 0 ] && [ ! -s "$work/stderr" ] && grep -q Usage "$work/stdout"
+    judge $? "rpcbind -h"
+}
+
+# DEBIAN-2 DEBIAN-3 DEBIAN-4
+# The same in the text of --options: what is given beside it stays, and what has no like is named in a line.
+run_text_of_options() {
+    local text=$1 listens=$2 bad=0
+    shift 2
+    printf 'rpcbind: %s\n' "listening on $listens port 20112" > "$work/wanted"
+    if [ $# -gt 0 ]; then printf 'rpcbind: --options: %s\n' "$@"; fi > "$work/wanted-stderr"
+    run /dev/null serve --port 20112 --turns 1 --log changes --keep "$work/rows" "--options=$text"
+    as_wanted "$work/wanted" "$work/wanted-stderr" 0 || bad=1
+    run /dev/null serve --port 20112 --options "$text" --turns 1 --log changes --keep "$work/rows"
+    as_wanted "$work/wanted" "$work/wanted-stderr" 0 || bad=1
+    judge $bad "--options='$text'"
+}
+
+run_texts_of_options() {
+    run_text_of_options '' 127.0.0.1
+    run_text_of_options ' -w  -f -ld' 127.0.0.1
+    run_text_of_options '-r' 127.0.0.1 'taken as: --forwards 16 --forward-for all'
+    run_text_of_options '-w -i -s extra' 127.0.0.1 \
+        'not taken: -i: other hosts never register here; --believe-claims comes nearest; -s: the user is that of User= in the unit, or of the program that starts it; extra: not known here'
+    run_text_of_options '-w -h' 127.0.0.1 'not taken: -h: a host is wanted'
+    LISTEN_FDS=1 run_text_of_options '-h 127.0.0.2' 127.0.0.1 'not taken: -h: the socket unit says where it listens'
+    run_hosts_of_options
+}
+
+# DEBIAN-1 DEBIAN-3
+# A host of -h is listened on, with 127.0.0.1 and ::1 beside it, and none of them twice.
+run_hosts_of_options() {
+    local six='' words
+    ! grep -q '^0\{31\}1 ' /proc/net/if_inet6 2> /dev/null || six=yes
+    printf 'rpcbind: listening on %s port 20112\n' 127.0.0.2 127.0.0.1 ${six:+::1} > "$work/wanted"
+    echo "rpcbind: --options: taken as: --bind 127.0.0.2 --bind 127.0.0.1${six:+ --loopback6}" > "$work/wanted-stderr"
+    run /dev/null serve --port 20112 --turns 1 --options=-h127.0.0.2
+    as_wanted "$work/wanted" "$work/wanted-stderr" 0
+    judge $? "a host of --options"
+    for words in '--bind 127.0.0.2 --bind=127.0.0.1' '--bind=127.0.0.2 --bind 127.0.0.1'; do
+        echo "rpcbind: --options: taken as: --loopback6" > "$work/wanted-stderr"
+        [ -n "$six" ] || : > "$work/wanted-stderr"
+        run /dev/null serve --port 20112 --turns 1 $words '--options=-h 127.0.0.2'
+        as_wanted "$work/wanted" "$work/wanted-stderr" 0
+        judge $? "a host of --options that is given, by $words"
+    done
+}
+
+# HOSTS-1
+# Lines of tcpd's files for rpcbind, portmap or ALL are named at the start: as root alone, in a file system of its own.
+run_hosts_files() {
+    local bad=0
+    [ "$(id -u)" -eq 0 ] && unshare -m true 2> /dev/null || { echo "not tried: files of tcpd, without a file system of its own"; return; }
+    mkdir -p "$work/etc"
+    printf '%s\n' '# rpcbind: ALL' 'sshd, nfsd : ALL' > "$work/etc/hosts.allow"
+    printf '%s\n' 'sshd: ALL' 'mountd portmap rpcbind: ALL EXCEPT 192.0.2.1' > "$work/etc/hosts.deny"
+    echo "rpcbind: /etc/hosts.deny has a line for rpcbind, which is not heeded: --from says whom it serves" > "$work/wanted-stderr"
+    echo 'rpcbind: listening on 127.0.0.1 port 20112' > "$work/wanted"
+    unshare -m sh -c 'mount -t tmpfs tmpfs /etc && cp "$1"/etc/* /etc && exec "$2" serve --port 20112 --turns 1' \
+        sh "$work" "$program" > "$work/stdout" 2> "$work/stderr"
+    got=$?
+    as_wanted "$work/wanted" "$work/wanted-stderr" 0 || bad=1
+    judge $bad "lines of tcpd's files"
+}
+
+# LEVEL-1 LEVEL-2
+# Each line of standard error has its priority in front if JOURNAL_STREAM names its device and inode, and else none.
+run_levels() {
+    local bad=0 plain=$work/wanted marked=$work/wanted-marked words
+    printf '%s\n' '<5>rpcbind: --options: taken as: --forwards 16 --forward-for all' '<4>rpcbind: --options: not taken: -x: not known here' \
+        '<4>rpcbind: no --announce: clients over UDP will be told 0.0.0.0' '<3>rpcbind: socket failed' \
+        '<3>rpcbind: bind TCP 192.0.2.1:20112: Cannot assign requested address (os error 99)' > "$marked"
+    sed 's/^<.>//' "$marked" > "$plain"
+    for words in "--bind 0.0.0.0" "--bind 192.0.2.1"; do
+        : > "$work/stderr"
+        JOURNAL_STREAM=$(stat -c %d:%i "$work/stderr") "$program" serve --port 20112 --turns 1 $words '--options=-r -x' 2>> "$work/stderr" > /dev/null
+        cat "$work/stderr" >> "$work/levels"
+        : > "$work/stderr"
+        JOURNAL_STREAM=$(stat -c %d:1%i "$work/stderr") "$program" serve --port 20112 --turns 1 $words '--options=-r -x' 2>> "$work/stderr" > /dev/null
+        cat "$work/stderr" >> "$work/no-levels"
+    done
+    sed -i '4,5d' "$work/levels" "$work/no-levels" # the second start takes its options as the first
+    same "$marked" "$work/levels" "lines in the journal" || bad=1
+    same "$plain" "$work/no-levels" "lines elsewhere" || bad=1
+    : > "$work/stderr"
+    JOURNAL_STREAM=$(stat -c %d:%i "$work/stderr") "$program" serve --port 0 2>> "$work/stderr"
+    echo "<3>error: invalid value '0' for '--port': a port from 1 to 65535 is wanted" > "$work/wanted"
+    same "$work/wanted" "$work/stderr" "a word that can't be read" || bad=1
+    printf '%s\n' 'rpcbind: listening on 127.0.0.1 port 20112' \
+        '<6>rpcbind: SET 200001 1 tcp 127.0.0.1.8.1 of unknown by 127.0.0.1:20113: accepted' > "$work/wanted"
+    : > "$work/log"
+    JOURNAL_STREAM=$(stat -c %d:%i "$work/log") start_daemon "$work/log" --port 20112 --log changes || bad=1
+    send_calls <<< '4 set 200001 1 tcp 127.0.0.1.8.1' && await_lines "$work/log" 2 || bad=1
+    kill "$daemon"
+    wait "$daemon" 2> /dev/null
+    same "$work/wanted" "$work/log" "a line of the log" || bad=1
+    judge $bad "levels of lines"
+}
+
 # Help is printed with status 0, and names each of these options.
 run_help_of() {
     local command=$1 option bad=0
@@ -191,7 +332,7 @@ run_version_of() {
 run_helps() {
     run_help_of '' help version
     run_help_of serve bind from announce local local-mode loopback6 port conns rows forwards udp-lists forward-for \
-        reserve udp-rate turns record record-limit keep keep-check log help version
+        reserve udp-rate turns record record-limit keep keep-check log options help version
     run_help_of replay announce local port conns rows forwards udp-lists forward-for reserve check steps xid now help version
     run_version_of '' rpcbind
     run_version_of serve rpcbind-serve
@@ -208,5 +349,9 @@ run_starts() {
     run_daemon_without_announce
     run_bad_words_of_serve
     run_daemon_of_networks
+    run_options_of_debian
+    run_texts_of_options
+    run_hosts_files
+    run_levels
     run_helps
 }

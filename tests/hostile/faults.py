@@ -49,7 +49,7 @@ WHEN = {("accept4", "EINTR"): ":when=1+2"}
 # how long waits for events fail at most until the daemon ends, and what it says then
 END = 30.0
 FAILED = "rpcbind: wait for events: Invalid argument (os error 22)"
-LAST_WORDS = f"{FAILED}; it is tried again; {FAILED}; rpcbind: socket failed; status 1"
+LAST_WORDS = f"{FAILED}; it is tried again; rpcbind: socket failed; {FAILED}; status 1"
 
 FAULTS = [(name, error) for name, errors in ERRORS.items() for error in errors.split()]
 

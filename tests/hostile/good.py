@@ -12,6 +12,10 @@ from common import RECORDS
 PAUSE = 0.010
 LONGEST_WAIT = 0.200 if RECORDS else 0.050
 
+# On a busy machine that is more: so many times its longest wait in these seconds before the attack.
+RATIO = 16
+CALM = 2.0
+
 
 class Good:
     """A good client in a process of its own, that calls until it is told to stop."""
@@ -43,6 +47,17 @@ class Good:
         os.close(self.result_read)
         os.waitpid(self.pid, 0)
         return result
+
+
+def waits_in_calm(asks, hosts, pause=PAUSE):
+    """The longest wait of each of these clients while there is no attack."""
+    clients = {name: Good(ask(hosts), pause) for name, ask in asks.items()}
+    time.sleep(CALM)
+    return {name: client.end()[2] for name, client in clients.items()}
+
+
+def most_wait(limit, in_calm):
+    return max(limit, RATIO * in_calm)
 
 
 def ask_over_udp(hosts):

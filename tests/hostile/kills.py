@@ -1,6 +1,7 @@
 """A daemon that keeps its rows, killed again and again under a load of SETs and UNSETs over TCP and UDP, and started
 with the same file. After each start every change is there that was answered TRUE, no row is there that was never set, and
-the file that the kill left is whole: each of its lines sets a row by a replay, and these are the rows that are listed.
+each whole line of the file that the kill left sets or removes a row by a replay, which leaves the rows that are listed. At
+the last kill the file is also cut at each byte of its last line: what is left of that line counts for nothing.
 
 Every second kill comes at the moment of an answer. A call whose reply did not come may be done or not; of several that a
 client sent in a row the first ones are done.
@@ -19,6 +20,7 @@ import time
 from ask import number_from, opaque_from, read_all, text_from
 from calls import PATIENCE, PORT, PROGRAM, connect, record, success, udp_socket, words
 from common import LOOPBACK, RECORDS, Daemon, Unpassed
+from kept import lines_left
 from row import Encoder
 
 KILLS = 40
@@ -251,19 +253,39 @@ def kept_row(line):
     return (*row[:4], owner)
 
 
-def kept_rows(path):
-    """The rows of the file, which must be whole; there is none before the first change."""
+def whole_text(path):
+    """The lines of the file that are whole; there is none before the first change."""
     if not os.path.exists(path):
-        return []
+        return ""
     with open(path, newline="") as file:
         text = file.read()
-    rows = [kept_row(line) for line in text.splitlines(keepends=True)]
-    with open(path) as lines:
-        replay = subprocess.run([PROGRAM, "replay", "--rows", ROWS], stdin=lines, capture_output=True, text=True)
-    wanted = f"reply {(success(0) + TRUE).hex()}\n" * len(rows)
+    return text[: text.rfind("\n") + 1]
+
+
+def kept_rows(path):
+    """The rows that the whole lines of the file leave. Each is a change that a replay answers TRUE."""
+    text = whole_text(path)
+    replay = subprocess.run([PROGRAM, "replay", "--rows", ROWS], input=text, capture_output=True, text=True)
+    wanted = f"reply {(success(0) + TRUE).hex()}\n" * text.count("\n")
     if replay.returncode != 0 or replay.stdout != wanted:
         raise Unpassed(f"a replay of the file: status {replay.returncode}, {replay.stderr!r}, or a line that is not TRUE")
-    return rows
+    return [kept_row(line) for line in lines_left(text)]
+
+
+def torn_ends(path, options):
+    """Starts daemons with the file cut at each byte of its last line: they have the rows of the lines before it."""
+    text = whole_text(path)
+    last = text.rfind("\n", 0, -1) + 1
+    for end in range(last, len(text)):
+        with open(path, "w", newline="") as file:
+            file.write(text[:end])
+        wanted = [kept_row(line) for line in lines_left(text[:last])]
+        daemon = Daemon([LOOPBACK], options)
+        try:
+            if listed_rows() != wanted:
+                raise Unpassed(f"cut {end - last} bytes behind the last line's beginning it has other rows")
+        finally:
+            daemon.end()
 
 
 # ---- the kills
@@ -343,10 +365,12 @@ def kills_40(clients, path, counts):
                 compare(clients, path, counts)
             except Unpassed as fault:
                 raise Unpassed(f"kill {number}: {fault}") from fault
+        daemon.end()
+        torn_ends(path, options)
     finally:
         daemon.end()
         counts.answered = sum(client.answered for client in clients)
-    others = [name for name in os.listdir(os.path.dirname(path)) if name not in ("rows", "rows.new")]
+    others = [name for name in os.listdir(os.path.dirname(path)) if name not in ("rows", "rows.new", "rows.lock")]
     if others:
         raise Unpassed(f"left behind: {others}")
 
