@@ -32,6 +32,8 @@ run_record() {
     run "$file" "${check[@]}"
     as_wanted "$work/wanted" /dev/null 0
     judge $? "a record is checked"
+    python3 -B tests/run-model.py "$file"
+    judge $? "a record, and the definitions that are believed"
     sed '$d' "$file" > "$work/events"
     run "$work/events" "${check[@]}"
     [ "$got" -eq 1 ] && grep -q 'of the run has no line' "$work/stderr"

@@ -372,6 +372,12 @@ run_rpcinfo_help() {
 
 # ---- which are run
 
+# What is believed gives the outputs of each row too, and tests/unreached has the clauses that no row reaches.
+run_rows_by_the_model() {
+    python3 -B tests/run-model.py
+    judge $? "the definitions that are believed, run over the rows"
+}
+
 # Those that take long and need no port, beside all others.
 run_long_ones_beside() {
     beside run_rpcbind_over_files
@@ -384,6 +390,7 @@ run_long_ones_beside() {
     beside run_many_events
     beside run_shortest_outputs_of_bytes
     beside run_rpcinfo_of_silence
+    beside run_rows_by_the_model
 }
 
 run_rpcbind_over_files() {

@@ -89,13 +89,23 @@ abbrev pub peer_of_address : Uaddr → Peer
 peer_of_address (V4 host port) = peer_at (hosts.V4 host) port
 peer_of_address (V6 host port) = peer_at (hosts.V6 host) port
 
+abbrev pub uaddr_on : Host → ℕ → Uaddr
+uaddr_on (hosts.V4 host) port = V4 host port
+uaddr_on (hosts.V6 host) port = V6 host port
+
+-- the universal address of a peer
+abbrev pub uaddr_at : Peer → Uaddr
+uaddr_at peer = uaddr_on peer.host peer.port
+
+-- of a registered address the plain host, with one of its family in place of every host
 abbrev pub merged_peer : Hosts → Uaddr → Peer
-merged_peer hosts registered = peer_of_address (merged_address hosts registered)
+merged_peer hosts registered =
+    peer_of_address (merged_address hosts (uaddr_at (peer_of_address registered)))
 
 -- CALLIT-3: A forwarded call goes to the row's host and port, to 127.0.0.1 in place of 0.0.0.0 and
--- to ::1 in place of `::`.
+-- to ::1 in place of `::`. A host in IPv6's form is first the plain one.
 -- CALLIT-4: The answer to a forwarded call shows the row's host and port as of the call, with the
--- host that its caller is told in place of 0.0.0.0 or `::`.
+-- host that its caller is told in place of 0.0.0.0 or `::`. The plain host comes first here too.
 unfoldable pub forward_of : Context → ℕ → Kind → RemoteCall → Uaddr → Forward
 forward_of context xid kind remote registered = record {
   caller = context.caller;
@@ -194,14 +204,6 @@ unfoldable pub call_sent : ℕ → Ledger → Ledger
 call_sent number l = record l { forwards = sent number l.forwards }
 
 -- ---- results that passed
-
-abbrev pub uaddr_on : Host → ℕ → Uaddr
-uaddr_on (hosts.V4 host) port = V4 host port
-uaddr_on (hosts.V6 host) port = V6 host port
-
--- the universal address of a peer
-abbrev pub uaddr_at : Peer → Uaddr
-uaddr_at peer = uaddr_on peer.host peer.port
 
 -- where the call went: the port in version 2, else the universal address
 abbrev pub place_bytes : Kind → Peer → List ℕ

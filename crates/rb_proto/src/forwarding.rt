@@ -160,11 +160,12 @@ fn peer_of_address(address: Uaddr) -> Peer
     }
 }
 
-/// The peer at a universal address, with a host of its family in place of 0.0.0.0 or ::.
+/// The peer at a universal address, with a host of its family in place of 0.0.0.0 or ::. The plain host comes first, so a
+/// row at ::ffff:0.0.0.0 is at every host of IPv4.
 fn merged_peer(hosts: &Hosts, registered: Uaddr) -> Peer
     ensures { result ≡ merged_peer hosts.now registered }
 {
-    peer_of_address(registered.merge(hosts))
+    peer_of_address(uaddr_at(peer_of_address(registered)).merge(hosts))
 }
 
 /// The universal address of a peer.
