@@ -10,7 +10,7 @@ import re
 from collections import Counter
 from pathlib import Path
 
-from antt_std import BUILT_IN, STD, TT, Value, apply, curry, record
+from antt_std import BUILT_IN, STD, Value, apply, curry, record
 
 ROOT = Path(__file__).resolve().parent.parent
 
@@ -19,7 +19,6 @@ INFIX = {  # how tight, and to which side
     ">>=": (10, "l"), "||": (30, "r"), "&&": (35, "r"), "==": (40, "n"), "++": (60, "r"), "∷": (60, "r"),
     "+": (65, "l"), "-": (65, "l"), "*": (70, "l"), "/": (70, "l"), "%": (70, "l"), "^": (75, "r"),
 }  # fmt: skip
-MARKS = {"pub", "abbrev", "unfoldable", "pattern"}
 
 
 class Stuck(Exception):
@@ -252,52 +251,20 @@ class Expressions(Reader):
             self.next()
 
     def bind(self, binder, here):
-        """What a binder binds: the variable of Python, and lambdas that take it apart."""
+        """The variable of Python for a binder, whose names are bound to it or to its parts."""
+        variable = self.world.fresh()
         if isinstance(binder, list):
-            variable = self.world.fresh()
-            names = []
-            for at, it in enumerate(binder):
-                if isinstance(it, list):
-                    raise Stuck("a tuple in a tuple")
-                here[it] = f"{variable}[{at}]"
-                names.append(it)
-            return variable
-        here[binder] = variable = self.world.fresh()
+            here.update((it, f"{variable}[{at}]") for at, it in enumerate(binder))
+        else:
+            here[binder] = variable
         return variable
-
-    def under(self, here):
-        inner = Expressions(self.module, self.tokens, self.world, here)
-        inner.at = self.at
-        return inner
 
     def expression(self, tightness):
         word = self.peek()
         if word == "λ":
-            self.next()
-            here, variables = dict(self.here), []
-            while self.peek() != ".":
-                variables.append(self.bind(self.binder(), here))
-            self.want(".")
-            inner = self.under(here)
-            body = inner.expression(0)
-            self.at = inner.at
-            for it in reversed(variables):
-                body = f"(lambda {it}: {body})"
-            return body
+            return self.function()
         if word == "let":
-            self.next()
-            binder = self.binder()
-            if self.peek() == ":":
-                self.skip_type(("=",))
-            self.want("=")
-            value = self.expression(0)
-            self.want("in")
-            here = dict(self.here)
-            variable = self.bind(binder, here)
-            inner = self.under(here)
-            body = inner.expression(0)
-            self.at = inner.at
-            return f"(lambda {variable}: {body})({value})"
+            return self.let()
         if word == "do":
             return self.actions()
         if word == "if":
@@ -306,9 +273,36 @@ class Expressions(Reader):
             self.want("then")
             left = self.expression(0)
             self.want("else")
-            right = self.expression(5)
-            return f"({left} if {test} else {right})"
+            return f"({left} if {test} else {self.expression(5)})"
         return self.operators(tightness)
+
+    def body(self, here):
+        """An expression in which these names are bound."""
+        inner = Expressions(self.module, self.tokens, self.world, here)
+        inner.at = self.at
+        made = inner.expression(0)
+        self.at = inner.at
+        return made
+
+    def function(self):
+        self.want("λ")
+        here, variables = dict(self.here), []
+        while self.peek() != ".":
+            variables.append(self.bind(self.binder(), here))
+        self.want(".")
+        return "".join(f"(lambda {it}: " for it in variables) + self.body(here) + ")" * len(variables)
+
+    def let(self):
+        self.want("let")
+        binder = self.binder()
+        if self.peek() == ":":
+            self.skip_type(("=",))
+        self.want("=")
+        value = self.expression(0)
+        self.want("in")
+        here = dict(self.here)
+        variable = self.bind(binder, here)
+        return f"(lambda {variable}: {self.body(here)})({value})"
 
     def actions(self):
         """A `do` block: each statement begins at the column of the first."""
@@ -464,7 +458,7 @@ class World:
         self.modules, self.made, self.count, self.arities = {}, {}, 0, {}
         self.hits = Counter()  # of each clause, how often it was taken
         self.clauses = {}  # by number: the module, the name and the text of it
-        self.scope = {"apply": apply, "curry": curry, "record": record, "Stuck": Stuck, "Value": Value, "HIT": self.hits, "TT": TT}
+        self.scope = {"apply": apply, "curry": curry, "record": record, "Stuck": Stuck, "Value": Value, "HIT": self.hits}
         self.scope |= {f"std_{name}": made for name, (_, made) in STD.items()}
         self.waiting = []
 
@@ -509,7 +503,7 @@ class World:
         if at == len(path) - 1:
             return "type", place
         variants = self.variants(place)
-        return "ctor", (place[0], *place[-2:], path[-1])[-2:] and (".".join(place), path[-1]), variants[path[-1]]
+        return "ctor", (".".join(place), path[-1]), variants[path[-1]]
 
     @functools.lru_cache(maxsize=None)
     def variants(self, place):

@@ -28,19 +28,10 @@ class Value:
 
 BUILT_IN = {"Some": 1, "None": 0, "Ok": 1, "Err": 1, "tt": 0}
 NONE = Value(("", "None"))
-TT = Value(("", "tt"))
 
 
 def some(x):
     return Value(("", "Some"), (x,))
-
-
-def ok(x):
-    return Value(("", "Ok"), (x,))
-
-
-def err(x):
-    return Value(("", "Err"), (x,))
 
 
 def is_a(x, name):
