@@ -19,6 +19,9 @@ cd "$(dirname "$0")/.." || exit 1
 if [ -d .git ]; then rooms=$PWD/.git/proving; else rooms=$PWD/out/proving; fi
 memory_of_one=3000 # in MiB
 
+# What a check only warns of and `rt ci` refuses: a misspelled constructor, or a tactic's choice, in what a contract reads.
+refused_warning='^(\./)?(src|specs)/\S+ (warning: this pattern binds a variable spelled like a constructor|(note|warning): `search` stands in)|^warning: calls of a tactic that chose a term'
+
 names=()         # the crates
 declare -A uses  # of each crate those of ours that it stands on, as crates.txt has them
 declare -A costs # its seconds by docs/TIMINGS.md, or a guess by its lines of code
@@ -142,6 +145,11 @@ prove() {
     }
     status=$?
     times > "$logs/$name.times"
+    if grep -qE "$refused_warning" "$logs/$name"; then
+        echo "rt ci refuses what these warnings name"
+        rm -rf out/rlib out/*.stamp
+        status=1
+    fi
     echo "$name $status" >&"$ended"
 }
 

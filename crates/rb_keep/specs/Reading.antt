@@ -95,7 +95,7 @@ gone_row other = None
 
 -- by the row that an event sets again, and else by that which it removes
 abbrev pub keeps_or_not : Option Row → Option Row → KeptLine
-keeps_or_not (Some row) gone = Keeps row
+keeps_or_not (Some row) _ = Keeps row
 keeps_or_not None (Some row) = Removes row
 keeps_or_not None None = NotKept
 
