@@ -7,7 +7,9 @@ ghost use Rattle.rb_core.specs.StandsFor.{StandsFor};
 ghost use Rattle.rb_core.specs.Looks.{rows_shown, StandsAmong, IsAtStart, row_behind, PassesOne, IsAtEnd, slot_count, slots_behind, PaysForRow, PaysIfLent};
 
 use crate::holding::Core;
+use rb_address::Netid;
 use rb_registry::{Cursor, Row};
+use rb_uaddr::AddressText;
 use rb_xdr::Meter;
 
 impl Core {
@@ -75,6 +77,42 @@ impl Core {
                 *cursor = next;
                 Some(row)
             }
+            None => None,
+        }
+    }
+}
+
+/// The same row.
+fn copy_of(row: &Row) -> Row
+    ensures { result ≡ row.now }
+{
+    Row {
+        prog: row.prog,
+        vers: row.vers,
+        netid: row.netid,
+        owner: row.owner,
+        addr: AddressText::new(row.addr.as_slice()),
+    }
+}
+
+impl Core {
+    ghost use Rattle.std.specs.Prelude.{◌≡◌, ◌+◌};
+    ghost use Rattle.rb_xdr.specs.Meter.{PaysAtMost};
+    ghost use Rattle.rb_xdr.specs.Ordered.{looks};
+    ghost use Rattle.rb_registry.specs.Rows.{find_exact};
+    ghost use Rattle.rb_core.specs.Events.{StaysWithinSteps};
+    ghost use Rattle.rb_core.specs.Looks.{rows_held, rows_shown};
+
+    /// The live row of this version of the program on the netid, if there is one. It costs a search in the index, and 1.
+    #[tactic(auto, using(crate::proofs::RowLooks::row_within))]
+    pub fn row_at(&self, prog: u32, vers: u32, netid: Netid, meter: &mut Meter) -> Option<Row>
+        requires { meter.old.tie ≡ self.now.tie }
+        ensures row { result ≡ find_exact prog vers netid (rows_shown self.now) }
+        ensures cost { PaysAtMost meter.old meter.new (looks (rows_held self.now).limit + 1) }
+        ensures bound { StaysWithinSteps self.now 0 0 meter.old meter.new }
+    {
+        match self.books.registry.find_exact(prog, vers, netid, meter) {
+            Some(row) => Some(copy_of(row)),
             None => None,
         }
     }

@@ -1,7 +1,7 @@
 //! A core with the meter that counts its steps.
 use crate::holding::Core;
 use crate::seen::Seen;
-use rb_address::{Peer, Who};
+use rb_address::{Netid, Peer, Who};
 use rb_forward::{FwdId, Unsent};
 use rb_model::{CoreFault, Exchanged, Expired, Given, Limits, Response, Standing, Taken, Told};
 use rb_proto::Listener;
@@ -433,5 +433,23 @@ impl Metered {
             self.old.core (rows_shown self.old.core) }
     {
         self.core.lend_row(cursor, &mut self.meter)
+    }
+}
+
+impl Metered {
+    ghost use Rattle.std.specs.Prelude.{◌≡◌, ◌+◌};
+    ghost use Rattle.rb_xdr.specs.Ordered.{looks};
+    ghost use Rattle.rb_registry.specs.Rows.{find_exact};
+    ghost use Rattle.rb_core.specs.Looks.{rows_held, rows_shown};
+    ghost use Rattle.rb_core.specs.MeteredCalls.{StepsAtMost, StepsWithin};
+
+    /// The live row of this version of the program on the netid, if there is one, as `Core::row_at`.
+    pub fn row_at(&mut self, prog: u32, vers: u32, netid: Netid) -> Option<Row>
+        ensures row { result ≡ find_exact prog vers netid (rows_shown self.old.core) }
+        ensures stays { self.new.core ≡ self.old.core }
+        ensures cost { StepsAtMost (looks (rows_held self.old.core).limit + 1) self.old self.new }
+        ensures bound { StepsWithin 0 0 self.old self.new }
+    {
+        self.core.row_at(prog, vers, netid, &mut self.meter)
     }
 }

@@ -273,15 +273,22 @@ fn places_of<N: Net>(
     (places, Some(shortage))
 }
 
-/// Sets the rows again that were kept, and begins the statistics anew after them. Returns the places of those that are
-/// not set. An error if an allocation is refused.
-fn restore(alloc: Global, engine: &mut Engine, rows: &[Row]) -> Result<Vec<usize>, AllocError> {
+/// Sets the rows again that were kept, notes whose they are, and begins the statistics anew after them. Returns the places
+/// of those that are not set. An error if an allocation is refused.
+fn restore<H: Files>(
+    alloc: Global,
+    engine: &mut Engine,
+    keeper: &mut Keeper<H>,
+    rows: &[Row],
+) -> Result<Vec<usize>, AllocError> {
     let mut left_out = Vec::new(alloc);
     for (place, row) in rows.iter().enumerate() {
         if !engine.restore(row) {
             left_out.push(place)?;
         }
+        keeper.note(engine);
     }
+    keeper.begin(engine);
     if !rows.is_empty() {
         engine.zero_stats();
     }
@@ -374,10 +381,10 @@ fn begin<H: Files>(
     ensures others { IsErrOf result DaemonFault.Limits → IsTrue false }
 {
     let mut engine = engine_of(alloc, settings, xid, moment)?;
-    let left_out = restore(alloc, &mut engine, kept).map_err(DaemonFault::Memory)?;
     let rows = settings.limits.rows;
-    match Keeper::new(alloc, settings.keep, rows, engine.changes()) {
-        Ok(keeper) => Ok(Inner {
+    let mut keeper = Keeper::new(alloc, settings.keep, rows).map_err(DaemonFault::Memory)?;
+    match restore(alloc, &mut engine, &mut keeper, kept) {
+        Ok(left_out) => Ok(Inner {
             engine,
             keeper,
             left_out,

@@ -17,8 +17,10 @@ use crate::showing::{
     count_given, record_exchange, record_pieces, record_unsent, show_done, show_opened,
 };
 use rb_address::{Source, Who};
-use rb_core::{CoreFault, Exchanged, Expired, Given, Limits, Listener, Metered, Response, Told};
-use rb_keep::{set_call, write_changes};
+use rb_core::{
+    CoreFault, Exchanged, Expired, Given, Limits, Listener, Metered, Response, Seen, Told,
+};
+use rb_keep::{Owners, set_call, write_change, write_rows};
 use rb_model::{Event, Output};
 use rb_record::{Start, Tape};
 use rb_registry::Row;
@@ -153,7 +155,7 @@ impl Engine {
     ghost use Rattle.rb_model.specs.NextDeadlines.{next_deadline};
     ghost use Rattle.rb_model.specs.Step.{open_connection, close_connection, next_lost, zero_stats};
     ghost use Rattle.rb_model.specs.ChangeLaws.{set_call};
-    ghost use Rattle.rb_keep.specs.Writing.{WritesChange, AreSetRows};
+    ghost use Rattle.rb_keep.specs.Writing.{WritesKept, WritesChange, NotesOwners};
     ghost use Rattle.rb_connections.specs.Slots.{Shows};
     ghost use Rattle.rb_core.specs.StandsFor.{StandsFor};
     ghost use Rattle.rb_model.specs.Exchanges.{count_given};
@@ -419,20 +421,45 @@ impl Engine {
         self.core.changes()
     }
 
-    /// Writes the lines of what changed since these rows were kept, which are those that are set then.
-    pub(crate) fn write_changes<W: Write>(
-        &mut self,
-        kept: &mut Vec<Row>,
-        writer: &mut W,
-    ) -> io::Result<()>
-        ensures written { OnOk result (WritesChange
-            self.old.core.core kept.old.items W.contents writer.old writer.new) }
-        ensures kept { OnOk result (AreSetRows self.old.core.core kept.new.items) }
+    /// The program and the version of the rows that the last `answer` or `exchange` changed, if it did.
+    pub(crate) fn changed(&self) -> Option<(u32, u32)> {
+        match self.core.seen() {
+            Some(Seen::Change(change)) if change.refusal.is_none() => {
+                Some((change.row.prog, change.row.vers))
+            }
+            _ => None,
+        }
+    }
+
+    /// Writes the lines of all rows that were set.
+    pub(crate) fn write_rows<W: Write>(&mut self, writer: &mut W) -> io::Result<()>
+        ensures written { OnOk result
+            (WritesKept self.old.core.core W.contents writer.old writer.new) }
         ensures core { self.new.core.core ≡ self.old.core.core }
         ensures tape { self.new.tape ≡ self.old.tape }
         ensures moment { self.new.moment ≡ self.old.moment }
     {
-        write_changes(&mut self.core, kept, writer)
+        write_rows(&mut self.core, writer)
+    }
+
+    /// Writes the lines of what changed of a version of a program since these were the owners of the rows, which are those
+    /// of the rows that are set then.
+    pub(crate) fn write_change<W: Write>(
+        &mut self,
+        owners: &mut Owners,
+        prog: u32,
+        vers: u32,
+        writer: &mut W,
+    ) -> io::Result<()>
+        ensures written { OnOk result (WritesChange
+            self.old.core.core prog vers owners.old W.contents writer.old writer.new) }
+        ensures owners { OnOk result
+            (NotesOwners self.old.core.core prog vers owners.old owners.new) }
+        ensures core { self.new.core.core ≡ self.old.core.core }
+        ensures tape { self.new.tape ≡ self.old.tape }
+        ensures moment { self.new.moment ≡ self.old.moment }
+    {
+        write_change(&mut self.core, owners, prog, vers, writer)
     }
 
     /// Takes a datagram in that came where forwarded calls are sent from. The answer is the connection that goes on.

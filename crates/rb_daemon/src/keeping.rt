@@ -1,15 +1,15 @@
 //! The rows that were set are kept in a file: all of them, and then the lines of each change.
-ghost use Rattle.std.specs.Prelude.{◌≡◌, [], OnOk};
+ghost use Rattle.std.specs.Prelude.{◌≡◌, OnOk};
 ghost use Rattle.rb_connections.specs.Slots.{Shows};
 ghost use Rattle.rb_core.specs.StandsFor.{StandsFor};
-ghost use Rattle.rb_keep.specs.Writing.{AreSetRows};
+ghost use Rattle.rb_keep.specs.Writing.{NotesOwners};
 ghost use Rattle.rb_daemon.specs.Served.{change_count};
-ghost use Rattle.rb_daemon.specs.Keeping.{AreLinesOf, SameEngine};
+ghost use Rattle.rb_daemon.specs.Keeping.{AreLinesOfRows, AddsLinesOf, HandsIn, SameEngine};
 
 use crate::engine::Engine;
 use rb_files::{AppendFault, KeptFile};
-use rb_keep::LONGEST_SET;
-use rb_registry::Row;
+use rb_keep::{LONGEST_SET, Owners};
+use rb_registry::RPCB_PROG;
 use std::alloc::{AllocError, Global};
 use std::fs::Files;
 use std::io;
@@ -19,10 +19,10 @@ use std::io;
 const LONGEST_LINE: usize = 43 + 2 * LONGEST_SET;
 
 /// The most changes whose lines are added at once; if there are more, all rows are written anew.
-const MOST_CHANGES: u64 = 64;
+const MOST_CHANGES: usize = 64;
 
 /// The most lines of that many changes: an UNSET removes a row on each netid.
-const MOST_LINES: usize = 5 * MOST_CHANGES as usize;
+const MOST_LINES: usize = 5 * MOST_CHANGES;
 
 /// What must be told of the file of kept rows.
 #[derive(Drop)]
@@ -41,16 +41,24 @@ pub(crate) struct Kept {
     changes: u64,
 }
 
-/// The file of kept rows, and what is in it.
+/// The file of kept rows, and the lines that are to be added to it.
 #[derive(Drop)]
 struct Journal<H: Files> {
     file: KeptFile<H>,
-    /// The rows that its lines leave: there is room for all.
-    rows: Vec<Row>,
     /// How many lines it has.
     lines: usize,
-    /// The lines that are written next: there is room for those of all rows.
+    /// Whose the rows are, after the changes that were noted.
+    owners: Owners,
+    /// How many changes had been accepted when the last one was noted.
+    noted: u64,
+    /// Whether each of them was noted, so that the owners are known.
+    is_known: bool,
+    /// The lines that are written next, or were last: there is room for those of all rows.
     text: Vec<u8>,
+    /// Of how many changes they are.
+    changes: usize,
+    /// Whether there were more.
+    is_long: bool,
 }
 
 /// How many lines a text has.
@@ -63,70 +71,116 @@ impl<H: Files> Journal<H> {
         let mut text = Vec::new(alloc);
         text.resize(rows.max(MOST_LINES).saturating_mul(LONGEST_LINE), 0)?;
         text.clear();
-        let mut kept = Vec::new(alloc);
-        kept.resize_with(rows, || Row::default())?;
-        kept.clear();
+        let Ok(owners) = Owners::new(alloc, rows) else {
+            return Err(AllocError);
+        };
         Ok(Journal {
             file: KeptFile::new(alloc, path)?,
-            rows: kept,
             lines: 0,
+            owners,
+            noted: 0,
+            is_known: true,
             text,
+            changes: 0,
+            is_long: false,
         })
     }
 
-    /// Makes the lines of what changed since the rows were those of the journal.
-    fn gather(&mut self, engine: &mut Engine) -> io::Result<()>
-        ensures lines { OnOk result
-            (AreLinesOf engine.old.core.core self.old.rows.items self.new.text.items) }
-        ensures rows { OnOk result (AreSetRows engine.old.core.core self.new.rows.items) }
+    /// Adds the lines of what changed of a version of a program to those that are written next.
+    fn gather(&mut self, engine: &mut Engine, prog: u32, vers: u32) -> io::Result<()>
+        ensures lines { OnOk result (AddsLinesOf
+            engine.old.core.core prog vers self.old.owners self.old.text.items self.new.text.items) }
+        ensures owners { OnOk result
+            (NotesOwners engine.old.core.core prog vers self.old.owners self.new.owners) }
         ensures engine { SameEngine engine.old engine.new }
     {
+        engine.write_change(&mut self.owners, prog, vers, &mut self.text)
+    }
+
+    /// Nothing is written next so far.
+    fn begin(&mut self) {
         self.text.clear();
-        engine.write_changes(&mut self.rows, &mut self.text)
+        self.changes = 0;
+        self.is_long = false;
+    }
+
+    /// Notes the change that the last call of the engine made: its lines are written next. Returns whether there are some.
+    fn note_next(&mut self, engine: &mut Engine) -> bool
+        ensures engine { SameEngine engine.old engine.new }
+    {
+        let Some((prog, vers)) = engine.changed() else {
+            return false;
+        };
+        if prog == RPCB_PROG {
+            return false;
+        }
+        if self.changes == 0 {
+            self.text.clear();
+        }
+        if self.changes >= MOST_CHANGES {
+            self.begin();
+            self.is_long = true;
+        }
+        self.changes = self.changes.saturating_add(1);
+        let before = self.text.len();
+        self.gather(engine, prog, vers).is_ok() && before < self.text.len()
+    }
+
+    /// Notes the change that was made since the last one was noted, if there was one.
+    fn note(&mut self, engine: &mut Engine)
+        ensures engine { SameEngine engine.old engine.new }
+    {
+        let changes = engine.changes();
+        if changes == self.noted {
+            return;
+        }
+        let is_next = self.noted.checked_add(1) == Some(changes);
+        self.noted = changes;
+        self.is_known = self.is_known && is_next && self.note_next(engine);
     }
 
     /// Writes all rows anew.
     fn replace(&mut self, host: &H, engine: &mut Engine) -> io::Result<()>
-        ensures rows { OnOk result (AreSetRows engine.old.core.core self.new.rows.items) }
-        ensures lines { OnOk result (AreLinesOf engine.old.core.core [] self.new.text.items) }
+        ensures lines { OnOk result (AreLinesOfRows engine.old.core.core self.new.text.items) }
         ensures engine { SameEngine engine.old engine.new }
     {
-        self.rows.clear();
-        self.gather(engine)?;
-        self.lines = self.rows.len();
+        self.text.clear();
+        engine.write_rows(&mut self.text)?;
+        self.lines = count_lines(&self.text);
         self.file.replace(host, self.text.as_slice())
     }
 
     // KEEP-15: All kept rows are written anew at the first change after a start, after a failed write, and
     // when the lines would be more than twice the rows and 64 more, or over 64 changes came at once.
-    /// Adds the lines of what changed, and returns whether they are few enough: if they are not, nothing is added.
-    fn add(&mut self, host: &H, engine: &mut Engine) -> Result<bool, AppendFault>
-        ensures rows { OnOk result (AreSetRows engine.old.core.core self.new.rows.items) }
-        ensures lines { OnOk result
-            (AreLinesOf engine.old.core.core self.old.rows.items self.new.text.items) }
-        ensures engine { SameEngine engine.old engine.new }
-    {
-        self.gather(engine).map_err(AppendFault::Failed)?;
+    /// Whether the lines that were gathered may be added.
+    fn may_add(&self) -> bool {
         let lines = self.lines.saturating_add(count_lines(&self.text));
-        if lines > self.rows.len().saturating_mul(2).saturating_add(64) {
-            return Ok(false);
-        }
-        self.file.append(host, self.text.as_slice())?;
-        self.lines = lines;
-        Ok(true)
+        self.is_known
+            && !self.is_long
+            && self.file.is_placed()
+            && lines <= self.owners.count().saturating_mul(2).saturating_add(64)
     }
 
-    /// Brings the file up to the rows of the core, among which there were so many changes. Returns whether another
-    /// file was found in its place.
-    fn keep(&mut self, host: &H, engine: &mut Engine, changes: u64) -> io::Result<bool>
-        ensures rows { OnOk result (AreSetRows engine.old.core.core self.new.rows.items) }
+    /// Adds the lines that were gathered.
+    fn add(&mut self, host: &H) -> Result<(), AppendFault>
+        ensures lines { self.new.text.items ≡ self.old.text.items }
+    {
+        self.file.append(host, self.text.as_slice())?;
+        self.lines = self.lines.saturating_add(count_lines(&self.text));
+        Ok(())
+    }
+
+    /// Brings the file up to the rows of the core: the lines that were gathered are added, or all rows are written anew.
+    /// Returns whether another file was found in its place.
+    fn keep(&mut self, host: &H, engine: &mut Engine) -> io::Result<bool>
+        ensures lines { OnOk result
+            (HandsIn engine.old.core.core self.old.text.items self.new.text.items) }
         ensures engine { SameEngine engine.old engine.new }
     {
         let mut is_another = false;
-        if changes <= MOST_CHANGES && self.file.is_placed() {
-            match self.add(host, engine) {
-                Ok(true) => return Ok(false),
-                Ok(false) => {}
+        if self.may_add() {
+            match self.add(host) {
+                Ok(()) => return Ok(false),
                 Err(AppendFault::Another) => is_another = true,
                 Err(AppendFault::Failed(error)) => return Err(error),
             }
@@ -149,13 +203,12 @@ pub(crate) struct Keeper<H: Files> {
 }
 
 impl<H: Files> Keeper<H> {
-    /// A keeper of at most this many rows in the file at a path, which has what this many changes made. Without a path
-    /// nothing is kept. An error if an allocation is refused.
+    /// A keeper of at most this many rows in the file at a path. Without a path nothing is kept. An error if an allocation is
+    /// refused.
     pub(crate) fn new(
         alloc: Global,
         path: Option<&str>,
         rows: usize,
-        changes: u64,
     ) -> Result<Keeper<H>, AllocError> {
         let journal = match path {
             Some(path) => Some(Journal::new(alloc, path, rows)?),
@@ -163,10 +216,27 @@ impl<H: Files> Keeper<H> {
         };
         Ok(Keeper {
             journal,
-            changes,
+            changes: 0,
             has_failed: false,
             news: None,
         })
+    }
+
+    /// The file has what was noted so far.
+    pub(crate) fn begin(&mut self, engine: &Engine) {
+        self.changes = engine.changes();
+        if let Some(journal) = &mut self.journal {
+            journal.begin();
+        }
+    }
+
+    /// Notes what the last call of the engine changed, so that its lines are written next.
+    pub(crate) fn note(&mut self, engine: &mut Engine)
+        ensures engine { SameEngine engine.old engine.new }
+    {
+        if let Some(journal) = &mut self.journal {
+            journal.note(engine);
+        }
     }
 
     /// Adds the lines of the changes that were accepted since the file was last written, or writes it anew. If that
@@ -177,20 +247,23 @@ impl<H: Files> Keeper<H> {
     {
         let changes = engine.changes();
         if changes != self.changes {
-            let more = changes.wrapping_sub(self.changes);
             self.changes = changes;
-            self.write(host, engine, more);
+            self.write(host, engine);
         }
         Kept { changes }
     }
 
-    fn write(&mut self, host: &H, engine: &mut Engine, changes: u64)
+    fn write(&mut self, host: &H, engine: &mut Engine)
         ensures engine { SameEngine engine.old engine.new }
     {
         let Some(journal) = &mut self.journal else {
             return;
         };
-        match journal.keep(host, engine, changes) {
+        journal.note(engine);
+        let done = journal.keep(host, engine);
+        journal.changes = 0;
+        journal.is_long = false;
+        match done {
             Ok(is_another) => self.note_written(is_another),
             Err(error) => self.note_failure(error),
         }

@@ -67,7 +67,7 @@ fn serve_calls<H: Files>(
         if link.is_cut_off(calls) {
             break;
         }
-        let goes_on = !link.is_for_the_core() || make_exchanges(link, engine, forwards);
+        let goes_on = !link.is_for_the_core() || make_exchanges(link, engine, keeper, forwards);
         let kept = keeper.keep(host, engine);
         if !goes_on {
             write_last(link, engine, kept);
@@ -102,12 +102,18 @@ fn write_last(link: &mut Link, engine: &Engine, kept: Kept)
     let _ = link.write();
 }
 
-/// Hands in what was read, which must not be held back. Returns whether the core took it.
-fn hand_in(link: &mut Link, engine: &mut Engine, id: u64) -> bool
+/// Hands in what was read, which must not be held back, and notes what it changed. Returns whether the core took it.
+fn hand_in<H: Files>(
+    link: &mut Link,
+    engine: &mut Engine,
+    keeper: &mut Keeper<H>,
+    id: u64,
+) -> bool
     requires { must_wait link.old ≡ false }
 {
     let done = exchange(engine, id, link.inbox.bytes(), &mut link.outbox);
     engine.tell_call();
+    keeper.note(engine);
     let Ok(done) = done else {
         return false;
     };
@@ -123,7 +129,12 @@ fn hand_in(link: &mut Link, engine: &mut Engine, id: u64) -> bool
 /// Does what the core says is next, until it wants bytes that are not there, holds back a call that needs an owner, waits
 /// for the end of a forwarded call, or owes more than the outbox has room for. A forwarded call is sent at once: no other
 /// one is unsent, since each was sent when it came. Returns whether the connection goes on.
-fn make_exchanges(link: &mut Link, engine: &mut Engine, forwards: &ForwardSockets) -> bool {
+fn make_exchanges<H: Files>(
+    link: &mut Link,
+    engine: &mut Engine,
+    keeper: &mut Keeper<H>,
+    forwards: &ForwardSockets,
+) -> bool {
     let Some(id) = link.id() else {
         return false;
     };
@@ -133,7 +144,7 @@ fn make_exchanges(link: &mut Link, engine: &mut Engine, forwards: &ForwardSocket
                 if link.hold_back() {
                     return true;
                 }
-                if !hand_in(link, engine, id) {
+                if !hand_in(link, engine, keeper, id) {
                     return false;
                 }
             }

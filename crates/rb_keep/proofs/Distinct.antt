@@ -107,7 +107,7 @@ same-owner : (a : Owner) → is_same_owner a a ≡ true
 same-owner Unknown = refl
 same-owner (Uid uid) = same-number uid
 
-itself : (row : Row) → is_named row row ≡ true
+pub itself : (row : Row) → is_named row row ≡ true
 unfolding is_on is_row
 itself row = rw (same-number row.prog, same-netid row.netid, same-number row.vers, same-owner row.owner) refl
 
@@ -122,7 +122,7 @@ all-stay gone (row ∷ rows) apart =
     ap (λ (b : Bool). cond (not b) (row ∷ without gone rows) (without gone rows)) (not-named gone row apart.0.back)
     ∙ ap (λ (more : List Row). row ∷ more) (all-stay gone rows apart.1)
 
-apart-one : (row gone : Row) (front more : List Row) → Apart row (front ++ gone ∷ more) → IsApart row gone
+pub apart-one : (row gone : Row) (front more : List Row) → Apart row (front ++ gone ∷ more) → IsApart row gone
 apart-one row gone [] more apart = apart.0
 apart-one row gone (first ∷ front) more apart = apart-one row gone front more apart.1
 

@@ -30,29 +30,27 @@ use Rattle.rb_lines.proofs.Recorded.{IsLine, lines_behind, IsEventLine, event_li
 use Rattle.rb_keep.specs.declared.reading.KeptLine.{KeptLine}
 use Rattle.rb_keep.specs.declared.reading.KeptLine.TheVariants.{Keeps, Removes}
 use Rattle.rb_keep.specs.declared.fault.KeepFault.TheVariants.{TooMany}
-use Rattle.rb_keep.specs.Kept.{row_line, rows_text, kept_text, key_for, unset_head, unset_bytes, unset_call, gone_line, gone_text, is_same_row, kept_before, kept_from, line_if_new, change_text, changes_text, rows_at_last}
+use Rattle.rb_keep.specs.Kept.{row_line, rows_text, kept_text, key_for, unset_head, unset_bytes, unset_call, gone_line}
 use Rattle.rb_keep.specs.Reading.{kept_line, without, most_rows, with_line, rows_from, read}
-use Rattle.rb_keep.specs.KeptLaws.{HasNoFeed, CanBeKept, KeptTextIsRead, FirstChangesAreWhole, ChangesAreRead}
-use Rattle.rb_keep.proofs.Distinct.{Distinct, distinct-from, distinct-behind, still-distinct, taken-out}
+use Rattle.rb_keep.specs.KeptLaws.{HasNoFeed, CanBeKept, KeptTextIsRead}
+use Rattle.rb_keep.proofs.Distinct.{Distinct, distinct-from, distinct-behind}
 use Rattle.rb_keep.proofs.KeptLaws.{keyed, key-fits, removes, has-line, keeps, all_bytes, is-who, empty_line, lines_short}
 use Rattle.rb_keep.proofs.Parts.{Ended, whole-ended, ended-append}
 use Rattle.rb_keep.proofs.Parts.Ended.{Empty, Behind}
-use Rattle.rb_keep.proofs.SameRows.{IsFrom, is-from}
-use Rattle.rb_keep.proofs.SameRows.IsFrom.{Nowhere, Here}
 use Rattle.rb_keep.proofs.TextLaws.{short_reads}
 use Rattle.rb_keep.proofs.Walks.{kept_lines}
 
 -- ---- texts that lead from rows to rows
 
 -- Read behind these rows it leaves those; it ends with a line feed, if it is not empty.
-record Leads (text : List ℕ) (from to : List Row) : Type 0 where
-  ended : Ended text
-  reads : (k : ℕ) (rest : List ℕ) → (next : ℕ) × (rows_from k (lines_of (text ++ rest)) (Ok from) ≡ rows_from next (lines_of rest) (Ok to))
+pub record Leads (text : List ℕ) (from to : List Row) : Type 0 where
+  pub ended : Ended text
+  pub reads : (k : ℕ) (rest : List ℕ) → (next : ℕ) × (rows_from k (lines_of (text ++ rest)) (Ok from) ≡ rows_from next (lines_of rest) (Ok to))
 
-stays : (rows : List Row) → Leads [] rows rows
+pub stays : (rows : List Row) → Leads [] rows rows
 stays rows = record { ended = Empty refl; reads = λ k rest. (k, refl) }
 
-joined : (a b : List ℕ) (from by to : List Row) → Leads a from by → Leads b by to → Leads (a ++ b) from to
+pub joined : (a b : List ℕ) (from by to : List Row) → Leads a from by → Leads b by to → Leads (a ++ b) from to
 joined a b from by to la lb = record {
   ended = ended-append a b la.ended lb.ended;
   reads = λ k rest.
@@ -63,7 +61,7 @@ joined a b from by to la lb = record {
 
 -- ---- the line of a row that came
 
-row-leads : (now : ℕ) (row : Row) (rows : List Row) → now < 2 ^ 64 → IsSpelled row → can_be_set row ≡ true → HasShortCall row → length rows < most_rows → Leads (row_line now row) rows (rows ++ row ∷ [])
+pub row-leads : (now : ℕ) (row : Row) (rows : List Row) → now < 2 ^ 64 → IsSpelled row → can_be_set row ≡ true → HasShortCall row → length rows < most_rows → Leads (row_line now row) rows (rows ++ row ∷ [])
 unfolding rows_from
 row-leads now row rows fits is may short room =
     let e : IsEventLine (set_call now row) = event_line (set_call now row) (has-line now row fits short) in
@@ -138,7 +136,7 @@ by-key : (row : Row) (rows : List Row) → without (keyed row) rows ≡ without 
 unfolding without is_row is_on
 by-key row rows = refl
 
-gone-leads : (now : ℕ) (row : Row) (rows : List Row) → now < 2 ^ 64 → IsSpelled row → Leads (gone_line now row) rows (without row rows)
+pub gone-leads : (now : ℕ) (row : Row) (rows : List Row) → now < 2 ^ 64 → IsSpelled row → Leads (gone_line now row) rows (without row rows)
 unfolding rows_from
 gone-leads now row rows fits is =
     let e : IsEventLine (unset_call now row) = event_line (unset_call now row) (gone-has-line now row fits is) in
@@ -154,52 +152,13 @@ gone-leads now row rows fits is =
       );
     }
 
--- ---- rows that went
-
--- the lines of those in front of a row lead to it and those behind it
-record Brought (now : ℕ) (row : Row) (front kept : List Row) : Type 0 where
-  leads : Leads (gone_text now (kept_before row kept)) (front ++ kept) (front ++ kept_from row kept)
-  distinct : Distinct (front ++ kept_from row kept)
-  spelled : All IsSpelled (kept_from row kept)
-
-module _ (now : ℕ) (fits : now < 2 ^ 64) where
-  -- one of distinct rows
-  one-gone : (front : List Row) (row : Row) (kept : List Row) → Distinct (front ++ row ∷ kept) → IsSpelled row → Leads (gone_line now row) (front ++ row ∷ kept) (front ++ kept)
-  one-gone front row kept d is = subst (Leads (gone_line now row) (front ++ row ∷ kept)) (taken-out front row kept d) (gone-leads now row (front ++ row ∷ kept) fits is)
-
-  all-gone : (front kept : List Row) → Distinct (front ++ kept) → All IsSpelled kept → Leads (gone_text now kept) (front ++ kept) front
-  all-gone front [] d are = subst (λ (rows : List Row). Leads [] rows front) (sym (append-nil front)) (stays front)
-  all-gone front (row ∷ kept) d are =
-      joined (gone_line now row) (gone_text now kept) (front ++ row ∷ kept) (front ++ kept) front
-      (one-gone front row kept d (All-head IsSpelled row kept are))
-      (all-gone front kept (still-distinct front row kept d) (All-tail IsSpelled row kept are))
-
-  brought : (row : Row) (front kept : List Row) → Distinct (front ++ kept) → All IsSpelled kept → Brought now row front kept
-  brought row front [] d are = record { leads = stays (front ++ []); distinct = d; spelled = are }
-  brought row front (other ∷ kept) d are =
-      by_test (is_same_row other row) refl (brought row front kept (still-distinct front other kept d) (All-tail IsSpelled other kept are))
-    where
-      by_test : (b : Bool) → is_same_row other row ≡ b → Brought now row front kept → Brought now row front (other ∷ kept)
-      by_test true e rest = record {
-        leads = rw e (stays (front ++ other ∷ kept));
-        distinct = rw e d;
-        spelled = rw e are;
-      }
-      by_test false e rest = record {
-        leads = rw e (
-            joined (gone_line now other) (gone_text now (kept_before row kept)) (front ++ other ∷ kept) (front ++ kept) (front ++ kept_from row kept)
-            (one-gone front other kept d (All-head IsSpelled other kept are)) rest.leads);
-        distinct = rw e rest.distinct;
-        spelled = rw e rest.spelled;
-      }
-
 -- ---- rows that came
 
 -- what is known of rows that can be kept
-record AreGood (rows : List Row) : Type 0 where
-  spelled : All IsSpelled rows
-  may : All (λ row. can_be_set row ≡ true) rows
-  short : All HasShortCall rows
+pub record AreGood (rows : List Row) : Type 0 where
+  pub spelled : All IsSpelled rows
+  pub may : All (λ row. can_be_set row ≡ true) rows
+  pub short : All HasShortCall rows
 
 good-tail : (row : Row) (rows : List Row) → AreGood (row ∷ rows) → AreGood rows
 good-tail row rows g = record {
@@ -216,67 +175,29 @@ module _ (now : ℕ) (fits : now < 2 ^ 64) where
   one-more : (front : List Row) (row : Row) (rows : List Row) → length front + length (row ∷ rows) ≤ most_rows → length (front ++ row ∷ []) + length rows ≤ most_rows
   one-more front row rows few = omega (arith, few, length-append front (row ∷ []))
 
-  -- where none is kept
-  come : (front rows : List Row) → AreGood rows → length front + length rows ≤ most_rows → Leads (change_text now [] rows) front (front ++ rows)
+  -- behind others
+  pub come : (front rows : List Row) → AreGood rows → length front + length rows ≤ most_rows → Leads (rows_text now rows) front (front ++ rows)
   come front [] g few = subst (Leads [] front) (sym (append-nil front)) (stays front)
   come front (row ∷ rows) g few =
-      subst (Leads (row_line now row ++ change_text now [] rows) front) (append_assoc front (row ∷ []) rows)
-      (joined (row_line now row) (change_text now [] rows) front (front ++ row ∷ []) ((front ++ row ∷ []) ++ rows)
+      subst (Leads (row_line now row ++ rows_text now rows) front) (append_assoc front (row ∷ []) rows)
+      (joined (row_line now row) (rows_text now rows) front (front ++ row ∷ []) ((front ++ row ∷ []) ++ rows)
       (new-leads front row rows g few)
       (come (front ++ row ∷ []) rows (good-tail row rows g) (one-more front row rows few)))
 
-  changed : (rows front kept : List Row) → Distinct (front ++ kept) → All IsSpelled kept → AreGood rows → length front + length rows ≤ most_rows → Leads (change_text now kept rows) (front ++ kept) (front ++ rows)
-  changed [] front kept d are g few =
-      subst (Leads (gone_text now kept) (front ++ kept)) (sym (append-nil front)) (all-gone now fits front kept d are)
-  changed (row ∷ rows) front kept d are g few =
-      by_place (is-from row kept) (λ more apart spelled. changed rows (front ++ row ∷ []) more apart spelled (good-tail row rows g) (one-more front row rows few))
-    where
-      b : Brought now row front kept
-      b = brought now fits row front kept d are
-
-      by_place : IsFrom row kept
-          → ((more : List Row) → Distinct ((front ++ row ∷ []) ++ more) → All IsSpelled more → Leads (change_text now more rows) ((front ++ row ∷ []) ++ more) ((front ++ row ∷ []) ++ rows))
-          → Leads (change_text now kept (row ∷ rows)) (front ++ kept) (front ++ row ∷ rows)
-      by_place (Nowhere none) later =
-          let here : Leads (gone_text now (kept_before row kept)) (front ++ kept) front = subst (Leads (gone_text now (kept_before row kept)) (front ++ kept)) (ap (λ (xs : List Row). front ++ xs) none ∙ append-nil front) b.leads in
-          rw none (
-          joined (gone_text now (kept_before row kept) ++ row_line now row) (change_text now [] rows) (front ++ kept) (front ++ row ∷ []) (front ++ row ∷ rows)
-          (joined (gone_text now (kept_before row kept)) (row_line now row) (front ++ kept) front (front ++ row ∷ []) here (new-leads front row rows g few))
-          (subst (Leads (change_text now [] rows) (front ++ row ∷ [])) (append_assoc front (row ∷ []) rows)
-          (come (front ++ row ∷ []) rows (good-tail row rows g) (one-more front row rows few))))
-      by_place (Here more is) later =
-          let split : front ++ row ∷ more ≡ (front ++ row ∷ []) ++ more = sym (append_assoc front (row ∷ []) more) in
-          let here : Leads (gone_text now (kept_before row kept)) (front ++ kept) ((front ++ row ∷ []) ++ more) = subst (Leads (gone_text now (kept_before row kept)) (front ++ kept)) (ap (λ (xs : List Row). front ++ xs) is ∙ split) b.leads in
-          let apart : Distinct ((front ++ row ∷ []) ++ more) = subst Distinct (ap (λ (xs : List Row). front ++ xs) is ∙ split) b.distinct in
-          let spelled : All IsSpelled more = All-tail IsSpelled row more (subst (All IsSpelled) is b.spelled) in
-          rw is (
-          joined (gone_text now (kept_before row kept) ++ []) (change_text now more rows) (front ++ kept) ((front ++ row ∷ []) ++ more) (front ++ row ∷ rows)
-          (joined (gone_text now (kept_before row kept)) [] (front ++ kept) ((front ++ row ∷ []) ++ more) ((front ++ row ∷ []) ++ more) here (stays ((front ++ row ∷ []) ++ more)))
-          (subst (Leads (change_text now more rows) ((front ++ row ∷ []) ++ more)) (append_assoc front (row ∷ []) rows)
-          (later more apart spelled)))
-
 -- ---- states of runs
 
-good-state : (s : State) → CanBeKept s → AreGood (set_rows s)
+pub good-state : (s : State) → CanBeKept s → AreGood (set_rows s)
 good-state s c = record {
   spelled = rows_are_spelled s c.reached;
   may = rows_can_be_set s c.reached.reached;
   short = kept_calls_are_short s c.reached;
 }
 
-distinct-state : (s : State) → CanBeKept s → Distinct (set_rows s)
+pub distinct-state : (s : State) → CanBeKept s → Distinct (set_rows s)
 distinct-state s c = distinct-from (set_rows s) (distinct-behind s.ledger.own (set_rows s) (ledgers_are_well_kept s c.reached.reached).distinct)
 
-all-changed : (states : List State) (kept : List Row) → Distinct kept → All IsSpelled kept → All CanBeKept states → Leads (changes_text kept states) kept (rows_at_last kept states)
-all-changed [] kept d are can = stays kept
-all-changed (s ∷ states) kept d are can =
-    let c : CanBeKept s = All-head CanBeKept s states can in
-    joined (change_text s.clock kept (set_rows s)) (changes_text (set_rows s) states) kept (set_rows s) (rows_at_last (set_rows s) states)
-    (changed s.clock c.clock (set_rows s) [] kept d are (good-state s c) (omega (arith, c.few)))
-    (all-changed states (set_rows s) (distinct-state s c) (good-state s c).spelled (All-tail CanBeKept s states can))
-
 -- what leads from no rows to rows is read as them, whatever torn line is behind it
-led : (text torn : List ℕ) (rows : List Row) → Leads text [] rows → HasNoFeed torn → length (text ++ torn) ≤ longest_input → read (text ++ torn) ≡ Ok rows
+pub led : (text torn : List ℕ) (rows : List Row) → Leads text [] rows → HasNoFeed torn → length (text ++ torn) ≤ longest_input → read (text ++ torn) ≡ Ok rows
 led text torn rows l none few =
     let first = l.reads 1 [] in
     short_reads (text ++ torn) few
@@ -284,25 +205,18 @@ led text torn rows l none few =
     ∙ first.1
     ∙ empty_line first.0 rows
 
-pub changes_are_read : ChangesAreRead
-changes_are_read states can torn none few =
-    led (changes_text [] states) torn (rows_at_last [] states) (all-changed states [] tt (All-nil IsSpelled) can) none few
-
 -- ---- all that is kept of a state
 
-first-is-whole : (now : ℕ) (rows : List Row) → change_text now [] rows ≡ rows_text now rows
-first-is-whole now [] = refl
-first-is-whole now (row ∷ rows) = ap (λ (t : List ℕ). row_line now row ++ t) (first-is-whole now rows)
-
-pub first_changes_are_whole : FirstChangesAreWhole
-first_changes_are_whole s = first-is-whole s.clock (set_rows s) ∙ sym (kept_lines s.clock (set_rows s))
+pub kept-leads : (s : State) → CanBeKept s → Leads (kept_text s) [] (set_rows s)
+kept-leads s c =
+    subst (λ (t : List ℕ). Leads t [] (set_rows s)) (sym (kept_lines s.clock (set_rows s)))
+    (come s.clock c.clock [] (set_rows s) (good-state s c) (omega (arith, c.few)))
 
 pub kept_text_is_read : KeptTextIsRead
 unfolding longest_input
 kept_text_is_read s r fits few =
     let c : CanBeKept s = record { reached = r; clock = fits; few = few } in
     let small : length (rows_text s.clock (set_rows s)) ≤ longest_input = omega (arith, few, lines_short s.clock fits (set_rows s) (kept_calls_are_short s r)) in
-    let whole : kept_text s ≡ change_text s.clock [] (set_rows s) ++ [] = sym (first_changes_are_whole s) ∙ sym (append-nil (change_text s.clock [] (set_rows s))) in
-    ap read whole
-    ∙ led (change_text s.clock [] (set_rows s)) [] (set_rows s) (come s.clock fits [] (set_rows s) (good-state s c) (omega (arith, few))) (All-nil (λ byte. (byte == 10) ≡ false))
-    (omega (arith, small, ap length (append-nil (change_text s.clock [] (set_rows s))), ap length (first-is-whole s.clock (set_rows s))))
+    ap read (sym (append-nil (kept_text s)))
+    ∙ led (kept_text s) [] (set_rows s) (kept-leads s c) (All-nil (λ byte. (byte == 10) ≡ false))
+    (omega (arith, small, ap length (append-nil (kept_text s)), ap length (kept_lines s.clock (set_rows s))))

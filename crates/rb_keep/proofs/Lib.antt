@@ -1,5 +1,8 @@
 pub mod Calls
-pub mod SameRows
+pub mod Founds
+pub mod Keys
+pub mod Written
+pub mod Noting
 pub mod Walks
 pub mod Turns
 pub mod Parts
@@ -7,4 +10,5 @@ pub mod Distinct
 pub mod KeptLaws
 pub mod TextLaws
 pub mod Leads
+pub mod Changes
 pub mod OnLiterals

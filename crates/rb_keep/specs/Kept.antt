@@ -1,16 +1,21 @@
 -- The text of kept rows.
-use Rattle.std.specs.Prelude.{ℕ, ◌+◌, ◌==◌, Bool, ◌&&◌, if◌then◌else◌, List, [], ◌∷◌, ◌++◌, length, drop, map, bytes_eq}
+use Rattle.std.specs.Prelude.{◌≡◌, ◌<◌, ℕ, ◌+◌, ◌-◌, ◌^◌, ◌==◌, nat_lt, ◌||◌, if◌then◌else◌, List, [], ◌∷◌, ◌++◌, length, map, Option, Some, None, option_map}
 use Rattle.std.specs.List.{concat}
 use Rattle.rb_xdr.specs.Xdr.{residue}
+use Rattle.rb_xdr.specs.Pool.{value_at, without}
+use Rattle.rb_xdr.specs.Ordered.{IsRising, with_number}
+use Rattle.rb_address.specs.declared.netid.Netid.{Netid}
+use Rattle.rb_address.specs.declared.netid.Netid.TheVariants.{Tcp, Udp, Tcp6, Udp6, Local}
 use Rattle.rb_address.specs.declared.who.Owner.{Owner}
-use Rattle.rb_address.specs.Netids.{is_netid, netid_text}
+use Rattle.rb_address.specs.declared.who.Owner.TheVariants.{Unknown, Uid}
+use Rattle.rb_address.specs.Netids.{netid_text}
 use Rattle.rb_rpc.specs.declared.call.CallHead.{CallHead}
 use Rattle.rb_rpc.specs.CallBytes.{call_bytes}
 use Rattle.rb_registry.specs.declared.row.Row.{Row}
-use Rattle.rb_registry.specs.Rows.{rpcb_prog}
+use Rattle.rb_registry.specs.Rows.{rpcb_prog, find_exact}
+use Rattle.rb_registry.specs.Index.{rank}
 use Rattle.rb_arguments.specs.declared.rpcb.Rpcb.{Rpcb}
 use Rattle.rb_arguments.specs.Types.{rpcb_spelling}
-use Rattle.rb_model.specs.CallerLaws.{is_same_owner}
 use Rattle.rb_model.specs.State.{State}
 use Rattle.rb_model.specs.Step.{Event}
 use Rattle.rb_model.specs.Step.Event.{Datagram}
@@ -64,48 +69,89 @@ unset_call now row = Datagram now this_machine (unset_bytes row)
 abbrev pub gone_line : ℕ → Row → List ℕ
 gone_line now row = event_text (unset_call now row)
 
--- the lines of rows that went, in their order
-abbrev pub gone_text : ℕ → List Row → List ℕ
-gone_text now rows = concat (map (gone_line now) rows)
+-- ---- who set the rows
+
+-- the number of an owner: 0 if none is known, else the one after the uid
+abbrev pub owner_number : Owner → ℕ
+owner_number Unknown = 0
+owner_number (Uid uid) = uid + 1
+
+-- the owner of a number
+abbrev pub owner_numbered : ℕ → Owner
+owner_numbered number = if number == 0 || nat_lt (2 ^ 32) number then Unknown else Uid (number - 1)
+
+-- These are the numbers of the owners of rows, each under the rank of its row.
+pub record AreOwners (owners : List (ℕ × ℕ)) (rows : List Row) : Type 0 where
+  pub rising : IsRising owners
+  pub same : (prog vers : ℕ) (netid : Netid) → vers < 2 ^ 32
+      → value_at owners (rank prog netid vers) ≡ option_map (λ row. owner_number row.owner) (find_exact prog vers netid rows)
+
+-- the row of a program's version on a netid, without its address
+abbrev pub named_row : ℕ → ℕ → Netid → Owner → Row
+named_row prog vers netid owner = record { prog = prog; vers = vers; netid = netid; owner = owner; addr = [] }
 
 -- ---- what changed
 
-abbrev pub is_same_row : Row → Row → Bool
-is_same_row row other =
-    row.prog == other.prog && row.vers == other.vers && is_netid row.netid other.netid
-    && is_same_owner row.owner other.owner && bytes_eq row.addr other.addr
+-- the line of what changed of a program's version on a netid, by the number of who had set its row and by the row that
+-- is there now
+abbrev pub line_on : ℕ → ℕ → ℕ → Netid → Option ℕ → Option Row → List ℕ
+line_on now prog vers netid None None = []
+line_on now prog vers netid None (Some row) = row_line now row
+line_on now prog vers netid (Some number) None = gone_line now (named_row prog vers netid (owner_numbered number))
+line_on now prog vers netid (Some number) (Some row) = []
 
--- of kept rows those in front of this one: all of them if it is none of them
-abbrev pub kept_before : Row → List Row → List Row
-kept_before row [] = []
-kept_before row (other ∷ kept) = if is_same_row other row then [] else other ∷ kept_before row kept
+-- the owners, with that of the row that is there now
+abbrev pub with_owner : List (ℕ × ℕ) → ℕ → Option ℕ → Option Row → List (ℕ × ℕ)
+with_owner owners number None None = owners
+with_owner owners number None (Some row) = with_number owners number (owner_number row.owner)
+with_owner owners number (Some before) None = without owners number
+with_owner owners number (Some before) (Some row) = owners
 
--- of kept rows this one and those behind it: none if it is none of them
-abbrev pub kept_from : Row → List Row → List Row
-kept_from row [] = []
-kept_from row (other ∷ kept) = if is_same_row other row then other ∷ kept else kept_from row kept
+-- the owners of rows, after a look at those of a program's version on a netid
+abbrev pub owners_on : ℕ → ℕ → List Row → Netid → List (ℕ × ℕ) → List (ℕ × ℕ)
+owners_on prog vers rows netid owners =
+    let number : ℕ = rank prog netid vers in with_owner owners number (value_at owners number) (find_exact prog vers netid rows)
 
--- a row that is none of the kept ones, of which these are behind it, has a line
-abbrev pub line_if_new : ℕ → Row → List Row → List ℕ
-line_if_new now row [] = row_line now row
-line_if_new now row (other ∷ kept) = []
+-- the lines of what changed on netids, one after another
+abbrev pub lines_on : ℕ → ℕ → ℕ → List Row → List Netid → List (ℕ × ℕ) → List ℕ
+lines_on now prog vers rows [] owners = []
+lines_on now prog vers rows (netid ∷ more) owners =
+    line_on now prog vers netid (value_at owners (rank prog netid vers)) (find_exact prog vers netid rows)
+    ++ lines_on now prog vers rows more (owners_on prog vers rows netid owners)
 
--- The lines that lead from kept rows to these: of each that is not among them any more, and of each that came.
--- KEEP-12: A change of the rows adds lines to those that were kept: one for each row that went, and
--- then one for each that came, in the order of the rows. Of rows that stay there is none.
-abbrev pub change_text : ℕ → List Row → List Row → List ℕ
-change_text now kept [] = gone_text now kept
-change_text now kept (row ∷ rows) =
-    gone_text now (kept_before row kept) ++ line_if_new now row (kept_from row kept) ++ change_text now (drop 1 (kept_from row kept)) rows
+-- the owners after a look at each
+abbrev pub owners_on_each : ℕ → ℕ → List Row → List Netid → List (ℕ × ℕ) → List (ℕ × ℕ)
+owners_on_each prog vers rows [] owners = owners
+owners_on_each prog vers rows (netid ∷ more) owners = owners_on_each prog vers rows more (owners_on prog vers rows netid owners)
+
+abbrev pub all_netids : List Netid
+all_netids = Tcp ∷ Udp ∷ Tcp6 ∷ Udp6 ∷ Local ∷ []
+
+-- The lines of what changed of a program's version since these were the owners of the rows.
+-- KEEP-12: A change of the rows adds lines to those that were kept: one for each row of its program's
+-- version that went, and one for each that came, by netid: tcp, udp, tcp6, udp6, local. Of rows that
+-- stay there is none.
+abbrev pub change_text : State → ℕ → ℕ → List (ℕ × ℕ) → List ℕ
+change_text s prog vers owners = lines_on s.clock prog vers (set_rows s) all_netids owners
+
+-- the owners after it
+abbrev pub owners_after : State → ℕ → ℕ → List (ℕ × ℕ) → List (ℕ × ℕ)
+owners_after s prog vers owners = owners_on_each prog vers (set_rows s) all_netids owners
 
 -- ---- one change after another
 
--- what is added while the rows are those of these states, one after another
-abbrev pub changes_text : List Row → List State → List ℕ
-changes_text kept [] = []
-changes_text kept (s ∷ states) = change_text s.clock kept (set_rows s) ++ changes_text (set_rows s) states
+-- a state after one more change, which is of this version of a program
+pub record Changed : Type 0 where
+  pub state : State
+  pub prog : ℕ
+  pub vers : ℕ
 
--- the rows of the last of these states
-abbrev pub rows_at_last : List Row → List State → List Row
-rows_at_last kept [] = kept
-rows_at_last kept (s ∷ states) = rows_at_last (set_rows s) states
+-- what is added with these changes, one after another
+abbrev pub changes_text : List (ℕ × ℕ) → List Changed → List ℕ
+changes_text owners [] = []
+changes_text owners (c ∷ more) = change_text c.state c.prog c.vers owners ++ changes_text (owners_after c.state c.prog c.vers owners) more
+
+-- the state after the last of them
+abbrev pub last_state : State → List Changed → State
+last_state s [] = s
+last_state s (c ∷ more) = last_state c.state more

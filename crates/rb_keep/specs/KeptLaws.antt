@@ -1,14 +1,15 @@
 -- Which texts are read as which rows; and what is kept of a state is read as its rows.
-use Rattle.std.specs.Prelude.{◌≡◌, ◌↔◌, ℕ, ◌==◌, ◌^◌, ◌<◌, ◌≤◌, nat_lt, Bool, true, false, ◌&&◌, List, [], ◌∷◌, ◌++◌, length, map, fold, All, Ok}
+use Rattle.std.specs.Prelude.{◌≡◌, ◌≢◌, ◌↔◌, ⊤, ℕ, ◌==◌, ◌^◌, ◌<◌, ◌≤◌, nat_lt, Bool, true, false, ◌&&◌, List, [], ◌∷◌, ◌++◌, length, map, fold, All, Ok}
 use Rattle.std.specs.List.{list_any}
 use Rattle.rb_registry.specs.declared.row.Row.{Row}
+use Rattle.rb_registry.specs.Rows.{Change, rpcb_prog}
 use Rattle.rb_model.specs.State.{State}
 use Rattle.rb_model.specs.ChangeLaws.{set_rows, set_call, IsSpelled, IsReachedByBytes}
 use Rattle.rb_lines.specs.Lines.{line, lines_of, longest_input}
 use Rattle.rb_lines.specs.Lines.Line.{Happens}
 use Rattle.rb_keep.specs.declared.reading.KeptLine.{KeptLine}
 use Rattle.rb_keep.specs.declared.reading.KeptLine.TheVariants.{Skipped, Keeps, Removes, NotKept, Bad}
-use Rattle.rb_keep.specs.Kept.{kept_text, unset_call, change_text, changes_text, rows_at_last}
+use Rattle.rb_keep.specs.Kept.{kept_text, unset_call, AreOwners, change_text, owners_after, Changed, changes_text, last_state}
 use Rattle.rb_keep.specs.Reading.{kept_line, without, most_rows, whole_part, read}
 
 -- ---- lines
@@ -94,21 +95,42 @@ pub record CanBeKept (s : State) : Type 0 where
   pub clock : s.clock < 2 ^ 64
   pub few : length (set_rows s) ≤ most_rows
 
--- Where none were kept, the lines of a change are what is kept of the state.
+-- One more change was accepted before the state, and something is written of it.
+pub record IsChanged (s : State) (owners : List (ℕ × ℕ)) (c : Changed) : Type 0 where
+  pub can : CanBeKept c.state
+  pub change : Change
+  pub more : c.state.ledger.changes ≡ s.ledger.changes ++ change ∷ []
+  pub other : (c.prog == rpcb_prog) ≡ false
+  pub vers : c.vers < 2 ^ 32
+  pub some : change_text c.state c.prog c.vers owners ≢ []
+
+-- So it is from each of these states to the next, while the owners of the rows are noted.
+abbrev pub AreChanged : State → List (ℕ × ℕ) → List Changed → Type 0
+AreChanged s owners [] = ⊤
+AreChanged s owners (c ∷ more) = IsChanged s owners c × AreChanged c.state (owners_after c.state c.prog c.vers owners) more
+
+-- No rows have no owners.
+abbrev pub NoneHasNone : Type 0
+NoneHasNone = AreOwners [] []
+
+-- The owners that are noted at a change are those of the rows after it.
 -- KEEP-12
-abbrev pub FirstChangesAreWhole : Type 0
-FirstChangesAreWhole = (s : State) → change_text s.clock [] (set_rows s) ≡ kept_text s
+abbrev pub OwnersGoOn : Type 0
+OwnersGoOn =
+    (s : State) (owners : List (ℕ × ℕ)) (c : Changed) → CanBeKept s → AreOwners owners (set_rows s) → IsChanged s owners c
+    → AreOwners (owners_after c.state c.prog c.vers owners) (set_rows c.state)
 
 -- no byte is a line feed
 abbrev pub HasNoFeed : List ℕ → Type 0
 HasNoFeed bytes = All (λ byte. (byte == 10) ≡ false) bytes
 
--- The lines that lead through any states of runs of bytes, one after another, are read as the rows of the last one, in
--- their order, also with a line behind them that was not written to its end.
--- KEEP-14: Lines of changes, one after another, are read as the rows after the last one, whatever
--- part of one more line stands behind them.
+-- What is kept of a state, and the lines of the changes after it, one after another, are read as the rows of the last
+-- state, in their order, also with a line behind them that was not written to its end.
+-- KEEP-14: What is kept of a state, with the lines of the changes after it, is read as the rows after
+-- the last one, whatever part of one more line stands behind them.
 abbrev pub ChangesAreRead : Type 0
 ChangesAreRead =
-    (states : List State) → All CanBeKept states → (torn : List ℕ) → HasNoFeed torn
-    → length (changes_text [] states ++ torn) ≤ longest_input
-    → read (changes_text [] states ++ torn) ≡ Ok (rows_at_last [] states)
+    (s : State) (owners : List (ℕ × ℕ)) (changed : List Changed) → CanBeKept s → AreOwners owners (set_rows s) → AreChanged s owners changed
+    → (torn : List ℕ) → HasNoFeed torn
+    → length ((kept_text s ++ changes_text owners changed) ++ torn) ≤ longest_input
+    → read ((kept_text s ++ changes_text owners changed) ++ torn) ≡ Ok (set_rows (last_state s changed))

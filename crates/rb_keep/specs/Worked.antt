@@ -3,8 +3,9 @@ use Rattle.std.specs.Prelude.{◌≡◌, ℕ, List, [], ◌∷◌, ◌++◌, tak
 use Rattle.rb_address.specs.declared.netid.Netid.TheVariants.{Tcp, Local}
 use Rattle.rb_address.specs.declared.who.Owner.TheVariants.{Unknown, Uid}
 use Rattle.rb_registry.specs.declared.row.Row.{Row}
+use Rattle.rb_registry.specs.Index.{rank}
 use Rattle.rb_keep.specs.declared.fault.KeepFault.TheVariants.{BadLine, NotKept}
-use Rattle.rb_keep.specs.Kept.{rows_text, change_text}
+use Rattle.rb_keep.specs.Kept.{rows_text, all_netids, lines_on}
 use Rattle.rb_keep.specs.Reading.{read}
 
 -- program 200001, version 1 on TCP, by AUTH_NONE, and 200002, version 3 on a local socket, by uid 1000
@@ -32,10 +33,14 @@ TwoLinesAreRead = read (codes "# kept\n\n" ++ two_lines) ≡ Ok two_rows
 abbrev pub third_line : List ℕ
 third_line = codes "datagram 9 127.0.0.1:0 000000000000000000000002000186a0000000040000000200000001000000140000000000000000000003e80000000000000000000000000000000000030d4200000003000000056c6f63616c0000000000000000000000\n"
 
+-- their owners
+abbrev pub two_owners : List (ℕ × ℕ)
+two_owners = (rank 200001 Tcp 1, 0) ∷ (rank 200002 Local 3, 1001) ∷ []
+
 -- The second row goes, and has this line. The text is then read as the first one, whatever stands behind it.
 abbrev pub ARowGoes : Type 0
 ARowGoes =
-    (change_text 9 two_rows (take 1 two_rows) ≡ third_line)
+    (lines_on 9 200002 3 (take 1 two_rows) all_netids two_owners ≡ third_line)
     × (read (two_lines ++ third_line) ≡ Ok (take 1 two_rows))
     × (read (two_lines ++ third_line ++ codes "datagram 9 127") ≡ Ok (take 1 two_rows))
 

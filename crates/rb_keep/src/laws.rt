@@ -1,5 +1,5 @@
 //! What holds of the definitions.
-ghost use Rattle.rb_keep.specs.KeptLaws.{LinesKeepTheirRows, LinesRemoveTheirRows, LinesOfRowsKeepThem, ReadsTheRows, KeptTextIsRead, FirstChangesAreWhole, ChangesAreRead};
+ghost use Rattle.rb_keep.specs.KeptLaws.{LinesKeepTheirRows, LinesRemoveTheirRows, LinesOfRowsKeepThem, ReadsTheRows, KeptTextIsRead, NoneHasNone, OwnersGoOn, ChangesAreRead};
 
 /// A line keeps no row but the one that it sets again, and takes out none but the one that it removes; and if bytes can
 /// spell a row, at an address of at most 128 bytes, a line that sets it again keeps it. A text reads as the rows that
@@ -18,10 +18,11 @@ pub fn kept_text_is_read()
     ensures { KeptTextIsRead }
 {}
 
-/// The lines of a change from no rows are all that is kept of a state. The lines of changes from no rows through any
-/// such states, one after another, are read as the rows of the last one, in their order, also if a line behind them
-/// was not written to its end.
+/// What is kept of a state, and the lines of the changes after it, one after another, are read as the rows of the last
+/// state, in their order, also if a line behind them was not written to its end. The owners that are noted at a change,
+/// from those of no rows on, are those of the rows after it.
 pub fn changes_are_read()
-    ensures first { FirstChangesAreWhole }
     ensures changes { ChangesAreRead }
+    ensures none { NoneHasNone }
+    ensures owners { OwnersGoOn }
 {}

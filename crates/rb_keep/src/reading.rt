@@ -3,12 +3,12 @@ ghost use Rattle.std.specs.Prelude.{◌≡◌, [], IfOk};
 ghost use Rattle.rb_proto.specs.Callers.{owner_named};
 ghost use Rattle.rb_proto.specs.Answers.{row_of_rpcb};
 ghost use Rattle.rb_model.specs.Plain.{event_of};
+ghost use Rattle.rb_model.specs.CallerLaws.{is_same_owner};
 ghost use Rattle.rb_lines.specs.Lines.{lines_of};
 ghost use Rattle.rb_keep.specs.Reading.{is_this_machine, row_of_request, row_asked, row_set, row_unset, kept_row, gone_row, kept_line, is_named, without, with_text, rows_from, whole_part, read, Gives, after_line, result_items};
 
 use crate::call::{SET, UNSET, set_call, this_machine, unset_call};
 use crate::fault::KeepFault;
-use crate::writing::is_same_owner;
 use rb_address::{Netid, Owner, Who};
 use rb_arguments::{LentRpcb, Request, RpcbProcedure, read_args};
 use rb_lines::{Line, longest_input, read_line};
@@ -35,6 +35,17 @@ pub enum KeptLine {
     NotKept,
     /// It is no event line.
     Bad,
+}
+
+/// Whether both are the same.
+fn is_same_owner(owner: Owner, other: Owner) -> bool
+    ensures { result ≡ is_same_owner owner other }
+{
+    match (owner, other) {
+        (Owner::Unknown, Owner::Unknown) => true,
+        (Owner::Uid(uid), Owner::Uid(own)) => uid == own,
+        (Owner::Unknown, Owner::Uid(_)) | (Owner::Uid(_), Owner::Unknown) => false,
+    }
 }
 
 /// Whether the caller is the one that calls which set rows again come from.
@@ -229,7 +240,7 @@ pub fn whole_part(text: &[u8]) -> &[u8]
 }
 
 /// The rows that the lines of a text of kept rows leave, in their order, up to its last line feed. Each line that says
-/// something has to be one that `write_changes` writes, at any moment: a datagram from port 0 of 127.0.0.1 with the
+/// something has to be one that `write_rows` or `write_change` writes, at any moment: a datagram from port 0 of 127.0.0.1 with the
 /// bytes of the call that sets a row, which adds it, or of the call that removes it, which takes it out.
 ///
 /// The first line that is not names the fault: `BadLine` if it is no event line, `NotKept` if it is another, and

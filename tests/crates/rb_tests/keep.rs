@@ -2,7 +2,8 @@
 use crate::proto::listener;
 use rb_core::{Limits, Metered, Response};
 use rb_keep::{
-    KeepFault, read_rows, set_call, this_machine, unset_call, whole_part, write_changes,
+    KeepFault, Owners, read_rows, set_call, this_machine, unset_call, whole_part, write_change,
+    write_rows,
 };
 use std::test::Fail;
 
@@ -43,10 +44,9 @@ fn kept_rows_are_written_again(rt: HostRuntime) -> Result<(), Fail> {
         assert_eq!(rt; told, Response::Reply);
     }
     assert_eq!(rt; core.changes(), 2);
-    let (mut kept, mut written) = (Vec::new(alloc), Vec::new(alloc));
-    write_changes(&mut core, &mut kept, &mut written)?;
+    let mut written = Vec::new(alloc);
+    write_rows(&mut core, &mut written)?;
     assert_eq!(rt; written.as_slice(), KEPT);
-    assert_eq!(rt; kept.len(), 2);
     Ok(())
 }
 
@@ -56,18 +56,19 @@ fn changes_are_added(rt: HostRuntime) -> Result<(), Fail> {
     let alloc = rt.alloc();
     let mut core = Metered::new(alloc, LIMITS, listener(), 1000, 8)?;
     let rows = read_rows(alloc, KEPT)?;
-    let (mut kept, mut written) = (Vec::new(alloc), Vec::new(alloc));
+    let (mut owners, mut written) = (Owners::new(alloc, 300)?, Vec::new(alloc));
     for row in &rows {
         core.datagram(8, this_machine(), set_call(row).as_slice());
+        write_change(&mut core, &mut owners, row.prog, row.vers, &mut written)?;
+        write_change(&mut core, &mut owners, row.prog, row.vers, &mut written)?;
     }
-    write_changes(&mut core, &mut kept, &mut written)?;
-    write_changes(&mut core, &mut kept, &mut written)?;
     assert_eq!(rt; written.as_slice(), KEPT);
+    assert_eq!(rt; owners.count(), 2);
     let gone = unset_call(&rows[0]);
     let told = core.datagram(9, this_machine(), gone.as_slice());
     assert_eq!(rt; told, Response::Reply);
-    write_changes(&mut core, &mut kept, &mut written)?;
-    assert_eq!(rt; kept.len(), 1);
+    write_change(&mut core, &mut owners, 200_001, 1, &mut written)?;
+    assert_eq!(rt; owners.count(), 1);
     assert_eq!(rt; &written[KEPT.len()..], GONE);
     written.extend_from_slice(b"datagram 9 12")?;
     let left = read_rows(alloc, &written)?;

@@ -1,8 +1,11 @@
-use Rattle.rb_keep.proofs.Leads.{first_changes_are_whole, changes_are_read}
+use Rattle.rb_keep.proofs.Changes.{changes_are_read, none_has_none, owners_go_on}
 use Rattle.rb_keep.proofs.laws.changes_are_read.Goals as goal
-
-pub returns-clause-first : goal.returns-clause-first
-returns-clause-first c = first_changes_are_whole
 
 pub returns-clause-changes : goal.returns-clause-changes
 returns-clause-changes c = changes_are_read
+
+pub returns-clause-none : goal.returns-clause-none
+returns-clause-none c = none_has_none
+
+pub returns-clause-owners : goal.returns-clause-owners
+returns-clause-owners c = owners_go_on

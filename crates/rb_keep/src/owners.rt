@@ -1,0 +1,129 @@
+//! Who set the rows that were kept.
+ghost use Rattle.std.specs.Prelude.{◌≡◌};
+ghost use Rattle.rb_registry.specs.Index.{netid_number, rank};
+ghost use Rattle.rb_keep.specs.Kept.{owner_number, owner_numbered};
+
+use rb_address::{Netid, Owner};
+use rb_xdr::{Meter, NoMemory, Ordered};
+use std::alloc::Global;
+use std::io;
+use std::io::ErrorKind;
+use std::marker::Model;
+
+/// The owner of each row that was kept, by program, netid and version: so a change is known of without a look at the
+/// other rows.
+#[derive(Drop)]
+pub struct Owners {
+    numbers: Ordered,
+    /// How many they are.
+    count: usize,
+    meter: Meter,
+}
+
+impl Model for Owners {
+    ghost use Rattle.std.specs.Prelude.{◌≡◌, ℕ, List};
+
+    ghost Value = { List (ℕ × ℕ) };
+
+    ghost view = { λ o. o.numbers.entries };
+
+    ghost invariant = { λ o. o.meter.tie ≡ o.numbers.tie };
+}
+
+/// The place of a netid among those of a program.
+fn netid_number(netid: Netid) -> u128
+    ensures { result ≡ netid_number netid }
+{
+    match netid {
+        Netid::Tcp => 0,
+        Netid::Udp => 1,
+        Netid::Tcp6 => 2,
+        Netid::Udp6 => 3,
+        Netid::Local => 4,
+    }
+}
+
+/// Where a row stands among others: by program, then by netid, then by version.
+#[tactic(auto, unfolding(rb_registry::specs::Index::rank))]
+pub(crate) fn rank(prog: u32, netid: Netid, vers: u32) -> u128
+    ensures { result ≡ rank prog netid vers }
+{
+    (prog as u128 * 8 + netid_number(netid)) * (1 << 32) + vers as u128
+}
+
+/// The number of an owner: 0 if none is known, else the one after the uid.
+fn owner_number(owner: Owner) -> usize
+    ensures { result ≡ owner_number owner }
+{
+    match owner {
+        Owner::Unknown => 0,
+        Owner::Uid(uid) => uid as usize + 1,
+    }
+}
+
+/// The owner of a number.
+pub(crate) fn owner_numbered(number: usize) -> Owner
+    ensures { result ≡ owner_numbered number }
+{
+    if number == 0 || number > 1 << 32 {
+        Owner::Unknown
+    } else {
+        Owner::Uid((number - 1) as u32)
+    }
+}
+
+impl Owners {
+    ghost use Rattle.std.specs.Prelude.{◌≡◌, [], None, length, IfOk, OnOk};
+    ghost use Rattle.rb_xdr.specs.Pool.{value_at, without};
+    ghost use Rattle.rb_xdr.specs.Ordered.{with_number};
+    ghost use Rattle.rb_keep.specs.Kept.{owner_number};
+
+    /// Those of no rows, with room for so many. It takes its memory here. `NoMemory` if that is refused.
+    pub fn new(alloc: Global, most: usize) -> Result<Owners, NoMemory>
+        ensures { IfOk result (λ owners. owners ≡ []) }
+    {
+        let mut meter = Meter::new();
+        let numbers = Ordered::new(alloc, most, &mut meter)?;
+        Ok(Owners {
+            numbers,
+            count: 0,
+            meter,
+        })
+    }
+
+    /// Of how many rows.
+    pub fn count(&self) -> usize {
+        self.count
+    }
+
+    /// The number of the owner of the row of this rank, if there is one.
+    pub(crate) fn find(&mut self, rank: u128) -> Option<usize>
+        ensures number { result ≡ value_at self.old rank }
+        ensures stays { self.new ≡ self.old }
+    {
+        self.numbers.find(rank, &mut self.meter)
+    }
+
+    /// Notes the owner of a row of another rank than the others. An error if there is no room.
+    pub(crate) fn add(&mut self, rank: u128, owner: Owner) -> io::Result<()>
+        requires { value_at self.old rank ≡ None }
+        ensures { OnOk result (self.new ≡ with_number self.old rank (owner_number owner)) }
+    {
+        match self.numbers.insert(rank, owner_number(owner), &mut self.meter) {
+            Ok(()) => {
+                self.count = self.count.saturating_add(1);
+                Ok(())
+            }
+            Err(_) => Err(io::Error::from(ErrorKind::OutOfMemory)),
+        }
+    }
+
+    /// The row of this rank went.
+    pub(crate) fn remove(&mut self, rank: u128)
+        ensures { self.new ≡ without self.old rank }
+    {
+        if self.numbers.remove(rank, &mut self.meter).is_some() {
+            self.count = self.count.saturating_sub(1);
+        }
+    }
+}
