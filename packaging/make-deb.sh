@@ -43,8 +43,10 @@ lay_out() {
     install -D -m 644 packaging/$name.default "$tree/etc/default/$name"
     install -D -m 644 packaging/$name.apparmor "$tree/etc/apparmor.d/usr.sbin.$name"
     install -D -m 755 packaging/$name.carry "$tree/usr/libexec/$name/carry"
-    # the package rpcbind, in whose place this one is, has both
-    mkdir -p "$tree/usr/bin"
+    # the package rpcbind, in whose place this one is, has these; quotarpc.service starts if there is /sbin/rpcbind
+    mkdir -p "$tree/usr/bin" "$tree/sbin"
+    ln -s /usr/sbin/rpcbind-proved "$tree/sbin/rpcbind"
+    ln -s rpcbind-proved.8.gz "$tree/usr/share/man/man8/rpcbind.8.gz"
     ln -s rpcinfo-proved "$tree/usr/sbin/rpcinfo"
     ln -s ../sbin/rpcinfo-proved "$tree/usr/bin/rpcinfo"
     ln -s rpcinfo-proved.8.gz "$tree/usr/share/man/man8/rpcinfo.8.gz"
@@ -81,7 +83,7 @@ describe() {
     mkdir "$tree/DEBIAN"
     sed "s|@VERSION@|$version|; s|@ARCHITECTURE@|$architecture|; s|@SIZE@|$size|; s|@LIBRARIES@|$libraries|" \
         $deb/control > "$tree/DEBIAN/control"
-    cp $deb/conffiles "$tree/DEBIAN/conffiles"
+    cp $deb/conffiles $deb/triggers "$tree/DEBIAN/"
     (cd "$tree" && find usr -type f -print0 | LC_ALL=C sort -z | xargs -0 md5sum) > "$tree/DEBIAN/md5sums"
     for script in postinst prerm postrm; do
         install -m 755 "$deb/$script" "$tree/DEBIAN/$script"

@@ -25,7 +25,7 @@ run_handed_sockets() {
     local socket=$work/handed.sock
     {
         printf 'rpcbind: listening on %s\n' '0.0.0.0 port 20112' ':: port 20112' "$socket"
-        echo 'READY=1|STATUS=0 changes, 0 of 64 connections'
+        echo 'READY=1|STATUS=12 of 1024 rows, 0 of 64 connections'
     } > "$work/wanted"
     hand_over --first --end-after READY=1 tcp:0.0.0.0:20112 udp:0.0.0.0:20112 'tcp:[::]:20112' 'udp:[::]:20112' \
         udp:127.0.0.1:20112 'udp:[::1]:20112' "unix:$socket" serve --port 20112 --local "$socket"
@@ -109,7 +109,7 @@ run_forwarding_socket() {
 # An idle daemon tells the watchdog, at half of its time.
 run_watchdog() {
     hand_over --watchdog 400000 --end-after WATCHDOG=1,4 tcp:127.0.0.1:20112 serve --port 20112
-    [ "$got" -eq 241 ] && grep -qx 'WATCHDOG=1|STATUS=0 changes, 0 of 64 connections' "$work/stdout"
+    [ "$got" -eq 241 ] && grep -qx 'WATCHDOG=1|STATUS=6 of 1024 rows, 0 of 64 connections' "$work/stdout"
     judge $? "an idle daemon with a watchdog"
 }
 

@@ -18,7 +18,7 @@ boots=${BOOTS:-3}
 [ $# -gt 0 ] && parts=("$@") || parts=(switch boots)
 # netbase has the /etc/services in which a libtirpc looks for a port
 packages=systemd,systemd-sysv,rpcbind,nfs-common,netbase,nfs-kernel-server,nfs-ganesha-vfs,libnfs-utils
-packages+=,openbsd-inetd,rusersd,rstatd,rwalld,apparmor
+packages+=,openbsd-inetd,rusersd,rstatd,rwalld,quota,apparmor
 
 skip() {
     echo "skipped: $*"
@@ -127,7 +127,7 @@ prepare() {
     rm -rf --one-file-system "$tree"
     cp -a --reflink=auto "$kept" "$tree" || fail "the Debian can't be copied"
     mkdir "$tree/checks"
-    cp tests/units/*.py "$tree/checks/"
+    cp tests/units/*.py docs/MIGRATING.md "$tree/checks/"
     cp "$tree/usr/sbin/rpcinfo" "$tree/checks/rpcinfo"
     cp -r "$packages_made" "$tree/checks/packages"
     make_repository "$tree/checks/repository"
@@ -223,7 +223,7 @@ check_in_chroot() {
 
 installs_in_chroot() {
     chroot "$tree" apt-get update && chroot "$tree" sh -c 'apt-get install --yes /checks/packages/rpcbind-proved_*.deb' &&
-        [ -x "$tree/usr/sbin/rpcbind-proved" ] && [ ! -e "$tree/sbin/rpcbind" ] &&
+        [ "$(readlink "$tree/sbin/rpcbind")" = /usr/sbin/rpcbind-proved ] &&
         [ "$(readlink "$tree/etc/systemd/system/rpcbind.socket")" = /lib/systemd/system/rpcbind-proved.socket ]
 }
 

@@ -6,12 +6,13 @@ import os
 import re
 import subprocess
 import sys
+import textwrap
 import time
 
 import services
-from units import (KEPT, OURS, OWN, SETTINGS, SOCKET_FILE, SOCKETS, STATD, apt, check, each_row_answers, is_active, is_down,
-                   is_registered, journal, main_process, messages, must, program_of, rows, run, set_options, show_of,
-                   succeeds, systemctl, user_id, version_of, within, without_address)
+from units import (DEBIANS_RPCINFO, KEPT, OURS, OWN, SETTINGS, SOCKET_FILE, SOCKETS, STATD, apt, check, each_row_answers,
+                   is_active, is_down, is_registered, journal, main_process, messages, must, program_of, rows, run,
+                   set_options, show_of, succeeds, systemctl, user_id, version_of, within, without_address)
 
 THIS = glob.glob("/checks/packages/rpcbind-proved_*.deb")[0]
 NEXT = glob.glob("/checks/packages/next/rpcbind-proved_*.deb")[0]
@@ -66,6 +67,17 @@ def switch_in():
     return f"{len(found)} rows"
 
 
+def switch_in_quietly():
+    """The same, after the documented lines: nothing else is stopped."""
+    with open("/checks/MIGRATING.md") as file:
+        lines = re.search(r"\nTo have no service stopped.*\n\n((?:    .*\n)+)", file.read()).group(1)
+    run("sh", "-e", "-c", textwrap.dedent(lines))
+    apt("install", THIS)
+    within(5, nothing_was_stopped)
+    must(not glob.glob("/run/systemd/system/rpcbind.*"), "systemd refuses on")
+    return f"{len(seen['rows'])} rows"
+
+
 def switch_back():
     """README's line out: the same rows, of the same processes."""
     apt("install", "rpcbind")
@@ -86,11 +98,18 @@ def debians_keeps_them():
 
 
 def nothing_changed():
+    """But services that require rpcbind.service are restarted with it, as they are with Debian's."""
     ours_serves()
     found, new = rows(), services.processes()
     must(found == seen["rows"], f"{seen['rows']}\nare now\n{found}")
     services.statd_runs_on(seen["processes"])
     must(new["ganesha.service"] == seen["processes"]["ganesha.service"], "nfs-ganesha was started again")
+
+
+def nothing_was_stopped():
+    nothing_changed()
+    new = services.processes()
+    must(new == seen["processes"], f"{seen['processes']} are now {new}")
 
 
 def remember_files():
@@ -184,7 +203,7 @@ def comes_back_after(signal):
 def upgrades_to(package):
     before, settings = main_process(), open(SETTINGS).read()
     sockets = show_of(SOCKETS, "ActiveEnterTimestampMonotonic")
-    apt("install", package)
+    apt("install", "--reinstall", package)
     must(version_of("rpcbind-proved") == version_of(package), "another version")
     must(main_process() != before, "the program before runs on")
     must(show_of(SOCKETS, "ActiveEnterTimestampMonotonic") == sockets, "the sockets were closed")
@@ -208,13 +227,11 @@ def others_are_upgraded():
 
 
 def rest_of_debians_is_purged():
-    """That package's purge removes the file of the local socket: what registers goes over TCP [::1] until the sockets are
-    made again."""
+    """That package's purge removes the file of the local socket, and a trigger makes it again."""
+    before = os.stat(SOCKET_FILE).st_ino
     apt("purge", "rpcbind")
-    must(not os.path.exists(SOCKET_FILE), "the file is there: docs/MIGRATING.md says that it goes")
-    systemctl("restart", "rpc-statd.service", "requires-rpcbind.service")
-    systemctl("restart", SOCKETS)
-    within(10, services.are_registered)
+    within(5, nothing_was_stopped)
+    must(os.stat(SOCKET_FILE).st_ino != before, "the purge left the file")
     for unit in (OURS, SOCKETS, "rpcbind.service", "rpcbind.socket"):
         must(systemctl("is-enabled", unit).strip() in ("enabled", "alias"), f"{unit} is not enabled")
 
@@ -273,6 +290,11 @@ def takes_debians_settings():
     must(any("not taken" in line and "-i" in line for line in told), f"{told}")
 
 
+def is_its_own(line):
+    """Of the program, and not of systemd; the journal may not know the program's name once it has ended."""
+    return line.get("_TRANSPORT") == "stdout"
+
+
 def ends_as_failed(reason, *lines):
     """A start that can't succeed is tried once, and its last lines have the reason."""
     since, begin = time.time(), time.monotonic()
@@ -281,15 +303,27 @@ def ends_as_failed(reason, *lines):
     within(5, lambda: must(show_of(OURS, "ActiveState") == "failed", show_of(OURS, "ActiveState")))
     took = time.monotonic() - begin
     must(took < 40, f"after {took:.0f} s")
-    own = [line for line in journal(since=since) if line.get("_COMM", "").startswith("rpcbind")]
+    own = [line for line in journal(since=since) if is_its_own(line)]
     told = [line["PRIORITY"] for line in own[-3:] if reason in line["MESSAGE"]]
     must("3" in told, f"{[(line['PRIORITY'], line['MESSAGE']) for line in own]}")
     starts = {line["_PID"] for line in own}
     must(len(starts) == 1, f"it was started {len(starts)} times")
 
 
+def waits_and_fails():
+    """A start waits 30 seconds for an address, and then ends with its reason."""
+    begin = time.monotonic()
+    must(not succeeds("systemd-run", "--quiet", "--unit=waits", "--property=Type=notify", "rpcbind-proved", "serve",
+                      "--port", "20111", "--bind", "192.0.2.1"), "it started")
+    took = time.monotonic() - begin
+    must(29 < took < 60, f"after {took:.0f} s")
+    must(show_of("waits.service", "ExecMainStatus") == "3", "another status")
+    own = [line["MESSAGE"] for line in journal("waits.service") if is_its_own(line)]
+    must("192.0.2.1" in own[-1], f"{own}")
+
+
 def journal_is_tagged():
-    lines = [line for line in journal() if line.get("_COMM", "").startswith("rpcbind")]
+    lines = [line for line in journal() if is_its_own(line)]
     others = {line.get("SYSLOG_IDENTIFIER") for line in lines} - {"rpcbind"}
     must(lines and not others, f"{others} among {len(lines)} lines")
     return f"{len(lines)} lines, of priorities {sorted({line['PRIORITY'] for line in lines})}"
@@ -333,6 +367,20 @@ def statd_registers_on_ipv4():
             file.write(before)
 
 
+def status_has_numbers():
+    """Of all rows, as `rpcinfo` lists them; they are told anew after half of the watchdog's time."""
+    def agrees():
+        listed, told = len(run(DEBIANS_RPCINFO).splitlines()) - 1, show_of(OURS, "StatusText")
+        must(re.fullmatch(rf"{listed} of 1024 rows, \d+ of 64 connections", told), f"'{told}', with {listed} rows")
+        return told
+    return within(20, agrees)
+
+
+def user_asks():
+    """Who may not open the local socket."""
+    run("runuser", "-u", "nobody", "--", "rpcinfo", "-p")
+
+
 def keeps_its_rows_alone():
     status = os.stat(KEPT)
     must(str(status.st_uid) == user_id("rpcbind-proved") and oct(status.st_mode)[-3:] == "600", f"{status}")
@@ -369,6 +417,7 @@ def check_ends_and_upgrades():
         check(f"nobody is refused after a {signal}", refuses_nobody, comes_back_after, signal)
     check("nobody is refused while it is upgraded", refuses_nobody, upgrades_to, NEXT)
     check("nobody is refused while the version before is installed", refuses_nobody, upgrades_to, THIS)
+    check("nobody is refused while it is reinstalled", refuses_nobody, upgrades_to, THIS)
     check("after a stop a call starts it", is_started_by_a_call)
     check("if it stands still it is started again", stands_still)
     check("NFS is mounted, with nothing restarted", services.mounts_all)
@@ -384,6 +433,7 @@ def check_settings():
     os.chmod(KEPT, 0o666)
     check("so does a file of rows that others may write", ends_as_failed, "mode 0666")
     os.chmod(KEPT, 0o600)
+    check("so does a start for an address that isn't there", waits_and_fails)
     check("it serves with its defaults again", serves_with)
     check("rpc-statd registers without IPv6", without_ipv6, statd_registers_on_ipv4)
     check("rpc-statd registers with IPv6 again", statd_registers_again)
@@ -408,19 +458,24 @@ def switch():
     check("one line puts ours in its place: the same rows and owners", switch_in)
     check("it is confined", is_confined)
     check("the rows are kept in a file of its user", keeps_its_rows_alone)
+    check("its status has the numbers of rows and of connections", status_has_numbers)
+    check("a user without rights asks it", user_asks)
+    check("a service starts that looks for /sbin/rpcbind", services.quota_starts)
     check("NFS is mounted", services.mounts_all)
     remember()
     check("one line puts Debian's back: the same rows, owners and processes", switch_back)
     check("Debian's keeps them", debians_keeps_them)
     check("NFS is mounted by Debian's", services.mounts_all)
     check("a purge leaves nothing but a locked user", purge_leaves_nothing)
-    check("ours is put in its place again", switch_in)
     remember()
+    check("ours is put in its place again, with nothing stopped", switch_in_quietly)
     check_ends_and_upgrades()
     check_settings()
     check("packages around it are reinstalled", others_are_reinstalled)
     check("packages around it are upgraded", others_are_upgraded)
-    check("the rest of Debian's is purged", rest_of_debians_is_purged)
+    systemctl("start", "requires-rpcbind.service")  # a start that failed had stopped it
+    remember()
+    check("the rest of Debian's is purged, with nothing stopped", rest_of_debians_is_purged)
 
 
 def again():

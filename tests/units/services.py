@@ -2,7 +2,7 @@
 import os
 import re
 
-from units import (MOUNTD, NFS, STATD, USERS, is_active, is_registered, main_process, must, rows, run, start_service,
+from units import (MOUNTD, NFS, QUOTA, STATD, USERS, is_active, is_registered, main_process, must, rows, run, start_service,
                    systemctl, user_id, within)
 
 SERVED = "/run/served"
@@ -38,6 +38,22 @@ def are_registered():
     is_registered(NFS, "superuser")
     is_registered(MOUNTD, "superuser")
     is_registered(USERS, user_id("nobody"), ("tcp",))
+
+
+def quota_starts():
+    """Its unit looks for /sbin/rpcbind, and its script for a process called rpcbind, and for exports and quotas."""
+    before = {}
+    for path, line in (("/etc/exports", SERVED + " localhost(ro)"), ("/etc/fstab", "none /mnt ext4 noauto,usrquota 0 0")):
+        with open(path, "a+") as file:
+            file.seek(0)
+            before[path] = file.read()
+            file.write(line + "\n")
+    systemctl("start", "quotarpc.service")
+    for path, text in before.items():
+        with open(path, "w") as file:
+            file.write(text)
+    is_active("quotarpc.service")
+    within(5, is_registered, QUOTA, "superuser", ("udp", "tcp"))
 
 
 def processes():

@@ -12,7 +12,7 @@ SOCKET_FILE = "/run/rpcbind.sock"
 KEPT = "/run/rpcbind-proved/rows"
 SETTINGS = "/etc/default/rpcbind-proved"
 DEBIANS_RPCINFO = "/checks/rpcinfo"  # it goes with Debian's package, and so is a copy
-STATD, NFS, MOUNTD, OWN, USERS = 100024, 100003, 100005, 100000, 200001
+STATD, NFS, MOUNTD, QUOTA, OWN, USERS = 100024, 100003, 100005, 100011, 100000, 200001
 
 
 class Wrong(Exception):

@@ -4,3 +4,4 @@ pub mod Pieces
 pub mod ServedBounds
 pub mod Rooms
 pub mod ServedRecords
+pub mod Rows

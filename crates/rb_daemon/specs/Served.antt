@@ -5,6 +5,7 @@ use Rattle.rb_address.specs.declared.peer.Peer.{Peer}
 use Rattle.rb_address.specs.declared.who.Who.{Who}
 use Rattle.rb_registry.specs.declared.row.Row.{Row}
 use Rattle.rb_forward.specs.Forwards.{Unsent}
+use Rattle.rb_proto.specs.Ledger.{rows_in}
 use Rattle.rb_model.specs.State.{State, are_good}
 use Rattle.rb_model.specs.declared.types.Told.TheVariants.{TcpReady, Datagram, Silent}
 use Rattle.rb_model.specs.declared.types.Expired.TheVariants.{Nothing as NothingDue, Ended, ConnectionLost}
@@ -64,6 +65,10 @@ answer_datagram who content s now = answered (datagram s now who content)
 -- how many changes of rows were accepted
 abbrev pub change_count : State → ℕ
 change_count s = length s.ledger.changes
+
+-- how many rows are set, the daemon's own among them
+abbrev pub row_count : State → ℕ
+row_count s = length (rows_in s.ledger)
 
 -- one more change was accepted
 abbrev pub has_changed : State → State → Bool

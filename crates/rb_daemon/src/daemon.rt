@@ -94,7 +94,7 @@ impl<'a, R: Clock, H: Files> Daemon<'a, R, H> {
     }
 
     /// How much it serves. It goes through all rows.
-    pub fn load(&self) -> Load {
+    pub fn load(&mut self) -> Load {
         self.serving.load()
     }
 

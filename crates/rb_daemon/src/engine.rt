@@ -4,6 +4,7 @@ ghost use Rattle.rb_model.specs.Gives.{first_piece};
 ghost use Rattle.rb_connections.specs.Slots.{Shows};
 ghost use Rattle.rb_core.specs.Events.{OnlyBegins};
 ghost use Rattle.rb_core.specs.HeldBytes.{IsListener};
+ghost use Rattle.rb_core.specs.Looks.{rows_shown};
 ghost use Rattle.rb_core.specs.StandsFor.{StandsFor};
 ghost use Rattle.rb_record.specs.Entries.{options_of};
 ghost use Rattle.rb_record.specs.Tapes.{Records, empty_tape};
@@ -111,6 +112,20 @@ fn count_pending(core: &mut Metered, id: u64) -> usize
     }
 }
 
+/// How many rows are set, the daemon's own among them.
+fn count_rows(core: &mut Metered) -> usize
+    requires { length (rows_shown core.old.core) < 2 ^ 64 }
+    ensures count { result ≡ length (rows_shown core.old.core) }
+    ensures stays { core.new.core ≡ core.old.core }
+{
+    let mut cursor = core.first_place();
+    let mut count = 0;
+    'rows: while let Some(_row) = core.next_row(&mut cursor) {
+        count += 1;
+    }
+    count
+}
+
 /// A tape of up to `limit` bytes of a run that begins so. `NoMemory` if an allocation is refused.
 fn begin_tape(alloc: Global, limit: usize, start: &Start<'_>) -> Result<Tape, CoreFault>
     ensures begun { IfOk result (Records (options_of start.now ∷ []) (empty_tape limit)) }
@@ -161,7 +176,7 @@ impl Engine {
     ghost use Rattle.rb_model.specs.Exchanges.{count_given};
     ghost use Rattle.rb_model.specs.Gives.{given_in, bytes_given};
     ghost use Rattle.rb_core.specs.Standings.{StandsAfterPiece, StandsThen};
-    ghost use Rattle.rb_daemon.specs.Served.{answer_datagram, change_count, set_again, ready_of, take_forward_reply, expire_due, send_forward};
+    ghost use Rattle.rb_daemon.specs.Served.{answer_datagram, change_count, row_count, set_again, ready_of, take_forward_reply, expire_due, send_forward};
     ghost use Rattle.rb_daemon.specs.Moves.{IsNewEngine, Moves, ActsNow, RecordsEvent, RecordsEvents, RecordsExchange, RecordsGiven, ExchangesNow, WritesInto, CountsGiven};
 
     /// A new core at this moment, which is the first, and whose first forwarded call has this xid. Up to `record_limit` bytes of its events are recorded, and `logged` says of what the log has lines. `BadLimits`
@@ -429,6 +444,16 @@ impl Engine {
             }
             _ => None,
         }
+    }
+
+    /// How many rows are set, the daemon's own among them. It goes through all of them.
+    pub(crate) fn count_rows(&mut self) -> usize
+        ensures count { Shows StandsFor row_count self.old.core.core result }
+        ensures core { self.new.core.core ≡ self.old.core.core }
+        ensures tape { self.new.tape ≡ self.old.tape }
+        ensures moment { self.new.moment ≡ self.old.moment }
+    {
+        count_rows(&mut self.core)
     }
 
     /// Writes the lines of all rows that were set.

@@ -3,8 +3,10 @@
 /// How much a daemon serves.
 #[derive(Clone, Copy)]
 pub struct Load {
-    /// How many changes of rows were accepted, those of kept rows that were set again among them.
-    pub changes: u64,
+    /// How many rows are set, the daemon's own among them.
+    pub rows: usize,
+    /// How many may be set.
+    pub most_rows: usize,
     /// How many connections there are.
     pub connections: usize,
     /// How many there may be.

@@ -39,6 +39,8 @@ pub(crate) struct Serving<H: Files> {
     places: Places,
     /// Where the last connection at each place came from.
     sources: Vec<Source>,
+    /// How many rows may be set.
+    most_rows: usize,
     /// As many things can be due at one moment: connections and forwarded calls.
     most_due: usize,
     datagram: Vec<u8>,
@@ -128,6 +130,7 @@ impl<H: Files> Serving<H> {
             sockets,
             places,
             sources,
+            most_rows: limits.rows,
             most_due: limits.conns.saturating_add(limits.forwards),
             datagram,
             brake,
@@ -166,10 +169,11 @@ impl<H: Files> Serving<H> {
         self.engine.write_log(writer)
     }
 
-    /// How much is served now.
-    pub(crate) fn load(&self) -> Load {
+    /// How much is served now. It goes through all rows.
+    pub(crate) fn load(&mut self) -> Load {
         Load {
-            changes: self.engine.changes(),
+            rows: self.engine.count_rows(),
+            most_rows: self.most_rows,
             connections: self.places.taken(),
             places: self.places.count(),
         }

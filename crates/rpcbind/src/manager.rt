@@ -60,13 +60,14 @@ impl Display for LoadText {
 
     fn fmt<W: fmt::Write>(&self, f: &mut Formatter<W>) -> fmt::Result {
         let Load {
-            changes,
+            rows,
+            most_rows,
             connections,
             places,
         } = self.0;
         write!(
             f,
-            "{changes} changes, {connections} of {places} connections"
+            "{rows} of {most_rows} rows, {connections} of {places} connections"
         )
     }
 }
