@@ -12,7 +12,7 @@ use std::net::SocketAddr;
 use std::test::Fail;
 
 /// The milliseconds after its last progress for which a connection is active.
-const ACTIVE: u64 = 1_000;
+pub(crate) const ACTIVE: u64 = 1_000;
 
 /// The milliseconds that bytes that are owed may wait.
 const OWED: u64 = 30_000;
@@ -26,7 +26,7 @@ fn connects(rt: &HostRuntime, host: &mut Host<'_>) -> Option<Client> {
 }
 
 /// A NULL call is answered, after what was before.
-fn calls(rt: &HostRuntime, host: &mut Host<'_>, client: &mut Client) -> Option<bool> {
+pub(crate) fn calls(rt: &HostRuntime, host: &mut Host<'_>, client: &mut Client) -> Option<bool> {
     let before = client.got().len();
     let is_sent = client.send(&null_record(rt.alloc(), 1).ok()?);
     client.receive(host, before + 28);

@@ -1,28 +1,27 @@
 //! A system in which things fail: accepts of a listener, and descriptors that are used up.
 use crate::client::Client;
 use crate::records::answers_a_call;
+use crate::tables::Tables;
 use crate::turns::{HERE, Host, Stopped, everywhere, plain};
 use rb_daemon::{DaemonFault, Rate, Settings, Step};
-use std::alloc::Allocator;
-use std::fs::{Files, Metadata, OpenOptions, Permissions};
 use std::io;
 use std::net::{Ipv4Addr, Net, SocketAddr, TcpListener, UdpSocket};
-use std::os::fd::{BorrowedFd, OwnedFd};
-use std::os::unix::net::SocketAddr as UnixAddr;
+use std::os::fd::OwnedFd;
 use std::random::RandomSource;
 use std::test::Fail;
 
-/// Where the local socket of `Crossed` listens.
-const CROSSED: u16 = 20_113;
+/// Where the local socket of a crossed system listens.
+const CROSSED: u16 = 20_120;
 
 /// A system whose local sockets are TCP sockets: each accept fails, since the peer has no address of its kind. It has no
 /// randomness.
-#[derive(Drop)]
-struct Crossed<'a> {
-    rt: &'a HostRuntime,
+fn crossed(rt: &HostRuntime) -> Tables {
+    let mut system = Tables::new(rt);
+    system.has_local = false;
+    system
 }
 
-impl Net for Crossed<'_> {
+impl Net for Tables {
     type Stream = <HostRuntime as Net>::Stream;
 
     type Listener = <HostRuntime as Net>::Listener;
@@ -41,67 +40,13 @@ impl Net for Crossed<'_> {
 
     fn unix_socket(&self) -> io::Result<OwnedFd> {
         let at = SocketAddr::from((Ipv4Addr::LOCALHOST, CROSSED));
-        Ok(OwnedFd::from(TcpListener::bind(self.rt, at)?))
+        Ok(OwnedFd::from(TcpListener::bind(&self.rt, at)?))
     }
 }
 
-impl RandomSource for Crossed<'_> {
+impl RandomSource for Tables {
     fn fill_bytes(&self, _buf: &mut [u8]) -> io::Result<()> {
         Err(io::Error::from(io::ErrorKind::Unsupported))
-    }
-}
-
-impl Files for Crossed<'_> {
-    type File = <HostRuntime as Files>::File;
-
-    type Dir = <HostRuntime as Files>::Dir;
-
-    fn open_file(&self, how: &OpenOptions, path: &str) -> io::Result<Self::File> {
-        self.rt.open_file(how, path)
-    }
-
-    fn open_dir(&self, path: &str) -> io::Result<Self::Dir> {
-        self.rt.open_dir(path)
-    }
-
-    fn metadata(&self, path: &str) -> io::Result<Metadata> {
-        self.rt.metadata(path)
-    }
-
-    fn symlink_metadata(&self, _path: &str) -> io::Result<Metadata> {
-        Err(io::Error::from(io::ErrorKind::NotFound))
-    }
-
-    fn copy(&self, from: &str, to: &str) -> io::Result<u64> {
-        self.rt.copy(from, to)
-    }
-
-    fn rename(&self, from: &str, to: &str) -> io::Result<()> {
-        self.rt.rename(from, to)
-    }
-
-    fn remove_file(&self, path: &str) -> io::Result<()> {
-        self.rt.remove_file(path)
-    }
-
-    fn create_dir(&self, path: &str) -> io::Result<()> {
-        self.rt.create_dir(path)
-    }
-
-    fn remove_dir(&self, path: &str) -> io::Result<()> {
-        self.rt.remove_dir(path)
-    }
-
-    fn remove_dir_all<B: Allocator>(&self, alloc: B, path: &str) -> io::Result<()> {
-        self.rt.remove_dir_all(alloc, path)
-    }
-
-    fn set_permissions(&self, _path: &str, _perm: Permissions) -> io::Result<()> {
-        Ok(())
-    }
-
-    fn bind_unix(&self, _socket: BorrowedFd<'_>, _addr: &UnixAddr) -> io::Result<()> {
-        Ok(())
     }
 }
 
@@ -125,7 +70,7 @@ fn serves_beside_a_fault(rt: &HostRuntime, host: &mut Host<'_>) -> Option<bool> 
 #[test]
 fn failing_listener_ends_nothing(rt: HostRuntime) -> Result<(), Fail> {
     let clock = Stopped::new(&rt);
-    let system = Crossed { rt: &rt };
+    let system = crossed(&rt);
     let settings = Settings {
         loopback6: false,
         ..everywhere(&HERE, 4)
@@ -139,7 +84,7 @@ fn failing_listener_ends_nothing(rt: HostRuntime) -> Result<(), Fail> {
 #[test]
 fn brake_needs_randomness(rt: HostRuntime) {
     let clock = Stopped::new(&rt);
-    let system = Crossed { rt: &rt };
+    let system = crossed(&rt);
     let settings = Settings {
         udp_rate: Some(Rate {
             network: 2,

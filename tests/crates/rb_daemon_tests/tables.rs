@@ -1,4 +1,5 @@
-//! The system's files as the daemon of a test reads them: with a table of connections that the test wrote, if it has one.
+//! The system's files as the daemon of a test reads them: with a table of connections that the test wrote, if it has one, and
+//! without those of local sockets, if these are sockets of TCP (`faults.rs`).
 use std::alloc::Allocator;
 use std::fs::{Files, Metadata, OpenOptions, Permissions};
 use std::io;
@@ -10,11 +11,24 @@ const INET: &str = "/proc/self/net/tcp";
 
 const INET6: &str = "/proc/self/net/tcp6";
 
-/// The system, and what it shows in place of its table of IPv4. There is none of IPv6 then.
 #[derive(Drop)]
 pub(crate) struct Tables {
     pub(crate) rt: HostRuntime,
+    /// What it shows in place of its table of IPv4. There is none of IPv6 then.
     pub(crate) inet: Option<&'static str>,
+    /// Whether local sockets have files.
+    pub(crate) has_local: bool,
+}
+
+impl Tables {
+    /// The system as it is.
+    pub(crate) fn new(rt: &HostRuntime) -> Tables {
+        Tables {
+            rt: *rt,
+            inet: None,
+            has_local: true,
+        }
+    }
 }
 
 impl Files for Tables {
@@ -39,7 +53,11 @@ impl Files for Tables {
     }
 
     fn symlink_metadata(&self, path: &str) -> io::Result<Metadata> {
-        self.rt.symlink_metadata(path)
+        if self.has_local {
+            self.rt.symlink_metadata(path)
+        } else {
+            Err(io::Error::from(ErrorKind::NotFound))
+        }
     }
 
     fn copy(&self, from: &str, to: &str) -> io::Result<u64> {
@@ -67,10 +85,18 @@ impl Files for Tables {
     }
 
     fn set_permissions(&self, path: &str, perm: Permissions) -> io::Result<()> {
-        self.rt.set_permissions(path, perm)
+        if self.has_local {
+            self.rt.set_permissions(path, perm)
+        } else {
+            Ok(())
+        }
     }
 
     fn bind_unix(&self, socket: BorrowedFd<'_>, addr: &SocketAddr) -> io::Result<()> {
-        self.rt.bind_unix(socket, addr)
+        if self.has_local {
+            self.rt.bind_unix(socket, addr)
+        } else {
+            Ok(())
+        }
     }
 }

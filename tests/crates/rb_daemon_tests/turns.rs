@@ -173,10 +173,7 @@ impl<'a> Host<'a> {
         let daemon = Daemon::new(alloc, system, clock, settings, &[], Handed::none(alloc))?;
         Ok(Host {
             daemon,
-            tables: Tables {
-                rt: clock.rt,
-                inet: None,
-            },
+            tables: Tables::new(&clock.rt),
             is_well: true,
         })
     }

@@ -1,7 +1,8 @@
 //! Users of this host, as a table says that the test writes: whose rows they have, and who is given up if all places are
 //! taken: eight connections may be open, of which one user keeps two.
 use crate::client::Client;
-use crate::messages::{bytes_of, null_record, null_reply_record};
+use crate::door::{ACTIVE, calls};
+use crate::messages::{bytes_of, null_record};
 use crate::trust::{by_datagram, by_record};
 use crate::turns::{HERE, Host, PORT, Stopped, plain};
 use rb_daemon::Settings;
@@ -17,9 +18,6 @@ const PLACES: usize = 8;
 
 /// More turns than a pass through the table takes.
 const PASS: usize = 8;
-
-/// The milliseconds after its last progress for which a connection is active.
-const ACTIVE: u64 = 1_000;
 
 fn new_host<'a>(clock: &'a Stopped) -> Result<Host<'a>, &'static str> {
     let settings = Settings {
@@ -49,15 +47,6 @@ fn comes(rt: &HostRuntime, host: &mut Host<'_>, table: &mut Vec<u8>, uid: u32) -
     host.turn();
     host.turn();
     Some(client)
-}
-
-/// A NULL call is answered, after what was before.
-fn calls(rt: &HostRuntime, host: &mut Host<'_>, client: &mut Client) -> Option<bool> {
-    let before = client.got().len();
-    let is_sent = client.send(&null_record(rt.alloc(), 1).ok()?);
-    client.receive(host, before + 28);
-    let reply = null_reply_record(rt.alloc(), 1).ok()?;
-    Some(is_sent && client.got().get(before..)? == reply.as_slice())
 }
 
 /// The table before there are connections.
