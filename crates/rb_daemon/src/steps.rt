@@ -103,12 +103,7 @@ fn write_last(link: &mut Link, engine: &Engine, kept: Kept)
 }
 
 /// Hands in what was read, which must not be held back, and notes what it changed. Returns whether the core took it.
-fn hand_in<H: Files>(
-    link: &mut Link,
-    engine: &mut Engine,
-    keeper: &mut Keeper<H>,
-    id: u64,
-) -> bool
+fn hand_in<H: Files>(link: &mut Link, engine: &mut Engine, keeper: &mut Keeper<H>, id: u64) -> bool
     requires { must_wait link.old ≡ false }
 {
     let done = exchange(engine, id, link.inbox.bytes(), &mut link.outbox);

@@ -1,5 +1,5 @@
 -- The lines of one more change lead from the rows before it to those after it.
-use Rattle.std.specs.Prelude.{All, filter, find, not, nat_lt, option_map, ◌^◌}
+use Rattle.std.specs.Prelude.{filter, find, not, nat_lt, ◌^◌}
 use Rattle.std.specs.List.{AllByRecursion}
 use Rattle.std.specs.Option.{option_or}
 use Rattle.std.proofs.Common.{◌≡◌, ◌≢◌, ℕ, ◌==◌, eqb, ◌+◌, ◌-◌, ◌<◌, ◌≤◌, Bool, true, false, cond, ◌&&◌, ◌||◌, Option, Some, None, List, [], ◌∷◌, ◌++◌, length, refl, sym, ap, subst, ◌∙◌, eq-eqb, length-append, arith}
@@ -141,8 +141,7 @@ module _ (now : ℕ) (fits : now < 2 ^ 64) (prog vers : ℕ) (small : vers < 2 ^
       let found : Option Row = find_exact prog vers netid after in
       let line-eq = line-is netid owners before found found are (same netid) refl ∙ quiet-line netid found in
       let owners-eq = owners-are netid owners before found found are (same netid) refl ∙ quiet-owners netid owners found in
-      let rest = idle more owners before are same in
-      (
+      let rest = idle more owners before are same in (
         ap (λ (t : List ℕ). t ++ lines_on now prog vers after more (owners_on prog vers after netid owners)) line-eq ∙ ap (lines_on now prog vers after more) owners-eq ∙ rest.0,
         ap (owners_on_each prog vers after more) owners-eq ∙ rest.1,
       )

@@ -1,5 +1,5 @@
 -- What is found among rows, and among those of them that pass a test.
-use Rattle.std.specs.Prelude.{filter, find, not}
+use Rattle.std.specs.Prelude.{filter, find}
 use Rattle.std.specs.List.{AllByRecursion}
 use Rattle.std.proofs.Common.{◌≡◌, Bool, true, false, cond, ◌&&◌, Option, Some, None, List, [], ◌∷◌, refl, sym, ap, subst, ◌∙◌}
 use Rattle.rb_registry.specs.declared.row.Row.{Row}

@@ -2,7 +2,7 @@
 use Rattle.std.specs.Prelude.{filter, find, not, option_map, ◌^◌}
 use Rattle.std.specs.List.{AllByRecursion}
 use Rattle.std.specs.Option.{option_or}
-use Rattle.std.proofs.Common.{◌≡◌, ◌<◌, ◌≤◌, ◌+◌, ◌*◌, ℕ, ◌==◌, eqb, Bool, true, false, cond, ◌&&◌, Option, Some, None, List, [], ◌∷◌, ◌++◌, refl, sym, ap, subst, ◌∙◌, eq-eqb, arith}
+use Rattle.std.proofs.Common.{◌≡◌, ◌<◌, ◌≤◌, ◌+◌, ℕ, ◌==◌, eqb, Bool, true, false, cond, ◌&&◌, Option, Some, None, List, [], ◌∷◌, ◌++◌, refl, sym, ap, subst, ◌∙◌, eq-eqb, arith}
 use Rattle.std.proofs.lemmas.Bool.{and_parts, eqb-true}
 use Rattle.std.proofs.lemmas.List.Folds.{find-append}
 use Rattle.rb_xdr.specs.Pool.{value_at, without as number_gone}
@@ -20,7 +20,7 @@ use Rattle.rb_model.specs.CallerLaws.{is_same_owner}
 use Rattle.rb_keep.specs.Kept.{owner_number, AreOwners}
 use Rattle.rb_keep.specs.Reading.{is_named, without}
 use Rattle.rb_keep.proofs.Distinct.{Apart, Distinct, itself}
-use Rattle.rb_keep.proofs.Founds.{none-passes, found-passes, no-kept, kept-found, each-kept}
+use Rattle.rb_keep.proofs.Founds.{found-passes, no-kept, kept-found}
 use mathlib.Core.Bool.{true≢false}
 
 -- ---- keys
@@ -181,9 +181,9 @@ module _ (prog vers : ℕ) (netid : Netid) (small : vers < 2 ^ 32) (owners : Lis
         rising = rising_with (rank prog netid vers) (owner_number row.owner) 0 owners are.rising (omega arith) missing;
         same = λ p v n little.
             value_at-with_number (rank prog netid vers) (owner_number row.owner) (rank p n v) owners missing
-                ∙ ap (λ (b : Bool). cond b (Some (owner_number row.owner)) (value_at owners (rank p n v))) (key-rank prog vers netid row (has-key prog vers netid row is) small p v n little)
-                ∙ by_test p v n little (is_row p v n row) refl
-                ∙ ap number-found (sym (find-append (is_row p v n) rows (row ∷ [])));
+            ∙ ap (λ (b : Bool). cond b (Some (owner_number row.owner)) (value_at owners (rank p n v))) (key-rank prog vers netid row (has-key prog vers netid row is) small p v n little)
+            ∙ by_test p v n little (is_row p v n row) refl
+            ∙ ap number-found (sym (find-append (is_row p v n) rows (row ∷ [])));
       }
     where
       or-none : (o : Option Row) → option_or o None ≡ o
@@ -204,8 +204,8 @@ module _ (prog vers : ℕ) (netid : Netid) (small : vers < 2 ^ 32) (owners : Lis
     rising = rising_without (rank prog netid vers) 0 owners are.rising;
     same = λ p v n little.
         value_at-without owners (rank prog netid vers) (rank p n v) (distinct_rising 0 owners are.rising)
-            ∙ ap (λ (b : Bool). cond b None (value_at owners (rank p n v))) (key-rank prog vers netid row (has-key prog vers netid row is) small p v n little)
-            ∙ by_test p v n little (is_row p v n row) refl;
+        ∙ ap (λ (b : Bool). cond b None (value_at owners (rank p n v))) (key-rank prog vers netid row (has-key prog vers netid row is) small p v n little)
+        ∙ by_test p v n little (is_row p v n row) refl;
   }
     where
       is : is_row prog vers netid row ≡ true
@@ -215,8 +215,7 @@ module _ (prog vers : ℕ) (netid : Netid) (small : vers < 2 ^ 32) (owners : Lis
       named-all p v n here [] only = tt
       named-all p v n here (x ∷ some) only =
           let k = has-key prog vers netid row is in
-          let l = has-key p v n row here in
-          (
+          let l = has-key p v n row here in (
             λ t.
                 let m = has-key p v n x t in
                 let x-is : is_row prog vers netid x ≡ true = is-key prog vers netid x (m.prog ∙ sym l.prog ∙ k.prog) (m.vers ∙ sym l.vers ∙ k.vers) (ap (λ (n : Netid). is_netid n netid) (m.netid ∙ sym l.netid ∙ k.netid) ∙ same-netid-is netid) in

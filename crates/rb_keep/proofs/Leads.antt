@@ -1,6 +1,6 @@
 -- Lines of changes, one after another, lead from rows to rows.
 use Rattle.std.specs.Prelude.{All}
-use Rattle.std.proofs.Common.{◌≡◌, ℕ, zero, suc, ◌==◌, ◌^◌, ◌+◌, ◌<◌, ◌≤◌, Bool, true, false, cond, Option, Some, None, Ok, Err, List, [], ◌∷◌, ◌++◌, length, map, drop, replicate, get_or, refl, sym, ap, subst, ◌∙◌, append_assoc, append-nil, length-append, arith}
+use Rattle.std.proofs.Common.{◌≡◌, ℕ, zero, suc, ◌==◌, ◌^◌, ◌+◌, ◌<◌, ◌≤◌, Bool, true, false, cond, None, Ok, Err, List, [], ◌∷◌, ◌++◌, length, map, replicate, get_or, refl, sym, ap, subst, ◌∙◌, append_assoc, append-nil, length-append, arith}
 use Rattle.std.proofs.lemmas.Bool.{lt-ltb}
 use Rattle.std.proofs.lemmas.List.Elements.{All-nil, All-head, All-tail}
 use Rattle.rb_xdr.specs.Xdr.{AreBytes as AreContent, number, opaque, residue}
@@ -11,15 +11,12 @@ use Rattle.rb_rpc.specs.Messages.{auth, auth_none}
 use Rattle.rb_rpc.specs.CallBytes.{sys_body, credential, call_words, call_bytes}
 use Rattle.rb_rpc.proofs.Calls.{AreBytes-append, AreBytes-number, AreBytes-sys}
 use Rattle.rb_registry.specs.declared.row.Row.{Row}
-use Rattle.rb_registry.specs.Rows.{is_on, is_row, are_distinct}
+use Rattle.rb_registry.specs.Rows.{is_on, is_row}
 use Rattle.rb_arguments.specs.declared.rpcb.Rpcb.{Rpcb}
 use Rattle.rb_arguments.specs.Types.{IsRpcb, rpcb_spelling}
 use Rattle.rb_proto.specs.Answers.{can_be_set}
 use Rattle.rb_model.specs.State.{State}
-use Rattle.rb_model.specs.Step.{Event}
-use Rattle.rb_model.specs.Step.Event.{Datagram}
-use Rattle.rb_model.specs.ChangeLaws.{this_machine, set_rows, set_call, IsSpelled, HasShortCall}
-use Rattle.rb_record.specs.Entries.{event_text}
+use Rattle.rb_model.specs.ChangeLaws.{set_rows, set_call, IsSpelled, HasShortCall}
 use Rattle.rb_laws.proofs.Ledgers.{settable-short, ledgers_are_well_kept}
 use Rattle.rb_laws.proofs.Restoring.{rows_can_be_set}
 use Rattle.rb_laws.proofs.Spelling.{rows_are_spelled, kept_calls_are_short}

@@ -109,7 +109,10 @@ impl Owners {
         requires { value_at self.old rank ≡ None }
         ensures { OnOk result (self.new ≡ with_number self.old rank (owner_number owner)) }
     {
-        match self.numbers.insert(rank, owner_number(owner), &mut self.meter) {
+        match self
+            .numbers
+            .insert(rank, owner_number(owner), &mut self.meter)
+        {
             Ok(()) => {
                 self.count = self.count.saturating_add(1);
                 Ok(())

@@ -104,8 +104,8 @@ fn write_on<W: Write>(
 ) -> io::Result<()>
     ensures written { OnOk result (Writes W.contents writer.old writer.new
         (line_on now prog vers netid
-            (value_at owners.old (rank prog netid vers))
-            (find_exact prog vers netid (rows_shown core.old.core)))) }
+        (value_at owners.old (rank prog netid vers))
+        (find_exact prog vers netid (rows_shown core.old.core)))) }
     ensures owners { OnOk result (owners.new
         ≡ owners_on prog vers (rows_shown core.old.core) netid owners.old) }
     ensures stays { core.new.core ≡ core.old.core }
