@@ -72,10 +72,11 @@ def switch_in_quietly():
     with open("/checks/MIGRATING.md") as file:
         lines = re.search(r"\nTo have no service stopped.*\n\n((?:    .*\n)+)", file.read()).group(1)
     run("sh", "-e", "-c", textwrap.dedent(lines))
-    apt("install", THIS)
+    with Crowd() as crowd:
+        apt("install", THIS)
     within(5, nothing_was_stopped)
     must(not glob.glob("/run/systemd/system/rpcbind.*"), "systemd refuses on")
-    return f"{len(seen['rows'])} rows"
+    return f"{len(seen['rows'])} rows, longest silence {crowd.figures['silence']} ms"
 
 
 def switch_back():

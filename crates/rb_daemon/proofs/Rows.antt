@@ -1,5 +1,5 @@
 -- The rows of a core are counted one after another.
-use Rattle.std.proofs.Common.{◌≡◌, ◌<◌, ◌≤◌, ◌+◌, ◌-◌, ℕ, true, List, length, Some, Option, refl, sym, ap, subst, ◌∙◌, arith}
+use Rattle.std.proofs.Common.{◌≡◌, ◌<◌, ◌≤◌, ◌+◌, ◌-◌, ℕ, true, length, Some, Option, refl, sym, ap, subst, ◌∙◌, arith}
 use Rattle.std.specs.Borrow.{Bor}
 use Rattle.std.proofs.Math.Bridge.{le_prop}
 use Rattle.std.proofs.Math.Logic.{∥∥₁_elim}
@@ -10,7 +10,7 @@ use Rattle.rb_proto.specs.declared.listener.Listener.{Listener}
 use Rattle.rb_model.specs.declared.types.Limits.{Limits}
 use Rattle.rb_model.specs.State.{are_good}
 use Rattle.rb_record.specs.Tapes.{Tape}
-use Rattle.rb_core.specs.StandsFor.{CoreView, StandsFor}
+use Rattle.rb_core.specs.StandsFor.{CoreView}
 use Rattle.rb_core.specs.Looks.{rows_held, rows_shown, StandsAmong, IsAtStart, IsAtEnd, row_behind, PassesOne}
 use Rattle.rb_core.specs.Metered.{Metered}
 use Rattle.rb_core.specs.Lending.{HasLentRow}

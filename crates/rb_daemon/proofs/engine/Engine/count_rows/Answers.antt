@@ -1,5 +1,4 @@
 use Rattle.std.proofs.Common.{ap, ◌∙◌, length}
-use Rattle.rb_daemon.proofs.Rows.{few_rows}
 use Rattle.rb_daemon.proofs.engine.Engine.count_rows.Goals as goal
 
 pub returns-clause-count : goal.returns-clause-count
