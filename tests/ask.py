@@ -2,19 +2,16 @@
 """Asks a portmapper what no rpcinfo asks so, and prints what it tells; for tests/two-hosts.sh, tests/keep.sh and
 tests/serving.sh. It is that at port 111, or at PORT of the environment.
 
-Each line of standard input is a question, NETID HOST WORDS: it goes to this host over tcp, udp, tcp6 or udp6, and its
-words are a call as tests/row.py has it. SOURCE>HOST in place of HOST says from which address it goes; with local a path
-stands there. It is printed again, with the answer after it:
+Each line of standard input is a question, NETID HOST WORDS, and the answer that is expected: it goes to this host over tcp,
+udp, tcp6 or udp6, and its words are a call as tests/row.py has it. SOURCE>HOST in place of HOST says from which address it
+goes; with local a path stands there. It is printed again, with the answer that came:
 
     udp 192.0.2.2>192.0.2.1 4 getaddr 200001 1: 192.0.2.1.8.1
     tcp6 2001:db8:1::1 uid=1000 4 set 200001 1 tcp6 ::.8.1: 0
 
-An answer is a number; an address; the netids and addresses of a list, each with a space after it, in their order; an
-address and the results of a call that was forwarded, in hexadecimal; `refused`; or `silent`, if none comes within 5
-seconds, or PATIENCE of the environment.
-
-With --records the questions are of tcp, and what is printed are the replies alone, in hexadecimal with the marks of their
-records, as rpcinfo reads them.
+An answer is a number; an address; the netids and addresses of a list, each with a space after it, in their order; the rows
+of `dump`, with their owners and `; ` between them; an address and the results of a call that was forwarded, in hexadecimal;
+`refused`; or `silent`, if none comes: within 5 seconds where that is expected, and else within 60.
 """
 import os
 import socket
@@ -24,7 +21,8 @@ import sys
 from row import Encoder
 
 PORT = int(os.environ.get("PORT", "111"))
-PATIENCE = float(os.environ.get("PATIENCE", "5"))
+PATIENCE = 60.0
+SILENCE = 5.0
 
 
 def number_from(data):
@@ -38,7 +36,22 @@ def opaque_from(data):
 
 def text_from(data):
     content, data = opaque_from(data)
-    return content.decode() or "-", data
+    return bytes(content).decode() or "-", data
+
+
+def rows_from(data):
+    """The rows of a DUMP of versions 3 and 4 (RFC 1833 section 2.1)."""
+    rows = []
+    more, data = number_from(data)
+    while more:
+        program, data = number_from(data)
+        version, data = number_from(data)
+        netid, data = text_from(data)
+        address, data = text_from(data)
+        owner, data = text_from(data)
+        rows.append(f"{program} {version} {netid} {address} {owner}")
+        more, data = number_from(data)
+    return "; ".join(rows)
 
 
 def list_from(data):
@@ -61,7 +74,9 @@ def told_by(procedure, reply):
         return "silent"
     if struct.unpack_from(">6I", reply)[1:] != (1, 0, 0, 0, 0):
         return "refused"
-    results = reply[24:]
+    results = memoryview(reply)[24:]
+    if procedure == "dump":
+        return rows_from(results)
     if procedure in ("getaddr", "getversaddr"):
         return text_from(results)[0]
     if procedure == "getaddrlist":
@@ -83,25 +98,24 @@ def read_all(connection, length):
 
 
 def fragments_from(connection):
-    """The fragments of a record (RFC 5531 section 11), each with its mark in front."""
+    """The fragments of a record (RFC 5531 section 11)."""
     is_last = 0
     while not is_last:
-        mark = read_all(connection, 4)
-        head = number_from(mark)[0]
+        head = number_from(read_all(connection, 4))[0]
         is_last = head >> 31
-        yield mark, read_all(connection, head & 0x7FFFFFFF)
+        yield read_all(connection, head & 0x7FFFFFFF)
 
 
 def as_record(call):
     return struct.pack(">I", 1 << 31 | len(call)) + call
 
 
-def reply_over(netid, source, host, call):
+def reply_over(netid, source, host, call, patience=PATIENCE):
     """The reply to a call, or no bytes. Over UDP one from another address than the one that is asked is not seen."""
     family = {"6": socket.AF_INET6, "l": socket.AF_UNIX}.get(netid[-1], socket.AF_INET)
     is_stream = not netid.startswith("udp")
     with socket.socket(family, socket.SOCK_STREAM if is_stream else socket.SOCK_DGRAM) as asker:
-        asker.settimeout(PATIENCE)
+        asker.settimeout(patience)
         if source:
             asker.bind((source, 0))
         try:
@@ -110,31 +124,23 @@ def reply_over(netid, source, host, call):
                 asker.send(call)
                 return asker.recv(65536)
             asker.sendall(as_record(call))
-            return b"".join(fragment for _, fragment in fragments_from(asker))
+            return b"".join(fragments_from(asker))
         except OSError:
             return b""
 
 
-def print_records(encoder):
-    for line in sys.stdin:
-        _, host, *words = line.split()
-        with socket.create_connection((host, PORT), PATIENCE) as asker:
-            asker.sendall(as_record(encoder.bytes_of(words)))
-            for mark, fragment in fragments_from(asker):
-                print(mark.hex() + fragment.hex())
-
-
 def main():
     encoder = Encoder()
-    if sys.argv[1:] == ["--records"]:
-        print_records(encoder)
-        return
+    patience = PATIENCE
     for line in sys.stdin:
-        question = line.rstrip("\n")
+        question, _, wanted = line.rstrip("\n").partition(": ")
         netid, place, *words = question.split()
         source, _, host = place.rpartition(">")
         procedure = [word for word in words if "=" not in word][1]
-        reply = reply_over(netid, source, host, encoder.bytes_of(words))
+        is_silence = wanted == "silent"
+        reply = reply_over(netid, source, host, encoder.bytes_of(words), SILENCE if is_silence else patience)
+        if not reply and not is_silence:
+            patience = SILENCE  # which is shown once is not waited for again
         print(f"{question}: {told_by(procedure, reply)}", flush=True)
 
 

@@ -124,11 +124,9 @@ ask_programs() {
 run_rpcinfo_of_programs() {
     local programs
     : > "$work/listening" # what a daemon before wrote there is not to be taken for theirs
-    tests/programs.py 127.0.0.2 20130 >> "$work/listening" 2> /dev/null &
+    tests/programs.py 127.0.0.2 20130 >> "$work/listening" 2>&1 &
     programs=$!
-    until grep -qs listening "$work/listening" || ! kill -0 "$programs" 2> /dev/null; do
-        sleep 0.1
-    done
+    await_listening "$work/listening" "$programs" || { judge 1 "programs that rpcinfo asks"; return; }
     printf 'program 200001 version %s\n' '1 ready' '2 not available' '3 ready' > "$work/wanted"
     ask_programs '-t 127.0.0.2 200001' 1 ''
     printf 'program 200003 version %s\n' '1 ready' '2 not available' '3 ready' > "$work/wanted"
@@ -235,3 +233,7 @@ run_asking() {
     run_rpcinfo_removes
     run_rpcinfo_layouts
 }
+
+checks+=(run_asking)
+portless+=(run_rpcinfo_of_silence)
+waiting+=" run_rpcinfo_of_silence"

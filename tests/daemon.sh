@@ -1,19 +1,29 @@
 # Sourced by the scripts that run the built daemon: `program` is its path, and `daemon` its number once it was started.
 
 # Starts it with these words after `serve`; what it writes goes to the file. The status is 1 if it doesn't listen, as
-# when it has ended. One with checks may take minutes, on a busy machine, for its memory and to set kept rows again.
+# when it has ended: its last words are shown then. One with checks may take minutes, on a busy machine, for its memory and
+# to set kept rows again.
 start_daemon() {
     local written=$1
     shift
     : > "$written" # what a daemon before wrote there is not to be taken for its own
     "$program" serve "$@" >> "$written" 2>&1 &
     daemon=$!
-    for _ in $(seq 3000); do
+    await_listening "$written" "$daemon"
+}
+
+# Waits until a program, by its number, writes to a file that it listens. If it doesn't it is ended, its last words are shown,
+# and the status is 1.
+await_listening() {
+    local written=$1 number=$2
+    for _ in $(seq 6000); do
         grep -q listening "$written" && return
-        kill -0 "$daemon" 2> /dev/null || break
-        sleep 0.1
+        kill -0 "$number" 2> /dev/null || break
+        sleep 0.05
     done
-    echo "the daemon does not listen"
+    echo "what was started does not listen, and wrote at last:"
+    tail -n 5 "$written" | sed 's/^/    /'
+    kill "$number" 2> /dev/null
     return 1
 }
 

@@ -3,9 +3,9 @@
 
 true_reply="reply 0000000000000001$(printf '%032d' 0)00000001"
 
-# Starts it with these words too.
+# Starts it with these words too. It has few connections, as it then begins in a third of the time.
 start_keeper() {
-    start_daemon "$work/said" --port 20112 --keep "$file" "$@"
+    start_daemon "$work/said" --port 20112 --conns 8 --keep "$file" "$@"
 }
 
 stop_daemon() {
@@ -13,11 +13,11 @@ stop_daemon() {
     true
 }
 
-# Asks it, with a connection or a datagram for each call. Standard input has what is expected: questions of
-# tests/ask.py, each with its answer, a number.
+# Asks it, with a connection or a datagram for each call. Standard input has questions of tests/ask.py, each with the answer
+# that is expected.
 answers_are() {
     cat > "$work/wanted-answers"
-    sed 's/: [0-9]*$//' "$work/wanted-answers" | PORT=20112 PATIENCE=60 python3 -B tests/ask.py > "$work/answers"
+    PORT=20112 python3 -B tests/ask.py < "$work/wanted-answers" > "$work/answers"
     same "$work/wanted-answers" "$work/answers" answers
 }
 
@@ -42,10 +42,9 @@ lists() {
     same "$1" "$work/listed" rows
 }
 
-# The same of many rows, however long that takes: rpcinfo, which waits for a minute, reads the reply out of a file.
+# The same of many rows, for which rpcinfo takes long.
 lists_all() {
-    PORT=20112 PATIENCE=60 python3 -B tests/ask.py --records <<< 'tcp 127.0.0.1 4 dump' > "$work/reply"
-    "$rpcinfo" - < "$work/reply" | grep -v '^100000 ' > "$work/listed"
+    PORT=20112 python3 -B tests/ask.py <<< 'tcp 127.0.0.1 4 dump' | sed 's/^[^:]*: //; s/; /\n/g' | grep -v '^100000 ' > "$work/listed"
     same "$1" "$work/listed" rows
 }
 
@@ -103,7 +102,7 @@ END
     run "$file" replay
     as_wanted "$work/wanted" /dev/null 0
     judge $? "a replay of kept rows"
-    start_keeper --record "$work/record" && list_statistics > "$work/statistics-after"
+    start_keeper --record "$work/record" $short && list_statistics > "$work/statistics-after"
     same "$work/statistics" "$work/statistics-after" statistics
     judge $? "statistics begin anew after a start"
     lists "$work/rows-1" && said_is /dev/null
@@ -591,7 +590,7 @@ run_keep_in_folder_of_others() {
         command -v setpriv > /dev/null || { echo "a folder that may not be written to is not tried: there is no setpriv"; return; }
         install -m 755 "$program" "$work/program"
         printf '#!/bin/sh\nexec setpriv --reuid=65534 --regid=65534 --clear-groups "%s" "$@"\n' "$work/program" > "$work/nobodys"
-        chmod 755 "$work" "$work/nobodys"
+        chmod 755 "$work" "$work/.." "$work/nobodys"
         program=$work/nobodys
     fi
     mkdir "$folder"
@@ -629,14 +628,8 @@ keep_on_full_device() {
 }
 
 run_keep_on_full_device() {
-    if [ "$(id -u)" -ne 0 ] || ! unshare --mount true 2> /dev/null; then
-        echo "a full device is not tried: that wants root and unshare"
-        return
-    fi
-    export program rpcinfo work
-    export -f keep_on_full_device start_keeper start_daemon stop_daemon sets_all answers_are rows_of keeps lines_for same \
-        said_is fails_by goes_well
-    unshare --mount --propagation private "$BASH" -c keep_on_full_device
+    [ -n "$own_namespaces" ] || { echo "a full device is not tried: that wants root, unshare and ip"; return; }
+    keep_on_full_device
     judge $? "a full device is said once, and rows are kept once there is room"
 }
 
@@ -651,7 +644,7 @@ run_keep_check() {
     python3 -B tests/answers.py tcp-garbage:20028 tcp-null:20029 tcp-silent:20030 udp-garbage:20031 udp-null:20032 \
         udp-silent:20033 tcp6-null:20034 udp6-null:20035 >> "$work/listening" 2>&1 &
     answers=$!
-    until grep -qs listening "$work/listening" || ! kill -0 "$answers" 2> /dev/null; do sleep 0.1; done
+    await_listening "$work/listening" "$answers" || { judge 1 "programs of kept rows"; return; }
     cat > "$work/rows-all" << 'END'
 1001 1 tcp 127.0.0.1.78.60 superuser
 1002 1 tcp 0.0.0.0.78.61 superuser
@@ -695,25 +688,37 @@ unanswered() {
     printf "rpcbind: $file: %s: nobody answers\n" "$@"
 }
 
-run_keep_rows() {
+# ---- which are run
+
+run_kept_rows() {
     run_keep
     run_keep_writes_changes_alone
     run_keep_before_reply
     run_keep_of_others
     run_keep_at_other_starts
-    run_keep_of_most_rows
+}
+
+run_files_of_kept_rows() {
     run_keep_of_rows_that_cannot_be_set
-    run_keep_of_other_lines
     run_keep_of_torn_lines
     run_keep_of_changes
     run_keep_of_exchanged_files
     run_keep_of_two_daemons
-    run_keep_of_long_files
+}
+
+run_refused_files_of_kept_rows() {
+    run_keep_of_other_lines
     run_keep_in_the_way
+    run_keep_of_long_files
+}
+
+run_writes_of_kept_rows_that_fail() {
     run_keep_without_room
     run_keep_without_folder
     run_keep_beside_new_file
     run_keep_in_folder_of_others
     run_keep_on_full_device
-    run_keep_check
 }
+
+checks+=(run_keep_of_most_rows run_refused_files_of_kept_rows run_files_of_kept_rows run_kept_rows
+    run_writes_of_kept_rows_that_fail run_keep_check)

@@ -10,7 +10,7 @@ local one of datagrams. `quiet` in the place of the sockets is none, and no sock
 With --first a null call is sent to the first of the TCP listeners before the program starts, and its reply is waited for. Prints
 each message that it is told in a line, its own line ends as `|`. With --end-after the program is ended once that many messages
 (one, if no number is given) had the text. --pid and --count stand in LISTEN_PID and LISTEN_FDS in the place of what is true.
-The status is the program's; 99 if what is waited for did not come in a minute.
+The status is the program's; 99 if what is waited for did not come in two minutes.
 """
 import argparse
 import os
@@ -22,7 +22,7 @@ import sys
 import tempfile
 import time
 
-LONGEST = 60
+LONGEST = 120
 NULL_CALL = struct.pack(">10I", 7, 0, 2, 100000, 2, 0, 0, 0, 0, 0)
 
 

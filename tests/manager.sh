@@ -132,3 +132,5 @@ run_under_a_manager() {
     run_watchdog
     run_missing_address
 }
+
+checks+=(run_under_a_manager)

@@ -3,30 +3,33 @@
 
 # ---- records
 
-# Starts the daemon with these words, asks it over TCP and UDP, and waits for its end.
+# Starts the daemon with these words, asks it over TCP and UDP, and ends it once it rests.
 serve_and_ask() {
     local daemon
     : > "$work/stdout" # what a daemon before wrote there is not to be taken for its own
     "$program" serve --port 20112 "$@" >> "$work/stdout" 2> "$work/stderr" &
     daemon=$!
-    until grep -q listening "$work/stdout" || ! kill -0 "$daemon" 2> /dev/null; do
-        sleep 0.1
-    done
+    await_listening "$work/stdout" "$daemon"
     "$rpcinfo" --port 20112 -p 127.0.0.1 > /dev/null
     "$rpcinfo" --port 20112 -s 127.0.0.1 > /dev/null
     "$rpcinfo" --port 20112 -u 127.0.0.1 100000 2 > /dev/null
-    wait "$daemon"
+    await_rest
+    kill "$daemon"
+    wait "$daemon" 2> /dev/null
     got=$?
 }
+
+ended=143 # the status of what SIGTERM has ended
+short='--record-limit 100000' # a program with checks takes seconds to make room for the longest record
 
 # LINE-2 LINE-3 LINE-4 TAPE-1 TAPE-4 TAPE-5
 # A daemon that records is asked, over TCP and UDP; its record, of all that it was asked, agrees with a replay.
 run_record() {
     local file=$work/record check
-    serve_and_ask --turns 60 --record "$file"
+    serve_and_ask --record "$file" $short
     mapfile -t check < <(sed -n '1s/^# rpcbind //p' "$file" | tr ' ' '\n')
     echo "$(grep -c '^#> ' "$file") outputs agree" > "$work/wanted"
-    [ "$got" -eq 0 ] && [ ! -s "$work/stderr" ] && grep -q '^datagram ' "$file" && grep -q '^gave ' "$file" \
+    [ "$got" -eq $ended ] && [ ! -s "$work/stderr" ] && grep -q '^datagram ' "$file" && grep -q '^gave ' "$file" \
         && [ "$(stat -c %a "$file")" = 600 ]
     judge $? "a daemon that records"
     run "$file" "${check[@]}"
@@ -52,7 +55,7 @@ run_record() {
 run_call_in_pieces() {
     local file=$work/record daemon call piece pieces=0
     call=$(echo '(record xid=3 4 getaddr 100000 4 tcp)' | python3 -B tests/row.py --bare)
-    start_daemon "$work/listening" --port 20112 --record "$file"
+    start_daemon "$work/listening" --port 20112 --record "$file" $short
     exec 8<> /dev/tcp/127.0.0.1/20112
     for piece in "${call:0:60}" "${call:60:20}" "${call:80}"; do
         printf "$(sed 's/../\\x&/g' <<< "$piece")" >&8
@@ -74,8 +77,8 @@ run_call_in_pieces() {
 # said once. A file that can't be made ends the program.
 run_record_that_ends() {
     local file=$work/record check
-    serve_and_ask --turns 30 --record "$file" --record-limit 1000
-    [ "$got" -eq 0 ] && [ "$(stat -c %s "$file")" -le 1000 ] && tail -n 1 "$file" | grep -q '^# the limit'
+    serve_and_ask --record "$file" --record-limit 1000
+    [ "$got" -eq $ended ] && [ "$(stat -c %s "$file")" -le 1000 ] && tail -n 1 "$file" | grep -q '^# the limit'
     judge $? "a record that reaches its limit"
     mapfile -t check < <(sed -n '1s/^# rpcbind //p' "$file" | tr ' ' '\n')
     echo "$(grep -c '^#> ' "$file") outputs agree" > "$work/wanted"
@@ -84,12 +87,12 @@ run_record_that_ends() {
     judge $? "a record that reached its limit is checked"
     echo 'rpcbind: listening on 127.0.0.1 port 20112' > "$work/wanted"
     echo 'rpcbind: write the record: File too large (os error 27); it ends here' > "$work/wanted-stderr"
-    (trap '' XFSZ; ulimit -f 1; serve_and_ask --turns 30 --record "$file" && exit "$got")
+    (trap '' XFSZ; ulimit -f 1; serve_and_ask --record "$file" $short && exit "$got")
     got=$?
-    as_wanted "$work/wanted" "$work/wanted-stderr" 0
+    as_wanted "$work/wanted" "$work/wanted-stderr" $ended
     judge $? "a record that its file does not take"
     printf 'rpcbind: %s\n' 'write failed' "make $work/none/record: No such file or directory (os error 2)" > "$work/wanted-stderr"
-    run /dev/null serve --port 20112 --turns 3 --record "$work/none/record"
+    run /dev/null serve --port 20112 --turns 3 --record "$work/none/record" $short
     as_wanted /dev/null "$work/wanted-stderr" 3
     judge $? "a record whose file can't be made"
 }
@@ -104,7 +107,7 @@ run_record_in_the_way() {
     mkfifo "$work/fifo"
     for file in "$work/link" "$work/fifo" "$work" /dev/full; do
         printf 'rpcbind: %s\n' 'write failed' "make $file: what is there is no plain file, and stays" > "$work/wanted"
-        run /dev/null serve --port 20112 --turns 1 --record "$file"
+        run /dev/null serve --port 20112 --turns 1 --record "$file" $short
         as_wanted /dev/null "$work/wanted" 3 && [ -e "$file" ] && [ "$(cat "$kept")" = kept ]
         judge $? "a record at $file"
     done
@@ -116,7 +119,7 @@ run_record_of_another() {
     local file=$work/another daemon
     echo kept > "$file"
     start_daemon "$work/listening" --port 20112
-    run /dev/null serve --port 20112 --turns 1 --record "$file"
+    run /dev/null serve --port 20112 --turns 1 --record "$file" $short
     [ "$got" -eq 3 ] && [ "$(cat "$file")" = kept ]
     judge $? "a record beside a daemon that has the port"
     kill "$daemon"
@@ -133,7 +136,7 @@ count_switches() {
 # Waits until the daemon has done what it was about to do: it sleeps, and was on no processor between two looks.
 await_rest() {
     local before now=
-    for _ in $(seq 300); do
+    while kill -0 "$daemon" 2> /dev/null; do
         before=$now
         now=$(count_switches)
         [ "$now" = "$before" ] && grep -q '^State:[[:space:]]*S' "/proc/$daemon/status" && return
@@ -147,7 +150,7 @@ await_rest() {
 # Then it answers, and its connection that is idle wakes it no more often.
 run_idle_daemon() {
     local file=$work/record daemon before size
-    start_daemon "$work/listening" --port 20112 --record "$file"
+    start_daemon "$work/listening" --port 20112 --record "$file" $short
     await_rest
     before=$(count_switches)
     size=$(stat -c %s "$file")
@@ -303,7 +306,6 @@ run_log_of_many_refused() {
 }
 
 run_records() {
-    run_idle_daemon
     run_call_in_pieces
     run_record
     run_record_that_ends
@@ -315,3 +317,6 @@ run_records() {
     run_log_of_nothing_removed
     run_log_of_many_refused
 }
+
+checks+=(run_idle_daemon run_records)
+waiting+=" run_idle_daemon"

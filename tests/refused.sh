@@ -64,9 +64,7 @@ refuse_calls() {
     : > "$work/told"
     "$program" serve --port 20114 >> "$work/told" 2>&1 &
     daemon=$!
-    until grep -qs listening "$work/told" || ! kill -0 "$daemon" 2> /dev/null; do
-        sleep 0.1
-    done
+    await_listening "$work/told" "$daemon" || { judge 1 "a daemon that rpcinfo calls"; return; }
     for words in '-p 127.0.0.1' '-u 127.0.0.1 100000' '-T udp 127.0.0.1 100000 4'; do
         "$rpcinfo" --port 20114 $words > "$work/rows" 2>&1
         refuse_in_turn "rpcinfo $words" "$work/rows" /dev/null "$rpcinfo" --port 20114 $words
@@ -85,3 +83,5 @@ run_refused_memory() {
     refuse_reply
     refuse_calls
 }
+
+checks+=(run_refused_memory)

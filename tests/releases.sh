@@ -175,10 +175,10 @@ run_release_in_part() {
     judge $? "a step that is none is refused"
 }
 
-# Each step can fail.
-run_failing_releases() {
+# Releases of which one of these steps fails.
+try_failing_steps() {
     local step
-    for step in test peers hostile attacks units memory; do
+    for step in "$@"; do
         try_release FAULT="$step status"
         is_refused "make $step failed, with status 2"
         judge $? "a release whose $step has a status"
@@ -192,6 +192,9 @@ run_failing_releases() {
         is_refused "make $step failed: its last line is no"
         judge $? "a release whose $step was skipped"
     done
+}
+
+run_releases_of_other_faults() {
     try_release FAULT='deb status'
     is_refused "make deb failed: 4 passed, 0 failed"
     judge $? "a release without a package"
@@ -209,19 +212,38 @@ run_failing_releases() {
     judge $? "a release of a checkout that is not clean"
 }
 
+# Makes what a release is tried in. The status is 1 if it can't be tried.
+prepare_releases() {
+    if ! command -v git > /dev/null; then
+        echo "skipped: there is no git"
+        return 1
+    fi
+    write_stand_ins
+    write_checkout || { judge 1 "no checkout can be made"; return 1; }
+}
+
 run_releases() {
+    prepare_releases || return
+    run_whole_release
+    run_release_in_part
+    run_releases_of_other_faults
+}
+
+# Each step can fail.
+run_releases_whose_first_steps_fail() {
+    prepare_releases && try_failing_steps test peers hostile
+}
+
+run_releases_whose_last_steps_fail() {
+    prepare_releases && try_failing_steps attacks units memory
+}
+
+run_packages() {
     run_changelog
     if [ -z "$has_checks" ]; then
         run_package_twice
         run_package_of_another_version
     fi
-    if ! command -v git > /dev/null; then
-        echo "skipped: there is no git"
-        return
-    fi
-    write_stand_ins
-    write_checkout || { judge 1 "no checkout can be made"; return; }
-    run_whole_release
-    run_release_in_part
-    run_failing_releases
 }
+
+portless+=(run_releases_whose_first_steps_fail run_releases_whose_last_steps_fail run_releases run_packages)

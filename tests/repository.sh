@@ -1,5 +1,5 @@
 # Sourced by run-rows.sh: what must hold in the repository, whatever the programs do: its proofs by hand, the names that
-# documents give, and words of tests/row.py beside the bytes that they make. Of the programs it has their version alone.
+# documents give, and words of tests/row.py beside the bytes that they make. Of the programs it has their version and options.
 
 # Both programs and each man page are of one version, the newest of CHANGELOG.
 check_version() {
@@ -102,9 +102,13 @@ check_completion() {
     judge $bad "the options that bash completes are not those of --help"
 }
 
-check_repository() {
+# What the programs say of themselves.
+check_programs() {
     check_version
     check_completion
+}
+
+check_repository() {
     check_proofs_by_hand
     check_crates_are_named
     check_figures
@@ -114,3 +118,5 @@ check_repository() {
     check_believed
     check_words
 }
+
+portless+=(check_repository check_programs)

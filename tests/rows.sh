@@ -378,21 +378,6 @@ run_rows_by_the_model() {
     judge $? "the definitions that are believed, run over the rows"
 }
 
-# Those that take long and need no port, beside all others.
-run_long_ones_beside() {
-    beside run_rpcbind_over_files
-    beside run_rpcinfo_over_files
-    beside run_rpcinfo_endless_reply
-    beside run_rpcinfo_long_reply_cut_off
-    beside run_rpcinfo_longest_texts
-    beside run_refused_memory
-    beside run_longest_inputs
-    beside run_many_events
-    beside run_shortest_outputs_of_bytes
-    beside run_rpcinfo_of_silence
-    beside run_rows_by_the_model
-}
-
 run_rpcbind_over_files() {
     run_rows
     run_word_without_text
@@ -410,3 +395,7 @@ run_rpcinfo_over_files() {
     run_rpcinfo_of_a_folder
     run_rpcinfo_help
 }
+
+# Those that take longest come first.
+portless+=(run_rpcinfo_endless_reply run_rpcinfo_long_reply_cut_off run_rpcinfo_longest_texts run_longest_inputs
+    run_rows_by_the_model run_rpcbind_over_files run_many_events run_shortest_outputs_of_bytes run_rpcinfo_over_files)

@@ -1,31 +1,35 @@
 #!/usr/bin/env bash
 # The whole test: the tests without proof, `rt ci` (every proof from nothing, the edits of must-fail/, and each program), the
 # edits of refused/ over what that built, the rows, and two hosts. The last line is 'N passed, N failed' over all; the status is 1 if one failed. With
-# --anew, nothing that this machine passed before is kept. With --quick nothing is proved: the rows run programs that
-# were built without proof.
+# --anew, nothing that this machine passed before is kept. With --quick nothing is proved: the rows and two hosts run
+# programs that were built without proof, beside the tests.
 set -u
 cd "$(dirname "$0")/.." || exit 1
 . tests/machine.sh
+. tests/beside.sh
 
 memory_of_one=3000 # in MiB, for a check
 
 work=$(mktemp -d) || exit 1
-trap 'put_back_libraries; rm -rf "$work"' EXIT
+trap 'end_beside; put_back_libraries; rm -rf "$work"' EXIT
+trap 'exit 1' INT TERM HUP
 passed=0
 failed=0
 
-# Runs a command whose last line is its counts, and adds them. A command that prints no counts is a failure, and so is
-# one that fails and counts none.
+# Runs a command whose last line is its counts, and adds them.
 add() {
-    local status p f
     "$@" 2>&1 | tee "$work/log" | show_progress
-    status=${PIPESTATUS[0]}
-    if ! read -r p f < <(tail -n 1 "$work/log" | sed -nE 's/^([0-9]+) passed, ([0-9]+) failed$/\1 \2/p'); then
-        echo "failed: '$*' printed no counts"
-        p=0
-        f=1
-    elif [ "$status" -ne 0 ] && [ "$f" -eq 0 ]; then
-        f=1
+    add_counts "$*" "${PIPESTATUS[0]}" "$work/log"
+}
+
+# A command that prints no counts is a failure, and so is one that fails and counts none.
+add_counts() {
+    local counts p=0 f=1
+    if counts=$(read_counts "$3"); then
+        p=${counts% *} f=${counts#* }
+        [ "$2" -eq 0 ] || [ "$f" -gt 0 ] || f=1
+    else
+        echo "failed: '$1' printed no counts"
     fi
     passed=$((passed + p))
     failed=$((failed + f))
@@ -71,6 +75,47 @@ put_back_libraries() {
     rm -rf "$aside"
 }
 
+# ---- without proof
+
+# Runs a command in the background, whose seconds go on from those of here, and keeps what it says and its status in files.
+begin() {
+    local name=$1
+    shift
+    (
+        trap 'kill "${run:-}" 2> /dev/null; wait; exit 1' TERM
+        exec > >(tee "$work/$name.log")
+        said=$!
+        env SECONDS="$SECONDS" "$@" 2>&1 &
+        run=$!
+        wait "$run"
+        status=$?
+        exec >&-
+        wait "$said"
+        echo "$status" > "$work/$name.status"
+    ) &
+}
+
+# Adds the counts of a command that has ended.
+end() {
+    add_counts "$1" "$(cat "$work/$1.status")" "$work/$1.log"
+}
+
+# The tests, and beside them, once the programs are built, the rows and two hosts.
+run_quick() {
+    local tests
+    make_slots "$work/slots" "$cores" || exit 1
+    begin tests tests/run-tests.sh --programs "$work"
+    tests=$!
+    until [ -x "$work/rpcbind" ] && [ -x "$work/rpcinfo" ] || ! kill -0 "$tests" 2> /dev/null; do sleep 0.2; done
+    has_namespaces || wait "$tests" # as they need the same ports
+    begin rows tests/run-rows.sh "$work/rpcbind" "$work/rpcinfo"
+    begin hosts tests/two-hosts.sh "$work/rpcbind" "$work/rpcinfo"
+    wait
+    end tests
+    end rows
+    end hosts
+}
+
 aside=$PWD/.git/libraries
 crates=$(list_crates | wc -l)
 with_edits=$(find crates/*/must-fail -name '*.edit' -printf '%h\n' | sort -u | wc -l)
@@ -78,9 +123,7 @@ cores=$(count_cores)
 say_kit
 if [ "${1:-}" = --quick ]; then
     echo "make quick: each test and each row on $cores cores, and no proof"
-    add tests/run-tests.sh --programs "$work"
-    add tests/run-rows.sh "$work/rpcbind" "$work/rpcinfo"
-    add tests/two-hosts.sh "$work/rpcbind" "$work/rpcinfo"
+    run_quick
 else
     echo "make test: $crates crates on $cores cores: from nothing about $(minutes_of_test "$cores" "$(measure_pace)") minutes;" \
         "what this machine passed before is not proved again"

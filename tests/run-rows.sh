@@ -1,7 +1,8 @@
 #!/usr/bin/env bash
 # Runs the built programs over their rows, over inputs that are made here and over sockets, and checks what must hold in the
 # repository. With two words these are the programs rpcbind and rpcinfo that it runs, built with checks: such a program
-# does not run in little memory, so that is said and not tried.
+# does not run in little memory, so that is said and not tried. Further words are the checks to run, as run_keep; the two
+# programs are then empty words for those that `make` built.
 #
 # What is run and checked stands in the files that are sourced here, and the first lines of each say what it is for:
 #
@@ -16,23 +17,24 @@
 #     releases.sh    the package, and what a release refuses
 #     repository.sh  proofs by hand, names in documents, words and versions
 #
+# Each check has a folder of its own, `work`, and runs beside others: as root in namespaces of its own; as another user,
+# those that need a port one after another.
+#
 # Each difference is printed. The last line is 'N passed, N failed'; the status is 1 if one failed.
 set -u
 cd "$(dirname "$0")/.." || exit 1
+. tests/machine.sh
+. tests/beside.sh
 
-for part in daemon rows starts manager records serving keep asking refused releases repository; do
+portless=() # the checks that need no port
+checks=()   # those that need one, and then all
+waiting=    # those that wait for most of their time
+for part in daemon rows keep starts asking records serving manager refused releases repository; do
     . "tests/$part.sh"
 done
 
-program=${1:-$PWD/crates/rpcbind/out/rpcbind}
-rpcinfo=${2:-$PWD/crates/rpcinfo/out/rpcinfo}
-has_checks=${1:+1}
-version=$(packaging/changelog.sh version) || exit 1
 passed=0
 failed=0
-beside=()
-work=$(mktemp -d) || exit 1
-trap 'rm -rf "$work"' EXIT
 
 # Compares a file with what is expected of it, and prints the first lines of the difference.
 same() {
@@ -52,31 +54,6 @@ as_wanted() {
     return $bad
 }
 
-# Runs a function with its checks beside all others, in a folder of its own.
-beside() {
-    local name=$1
-    beside+=("$name")
-    (
-        work=$work/$name passed=0 failed=0
-        mkdir "$work" && "$name"
-        echo "$passed $failed" > "$work/counts"
-    ) > "$work/$name.log" 2>&1 &
-}
-
-# Waits for the checks beside, and counts them.
-join_beside() {
-    local name p f
-    wait
-    for name in "${beside[@]}"; do
-        cat "$work/$name.log"
-        if read -r p f < "$work/$name/counts"; then
-            passed=$((passed + p)) failed=$((failed + f))
-        else
-            judge 1 "$name has not ended"
-        fi
-    done
-}
-
 # Runs the program with these words over a file.
 run() {
     local input=$1
@@ -85,28 +62,48 @@ run() {
     got=$?
 }
 
-for built in "$program" "$rpcinfo"; do
-    [ -x "$built" ] || judge 1 "no program $built: run 'make' first"
-done
-# Runs a part of the rows, and says which.
-part() {
-    local name=${1//_/ }
-    printf '%10s s  rows: %s\n' "$SECONDS" "${name#run }"
+# Runs one check, where run_checks has begun it. Without a network of its own it waits for the ports.
+run_inside() {
+    if [ -n "$own_namespaces" ]; then
+        ip link set lo up || exit 1
+    elif [[ " ${portless[*]} " != *" $1 "* ]]; then
+        exec {ports}> "$work/ports" && flock "$ports" || exit 1
+    fi
+    work=$work/$1
+    mkdir "$work" || exit 1
     "$1"
+    echo "$passed passed, $failed failed"
 }
 
-if [ "$failed" -eq 0 ]; then
-    part run_long_ones_beside
-    part run_starts
-    part run_under_a_manager
-    part run_records
-    part run_asking
-    part run_serving
-    part run_keep_rows
-    part join_beside
-    part run_releases
+if [ "${1:-}" = --inside ]; then
+    run_inside "$2"
+    exit
 fi
-part check_repository
 
+export program=${1:-$PWD/crates/rpcbind/out/rpcbind}
+export rpcinfo=${2:-$PWD/crates/rpcinfo/out/rpcinfo}
+export has_checks=${1:+1}
+version=$(packaging/changelog.sh version) || exit 1
+work=$(mktemp -d) || exit 1
+export version work own_namespaces=
+trap 'end_beside; rm -rf "$work"' EXIT
+trap 'exit 1' INT TERM HUP
+
+make_slots "$work/slots" "$(count_cores)" || exit 1
+runner=(tests/run-rows.sh --inside)
+if has_namespaces; then
+    own_namespaces=1
+    runner=("${namespaces[@]}" "${runner[@]}")
+fi
+checks=("${portless[@]}" "${checks[@]}")
+[ $# -le 2 ] || checks=("${@:3}")
+for built in "$program" "$rpcinfo"; do
+    why=$(why_not "$built")
+    if [ -n "$why" ]; then
+        judge 1 "the rows are not run: $why"
+        checks=(check_repository)
+    fi
+done
+run_checks rows "${checks[@]}"
 echo "$passed passed, $failed failed"
 [ "$failed" -eq 0 ]

@@ -14,7 +14,7 @@ await_line() {
 # Asks the daemon on port 20112 the lines of standard input by tests/ask.py, each of which has its answer after `: `.
 asked_are() {
     cat > "$work/wanted-answers"
-    sed 's/: .*//' "$work/wanted-answers" | PORT=20112 timeout 60 python3 -B tests/ask.py > "$work/answers"
+    PORT=20112 python3 -B tests/ask.py < "$work/wanted-answers" > "$work/answers"
     same "$work/wanted-answers" "$work/answers" answers
 }
 
@@ -136,11 +136,11 @@ is_answered() {
     timeout "${3:-60}" "$rpcinfo" --port 20112 "-$1" "$2" 100000 2 > /dev/null 2>&1
 }
 
-# In a network namespace whose machine has an address in a network that is served and another one, which is announced. The
-# other is not served: over TCP it is told so at once, by a connection that is closed.
+# The check's own network has an address in a network that is served and another one, which is announced. The other is not
+# served: over TCP it is told so at once, by a connection that is closed.
 callers_of_networks() {
     local bad=0 host transport status
-    ip link set lo up && ip address add 192.0.2.1/32 dev lo && ip address add 198.51.100.1/32 dev lo || return 1
+    ip address add 192.0.2.1/32 dev lo && ip address add 198.51.100.1/32 dev lo || return 1
     start_daemon "$work/listening" --port 20112 --bind 0.0.0.0 --announce 198.51.100.1 --from 192.0.2.0/24 || return 1
     for host in 127.0.0.1 192.0.2.1; do
         for transport in t u; do
@@ -154,18 +154,14 @@ callers_of_networks() {
     is_answered u 192.0.2.1 || { echo "192.0.2.1 -u: not answered at the end"; bad=1; }
     kill "$daemon"
     wait "$daemon" 2> /dev/null
+    ip address del 192.0.2.1/32 dev lo && ip address del 198.51.100.1/32 dev lo || bad=1
     return $bad
 }
 
 # FROM-1
 run_callers_of_networks() {
-    if [ "$(id -u)" -ne 0 ] || ! unshare --net true 2> /dev/null || ! command -v ip > /dev/null; then
-        echo "callers of other networks are not tried: that wants root, unshare and ip"
-        return
-    fi
-    export program rpcinfo work
-    export -f is_answered callers_of_networks start_daemon
-    unshare --net "$BASH" -c callers_of_networks
+    [ -n "$own_namespaces" ] || { echo "callers of other networks are not tried: that wants root, unshare and ip"; return; }
+    callers_of_networks
     judge $? "callers of other networks"
 }
 
@@ -176,3 +172,5 @@ run_serving() {
     run_local_socket
     run_callers_of_networks
 }
+
+checks+=(run_serving)

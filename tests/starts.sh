@@ -355,3 +355,5 @@ run_starts() {
     run_levels
     run_helps
 }
+
+checks+=(run_starts)
