@@ -26,7 +26,8 @@ impl Model for Inbox {
 }
 
 impl Inbox {
-    ghost use Rattle.std.specs.Prelude.{◌≡◌, ◌≤◌, ◌==◌, [], length, drop, IfOk, OnErr};
+    ghost use Rattle.std.specs.Prelude.{◌≡◌, ◌≤◌, ◌==◌, ◌-◌, [], length, drop, IfOk, OnErr};
+    ghost use Rattle.rb_evidence.specs.Walks.{IsReadBehind};
     ghost use Rattle.rb_links.specs.Outgoing.{read_ahead};
 
     /// An empty one.
@@ -79,16 +80,31 @@ impl Inbox {
         self.end = 0;
     }
 
-    /// Reads once, over what is left.
-    pub(crate) fn read<R: Read>(&mut self, reader: &mut R) -> io::Result<usize>
-        ensures read { IfOk result (λ n. length self.new ≡ n) }
-        ensures few { IfOk result (λ n. n ≤ read_ahead) }
-        ensures none { OnErr result (self.new ≡ []) }
+    /// How many bytes there is room for, behind those that are left.
+    pub(crate) fn room(&self) -> usize
+        ensures { result ≡ read_ahead - length self.now }
     {
-        self.start = 0;
-        self.end = 0;
-        let n = reader.read(&mut self.bytes)?;
-        self.end = n;
+        READ_AHEAD - (self.end - self.start)
+    }
+
+    /// Reads once, behind what is left.
+    pub(crate) fn read<R: Read>(&mut self, reader: &mut R) -> io::Result<usize>
+        ensures read { IfOk result (IsReadBehind self.old self.new) }
+        ensures few { length self.new ≤ read_ahead }
+        ensures none { OnErr result (self.new ≡ self.old) }
+    {
+        self.move_to_front();
+        let n = reader.read(&mut self.bytes[self.end..])?;
+        self.end += n;
         Ok(n)
+    }
+
+    /// What is left stands at the front of the room.
+    fn move_to_front(&mut self)
+        ensures { self.new ≡ self.old }
+    {
+        self.bytes.copy_within(self.start..self.end, 0);
+        self.end -= self.start;
+        self.start = 0;
     }
 }

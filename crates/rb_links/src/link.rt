@@ -3,16 +3,16 @@ ghost use Rattle.std.specs.Prelude.{◌≡◌, ◌≤◌, length, IfOk, Some, No
 ghost use Rattle.rb_links.specs.Holding.{is_between_records, must_wait};
 ghost use Rattle.rb_links.specs.Outgoing.{nothing_in, own_room};
 
-use crate::inbox::{Inbox, READ_AHEAD};
+use crate::inbox::Inbox;
 use crate::outbox::{OWN_ROOM, Outbox};
 use mio::{Registry, Token};
 use rb_address::{Family, Who};
 use rb_evidence::Sight;
 use rb_model::Standing;
 use rb_policy::{
-    Evidence, Holder, Next, Origin, Round, after_read, after_write, evidence_of, is_cut_off,
-    looks_in, may_change, origin_now, origin_of, outcome_of_count, reads_on, round_of, shown_after,
-    sight_in, standing_outside, stuck_at,
+    Evidence, Held, Holder, Next, Origin, Round, after_read, after_write, evidence_of, held_in,
+    is_cut_off, is_local, looks_in, may_change, origin_now, origin_of, outcome_of_count, reads_on,
+    round_of, shown_after, sight_in, standing_outside, stuck_at,
 };
 use rb_sockets::{Ends, Stream};
 use std::alloc::{AllocError, Global};
@@ -73,9 +73,9 @@ pub struct Link {
     is_between: bool,
     /// What the kernel's tables are to show of it, if they are.
     sought: Option<Sought>,
-    /// Whether its call is held back until they did.
-    is_held: bool,
-    /// Whether its peer has ended what it sends, or has reset it, as far as an event showed.
+    /// What of its call is held back until they did.
+    held: Held,
+    /// Whether its peer has ended what it sends, or has reset it, as far as an event or a look showed.
     has_ended: bool,
     /// Among whose connections it counts when its call is not held back.
     origin: Origin,
@@ -113,7 +113,7 @@ impl Link {
             unknown: None,
             is_between: true,
             sought: None,
-            is_held: false,
+            held: Held::Nothing,
             has_ended: false,
             origin: Origin::Nobody,
             since: 0,
@@ -151,7 +151,7 @@ impl Link {
         self.unknown = None;
         self.is_between = true;
         self.sought = None;
-        self.is_held = false;
+        self.held = Held::Nothing;
         self.has_ended = false;
         self.origin = origin;
         self.since = moment;
@@ -183,12 +183,19 @@ impl Link {
         ensures { result ≡ must_wait self.new }
     {
         if !self.must_wait() {
+            self.held = Held::Nothing;
             return false;
         }
         self.sought = sought_from(self.sought, self.unknown);
-        self.made_progress |= !self.is_held;
-        self.is_held = true;
+        let held = held_in(self.inbox.bytes());
+        self.made_progress |= held != self.held;
+        self.held = held;
         true
+    }
+
+    /// Whether some of its call is held back.
+    pub(crate) fn is_held(&self) -> bool {
+        self.held != Held::Nothing
     }
 
     /// The kernel's tables are to show whose it is, if they were not asked yet. Whether they are.
@@ -214,10 +221,10 @@ impl Link {
         self.has_ended = true;
     }
 
-    /// Notes whether its peer has ended what it sends, or has reset it, if its call is held back: that may have happened
-    /// since its last event.
+    /// Notes whether its peer has ended what it sends, or has reset it, if it is of this host: that may have happened since
+    /// its last event.
     pub(crate) fn look_for_end(&mut self) {
-        if let (true, Some(stream)) = (self.is_held, &self.stream) {
+        if let (true, Some(stream)) = (is_local(&self.origin), &self.stream) {
             self.has_ended |= stream.has_ended();
         }
     }
@@ -269,10 +276,10 @@ impl Link {
         let who = sought.ends.who(evidence);
         self.sought = None;
         self.origin = origin_of(&who);
-        if !self.is_held {
+        if !self.is_held() {
             return None;
         }
-        self.is_held = false;
+        self.held = Held::Nothing;
         self.unknown = None;
         self.since = moment;
         Some(who)
@@ -316,7 +323,7 @@ impl Link {
         self.stream = None;
         self.unknown = None;
         self.sought = None;
-        self.is_held = false;
+        self.held = Held::Nothing;
         self.outbox.clear();
         long_outbox.take_longer(&mut self.outbox);
         self.is_waiting = false;
@@ -342,7 +349,7 @@ impl Link {
 
     /// Where it stands, as its client sees it: bytes are owed on it until its socket has taken them.
     fn standing_outside(&self) -> Standing {
-        standing_outside(self.standing, !self.outbox.is_empty(), self.is_held)
+        standing_outside(self.standing, !self.outbox.is_empty(), self.is_held())
     }
 
     /// The round of a turn in which it is served.
@@ -361,9 +368,10 @@ impl Link {
         if self.is_free() {
             return None;
         }
+        let standing = self.standing_outside();
         Some(Holder {
-            origin: origin_now(self.origin, self.is_held, self.has_ended),
-            standing: self.standing_outside(),
+            origin: origin_now(self.origin, self.held, self.has_ended, standing),
+            standing,
             since: self.since,
         })
     }
@@ -450,10 +458,17 @@ impl Link {
         if !self.outbox.is_empty() {
             return self.write();
         }
-        if !self.inbox.is_empty() || self.read_was_short {
+        if self.read_was_short || !self.takes_more() {
             return Next::AwaitEvent;
         }
         self.read(may_end)
+    }
+
+    // ASK-4: The rest of a call that is held back is read meanwhile, as far as there is room: a call that needs no owner is
+    // answered as soon as that shows.
+    /// Whether more is read from it: if all that was read was taken, or the rest of what is held back is yet to come.
+    fn takes_more(&self) -> bool {
+        self.inbox.is_empty() || self.held == Held::Part && self.inbox.room() > 0
     }
 
     /// Writes what waits, once.
@@ -474,9 +489,10 @@ impl Link {
         let Some(stream) = &mut self.stream else {
             return Next::Close;
         };
+        let room = self.inbox.room();
         let came = self.inbox.read(&mut stream.incoming());
         if let Ok(n) = came {
-            self.read_was_short = !reads_on(n, READ_AHEAD, may_end);
+            self.read_was_short = !reads_on(n, room, may_end);
             self.moved_some |= n > 0;
         }
         let waits = matches!(self.standing, Standing::Sends | Standing::Awaiting);

@@ -8,7 +8,7 @@ use mio::{Registry, Token};
 use rb_address::{Family, Who};
 use rb_evidence::Sight;
 use rb_forward::sooner;
-use rb_policy::{Admission, Holder, Origin, Round, accept_count, admit};
+use rb_policy::{Admission, Holder, Origin, Round, accept_count, admit, is_unawaited};
 use rb_sockets::{Ends, Stream};
 use std::alloc::{AllocError, Global};
 
@@ -33,8 +33,6 @@ pub struct Places {
     are_left: bool,
     /// The key at which the last round of the next turn begins.
     first_left: usize,
-    /// The last turn in which all places were taken when a client came.
-    pressed_in: u64,
 }
 
 // PLACES-2: There are as many places as connections may be, or as descriptors are left for, and
@@ -77,7 +75,6 @@ impl Places {
             are_owed: false,
             are_left: false,
             first_left: 0,
-            pressed_in: 0,
         })
     }
 
@@ -209,13 +206,10 @@ impl Places {
     /// What is done with a newcomer in a turn, as the connections stand now. If one is given up, the kernel's tables are to
     /// show of all from this host whose they are.
     pub fn admit(&mut self, newcomer: &Origin, turn: Turn) -> Admission {
-        self.look_for_ends(turn);
-        for key in 0..self.links.len() {
-            if let (Some(holder), Some(link)) = (self.holders.get_mut(key), self.links.get(key)) {
-                *holder = link.holder();
-            }
+        let mut admission = self.admit_by_events(newcomer, turn);
+        if self.look_for_ends(admission) {
+            admission = self.admit_by_events(newcomer, turn);
         }
-        let admission = admit(self.holders.as_slice(), newcomer, turn.moment);
         if let Admission::GiveUp(_) = admission {
             for link in &mut self.links {
                 self.are_sought |= link.seek();
@@ -224,15 +218,44 @@ impl Places {
         admission
     }
 
-    /// Looks once in a turn, and only if all places are taken, which of those whose calls are held back have ended.
-    fn look_for_ends(&mut self, turn: Turn) {
-        if self.taken < self.links.len() || self.pressed_in == turn.number {
-            return;
+    /// What is done with a newcomer, by what is noted of the connections.
+    fn admit_by_events(&mut self, newcomer: &Origin, turn: Turn) -> Admission {
+        for key in 0..self.links.len() {
+            if let (Some(holder), Some(link)) = (self.holders.get_mut(key), self.links.get(key)) {
+                *holder = link.holder();
+            }
         }
-        self.pressed_in = turn.number;
+        admit(self.holders.as_slice(), newcomer, turn.moment)
+    }
+
+    // DOOR-14: While calls are held back, it is looked which clients of this host have ended what they
+    // send, before a connection is given up on which somebody may wait.
+    /// Looks which clients of this host have ended what they send, if calls are held back and a connection is given up on which
+    /// somebody may wait. Whether it did.
+    fn look_for_ends(&mut self, admission: Admission) -> bool {
+        let Admission::GiveUp(key) = admission else {
+            return false;
+        };
+        if self.is_unawaited(key) || !self.are_held() {
+            return false;
+        }
         for link in &mut self.links {
             link.look_for_end();
         }
+        true
+    }
+
+    /// Whether nobody waits on the connection at a place, as of the last newcomer.
+    fn is_unawaited(&self, key: usize) -> bool {
+        match self.holders.get(key) {
+            Some(Some(holder)) => is_unawaited(&holder.origin),
+            Some(None) | None => false,
+        }
+    }
+
+    /// Whether calls are held back.
+    fn are_held(&self) -> bool {
+        self.links.iter().any(|link| link.is_held())
     }
 
     /// An event shows that the peer of the connection at a place has ended what it sends, or has reset it.

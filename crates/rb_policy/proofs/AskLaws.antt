@@ -1,18 +1,20 @@
 -- A call that changes rows passes the look at the bytes of its record, however they are cut.
-use Rattle.std.proofs.Common.{◌≡◌, ◌<◌, ◌≤◌, ◌+◌, ◌-◌, ◌%◌, ◌^◌, ℕ, Bool, true, false, cond, ltb, eqb, ◌&&◌, ◌||◌, List, [], ◌∷◌, ◌++◌, length, take, drop, refl, sym, ap, ◌∙◌, arith, append_assoc}
+use Rattle.std.proofs.Common.{◌≡◌, ◌<◌, ◌≤◌, ◌+◌, ◌-◌, ◌%◌, ◌^◌, ℕ, Bool, true, false, cond, ltb, eqb, ◌&&◌, ◌||◌, Some, None, List, [], ◌∷◌, ◌++◌, length, take, drop, refl, sym, ap, ◌∙◌, arith, append_assoc}
 use Rattle.std.proofs.lemmas.Bool.{ltb-false}
-use Rattle.std.proofs.lemmas.List.{length-drop, length-take, take-take, take-append-le, drop-append-le, drop-take, drop_at, drop-drop}
+use Rattle.std.proofs.lemmas.Bool.Decides.{nat_tests}
+use Rattle.std.proofs.lemmas.List.{length-append, length-drop, length-take, take-take, take-append-le, drop-append-le, drop-take, drop_at, drop-drop}
 use Rattle.std.proofs.lemmas.Grind.{common_steps}
 use Rattle.std.specs.Int.{w32, from_be_bytes}
 use Rattle.rb_xdr.specs.Xdr.{number_at, word}
 use Rattle.rb_xdr.proofs.Words.{length-number, number_at-number}
 use Rattle.rb_rpc.specs.declared.call.CallHead.{CallHead}
-use Rattle.rb_rpc.specs.Records.{Fragment, fragment_header, marking, markings}
+use Rattle.rb_rpc.specs.Records.{Fragment, fragment_header, marking, markings, is_last, is_cut}
 use Rattle.rb_rpc.specs.RecordLaws.{is_empty, AreFragments, joined_data}
 use Rattle.rb_rpc.specs.declared.call.Verdict.{Verdict}
 use Rattle.rb_rpc.specs.Verdict.{verdict, head_of}
 use Rattle.rb_rpc.specs.declared.call.Verdict.TheVariants.{NoCall, RpcMismatch, AuthError, Call}
-use Rattle.rb_policy.specs.Asks.{changes, has_short_fragment, may_change, asks_for_owner, ChangesWait}
+use Rattle.rb_policy.specs.declared.asks.Held.TheVariants.{Part}
+use Rattle.rb_policy.specs.Asks.{changes, has_short_fragment, may_change, asks_for_owner, ChangesWait, held_by, held_in, PartsAreNotWhole}
 
 -- ---- the head
 
@@ -128,3 +130,56 @@ pub changes_wait : ChangesWait
 changes_wait text content rest head place came is call asks =
     by_fragments is.fragments text content rest came head is.marked.some is.marked.fragmented is.marked.spelled is.content_is
     (head_is content head place call) asks
+
+-- ---- how much of it is there
+
+mark_word : (len : ℕ) (last : Bool) (rest : List ℕ) → len < 2 ^ 31 → number_at 0 (fragment_header len last ++ rest) ≡ cond last (2 ^ 31 + len) len
+unfolding fragment_header
+mark_word len true rest small = number_at-number (2 ^ 31 + len) rest (omega (arith, small))
+mark_word len false rest small = number_at-number len rest (omega (arith, small))
+
+a_part : (cut last : Bool) (content : List ℕ) → (cut ≡ false → last ≡ true → ⊥) → held_by (cond cut None (cond last (Some content) None)) ≡ Part
+a_part true last content refuted = refl
+a_part false false content refuted = refl
+a_part false true content refuted = absurd (refuted refl refl)
+
+-- the first fragment is not whole, or another one follows it
+module _ (f : Fragment) (more : List Fragment) (came : ℕ) (are : AreFragments (f ∷ more)) (missing : came < length (markings (f ∷ more))) where
+  abbrev front : List ℕ
+  front = take came (markings (f ∷ more))
+
+  word_is : 4 ≤ came → number_at 0 front ≡ cond f.last (2 ^ 31 + length f.content) (length f.content)
+  word_is enough =
+      mark_there came (markings (f ∷ more)) enough
+      ∙ ap (number_at 0) (append_assoc (fragment_header (length f.content) f.last) f.content (markings more))
+      ∙ mark_word (length f.content) f.last (f.content ++ markings more) are.0
+
+  refuted : (last : Bool) (rest : List Fragment) → f.last ≡ last → more ≡ rest → is_cut front ≡ false → is_last front ≡ true → ⊥
+  refuted true [] is none whole flag =
+      let fits = ltb-false _ _ whole in
+      let few = length-take came (markings (f ∷ more)) in
+      let word = word_is (omega (arith, fits, few)) ∙ ap (λ (b : Bool). cond b (2 ^ 31 + length f.content) (length f.content)) is in
+      let all = ap (λ (fs : List Fragment). length (markings (f ∷ fs))) none in
+      let one = length-append (marking f) [] in
+      let mark = length-append (fragment_header (length f.content) f.last) f.content in
+      omega (arith, fits, few, word, all, one, mark, length-mark (length f.content) f.last, are.0, missing)
+  refuted true (g ∷ rest) is some whole flag = absurd (false_is_true (sym (ap is_empty some) ∙ sym are.1 ∙ is))
+  refuted false rest is all whole flag =
+      let fits = ltb-false _ _ whole in
+      let few = length-take came (markings (f ∷ more)) in
+      let word = word_is (omega (arith, fits, few)) ∙ ap (λ (b : Bool). cond b (2 ^ 31 + length f.content) (length f.content)) is in
+      grind (arith, nat_tests, flag, word, are.0)
+
+  of_part : held_in front ≡ Part
+  of_part = a_part (is_cut front) (is_last front) _ (refuted f.last more refl refl)
+
+by_parts : (fragments : List Fragment) (text : List ℕ) (came : ℕ)
+    → is_empty fragments ≡ false → AreFragments fragments → text ≡ markings fragments → came < length text → held_in (take came text) ≡ Part
+by_parts [] text came some are spelled missing = absurd cc
+by_parts (f ∷ more) text came some are spelled missing =
+    ap (λ (t : List ℕ). held_in (take came t)) spelled
+    ∙ of_part f more came are (omega (arith, missing, ap (λ (t : List ℕ). length t) spelled))
+
+pub parts_are_not_whole : PartsAreNotWhole
+parts_are_not_whole text content came is missing =
+    by_parts is.fragments text came is.marked.some is.marked.fragmented is.marked.spelled missing

@@ -4,7 +4,7 @@ use Rattle.std.specs.Prelude.{count_by, position}
 use Rattle.std.proofs.lemmas.Bool.Decides.{nat_tests}
 use Rattle.std.proofs.lemmas.List.Sums.{sum_by-cons}
 use Rattle.rb_policy.specs.declared.origin.Origin.{Origin}
-use Rattle.rb_policy.specs.declared.origin.Origin.TheVariants.{Host, User, Nobody, New, Waiting, Ended}
+use Rattle.rb_policy.specs.declared.origin.Origin.TheVariants.{Host, User, Nobody, New, Waiting, Unawaited}
 use Rattle.rb_policy.specs.Origins.{share_of, is_roots}
 use Rattle.rb_policy.specs.declared.door.Holder.{Holder}
 use Rattle.rb_policy.specs.Door.{Places, is_free, is_held_by, count_held_by, may_hold_more}
@@ -29,7 +29,7 @@ some_share (User uid) all = grind (arith, nat_tests)
 some_share Nobody all = grind (arith, nat_tests)
 some_share New all = grind (arith, nat_tests)
 some_share Waiting all = grind (arith, nat_tests)
-some_share Ended all = grind (arith, nat_tests)
+some_share Unawaited all = grind (arith, nat_tests)
 
 at_share : (root : Bool) (held share : ℕ) → (root || nat_lt held share) ≡ false → 0 < share → 0 < held
 at_share root held share e some = grind (arith, nat_tests, e, some)

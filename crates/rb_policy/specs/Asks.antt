@@ -1,10 +1,13 @@
 -- Which calls over TCP from this machine wait until it is known whose they are.
-use Rattle.std.specs.Prelude.{◌≡◌, ℕ, ◌%◌, ◌^◌, ◌==◌, nat_lt, Bool, true, ◌||◌, ◌&&◌, List, ◌++◌, length, take}
+use Rattle.std.specs.Prelude.{◌≡◌, ℕ, ◌<◌, ◌%◌, ◌^◌, ◌==◌, nat_lt, Bool, true, ◌||◌, ◌&&◌, List, ◌++◌, length, take, Option, Some, None}
 use Rattle.rb_xdr.specs.Xdr.{word}
 use Rattle.rb_rpc.specs.declared.call.CallHead.{CallHead}
+use Rattle.rb_rpc.specs.Records.{one_fragment}
 use Rattle.rb_rpc.specs.RecordLaws.{IsMarked}
 use Rattle.rb_rpc.specs.Verdict.{verdict}
 use Rattle.rb_rpc.specs.declared.call.Verdict.TheVariants.{Call}
+use Rattle.rb_policy.specs.declared.asks.Held.{Held}
+use Rattle.rb_policy.specs.declared.asks.Held.TheVariants.{Part, Whole}
 
 -- SET and UNSET, and CALLIT, BCAST (5) and INDIRECT (10), which a version has or has not
 abbrev pub changes : ℕ → Bool
@@ -32,3 +35,19 @@ ChangesWait =
     (text content rest : List ℕ) (head : CallHead) (place came : ℕ)
     → IsMarked text content → verdict content ≡ Call head place → asks_for_owner head ≡ true
     → may_change (take came (text ++ rest)) ≡ true
+
+-- ---- how much of it is held back
+
+abbrev pub held_by : Option (List ℕ) → Held
+held_by None = Part
+held_by (Some content) = Whole
+
+-- ASK-3: A call that is held back is a part until its last byte came, and also if its record is more than one fragment.
+abbrev pub held_in : List ℕ → Held
+held_in front = held_by (one_fragment front)
+
+-- Whoever keeps back a byte of a call is not waited for.
+-- ASK-3
+abbrev pub PartsAreNotWhole : Type 0
+PartsAreNotWhole =
+    (text content : List ℕ) (came : ℕ) → IsMarked text content → came < length text → held_in (take came text) ≡ Part

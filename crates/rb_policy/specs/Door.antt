@@ -11,7 +11,7 @@ use Rattle.rb_policy.specs.declared.door.Holder.{Holder}
 use Rattle.rb_policy.specs.declared.door.Candidate.{Candidate}
 use Rattle.rb_policy.specs.declared.door.Admission.{Admission}
 use Rattle.rb_policy.specs.declared.door.Admission.TheVariants.{Take, GiveUp, Close}
-use Rattle.rb_policy.specs.Origins.{is_same_origin, is_roots, is_ended, share_of, class_of, is_local, is_active, goes_by}
+use Rattle.rb_policy.specs.Origins.{is_same_origin, is_roots, is_unawaited, share_of, class_of, is_local, is_active, goes_by}
 
 -- of the places for connections, each is free or has a holder
 abbrev pub Places : Type 0
@@ -97,7 +97,7 @@ candidate_of places now place holder = record {
 }
 
 -- The order in which holders are given up. Of two that differ in one of these, and in none before it, first goes: who
--- has ended, and last root; who is over the share; who is of another host; who made no progress of late; who stands
+-- waits for no reply, and last root; who is over the share; who is of another host; who made no progress of late; who stands
 -- earlier; who has made none for longer, or came later to wait for the tables; and who has the lower place.
 -- DOOR-2: Of the connections that may be given up it is the one that no other goes before: of those that are equal by
 -- DOOR-10, first goes one that counts among more than their share, then one that is not of this host.
@@ -119,10 +119,10 @@ abbrev pub GoesBefore : Candidate → Candidate → Type 0
 GoesBefore a b = by_precedence a b ≡ Less
 
 -- A connection may be given up for a newcomer: any, if the newcomer's origin may hold one place more, and else one of the
--- same origin, or one that has ended.
+-- same origin, or one on which nobody waits.
 -- DOOR-4
 abbrev pub may_go : Bool → Origin → Origin → Bool
-may_go may_be_any newcomer origin = may_be_any || (is_same_origin origin newcomer || is_ended origin)
+may_go may_be_any newcomer origin = may_be_any || (is_same_origin origin newcomer || is_unawaited origin)
 
 -- DOOR-4
 pub record MayBeGivenUp (places : Places) (newcomer : Origin) (place : ℕ) (holder : Holder) : Type 0 where

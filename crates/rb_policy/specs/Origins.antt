@@ -1,13 +1,17 @@
 -- Among whose connections one counts, when all places are taken.
-use Rattle.std.specs.Prelude.{ℕ, ◌-◌, ◌^◌, ◌/◌, ◌==◌, max, nat_lt, Bool, true, false, if◌then◌else◌}
+use Rattle.std.specs.Prelude.{ℕ, ◌-◌, ◌^◌, ◌/◌, ◌==◌, max, nat_lt, Bool, true, false, not, ◌&&◌, if◌then◌else◌}
 use Rattle.rb_address.specs.declared.who.Owner.TheVariants.{Unknown, Uid}
 use Rattle.rb_address.specs.declared.who.Source.{Source}
 use Rattle.rb_address.specs.declared.who.Source.TheVariants as sources
 use Rattle.rb_address.specs.declared.who.Trust.{Trust}
 use Rattle.rb_address.specs.declared.who.Trust.TheVariants as trusts
 use Rattle.rb_address.specs.Hosts.{is_loopback, is_same_host}
+use Rattle.rb_model.specs.declared.types.Standing.{Standing}
+use Rattle.rb_model.specs.declared.types.Standing.TheVariants.{Idle, Reading, Owing, Awaiting, Sends, Lost}
+use Rattle.rb_policy.specs.declared.asks.Held.{Held}
+use Rattle.rb_policy.specs.declared.asks.Held.TheVariants.{Nothing, Part, Whole}
 use Rattle.rb_policy.specs.declared.origin.Origin.{Origin}
-use Rattle.rb_policy.specs.declared.origin.Origin.TheVariants.{Host, User, Nobody, New, Waiting, Ended}
+use Rattle.rb_policy.specs.declared.origin.Origin.TheVariants.{Host, User, Nobody, New, Waiting, Unawaited}
 
 -- those from elsewhere by their host
 abbrev pub origin_from : Source → Origin
@@ -22,11 +26,22 @@ origin_of (trusts.Local Unknown) source = origin_from source
 origin_of trusts.Claims source = origin_from source
 origin_of trusts.Stranger source = origin_from source
 
--- DOOR-9: Where a call is held back, its connection counts among those that wait, wherever it comes from.
-abbrev pub origin_now : Origin → Bool → Bool → Origin
-origin_now own false has_ended = own
-origin_now own true false = Waiting
-origin_now own true true = Ended
+-- whether a reply is owed, or may come yet
+abbrev pub is_owed : Standing → Bool
+is_owed Idle = false
+is_owed Reading = false
+is_owed Lost = false
+is_owed Owing = true
+is_owed Awaiting = true
+is_owed Sends = true
+
+-- DOOR-9: A connection whose whole call is held back counts among those that wait, wherever it comes from.
+-- DOOR-13: Nobody waits for a reply where a part of a call is held back, whose rest is yet to come; nor where the client has
+-- ended what it sends, or reset it, if nothing is owed or the call is held back. Such connections count together.
+abbrev pub origin_now : Origin → Held → Bool → Standing → Origin
+origin_now own Nothing has_ended standing = if has_ended && not (is_owed standing) then Unawaited else own
+origin_now own Part has_ended standing = Unawaited
+origin_now own Whole has_ended standing = if has_ended then Unawaited else Waiting
 
 abbrev pub is_same_origin : Origin → Origin → Bool
 is_same_origin (Host a) (Host b) = is_same_host a b
@@ -34,16 +49,16 @@ is_same_origin (User a) (User b) = a == b
 is_same_origin Nobody Nobody = true
 is_same_origin New New = true
 is_same_origin Waiting Waiting = true
-is_same_origin Ended Ended = true
+is_same_origin Unawaited Unawaited = true
 is_same_origin a b = false
 
 abbrev pub is_roots : Origin → Bool
 is_roots (User uid) = uid == 0
 is_roots origin = false
 
-abbrev pub is_ended : Origin → Bool
-is_ended Ended = true
-is_ended origin = false
+abbrev pub is_unawaited : Origin → Bool
+is_unawaited Unawaited = true
+is_unawaited origin = false
 
 -- DOOR-4: While others want places, another host may hold half of them, and so may all of this host whose user is unknown;
 -- one user of this host, root excepted, may hold a quarter, and so may those of this host that came since the kernel's
@@ -55,12 +70,11 @@ share_of Nobody places = max (places / 2) 1
 share_of (User uid) places = max (places / 4) 1
 share_of New places = max (places / 4) 1
 share_of Waiting places = max (places / 4) 1
-share_of Ended places = max (places / 4) 1
+share_of Unawaited places = max (places / 4) 1
 
--- DOOR-10: First goes a connection whose call is held back and whose client has ended what it sends or reset it; last goes
--- one of root.
+-- DOOR-10: First goes a connection on which nobody waits for a reply; last goes one of root.
 abbrev pub class_of : Origin → ℕ
-class_of Ended = 0
+class_of Unawaited = 0
 class_of (User uid) = if uid == 0 then 2 else 1
 class_of (Host host) = 1
 class_of Nobody = 1
@@ -79,7 +93,7 @@ active_for = 1000
 -- wait and where it ends, it makes progress.
 abbrev pub is_active : Origin → ℕ → ℕ → Bool
 is_active Waiting since now = true
-is_active Ended since now = false
+is_active Unawaited since now = false
 is_active origin since now = nat_lt (now - since) active_for
 
 -- DOOR-11: Of the connections whose calls are held back the one that came last is given up, so those that came before it

@@ -1,7 +1,9 @@
 //! Which calls over TCP from this machine wait until it is known whose they are.
 ghost use Rattle.std.specs.Prelude.{◌≡◌, ◌≤◌, ◌+◌, length};
 ghost use Rattle.rb_xdr.specs.Xdr.{number_at};
-ghost use Rattle.rb_policy.specs.Asks.{may_change, has_short_fragment, changes};
+ghost use Rattle.rb_policy.specs.Asks.{may_change, has_short_fragment, changes, held_in};
+
+use rb_rpc::one_fragment;
 
 /// The bytes of a record from which on it is known what it calls: the mark of its first fragment and six words, of which
 /// the fourth is the program and the sixth the procedure (RFC 5531 sections 9 and 11).
@@ -9,6 +11,27 @@ pub const CALL: usize = 28;
 
 /// The program of rpcbind.
 const RPCBIND: u32 = 100_000;
+
+/// What is held back of a call until it is known whose it is.
+#[derive(Clone, Copy, PartialEq, Eq)]
+pub enum Held {
+    /// Nothing.
+    Nothing,
+    /// A part: its client has yet to send the rest.
+    Part,
+    /// All of it: its client waits.
+    Whole,
+}
+
+/// How much of a call is held back, of whose record these bytes came. One that is cut into fragments counts as a part.
+pub fn held_in(front: &[u8]) -> Held
+    ensures { result ≡ held_in front.now }
+{
+    match one_fragment(front) {
+        Some(_) => Held::Whole,
+        None => Held::Part,
+    }
+}
 
 /// Whether a record that begins with these bytes may be a call whose answer depends on whose it is, or they don't tell yet:
 /// a SET or an UNSET of some version, or a call to be forwarded.

@@ -4,7 +4,8 @@ ghost use Rattle.rb_policy.specs.Door.{is_free, count_held_by, is_held_by, may_h
 ghost use Rattle.rb_policy.specs.Candidates.{candidate_at, first_of, NobodyMayBeGivenUp};
 
 use crate::origin::{
-    Origin, class_of, goes_by, is_active, is_ended, is_local, is_roots, is_same_origin, share_of,
+    Origin, class_of, goes_by, is_active, is_local, is_roots, is_same_origin, is_unawaited,
+    share_of,
 };
 use rb_model::Standing;
 
@@ -155,7 +156,7 @@ fn candidate_at(
 fn may_go(may_be_any: bool, newcomer: &Origin, origin: &Origin) -> bool
     ensures { result ≡ may_go may_be_any newcomer.now origin.now }
 {
-    may_be_any || is_same_origin(origin, newcomer) || is_ended(origin)
+    may_be_any || is_same_origin(origin, newcomer) || is_unawaited(origin)
 }
 
 impl Candidate {

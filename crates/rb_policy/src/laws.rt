@@ -1,24 +1,26 @@
 //! Laws of who has a place, of who may ask and is believed, of what waits until it is known whose it is, of where the ends of forwarded calls go, of how many
 //! datagrams are served, and of how many lines a log gets.
 ghost use Rattle.rb_policy.specs.Trusts.{OthersNeedNoTable, OthersAreStrangers, OthersAreStrangersOverUdp};
-ghost use Rattle.rb_policy.specs.Asks.{ChangesWait};
+ghost use Rattle.rb_policy.specs.Asks.{ChangesWait, PartsAreNotWhole};
 ghost use Rattle.rb_policy.specs.Shares.{SlicesAreAQuarter};
 ghost use Rattle.rb_policy.specs.BrakeLaws.{NeverMore, NeverHeldBack, HaveOnePlace, AreNetworks, StrangersCount, OneSecondIsServed, PlacesGoByTheKey};
-ghost use Rattle.rb_policy.specs.DoorLaws.{SharesAreKept, OneIsGivenUp, RootStays, EndedGoFirst, EarlierWaits, OthersKeepAQuarter};
+ghost use Rattle.rb_policy.specs.DoorLaws.{SharesAreKept, OneIsGivenUp, RootStays, UnawaitedGoFirst, EarlierWaits, WaitersGoLast, OthersKeepAQuarter};
 ghost use Rattle.rb_policy.specs.LogLaws.{FewOfASecond, FewInAll, NoneIsLost, OwnCountsAreApart, OwnersAndHostsAreApart, TheyAreToldThen};
 ghost use Rattle.rb_policy.specs.Networks.{WhoMayAsk, AskersOfOneNetwork};
 ghost use Rattle.rb_policy.specs.WaysBack.{EndsGoBack, OthersStay};
 
 /// If a connection is given up for a client that comes, it is one and no other, and those among whom the client counts hold no
 /// more than their share then, or no more than before, unless it is root. One of root is given up only if all are root's, and
-/// one that is held back whose client has ended goes first. Of those whose calls wait for the kernel's tables the one
-/// that came last is given up. Whatever a user of this host does, a quarter of the places is left to others.
+/// one on which nobody waits for a reply goes first. Of those whose calls wait for the kernel's tables the one that came
+/// last is given up, and within their share only if all others wait too. Whatever a user of this host does, a quarter of the
+/// places is left to others.
 pub fn door_laws()
     ensures one { OneIsGivenUp }
     ensures shares { SharesAreKept }
     ensures root { RootStays }
-    ensures ended { EndedGoFirst }
+    ensures unawaited { UnawaitedGoFirst }
     ensures turns { EarlierWaits }
+    ensures waiters { WaitersGoLast }
     ensures others { OthersKeepAQuarter }
 {}
 
@@ -44,10 +46,11 @@ pub fn trust_laws()
 {}
 
 /// However the record of a SET, an UNSET or a call to be forwarded is cut into fragments, and wherever what came of it
-/// ends, it is held back until it is known whose it is. While other work waits, the kernel's tables are read in a quarter
-/// of the time at most.
+/// ends, it is held back until it is known whose it is; while a byte of it is missing, it counts as a part. While other work
+/// waits, the kernel's tables are read in a quarter of the time at most.
 pub fn ask_laws()
     ensures wait { ChangesWait }
+    ensures parts { PartsAreNotWhole }
     ensures quarter { SlicesAreAQuarter }
 {}
 

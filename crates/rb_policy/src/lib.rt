@@ -36,7 +36,7 @@ pub use addresses::{
     ANY, LOOPBACK, LOOPBACK6, announced_inet, announced_inet6, binds_every_inet, binds_loopback6,
     forwards_inet, forwards_inet6, has_every_host, has_every_inet, is_no_address,
 };
-pub use asks::may_change;
+pub use asks::{Held, held_in, may_change};
 pub use brake::{Brake, Rate};
 pub use checked::checked_at;
 pub use deadlines::{Deadlines, MOST_PUT_OFF, is_behind};
@@ -49,7 +49,7 @@ pub use local_file::{
 };
 pub use moments::Moments;
 pub use networks::{asker, may_ask};
-pub use origin::{ACTIVE, Origin, origin_now, origin_of};
+pub use origin::{ACTIVE, Origin, is_local, is_unawaited, origin_now, origin_of};
 pub use outcome::{
     Next, SocketResult, after_accept, after_read, after_receive, after_write, outcome_of,
     outcome_of_count,

@@ -128,35 +128,87 @@ const SET: [u32; 15] = [
     2049,
 ];
 
-/// All places are taken, all but one by clients that have done nothing for long. The last one has sent a SET and ended what
-/// it sends: it is given up for a client that comes, in the turn in which its call is held back.
-fn ended_is_given_up(rt: &HostRuntime, host: &mut Host<'_>, clock: &Stopped) -> Option<bool> {
+/// All places are taken, all but one by clients that have done nothing for long. The last one waits for no reply: it sends a
+/// SET and ends what it sends, or all but the last byte of one. It is given up for a client that comes, in the turn in which
+/// that is held back.
+fn unawaited_is_given_up(
+    rt: &HostRuntime,
+    host: &mut Host<'_>,
+    clock: &Stopped,
+    is_whole: bool,
+) -> Option<bool> {
     let mut table = empty_table(rt)?;
     let mut idle = Vec::new(rt.alloc());
     for _ in 1..PLACES {
         idle.push(comes(rt, host, &mut table, 1000)?).ok()?;
     }
     clock.advance(2 * ACTIVE);
-    let mut ended = Client::new(rt)?;
+    let mut last = Client::new(rt)?;
     host.turn();
     let mut newcomer = Client::new(rt)?;
-    let is_sent = ended.send(&bytes_of(rt.alloc(), &SET).ok()?) && ended.end();
+    let set = bytes_of(rt.alloc(), &SET).ok()?;
+    let is_sent = if is_whole {
+        last.send(&set) && last.end()
+    } else {
+        last.send(set.get(..set.len() - 1)?)
+    };
     let is_served = calls(rt, host, &mut newcomer)?;
-    ended.receive(host, 1);
+    last.receive(host, 1);
     let mut are_served = true;
     for client in &mut idle {
         are_served &= calls(rt, host, client)?;
     }
-    let is_closed = ended.is_closed() && ended.got().is_empty();
+    let is_closed = last.is_closed() && last.got().is_empty();
     Some(is_sent && is_served && is_closed && are_served && host.is_well())
 }
 
-// DOOR-10
+// DOOR-10 DOOR-13
 #[test]
-fn ended_waiter_goes_first(rt: HostRuntime) -> Result<(), Fail> {
+fn unawaited_goes_first(rt: HostRuntime) -> Result<(), Fail> {
+    let clock = Stopped::new(&rt);
+    for is_whole in [true, false] {
+        let mut host = new_host(&clock)?;
+        assert_eq!(rt;
+            unawaited_is_given_up(&rt, &mut host, &clock, is_whole),
+            Some(true),
+            "{is_whole}"
+        );
+    }
+    Ok(())
+}
+
+/// Adds lines of others, which are more than a slice.
+fn add_others(rt: &HostRuntime, table: &mut Vec<u8>) -> Option<()> {
+    for _ in 0..1000 {
+        writeln!(
+            table,
+            "   2: 0100007F:0001 0100007F:0002 01 00000000:00000000 00:00000000 00000000     0        0 1"
+        )
+        .ok()?;
+    }
+    fs::write(rt, TABLE, table.as_slice()).ok()
+}
+
+/// A look-up comes in two pieces, of which the first might begin a SET, while the table is read, which takes several turns.
+fn pieces_are_answered(rt: &HostRuntime, host: &mut Host<'_>) -> Option<bool> {
+    let mut table = empty_table(rt)?;
+    let mut client = comes(rt, host, &mut table, 1000)?;
+    add_others(rt, &mut table)?;
+    let call = null_record(rt.alloc(), 1).ok()?;
+    let (first, rest) = call.split_at_checked(20)?;
+    let is_held = client.send(first) && client.receive_nothing(host);
+    let is_sent = client.send(rest);
+    let turns = client.receive(host, 28);
+    let reply = null_reply_record(rt.alloc(), 1).ok()?;
+    Some(is_held && is_sent && turns == 1 && client.got_just(&reply) && host.is_well())
+}
+
+// ASK-4
+#[test]
+fn look_up_in_pieces_waits_for_nothing(rt: HostRuntime) -> Result<(), Fail> {
     let clock = Stopped::new(&rt);
     let mut host = new_host(&clock)?;
-    assert_eq!(rt; ended_is_given_up(&rt, &mut host, &clock), Some(true));
+    assert_eq!(rt; pieces_are_answered(&rt, &mut host), Some(true));
     Ok(())
 }
 
@@ -204,14 +256,7 @@ fn who_is_in_no_table_is_nobody(rt: HostRuntime) -> Result<(), Fail> {
 fn reset_is_nobodys(rt: &HostRuntime, host: &mut Host<'_>) -> Option<bool> {
     let mut table = empty_table(rt)?;
     let mut client = comes(rt, host, &mut table, 1000)?;
-    for _ in 0..1000 {
-        writeln!(
-            table,
-            "   2: 0100007F:0001 0100007F:0002 01 00000000:00000000 00:00000000 00000000     0        0 1"
-        )
-        .ok()?;
-    }
-    fs::write(rt, TABLE, table.as_slice()).ok()?;
+    add_others(rt, &mut table)?;
     let mut piece = null_record(rt.alloc(), 1).ok()?;
     piece
         .extend_from_slice(&null_record(rt.alloc(), 2).ok()?)
