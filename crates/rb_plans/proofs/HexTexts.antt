@@ -3,8 +3,8 @@ use Rattle.std.proofs.Common.{◌≡◌, ℕ, List, length, Result, Ok, Err, ref
 use Rattle.std.proofs.lemmas.Bool.{lt-ltb, le-ltb}
 use Rattle.hex.specs.Hex.{decode_of}
 use Rattle.hex.specs.declared.error.FromHexError.{FromHexError}
-use Rattle.rb_ask.specs.declared.fault.InfoFault.{InfoFault}
-use Rattle.rb_ask.specs.declared.fault.InfoFault.TheVariants.{Unreadable}
+use Rattle.rb_show.specs.declared.fault.InfoFault.{InfoFault}
+use Rattle.rb_show.specs.declared.fault.InfoFault.TheVariants.{Unreadable}
 use Rattle.rb_plans.specs.Input.{digits_of, longest_text, or_unreadable}
 use Rattle.rb_plans.specs.InputLaws.{HexTextsGiveBytes, OnlyHexTextsDo, OthersAreUnreadable, DigitsGiveTheirBytes, LongTextsAreNotRead, TheRestIsRead}
 use Rattle.hex.proofs.HexLemmas.{decode_of-ok, decode_of-digits, decode_of-encode_lower, decode_of-encode_upper}

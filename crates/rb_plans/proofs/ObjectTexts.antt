@@ -22,19 +22,19 @@ use Rattle.rb_words.specs.declared.refusal.Spot.TheVariants as spots
 use Rattle.rb_words.specs.declared.refusal.Expected.TheVariants as wants
 use Rattle.rb_words.specs.declared.shape.Shape.{Shape}
 use Rattle.rb_words.specs.Words.{◌>>=◌, flag_of, check_options, option_number, plan_of, only_where, is_here, has_layout, layout_of, request_of}
-use Rattle.rb_ask.specs.declared.fault.InfoFault.{InfoFault}
-use Rattle.rb_ask.specs.declared.fault.InfoFault.TheVariants.{Write}
-use Rattle.rb_ask.specs.Telling.{told_lines}
+use Rattle.rb_show.specs.declared.fault.InfoFault.{InfoFault}
+use Rattle.rb_show.specs.declared.fault.InfoFault.TheVariants.{Write}
+use Rattle.rb_show.specs.Telling.{told_lines}
 use Rattle.rb_show.specs.declared.ask.Ask.{Ask}
 use Rattle.rb_show.specs.declared.ask.Question.{Question}
 use Rattle.rb_show.specs.declared.ask.Question.TheVariants as questions
 use Rattle.rb_show.specs.declared.form.Form.TheVariants.{Json}
 use Rattle.rb_show.specs.declared.show.Shown.{Shown}
 use Rattle.rb_show.specs.ObjectLaws.{has_objects, IsObjectLine, WritesObjects}
-use Rattle.rb_show.proofs.ObjectTellers.{each_is_an_object, written}
+use Rattle.rb_show.proofs.ObjectTellers.{each_is_an_object, nothing, written}
 use Rattle.rb_plans.specs.Fallback.{has_two, old_of}
 use Rattle.rb_plans.specs.declared.fault.Fault.TheVariants.{Info, NoConnection, NoSocket, NoReply, NoHost, NoAddress, NotAvailable, NoProgram, TooManyVersions, TooManyRoutes, SomeLack}
-use Rattle.rb_plans.specs.Input.{digits_of, read_hex, bytes_of, longest_text, first_xid, tell_read, tell_text, IsTold, IsToldOr}
+use Rattle.rb_plans.specs.Input.{digits_of, read_hex, bytes_of, longest_text, first_xid, tell_read, tell_text, IsToldOr}
 use Rattle.rb_plans.specs.ObjectLaws.{AsksForObjects, ObjectsAreAskedFor, VersionTwoHasObjects, TextsAreShownAsObjects}
 use Rattle.rb_plans.specs.Invocations.{layout_form, form_by}
 use Rattle.rb_plans.proofs.HexTexts.{was_ok}
@@ -125,24 +125,14 @@ by_bytes ask text (Ok bytes) has e =
     each_is_an_object ask first_xid bytes has all.3
 by_bytes ask text (Err fault) has e = tt
 
-keeps : (old new : Option (List ℕ)) → Keeps old new → Appends old new []
-keeps None new kept = tt
-keeps (Some bytes) None kept = kept
-keeps (Some bytes) (Some more) kept = kept ∙ sym (append-nil bytes)
-
-by_outcome : (ask : Ask) (text : List ℕ) (old new : Option (List ℕ)) (result : Result Shown InfoFault) → has_objects ask.question ≡ true → IsTold (tell_text ask Json text) old new result → result ≢ Err Write
+by_result : (ask : Ask) (text : List ℕ) (old new : Option (List ℕ)) (result : Result Shown InfoFault) → has_objects ask.question ≡ true → IsToldOr (tell_text ask Json text) old new result → result ≢ Err Write
     → WritesObjects old new
-by_outcome ask text old new result has told whole =
-    written (tell_text ask Json text) told.input told.left told.at old new result (by_bytes ask text (bytes_of text) has refl) told.outcome whole
-
-by_fault : (ask : Ask) (text : List ℕ) (old new : Option (List ℕ)) (fault : InfoFault) → has_objects ask.question ≡ true → IsToldOr (tell_text ask Json text) old new (Err fault) → (fault ≡ Write → ⊥)
-    → WritesObjects old new
-by_fault ask text old new fault has (inl told) whole = by_outcome ask text old new (Err fault) has told (λ e. whole cc)
-by_fault ask text old new fault has (inr unread) whole = record { lines = []; are = tt; written = keeps old new unread.kept }
+by_result ask text old new result has (inl outcome) whole = written (tell_text ask Json text) old new result (by_bytes ask text (bytes_of text) has refl) outcome whole
+by_result ask text old new result has (inr unread) whole = record { lines = []; are = tt; written = nothing old new unread.1 }
 
 pub texts_are_shown : TextsAreShownAsObjects
-texts_are_shown ask text old new (Ok shown) has told whole = by_outcome ask text old new (Ok shown) has told (λ e. absurd cc)
-texts_are_shown ask text old new (Err (Info fault)) has told whole = by_fault ask text old new fault has told (λ e. whole (rw e refl))
+texts_are_shown ask text old new (Ok shown) has told whole = by_result ask text old new (Ok shown) has told (λ e. absurd cc)
+texts_are_shown ask text old new (Err (Info fault)) has told whole = by_result ask text old new (Err fault) has told (λ e. whole (let same : fault ≡ Write = cc in rw same refl))
 texts_are_shown ask text old new (Err NoConnection) has told whole = absurd told
 texts_are_shown ask text old new (Err NoSocket) has told whole = absurd told
 texts_are_shown ask text old new (Err NoReply) has told whole = absurd told

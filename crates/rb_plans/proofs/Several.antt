@@ -5,7 +5,7 @@ use Rattle.rb_uaddr.specs.declared.address.Uaddr.{Uaddr}
 use Rattle.rb_uaddr.specs.Uaddr.{port_of}
 use Rattle.rb_rpc.specs.declared.reply.ReplyStatus.{ReplyStatus}
 use Rattle.rb_rpc.specs.declared.reply.ReplyStatus.TheVariants as statuses
-use Rattle.rb_ask.specs.declared.fault.InfoFault.TheVariants.{Read, Write, Unreadable, CutOff, TooLong, Refused, TooMany, Memory}
+use Rattle.rb_show.specs.declared.fault.InfoFault.TheVariants.{Read, Write, Unreadable, CutOff, TooLong, Refused, TooMany, Memory}
 use Rattle.rb_plans.specs.declared.course.Aim.TheVariants as aims
 use Rattle.rb_plans.specs.declared.course.Answer.{Answer}
 use Rattle.rb_plans.specs.declared.course.Answer.TheVariants as answers

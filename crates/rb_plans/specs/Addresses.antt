@@ -8,7 +8,7 @@ use Rattle.rb_address.specs.declared.host.Family.TheVariants.{Inet, Inet6}
 use Rattle.rb_address.specs.Netids.{family_of_netid}
 use Rattle.rb_words.specs.declared.plan.Way.{Way}
 use Rattle.rb_words.specs.declared.plan.Way.TheVariants as ways
-use Rattle.rb_ask.specs.declared.fault.InfoFault.TheVariants.{Memory}
+use Rattle.rb_show.specs.declared.fault.InfoFault.TheVariants.{Memory}
 use Rattle.rb_show.specs.declared.show.Shown.{Shown}
 use Rattle.rb_plans.specs.declared.ending.Notices.{Notices}
 use Rattle.rb_plans.specs.declared.fault.Fault.{Fault}

@@ -10,8 +10,8 @@ use Rattle.rb_rpc.specs.declared.auth.AuthStat.{AuthStat}
 use Rattle.rb_rpc.specs.declared.auth.AuthStat.TheVariants as stats
 use Rattle.rb_rpc.specs.declared.reply.ReplyStatus.{ReplyStatus}
 use Rattle.rb_rpc.specs.declared.reply.ReplyStatus.TheVariants as statuses
-use Rattle.rb_ask.specs.declared.fault.InfoFault.{InfoFault}
-use Rattle.rb_ask.specs.declared.fault.InfoFault.TheVariants.{Read, Write, Unreadable, CutOff, TooLong, Refused, TooMany, Memory}
+use Rattle.rb_show.specs.declared.fault.InfoFault.{InfoFault}
+use Rattle.rb_show.specs.declared.fault.InfoFault.TheVariants.{Read, Write, Unreadable, CutOff, TooLong, Refused, TooMany, Memory}
 use Rattle.rb_show.specs.declared.show.Shown.{Shown}
 use Rattle.rb_show.specs.declared.show.Shown.TheVariants.{Rows, Statistics, Port, Address, Null, Removed}
 use Rattle.rb_plans.specs.declared.ending.Ending.{Ending}

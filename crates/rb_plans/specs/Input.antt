@@ -1,15 +1,12 @@
 -- The reply on standard input: one marked record in hexadecimal text.
-use Rattle.std.specs.Prelude.{◌≡◌, ℕ, ◌+◌, ◌==◌, ◌&&◌, ◌||◌, ◌⊎◌, not, nat_lt, nat_le, Bool, false, if◌then◌else◌, List, [], length, take, filter, Option, IfSome, Result, Ok, Err}
+use Rattle.std.specs.Prelude.{◌≡◌, ℕ, ◌+◌, ◌==◌, ◌&&◌, ◌||◌, ◌⊎◌, not, nat_lt, nat_le, Bool, if◌then◌else◌, List, [], length, take, filter, Option, IfSome, Result, Ok, Err}
 use Rattle.std.specs.Io.KnownBytes.{Keeps}
 use Rattle.hex.specs.Hex.{decode_of}
 use Rattle.hex.specs.declared.error.FromHexError.{FromHexError}
-use Rattle.rb_ask.specs.declared.fault.InfoFault.{InfoFault}
-use Rattle.rb_ask.specs.declared.fault.InfoFault.TheVariants.{Read, Unreadable, TooLong, Memory}
-use Rattle.rb_ask.specs.declared.record.Record.{Record}
-use Rattle.rb_ask.specs.Data.{Input}
-use Rattle.rb_ask.specs.Sources.{Supply}
-use Rattle.rb_ask.specs.Telling.{Told, Outcome}
-use Rattle.rb_ask.specs.Telling.Told.{Stop}
+use Rattle.rb_show.specs.declared.fault.InfoFault.{InfoFault}
+use Rattle.rb_show.specs.declared.fault.InfoFault.TheVariants.{Read, Unreadable, TooLong, Memory}
+use Rattle.rb_show.specs.Telling.{Told, Outcome}
+use Rattle.rb_show.specs.Telling.Told.{Stop}
 use Rattle.rb_show.specs.declared.ask.Ask.{Ask}
 use Rattle.rb_show.specs.declared.form.Form.{Form}
 use Rattle.rb_show.specs.declared.show.Shown.{Shown}
@@ -61,22 +58,9 @@ tell_text ask form text = tell_read ask form (bytes_of text)
 abbrev pub IsEnoughOf : Option (List ℕ) → List ℕ → Type 0
 IsEnoughOf left text = IfSome left (λ input. text ≡ take (longest_text + 1) input)
 
--- the lines were written, as far as the result says; the bytes of a text never fail
-pub record IsTold (told : Told Shown) (old new : Option (List ℕ)) (result : Result Shown InfoFault) : Type 0 where
-  pub input : Input
-  pub left : Supply
-  pub at : Record
-  pub steady : left.can_fail ≡ false
-  pub outcome : Outcome told input left at old new result
-
--- the input failed, and nothing was written
-pub record FailsUnread (old new : Option (List ℕ)) (fault : InfoFault) : Type 0 where
-  pub fault_is : fault ≡ Read
-  pub kept : Keeps old new
-
+-- the lines were written, as far as the result says, or the input failed and nothing was written
 abbrev pub IsToldOr : Told Shown → Option (List ℕ) → Option (List ℕ) → Result Shown InfoFault → Type 0
-IsToldOr told old new (Ok shown) = IsTold told old new (Ok shown)
-IsToldOr told old new (Err fault) = IsTold told old new (Err fault) ⊎ FailsUnread old new fault
+IsToldOr told old new result = Outcome told old new result ⊎ ((result ≡ Err Read) × Keeps old new)
 
 -- If the text that the input has is known, what its reply tells is written, or the input failed.
 abbrev pub ShowsIn : {I O : Type 0} → (I → Option (List ℕ)) → (O → Option (List ℕ)) → Ask → Form → I → O → O → Result Shown InfoFault → Type 0

@@ -8,7 +8,7 @@ use Rattle.rb_words.specs.declared.plan.Request.{Request}
 use Rattle.rb_words.specs.declared.plan.Source.{Source}
 use Rattle.rb_words.specs.declared.shape.Shape.{Shape}
 use Rattle.rb_words.specs.Words.{request_of}
-use Rattle.rb_ask.specs.declared.fault.InfoFault.TheVariants.{Write}
+use Rattle.rb_show.specs.declared.fault.InfoFault.TheVariants.{Write}
 use Rattle.rb_show.specs.declared.ask.Ask.{Ask}
 use Rattle.rb_show.specs.declared.ask.Question.{Question}
 use Rattle.rb_show.specs.declared.form.Form.TheVariants.{Json}

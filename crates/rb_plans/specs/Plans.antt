@@ -6,7 +6,7 @@ use Rattle.rb_words.specs.declared.plan.Plan.{Plan}
 use Rattle.rb_words.specs.declared.plan.Plan.TheVariants.{Show, Entries, Ping, Delete, Broadcast}
 use Rattle.rb_words.specs.declared.plan.Source.{Source}
 use Rattle.rb_words.specs.declared.plan.Source.TheVariants.{Here}
-use Rattle.rb_ask.specs.declared.fault.InfoFault.TheVariants.{Write, Unreadable, Refused, Memory}
+use Rattle.rb_show.specs.declared.fault.InfoFault.TheVariants.{Write, Unreadable, Refused, Memory}
 use Rattle.rb_show.specs.declared.ask.Question.{Question}
 use Rattle.rb_show.specs.declared.ask.Question.TheVariants as questions
 use Rattle.rb_show.specs.declared.show.Shown.{Shown}

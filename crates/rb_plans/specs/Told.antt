@@ -1,8 +1,8 @@
 -- Answers to a question whose reply is on standard input, and answers that are written out.
 use Rattle.std.specs.Prelude.{◌≡◌, ◌⊎◌, ℕ, List, Option, IfSome, Result, Ok, Err}
 use Rattle.std.specs.Io.KnownBytes.{Keeps}
-use Rattle.rb_ask.specs.declared.fault.InfoFault.TheVariants.{Write}
-use Rattle.rb_ask.specs.Telling.{Told}
+use Rattle.rb_show.specs.declared.fault.InfoFault.TheVariants.{Write}
+use Rattle.rb_show.specs.Telling.{Told}
 use Rattle.rb_show.specs.declared.ask.Ask.{Ask}
 use Rattle.rb_show.specs.declared.ask.Question.{Question}
 use Rattle.rb_show.specs.declared.form.Form.{Form}

@@ -3,7 +3,7 @@ ghost use Rattle.std.specs.Prelude.{◌≡◌, ◌≤◌, ◌⊎◌, IfOk, IfErr
 ghost use Rattle.rb_plans.specs.Input.{bytes_of, digits_of, is_white, longest_text, read_hex, FailsAs, IsEnoughOf, ShowsIn};
 
 use hex::FromHexError;
-use rb_show::{Ask, Form, HeldBytes, InfoFault, Shown, show_reply};
+use rb_show::{Ask, Form, InfoFault, Shown, show_reply};
 use std::alloc::Global;
 use std::io::{ErrorKind, Read, Write};
 
@@ -89,6 +89,5 @@ pub fn show_input<I: Read, O: Write>(
 {
     let text = read_text(alloc, input)?;
     let bytes = bytes_of(alloc, text)?;
-    let mut source = HeldBytes::new(&bytes);
-    show_reply(alloc, ask, form, FIRST_XID, &mut source, output)
+    show_reply(alloc, ask, form, FIRST_XID, &bytes, output)
 }

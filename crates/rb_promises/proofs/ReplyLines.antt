@@ -13,15 +13,15 @@ use Rattle.rb_arguments.specs.declared.mapping.Mapping.{Mapping}
 use Rattle.rb_arguments.specs.declared.rpcb.Rpcb.{Rpcb}
 use Rattle.rb_arguments.specs.Types.{IsMapping, IsRpcb, IsEntry, mapping_spelling, rpcb_spelling, entry_spelling, read_mapping, read_rpcb, read_entry}
 use Rattle.rb_arguments.proofs.Readings.{mapping_complete, rpcb_complete, entry_complete}
-use Rattle.rb_ask.specs.declared.fault.InfoFault.{InfoFault}
-use Rattle.rb_ask.specs.declared.fault.InfoFault.TheVariants.{Unreadable}
-use Rattle.rb_ask.specs.Telling.{Told, add_lines, tell_on, give, stop, ◌>>=◌}
-use Rattle.rb_ask.specs.Telling.Told.{Done, Stop}
-use Rattle.rb_ask.specs.Heads.{take_head}
-use Rattle.rb_ask.specs.HeadLaws.{IsHead}
-use Rattle.rb_ask.specs.Lists.{greatest_list}
-use Rattle.rb_ask.proofs.HeadReads.{heads_read}
-use Rattle.rb_ask.proofs.ShownLists.{lists_are_shown, lists_are_taken}
+use Rattle.rb_show.specs.declared.fault.InfoFault.{InfoFault}
+use Rattle.rb_show.specs.declared.fault.InfoFault.TheVariants.{Unreadable}
+use Rattle.rb_show.specs.Telling.{Told, add_lines, tell_on, give, stop, ◌>>=◌}
+use Rattle.rb_show.specs.Telling.Told.{Done, Stop}
+use Rattle.rb_show.specs.Heads.{take_head}
+use Rattle.rb_show.specs.HeadLaws.{IsHead}
+use Rattle.rb_show.specs.Lists.{greatest_list}
+use Rattle.rb_show.proofs.HeadReads.{heads_read}
+use Rattle.rb_show.proofs.ShownLists.{lists_are_shown, lists_are_taken}
 use Rattle.rb_show.specs.declared.ask.Question.{Question}
 use Rattle.rb_show.specs.declared.ask.Question.TheVariants as questions
 use Rattle.rb_show.specs.declared.form.Form.{Form}

@@ -2,7 +2,7 @@
 use Rattle.std.specs.Prelude.{◌≡◌, ◌≢◌, ⊤, ℕ, true, List, [], ◌∷◌, ◌++◌, codes}
 use Rattle.std.specs.List.{AllByRecursion}
 use Rattle.rb_xdr.specs.Xdr.{AreBytes}
-use Rattle.rb_ask.specs.Telling.{told_lines}
+use Rattle.rb_show.specs.Telling.{told_lines}
 use Rattle.rb_show.specs.declared.ask.Ask.{Ask}
 use Rattle.rb_show.specs.declared.ask.Question.{Question}
 use Rattle.rb_show.specs.declared.ask.Question.TheVariants.{Rows, OldRows, Pmap, Entries, Stats}

@@ -1,5 +1,4 @@
 pub mod Columns
-pub mod Starts
 pub mod ShownBytes
 pub mod Calls
 pub mod Requests
@@ -13,3 +12,13 @@ pub mod SummaryRows
 pub mod RowTexts
 pub mod StatReadings
 pub mod IntWriting
+pub mod Settles
+pub mod HeadReads
+pub mod ShownLists
+pub mod LastingFaults
+pub mod Uses
+pub mod Fronts
+pub mod Items
+pub mod Stages
+pub mod Showings
+pub mod Tellings

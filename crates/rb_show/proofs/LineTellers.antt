@@ -18,15 +18,15 @@ use Rattle.rb_arguments.specs.declared.rpcb.Rpcb.{Rpcb}
 use Rattle.rb_arguments.specs.declared.entry.Entry.{Entry}
 use Rattle.rb_arguments.specs.Types.{IsMapping, mapping_spelling, read_mapping, IsRpcb, rpcb_spelling, read_rpcb, IsEntry, entry_spelling, read_entry}
 use Rattle.rb_arguments.proofs.Readings.{mapping_sound, rpcb_sound, entry_sound}
-use Rattle.rb_ask.specs.declared.fault.InfoFault.{InfoFault}
-use Rattle.rb_ask.specs.declared.fault.InfoFault.TheVariants.{Unreadable, Refused, TooMany}
-use Rattle.rb_ask.specs.Data.{of_stream, longest_record, front_of, end_of}
-use Rattle.rb_ask.proofs.HeadReads.{heads_read}
-use Rattle.rb_ask.specs.HeadLaws.{IsHead}
-use Rattle.rb_ask.specs.Heads.{take_head}
-use Rattle.rb_ask.specs.Lists.{tell_end, tell_item, tell_items, greatest_list}
-use Rattle.rb_ask.specs.Telling.{Told, Teller, add_lines, tell_on, ◌>>=◌, give, stop, tell, told_by, take_one, told_lines}
-use Rattle.rb_ask.specs.Telling.Told.{Done, Stop}
+use Rattle.rb_show.specs.declared.fault.InfoFault.{InfoFault}
+use Rattle.rb_show.specs.declared.fault.InfoFault.TheVariants.{Unreadable, Refused, TooMany}
+use Rattle.rb_show.specs.Data.{longest_record, front_of, end_of}
+use Rattle.rb_show.proofs.HeadReads.{heads_read}
+use Rattle.rb_show.specs.HeadLaws.{IsHead}
+use Rattle.rb_show.specs.Heads.{take_head}
+use Rattle.rb_show.specs.Lists.{tell_end, tell_item, tell_items, greatest_list}
+use Rattle.rb_show.specs.Telling.{Told, Teller, add_lines, tell_on, ◌>>=◌, give, stop, tell, told_by, take_one, told_lines}
+use Rattle.rb_show.specs.Telling.Told.{Done, Stop}
 use Rattle.rb_show.specs.declared.ask.Ask.{Ask}
 use Rattle.rb_show.specs.declared.ask.Question.{Question}
 use Rattle.rb_show.specs.declared.ask.Question.TheVariants.{Rows, Short, OldRows, OldShort, Summary, OldSummary, Pmap, Entries, Stats, Port, Address, Null, Probe, Callit, Unset}
@@ -212,7 +212,7 @@ module _ (IsLine : List ℕ → Type 0) where
 
   -- if the results of a question tell such lines, whole replies do
   reply_lines : (ask : Ask) (xid : ℕ) (bytes : List ℕ) → IsGood anything (tell_results Json ask.question) → AreBytes bytes → AllByRecursion IsLine (told_lines (tell_bytes ask Json xid bytes))
-  reply_lines ask xid bytes results are = good_lines anything (tell_bytes ask Json xid bytes) (tells_reply ask xid results (end_of (of_stream bytes)) (data_of (front_of bytes)) (front_bytes bytes are))
+  reply_lines ask xid bytes results are = good_lines anything (tell_bytes ask Json xid bytes) (tells_reply ask xid results (end_of bytes) (data_of (front_of bytes)) (front_bytes bytes are))
 
 -- ---- objects
 

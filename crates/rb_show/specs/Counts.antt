@@ -1,8 +1,8 @@
 -- What the reply to GETSTAT tells (RFC 1833 section 2.1, rpcb_stat_byvers).
 use Rattle.std.specs.Prelude.{ℕ, ◌+◌, if◌then◌else◌, List, [], ◌∷◌, ◌++◌, map, codes}
 use Rattle.std.specs.Fmt.{decimal, signed_decimal}
-use Rattle.rb_ask.specs.Telling.{Teller, ◌>>=◌, give, tell, take_one}
-use Rattle.rb_ask.specs.Lists.{tell_items, greatest_list}
+use Rattle.rb_show.specs.Telling.{Teller, ◌>>=◌, give, tell, take_one}
+use Rattle.rb_show.specs.Lists.{tell_items, greatest_list}
 use Rattle.rb_show.specs.declared.show.Shown.{Shown}
 use Rattle.rb_show.specs.declared.show.Shown.TheVariants.{Statistics}
 use Rattle.rb_show.specs.declared.form.Form.{Form}
@@ -54,14 +54,12 @@ unfoldable pub tell_lists : Form → ℕ → Teller (ℕ × ℕ)
 tell_lists form vers =
     tell_items read_addr (addr_line form vers) greatest_list 0 >>= λ found. tell_items read_call (call_line form vers) greatest_list 0 >>= λ called. give (found, called)
 
-unfoldable pub tell_count_lines : ℕ → VersionStat → Teller (Unit {0})
-tell_count_lines vers n = tell (version_line vers ∷ []) >>= λ _. tell (info_line n ∷ []) >>= λ _. tell (sets_line n ∷ [])
-
-abbrev pub tell_counts : Form → ℕ → VersionStat → Teller (Unit {0})
-tell_counts form vers n = if is_json form then tell (numbers_object vers n ∷ []) else tell_count_lines vers n
+-- the lines of a version's numbers
+abbrev pub count_lines : Form → ℕ → VersionStat → List (List ℕ)
+count_lines form vers n = if is_json form then numbers_object vers n ∷ [] else version_line vers ∷ info_line n ∷ sets_line n ∷ []
 
 unfoldable pub tell_version : Form → ℕ → Teller (ℕ × ℕ)
-tell_version form vers = take_one read_version >>= λ n. tell_counts form vers n >>= λ _. tell_lists form vers
+tell_version form vers = take_one read_version >>= λ n. tell (count_lines form vers n) >>= λ _. tell_lists form vers
 
 abbrev pub total : ℕ × ℕ → ℕ × ℕ → ℕ × ℕ → ℕ
 total a b c = a.0 + a.1 + b.0 + b.1 + c.0 + c.1

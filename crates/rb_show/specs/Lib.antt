@@ -13,3 +13,15 @@ pub mod Objects
 pub mod Rows
 pub mod Statistics
 pub mod Summary
+pub mod Data
+pub mod Telling
+pub mod Heads
+pub mod HeadLaws
+pub mod Lists
+pub mod ListLaws
+pub mod WholeLists
+pub mod FaultLaws
+pub mod Fronts
+pub mod Stages
+pub mod Tellings
+pub mod Showings

@@ -3,12 +3,9 @@ use Rattle.std.specs.Prelude.{◌≡◌, ◌≢◌, ℕ, Bool, true, false, List
 use Rattle.std.specs.List.{AllByRecursion, list_all}
 use Rattle.std.specs.Io.KnownBytes.{Appends}
 use Rattle.rb_xdr.specs.Xdr.{AreBytes}
-use Rattle.rb_ask.specs.declared.fault.InfoFault.{InfoFault}
-use Rattle.rb_ask.specs.declared.fault.InfoFault.TheVariants.{Write}
-use Rattle.rb_ask.specs.Sources.{Supply}
-use Rattle.rb_ask.specs.declared.record.Record.{Record}
-use Rattle.rb_ask.specs.Data.{of_stream}
-use Rattle.rb_ask.specs.Telling.{Outcome, told_lines, lines_text}
+use Rattle.rb_show.specs.declared.fault.InfoFault.{InfoFault}
+use Rattle.rb_show.specs.declared.fault.InfoFault.TheVariants.{Write}
+use Rattle.rb_show.specs.Telling.{Outcome, told_lines, lines_text}
 use Rattle.rb_show.specs.declared.ask.Ask.{Ask}
 use Rattle.rb_show.specs.declared.ask.Question.{Question}
 use Rattle.rb_show.specs.declared.ask.Question.TheVariants.{Rows, OldRows, Pmap, Entries, Stats}
@@ -50,11 +47,10 @@ pub record WritesObjects (old new : Option (List ℕ)) : Type 0 where
   pub are : AllByRecursion IsObjectLine lines
   pub written : Appends old new (lines_text lines)
 
--- What is written of a reply, if its bytes are known as `IsShown` requires, is whole lines of objects unless the writer
--- failed: also if the reply ends too early, can't be read or is a refusal, if its list is too long, and if the source
--- fails or memory is short.
+-- What is written of a reply is whole lines of objects unless the writer failed: also if the reply ends too early, can't
+-- be read or is a refusal, if its list is too long, and if memory is short.
 abbrev pub OnlyObjectsAreWritten : Type 0
 OnlyObjectsAreWritten =
-    (ask : Ask) (xid : ℕ) (bytes : List ℕ) (left : Supply) (at : Record) (old new : Option (List ℕ)) (result : Result Shown InfoFault)
-    → has_objects ask.question ≡ true → AreBytes bytes → Outcome (tell_bytes ask Json xid bytes) (of_stream bytes) left at old new result
+    (ask : Ask) (xid : ℕ) (bytes : List ℕ) (old new : Option (List ℕ)) (result : Result Shown InfoFault)
+    → has_objects ask.question ≡ true → AreBytes bytes → Outcome (tell_bytes ask Json xid bytes) old new result
     → result ≢ Err Write → WritesObjects old new

@@ -1,5 +1,5 @@
 -- What the reply to each question tells (RFC 1833 sections 2.2 and 3.2).
-use Rattle.std.specs.Prelude.{◌≡◌, ℕ, Option, Some, None, option_map, length, Result, ◌==◌, Bool, true, false, if◌then◌else◌, List, [], ◌∷◌, ◌++◌, codes}
+use Rattle.std.specs.Prelude.{ℕ, Option, Some, None, option_map, length, ◌==◌, Bool, true, false, if◌then◌else◌, List, [], ◌∷◌, ◌++◌, codes}
 use Rattle.std.specs.Fmt.{decimal}
 use Rattle.rb_xdr.specs.Xdr.{Reader, read_number, read_bool, read_opaque}
 use Rattle.rb_uaddr.specs.declared.address.Uaddr.{Uaddr}
@@ -10,15 +10,12 @@ use Rattle.rb_rpc.specs.declared.reply.ReplyStatus.TheVariants as statuses
 use Rattle.rb_arguments.specs.declared.rpcb.Rpcb.{Rpcb}
 use Rattle.rb_arguments.specs.Types.{read_mapping, read_rpcb, read_entry}
 use Rattle.rb_rpc.specs.Records.{data_of}
-use Rattle.rb_ask.specs.declared.record.Record.{Record}
-use Rattle.rb_ask.specs.declared.fault.InfoFault.{InfoFault}
-use Rattle.rb_ask.specs.declared.fault.InfoFault.TheVariants.{Unreadable, Refused}
-use Rattle.rb_ask.specs.Sources.{Supply}
-use Rattle.rb_ask.specs.Data.{of_stream, of_datagram, front_of, end_of}
-use Rattle.rb_ask.specs.Telling.{Told, Teller, ◌>>=◌, give, stop, tell, take_one, Outcome, WritesOnly}
-use Rattle.rb_ask.specs.Heads.{take_head}
-use Rattle.rb_ask.specs.Lists.{tell_items, greatest_list}
-use Rattle.rb_ask.specs.WholeLists.{take_items}
+use Rattle.rb_show.specs.declared.fault.InfoFault.TheVariants.{Unreadable, CutOff, Refused}
+use Rattle.rb_show.specs.Data.{front_of, end_of}
+use Rattle.rb_show.specs.Telling.{Told, Teller, ◌>>=◌, give, stop, tell, take_one}
+use Rattle.rb_show.specs.Heads.{take_head}
+use Rattle.rb_show.specs.Lists.{tell_items, greatest_list}
+use Rattle.rb_show.specs.WholeLists.{take_items}
 use Rattle.rb_show.specs.declared.ask.Ask.{Ask}
 use Rattle.rb_show.specs.declared.ask.Question.{Question}
 use Rattle.rb_show.specs.declared.ask.Question.TheVariants.{Rows, Short, OldRows, OldShort, Summary, OldSummary, Pmap, Entries, Stats, Port, Address, Null, Probe, Callit, Unset}
@@ -41,11 +38,6 @@ tell_rows reads stands_for line = tell_list reads (λ item. line (stands_for ite
 -- the summary of items
 abbrev pub tell_items_summary : {A : Type 0} → Form → (A → Rpcb) → List A → Teller (Unit {0})
 tell_items_summary form stands_for items = tell (items_summary form stands_for items ∷ [])
-
--- it was written, or there was a fault
-abbrev pub WritesSummary : {A W : Type 0} → Form → (A → Rpcb) → List A → Result (Unit {0}) InfoFault → (W → Option (List ℕ)) → W → W → Type 0
-WritesSummary form stands_for items result contents writer writer' =
-    WritesOnly (tell_items_summary form stands_for items) result contents writer writer'
 
 -- the items of a list, summed up once all of them were read
 -- SUMMARY-1
@@ -132,24 +124,11 @@ unfoldable pub tell_reply : Ask → Form → ℕ → Teller Shown
 tell_reply ask form xid = take_head >>= by_head form ask.question xid
 
 -- what the reply to a question tells that these bytes begin with, as far as they may be read
+-- DATA-1: A reply's data is that of all its fragments.
 abbrev pub tell_bytes : Ask → Form → ℕ → List ℕ → Told Shown
-tell_bytes ask form xid bytes = tell_reply ask form xid (end_of (of_stream bytes)) (data_of (front_of bytes))
+tell_bytes ask form xid bytes = tell_reply ask form xid (end_of bytes) (data_of (front_of bytes))
 
 -- what the datagram tells that is a reply to a question
--- DATA-6
+-- DATA-6: A datagram is a whole record, without marks.
 abbrev pub tell_datagram : Ask → Form → ℕ → List ℕ → Told Shown
-tell_datagram ask form xid bytes = tell_reply ask form xid (end_of (of_datagram bytes)) (front_of bytes)
-
--- If the bytes that the source has are known, what is written, and what is left unread, is what the reply tells that
--- they begin with.
-abbrev pub IsShown : {B W : Type 0} → Ask → Form → ℕ → Result Shown InfoFault → (B → Supply) → B → B → (W → Option (List ℕ)) → W → W → Type 0
-IsShown ask form xid result left source source' contents writer writer' =
-    (bytes : List ℕ) → (left source).bytes ≡ Some bytes
-    → (at : Record) × Outcome (tell_bytes ask form xid bytes) (of_stream bytes) (left source') at (contents writer) (contents writer') result
-
--- What is written is what the datagram tells, whose bytes never fail.
-pub record IsDatagramShown {W : Type 0} (ask : Ask) (form : Form) (xid : ℕ) (bytes : List ℕ) (result : Result Shown InfoFault) (contents : W → Option (List ℕ)) (writer writer' : W) : Type 0 where
-  pub left : Supply
-  pub at : Record
-  pub steady : left.can_fail ≡ false
-  pub outcome : Outcome (tell_datagram ask form xid bytes) (of_datagram bytes) left at (contents writer) (contents writer') result
+tell_datagram ask form xid bytes = tell_reply ask form xid CutOff bytes

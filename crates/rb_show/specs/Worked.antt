@@ -2,8 +2,8 @@
 use Rattle.std.specs.Prelude.{◌≡◌, ℕ, List, [], ◌∷◌, ◌++◌, take, codes, None}
 use Rattle.rb_xdr.specs.Xdr.{words, opaque}
 use Rattle.rb_rpc.specs.declared.reply.ReplyStatus.TheVariants.{ProcUnavail}
-use Rattle.rb_ask.specs.declared.fault.InfoFault.TheVariants.{Unreadable, CutOff, Refused}
-use Rattle.rb_ask.specs.Telling.Told.{Done, Stop}
+use Rattle.rb_show.specs.declared.fault.InfoFault.TheVariants.{Unreadable, CutOff, Refused}
+use Rattle.rb_show.specs.Telling.Told.{Done, Stop}
 use Rattle.rb_show.specs.declared.ask.Ask.{Ask}
 use Rattle.rb_show.specs.declared.ask.Question.{Question}
 use Rattle.rb_show.specs.declared.ask.Question.TheVariants.{Pmap, Rows, OldRows}

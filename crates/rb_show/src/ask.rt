@@ -3,9 +3,9 @@ ghost use Rattle.std.specs.Prelude.{◌≡◌, ◌⊎◌, OnOk, IfOk, IfErr};
 ghost use Rattle.rb_xdr.specs.Puts.{Appends as Adds};
 ghost use Rattle.rb_show.specs.Asks.{of_portmapper, procedure_of, head_of, call_of, arguments_of, netid_text_of, rpcb_arguments, marked_call, Writes};
 
+use crate::fault::InfoFault;
 use rb_address::Netid;
 use rb_arguments::{Mapping, MappingProcedure, Procedure, Rpcb, RpcbProcedure, VoidProcedure};
-use rb_ask::InfoFault;
 use rb_rpc::{CallHead, Credential, fragment_header, put_call};
 use rb_xdr::{Full, Kept, Meter, Text, Xdr};
 use std::alloc::Global;

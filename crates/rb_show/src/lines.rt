@@ -4,11 +4,11 @@ ghost use Rattle.rb_show.specs.Texts.{HasBytes};
 ghost use Rattle.rb_show.specs.Lines.{mapping_columns, mapping_line, row_columns, row_line, short_line, entry_columns, entry_line};
 
 use crate::form::{Form, line_end};
+use crate::list::Style;
 use crate::objects::{entry_object, mapping_object, row_object};
 use crate::rows::AsRow;
 use crate::texts::{at_left, prot_text, shown_text};
 use rb_arguments::{Entry, Mapping, Rpcb};
-use rb_ask::Style;
 use std::alloc::{AllocError, Global};
 
 /// The columns of a mapping.

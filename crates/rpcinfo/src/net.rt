@@ -4,10 +4,10 @@ use rb_plans::{
     CONNECTION, Fault, call_of, datagram_wait, host_fault, marked_call_of, reply_fault,
     socket_fault,
 };
-use rb_show::{Ask, Form, InfoFault, ReadBytes, Shown, show_datagram, show_reply};
+use rb_show::{Ask, Form, InfoFault, Showing, Shown, show_datagram};
 use std::alloc::Global;
 use std::io;
-use std::io::{BufRead, BufReader, ErrorKind, Read, Write};
+use std::io::{ErrorKind, Read, Write};
 use std::net::{IpAddr, Ipv4Addr, Ipv6Addr, Net, SocketAddr, TcpStream, UdpSocket};
 use std::os::unix::net::UnixStream;
 use std::rt::Clock;
@@ -68,30 +68,38 @@ fn send<S: Write>(call: &[u8], stream: &mut S) -> Result<(), Fault> {
     }
 }
 
-/// Waits for the first byte of a reply.
-fn await_reply<S: BufRead>(reader: &mut S) -> Result<(), Fault> {
-    match reader.fill_buf() {
-        Ok(bytes) if !bytes.is_empty() => Ok(()),
-        Ok(_) => Err(Fault::NoReply),
-        Err(error) => Err(reply_fault(error.kind())),
-    }
-}
+/// No more bytes of a reply are read at a time.
+const PIECE: usize = 8192;
 
-/// Shows the reply that comes over a connection.
-fn show_stream<S: Read + Drop, W: Write>(
+/// Shows the reply that comes over a connection, as far as it comes.
+fn show_stream<S: Read, W: Write>(
     alloc: Global,
-    stream: S,
-    ask: &Ask,
-    form: Form<'_>,
-    xid: u32,
+    stream: &mut S,
+    showing: &mut Showing<'_>,
     output: &mut W,
 ) -> Result<Shown, Fault> {
-    let Ok(mut reader) = BufReader::new(alloc, stream) else {
-        return Err(Fault::Info(InfoFault::Memory));
-    };
-    await_reply(&mut reader)?;
-    let mut source = ReadBytes::new(reader);
-    show_reply(alloc, ask, form, xid, &mut source, output).map_err(Fault::Info)
+    let mut piece = [0; PIECE];
+    let mut nothing_came = true;
+    for _ in 0..u64::MAX {
+        let count = match stream.read(&mut piece) {
+            Ok(count) => count,
+            Err(error) if nothing_came => return Err(reply_fault(error.kind())),
+            Err(_) => return Err(Fault::Info(InfoFault::Read)),
+        };
+        if count == 0 {
+            break;
+        }
+        nothing_came = false;
+        match showing.feed(alloc, &piece[..count], output) {
+            Ok(Some(shown)) => return Ok(shown),
+            Ok(None) => {}
+            Err(fault) => return Err(Fault::Info(fault)),
+        }
+    }
+    if nothing_came {
+        return Err(Fault::NoReply);
+    }
+    Err(Fault::Info(InfoFault::CutOff))
 }
 
 /// Asks over a connection of its own, and shows the reply.
@@ -107,7 +115,8 @@ pub fn ask_stream<N: Net + Clock, W: Write>(
     let call = marked_call_of(alloc, ask, xid)?;
     let mut stream = open(net, peer)?;
     send(&call, &mut stream)?;
-    show_stream(alloc, stream, ask, form, xid, output)
+    let mut showing = Showing::new(alloc, ask, form, xid);
+    show_stream(alloc, &mut stream, &mut showing, output)
 }
 
 /// A socket that hears one address alone.

@@ -7,7 +7,7 @@ use rb_address::{Host, Peer};
 use rb_core::{CoreFault, Metered, NoMemory};
 use rb_lines::{ReadFault, read_events};
 use rb_replay::{Event, Output, replay};
-use rb_show::{Ask, Form, HeldBytes, InfoFault, Question, Shown, show_reply, write_marked_call};
+use rb_show::{Ask, Form, InfoFault, Question, Shown, show_reply, write_marked_call};
 use std::alloc::{AllocError, Global};
 use std::process::Abort;
 
@@ -126,14 +126,7 @@ const TABLE: &[u8] =
 fn refused_memory_of_a_reply(rt: HostRuntime) {
     let mut room = [0; 90];
     let mut writer = room.as_mut_slice();
-    let result = show_reply(
-        rt.alloc(),
-        &ASK,
-        Form::Plain,
-        1,
-        &mut HeldBytes::new(REPLY),
-        &mut writer,
-    );
+    let result = show_reply(rt.alloc(), &ASK, Form::Plain, 1, REPLY, &mut writer);
     let len = 90usize.saturating_sub(writer.len());
     let is_right = match result {
         Ok(shown) => shown == Shown::Rows(2) && len == 90,

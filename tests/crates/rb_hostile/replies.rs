@@ -1,11 +1,9 @@
-//! Replies that break off, readers that fail, and writers that fail: what is shown before is whole lines.
+//! Replies that break off, that come byte by byte, or without end, and writers that fail: what is shown is whole lines.
 
-use rb_show::{
-    Ask, ByteSource, Form, HeldBytes, InfoFault, Question, ReadBytes, Shown, show_reply,
-};
+use rb_show::{Ask, Form, InfoFault, Question, Showing, Shown, show_reply};
 use std::alloc::{AllocError, Global};
 use std::io;
-use std::io::{ErrorKind, Read, Write};
+use std::io::{ErrorKind, Write};
 use std::test::Fail;
 
 /// DUMP of version 2, shown as a table.
@@ -49,11 +47,26 @@ fn shown_of(len: usize) -> &'static [u8] {
     TABLE.get(..lines.saturating_mul(30)).unwrap_or(TABLE)
 }
 
-/// What comes of the source's bytes, and what is written.
-fn show<B: ByteSource>(alloc: Global, source: &mut B) -> (Result<Shown, InfoFault>, Vec<u8>) {
+/// What comes of the bytes, and what is written.
+fn show(alloc: Global, bytes: &[u8]) -> (Result<Shown, InfoFault>, Vec<u8>) {
     let mut written = Vec::new(alloc);
-    let result = show_reply(alloc, &ASK, Form::Plain, 1, source, &mut written);
+    let result = show_reply(alloc, &ASK, Form::Plain, 1, bytes, &mut written);
     (result, written)
+}
+
+/// Shows bytes as they come, one by one.
+fn show_each<W: Write>(
+    alloc: Global,
+    bytes: &[u8],
+    writer: &mut W,
+) -> Result<Option<Shown>, InfoFault> {
+    let mut showing = Showing::new(alloc, &ASK, Form::Plain, 1);
+    for byte in bytes {
+        if let Some(shown) = showing.feed(alloc, &[*byte], writer)? {
+            return Ok(Some(shown));
+        }
+    }
+    Ok(None)
 }
 
 #[test]
@@ -61,59 +74,45 @@ fn replies_in_prefixes(rt: HostRuntime) -> Result<(), Fail> {
     let reply = reply(rt.alloc())?;
     assert_eq!(rt; reply.len(), 152);
     for len in 0..152 {
-        let (result, written) = show(rt.alloc(), &mut HeldBytes::new(&reply[..len]));
+        let (result, written) = show(rt.alloc(), &reply[..len]);
         assert_eq!(rt; result, Err(InfoFault::CutOff), "{len}");
         assert_eq!(rt; written.as_slice(), shown_of(len), "{len}");
     }
-    let (result, written) = show(rt.alloc(), &mut HeldBytes::new(&reply));
+    let (result, written) = show(rt.alloc(), &reply);
     assert_eq!(rt; result, Ok(Shown::Rows(6)));
     assert_eq!(rt; written.as_slice(), TABLE);
     Ok(())
 }
 
-/// Gives a byte at a time, and fails at the read after this many.
-#[derive(Drop)]
-struct Failing<'a> {
-    bytes: &'a [u8],
-    reads: usize,
-}
-
-impl Read for Failing<'_> {
-    fn read(&mut self, buf: &mut [u8]) -> io::Result<usize> {
-        if self.reads == 0 {
-            return Err(io::Error::from(ErrorKind::Other));
-        }
-        self.reads -= 1;
-        match (buf.first_mut(), self.bytes.split_first()) {
-            (Some(place), Some((byte, rest))) => {
-                *place = *byte;
-                self.bytes = rest;
-                Ok(1)
-            }
-            _ => Ok(0),
-        }
-    }
-}
-
+// SHOW-10 ITEM-2
+/// Each line is there once its row came, before the bytes of the next.
 #[test]
-fn replies_in_prefixes_by_a_failing_reader(rt: HostRuntime) -> Result<(), Fail> {
+fn replies_byte_by_byte(rt: HostRuntime) -> Result<(), Fail> {
     let reply = reply(rt.alloc())?;
-    for reads in 0..152 {
-        let mut source = ReadBytes::new(Failing {
-            bytes: &reply,
-            reads,
-        });
-        let (result, written) = show(rt.alloc(), &mut source);
-        assert_eq!(rt; result, Err(InfoFault::Read), "{reads}");
-        assert_eq!(rt; written.as_slice(), shown_of(reads), "{reads}");
+    for len in 0..152 {
+        let mut written = Vec::new(rt.alloc());
+        let result = show_each(rt.alloc(), &reply[..len], &mut written);
+        assert_eq!(rt; result, Ok(None), "{len}");
+        assert_eq!(rt; written.as_slice(), shown_of(len), "{len}");
     }
+    let mut written = Vec::new(rt.alloc());
+    let result = show_each(rt.alloc(), &reply, &mut written);
+    assert_eq!(rt; result, Ok(Some(Shown::Rows(6))));
+    assert_eq!(rt; written.as_slice(), TABLE);
     Ok(())
 }
 
 /// Zeros are fragments without data and without end: 16,777,216 bytes are read of them, and nothing is shown.
 #[test]
 fn reply_without_end(rt: HostRuntime) -> Result<(), Fail> {
-    let (result, written) = show(rt.alloc(), &mut ReadBytes::new(io::repeat(0)));
+    let zeros = [0; 65_536];
+    let mut written = Vec::new(rt.alloc());
+    let mut showing = Showing::new(rt.alloc(), &ASK, Form::Plain, 1);
+    for _ in 1..256 {
+        let result = showing.feed(rt.alloc(), &zeros, &mut written);
+        assert_eq!(rt; result, Ok(None));
+    }
+    let result = showing.feed(rt.alloc(), &zeros, &mut written);
     assert_eq!(rt; result, Err(InfoFault::TooLong));
     assert!(rt; written.is_empty());
     Ok(())
@@ -140,7 +139,7 @@ impl Write for Closing {
     }
 }
 
-/// A line is one write, so it fails at each of the first seven.
+/// Of a reply that comes byte by byte a line is one write, so it fails at each of the first seven.
 #[test]
 fn replies_in_prefixes_to_a_failing_writer(rt: HostRuntime) -> Result<(), Fail> {
     let reply = reply(rt.alloc())?;
@@ -149,18 +148,11 @@ fn replies_in_prefixes_to_a_failing_writer(rt: HostRuntime) -> Result<(), Fail> 
             written: Vec::new(rt.alloc()),
             writes,
         };
-        let result = show_reply(
-            rt.alloc(),
-            &ASK,
-            Form::Plain,
-            1,
-            &mut HeldBytes::new(&reply),
-            &mut writer,
-        );
+        let result = show_each(rt.alloc(), &reply, &mut writer);
         let wanted = if writes < 7 {
             Err(InfoFault::Write)
         } else {
-            Ok(Shown::Rows(6))
+            Ok(Some(Shown::Rows(6)))
         };
         assert_eq!(rt; result, wanted, "{writes}");
         assert_eq!(rt;

@@ -1,5 +1,5 @@
 use rb_show::{
-    Ask, Form, HeldBytes, InfoFault, Question, Shown, show_datagram, show_reply, write_call,
+    Ask, Form, InfoFault, Question, Shown, show_datagram, show_reply, write_call,
     write_marked_call,
 };
 use std::test::Fail;
@@ -52,8 +52,7 @@ fn show_reply_has_memory(rt: HostRuntime) -> Result<(), Fail> {
     reply.extend_from_slice(entry.as_slice())?;
     let mut shown = Vec::new(rt.alloc());
     let ask = of_nobody(Question::Entries(200_001, 1));
-    let mut reply = HeldBytes::new(&reply);
-    show_reply(rt.alloc(), &ask, Form::Plain, 1, &mut reply, &mut shown).map_err(|_| "refused")?;
+    show_reply(rt.alloc(), &ask, Form::Plain, 1, &reply, &mut shown).map_err(|_| "refused")?;
     assert_eq!(rt;
         shown.as_slice(),
         b"udp 192.0.2.1.8.1 1 inet udp\n".as_slice()
@@ -69,10 +68,9 @@ fn summary_has_memory(rt: HostRuntime) -> Result<(), Fail> {
     let mut reply = Vec::new(rt.alloc());
     reply.extend_from_slice(head.as_slice())?;
     reply.extend_from_slice(row.as_slice())?;
-    let mut reply = HeldBytes::new(&reply);
     let mut shown = Vec::new(rt.alloc());
     let ask = of_nobody(Question::Summary);
-    show_reply(rt.alloc(), &ask, Form::Plain, 1, &mut reply, &mut shown).map_err(|_| "refused")?;
+    show_reply(rt.alloc(), &ask, Form::Plain, 1, &reply, &mut shown).map_err(|_| "refused")?;
     assert_eq!(rt;
         shown.as_slice(),
         b"   program version(s) netid(s)                         service     owner\n    100000  4         tcp                              -           superuser\n".as_slice()

@@ -6,8 +6,7 @@ use rb_daemon::{
 };
 use rb_plans::{Aim, Answer, Course, End, Stage, asked, begin, called_at, next};
 use rb_show::{
-    Ask, Form, HeldBytes, InfoFault, Shown, show_datagram, show_reply, write_call,
-    write_marked_call,
+    Ask, Form, InfoFault, Shown, show_datagram, show_reply, write_call, write_marked_call,
 };
 use std::io::{Read, Write};
 use std::net::{Ipv4Addr, Ipv6Addr, SocketAddr, TcpStream, UdpSocket};
@@ -104,15 +103,7 @@ impl<'r, 'f> Client<'r, 'f> {
     /// What these bytes of a reply tell; none if more of it must still come.
     fn show(&mut self, ask: &Ask, xid: u32, got: &[u8]) -> Option<Result<Shown, InfoFault>> {
         let mut lines = Vec::new(self.rt.alloc());
-        let mut source = HeldBytes::new(got);
-        match show_reply(
-            self.rt.alloc(),
-            ask,
-            self.form,
-            xid,
-            &mut source,
-            &mut lines,
-        ) {
+        match show_reply(self.rt.alloc(), ask, self.form, xid, got, &mut lines) {
             Err(InfoFault::CutOff) => None,
             answer => {
                 self.shown.extend_from_slice(&lines).ok()?;

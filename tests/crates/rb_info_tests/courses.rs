@@ -3,7 +3,7 @@ use crate::turns::{daemon_of, receive};
 use rb_address::Transport;
 use rb_daemon::Daemon;
 use rb_plans::{Aim, Answer, Course, End, Stage, Step, asked, begin, next};
-use rb_show::{Form, HeldBytes, InfoFault, Shown, show_reply, write_marked_call};
+use rb_show::{Form, InfoFault, Shown, show_reply, write_marked_call};
 use rb_words::Way;
 use std::io::Write;
 use std::net::{Ipv4Addr, SocketAddr, TcpStream};
@@ -31,8 +31,8 @@ fn step(
     stream.write_all(&call).ok()?;
     let mut got = [0; 256];
     let len = receive(rt, daemon, &mut stream, &mut got);
-    let mut reply = HeldBytes::new(got.get(..len)?);
-    let answer = match show_reply(rt.alloc(), &ask, Form::Plain, xid, &mut reply, shown) {
+    let reply = got.get(..len)?;
+    let answer = match show_reply(rt.alloc(), &ask, Form::Plain, xid, reply, shown) {
         Ok(Shown::Null) => Answer::Ready,
         Err(InfoFault::Refused(head)) => Answer::Refused(head.status),
         _ => return None,

@@ -16,6 +16,5 @@ returns-in_err-bytes g c =
 
 pub returns : goal.returns
 returns g c =
-    let shown = c.show_reply.ensures c.in_ok-bytes.bytes.items (search rules) in
     told_of_input (g.I.Read.remaining c.args.input.now) c.in_ok-text.text.items c.args.ask.now c.args.form (g.O.Write.contents c.args.output.now) (g.O.Write.contents c.show_reply.new.writer) c.show_reply.result c.in_ok-text.ensures.bytes
-    (told_reply c.args.ask.now c.args.form c.in_ok-text.text.items c.in_ok-bytes.bytes.items _ shown.0 (g.O.Write.contents c.args.output.now) (g.O.Write.contents c.show_reply.new.writer) c.show_reply.result c.in_ok-bytes.ensures.ok refl shown.1)
+    (told_reply c.args.ask.now c.args.form c.in_ok-text.text.items c.in_ok-bytes.bytes.items (g.O.Write.contents c.args.output.now) (g.O.Write.contents c.show_reply.new.writer) c.show_reply.result c.in_ok-bytes.ensures.ok c.show_reply.ensures)

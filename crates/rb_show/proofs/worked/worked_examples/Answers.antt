@@ -7,9 +7,9 @@ use Rattle.rb_rpc.specs.Records.{fragment_header}
 use Rattle.rb_address.specs.Netids.{transport_of_protocol}
 use Rattle.rb_arguments.specs.Numbers.{is_void, is_procedure, number_of}
 use Rattle.rb_arguments.specs.Types.{read_mapping, read_rpcb}
-use Rattle.rb_ask.specs.Telling.{◌>>=◌, take_one}
-use Rattle.rb_ask.specs.Heads.{take_accepted, take_head}
-use Rattle.rb_ask.specs.Lists.{tell_items}
+use Rattle.rb_show.specs.Telling.{◌>>=◌, take_one}
+use Rattle.rb_show.specs.Heads.{take_accepted, take_head}
+use Rattle.rb_show.specs.Lists.{tell_items}
 use Rattle.rb_show.specs.Asks.{call_of}
 use Rattle.rb_show.specs.Replies.{tell_list, by_head, tell_reply}
 use Rattle.rb_show.proofs.WorkedTexts.{spaced_text, no_leading_zero}

@@ -1,5 +1,5 @@
 use Rattle.std.proofs.Common.{inl}
-use Rattle.rb_ask.specs.declared.fault.InfoFault.TheVariants.{Memory}
+use Rattle.rb_show.specs.declared.fault.InfoFault.TheVariants.{Memory}
 use Rattle.rb_plans.specs.declared.fault.Fault.TheVariants.{Info}
 use Rattle.rpcinfo.proofs.Endings.{explained, unread_says}
 use Rattle.rpcinfo.proofs.command_line.read_matches.Goals as goal

@@ -1,4 +1,4 @@
-use Rattle.rb_ask.specs.declared.fault.InfoFault.TheVariants.{Write, Memory}
+use Rattle.rb_show.specs.declared.fault.InfoFault.TheVariants.{Write, Memory}
 use Rattle.rb_plans.specs.declared.fault.Fault.TheVariants.{Info}
 use Rattle.rpcinfo.proofs.Endings.{ends_explained}
 use Rattle.rpcinfo.proofs.command_line.show.Goals as goal

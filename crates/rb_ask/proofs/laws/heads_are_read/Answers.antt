@@ -1,5 +1,0 @@
-use Rattle.rb_ask.proofs.HeadReads.{heads_read}
-use Rattle.rb_ask.proofs.laws.heads_are_read.Goals as goal
-
-pub returns : goal.returns
-returns c = heads_read
