@@ -1,4 +1,5 @@
 -- A marked reply that is shown piece by piece.
+use Rattle.std.specs.Global.{Vec}
 use Rattle.std.specs.Io.KnownBytes.{Appends}
 use Rattle.std.specs.Prelude.{min, is_some}
 use Rattle.std.specs.List.{flat_map}
@@ -11,7 +12,7 @@ use Rattle.rb_rpc.specs.RecordLaws.{IsMarked, AreMarked}
 use Rattle.rb_rpc.specs.declared.marks.Marks.{Marks}
 use Rattle.rb_rpc.specs.declared.marks.Part.{Part}
 use Rattle.rb_rpc.specs.declared.marks.Part.TheVariants as parts
-use Rattle.rb_rpc.specs.Streams.{StandsForStream, RecordData, StreamGoesOn, data_among}
+use Rattle.rb_rpc.specs.Streams.{StandsForStream, RecordData, StreamGoesOn, data_among, no_data}
 use Rattle.rb_rpc.proofs.Markings.{data_again, record_again}
 use Rattle.rb_rpc.proofs.Feeding.{none_ended}
 use Rattle.rb_show.specs.declared.fault.InfoFault.{InfoFault}
@@ -22,13 +23,18 @@ use Rattle.rb_show.specs.declared.show.Shown.{Shown}
 use Rattle.rb_show.specs.declared.showing.Showing.{Showing}
 use Rattle.rb_show.specs.declared.telling.Telling.{Telling}
 use Rattle.rb_show.specs.Data.{longest_record, front_of, is_whole, end_of}
-use Rattle.rb_show.specs.Telling.{Teller, Told, add_lines, give, lines_text, EndsIn, IsNotShown}
+use Rattle.rb_show.specs.Telling.{Teller, Told, add_lines, give, lines_text, EndsIn, IsNotShown, Outcome}
 use Rattle.rb_show.specs.Telling.Told.{Done, Stop}
 use Rattle.rb_show.specs.Fronts.{GoesOn, Lacks}
 use Rattle.rb_show.specs.Tellings.{rest_of, UpTo, TellsAll, TellsAllOr}
-use Rattle.rb_show.specs.Replies.{tell_reply, tell_bytes}
-use Rattle.rb_show.specs.Showings.{unfinished, StandsAfter, ComesTo, ShowsFurther, Keeps, BeginsWithRecord, EndsRecord, Unmarks, IsWritten, lack_of}
-use Rattle.rb_show.proofs.Fronts.{add_add}
+use Rattle.rb_show.specs.Replies.{tell_reply, tell_bytes, tell_datagram}
+use Rattle.rb_show.specs.Showings.{unfinished, StandsAfter, ComesTo, ShowsFurther, Keeps, BeginsWithRecord, EndsRecord, Unmarks, IsWritten, lack_of, after_piece, as_whole, Feeds}
+use Rattle.std.proofs.Math.Seq.{take-nil}
+use Rattle.rb_xdr.specs.Xdr.{read_number}
+use Rattle.rb_xdr.specs.XdrTypes.{read_pair}
+use Rattle.rb_show.specs.Heads.{take_head}
+use Rattle.rb_show.specs.Telling.{take_one, ◌>>=◌}
+use Rattle.rb_show.proofs.Fronts.{add_add, no_lines}
 
 -- ---- records
 
@@ -261,3 +267,94 @@ module _ (ask : Ask) (form : Form) (xid : ℕ) (old new : Showing) (before bytes
     -- something was shown, or nothing more is told
     pub at_end : (told ≡ Ok None → ⊥) → ShowsFurther ask form xid new (before ++ bytes) lines held_by held_by' told
     at_end some = record { more = tells.lines; written = lines_written; comes_to = by_told told some tells.up_to }
+
+-- ---- before the first byte
+
+pub nothing_came : (ask : Ask) (form : Form) (xid : ℕ) (s : Showing) → StandsForStream s.marks [] no_data → rest_of s.telling ≡ tell_reply ask form xid → s.held.items ≡ [] → s.allowed ≡ longest_record
+    → StandsAfter ask form xid s [] []
+unfolding data_of front_of tell_reply take_head take_one read_pair read_number ◌>>=◌
+nothing_came ask form xid s stream rest none all = record {
+  so_far = ap (λ (e : InfoFault). tell_reply ask form xid e (data_of (front_of []))) (short_ends [] (omega arith)) ∙ ap (λ (xs : List ℕ). tell_reply ask form xid CutOff (data_of xs)) (take-nil {A = ℕ} longest_record);
+  fed = stream;
+  counted = omega (arith, all);
+  open_still = omega (arith, all);
+  goes_on = λ end more.
+      ap (λ (t : Teller Shown). t end more) (sym rest) ∙ sym (no_lines (rest_of s.telling end more))
+      ∙ ap (λ (xs : List ℕ). add_lines [] (rest_of s.telling end (xs ++ more))) (sym none);
+}
+
+-- ---- a call
+
+module _ {W : Type 0} (contents : W → Option (List ℕ)) (writer writer' : W) where
+  abbrev Came : Result (Option Shown) InfoFault → Type 0
+  Came r = IsNotShown (contents writer) (contents writer') r
+
+  came_after : (told : Result (Option Shown) InfoFault) (ended : Bool) (n : ℕ) → Came told → Came (after_piece told ended n)
+  came_after told ended n (inl e) = inl (ap (λ (r : Result (Option Shown) InfoFault). after_piece r ended n) e)
+  came_after told ended n (inr e) = inr (ap (λ (r : Result (Option Shown) InfoFault). after_piece r ended n) e.0, e.1)
+
+  came_whole : (told : Result (Option Shown) InfoFault) → Came told → IsNotShown (contents writer) (contents writer') (as_whole told)
+  came_whole told (inl e) = inl (ap as_whole e)
+  came_whole told (inr e) = inr (ap as_whole e.0, e.1)
+
+  module _ (old new : Showing) (bytes piece : List ℕ) (held text text' : Vec ℕ) (ended : Bool) (told : ℕ × Result (Option Shown) InfoFault) (outcome : Result (Option Shown) InfoFault) (piece_is : piece ≡ take old.allowed bytes)
+      (unmarks : (before content : List ℕ) → StandsForStream old.marks before (unfinished content) → Unmarks new.marks (before ++ piece) content old.held.items held.items ended)
+      (empty : text.items ≡ []) (counts : new.allowed + min (length bytes) old.allowed ≡ old.allowed) (rest : new.held.items ≡ drop told.0 held.items) where
+    pub feeds : TellsAllOr old.telling new.telling held.items text text' told → IsWritten told.1 text'.items contents writer writer' outcome
+        → Feeds old new bytes contents writer writer' (after_piece outcome ended new.allowed)
+    feeds all (inl came) = λ ask form xid before lines stands. inl (came_after outcome ended new.allowed came)
+    feeds (inl none) (inr w) = absurd (w.1 none)
+    feeds (inr all) (inr w) = λ ask form xid before lines stands.
+        let kept : Unmarks new.marks (before ++ take old.allowed bytes) (data_of before) old.held.items held.items ended =
+        subst (λ (xs : List ℕ). Unmarks new.marks (before ++ xs) (data_of before) old.held.items held.items ended) piece_is (unmarks before (data_of before) stands.fed) in
+        let tells : TellsAll old.telling new.telling held.items [] text'.items told.0 told.1 = subst (λ (xs : List ℕ). TellsAll old.telling new.telling held.items xs text'.items told.0 told.1) empty all in
+        inr (subst (λ (r : Result (Option Shown) InfoFault). ShowsFurther ask form xid new (before ++ bytes) lines (contents writer) (contents writer') (after_piece r ended new.allowed)) (sym w.0)
+        (by_told ask form xid before lines stands kept tells w.2 told.1 refl))
+      where
+        by_told : (ask : Ask) (form : Form) (xid : ℕ) (before : List ℕ) (lines : List (List ℕ)) (stands : StandsAfter ask form xid old before lines)
+            (kept : Unmarks new.marks (before ++ take old.allowed bytes) (data_of before) old.held.items held.items ended) (tells : TellsAll old.telling new.telling held.items [] text'.items told.0 told.1)
+            → Appends (contents writer) (contents writer') text'.items → (r : Result (Option Shown) InfoFault) → told.1 ≡ r
+            → ShowsFurther ask form xid new (before ++ bytes) lines (contents writer) (contents writer') (after_piece r ended new.allowed)
+        by_told ask form xid before lines stands kept tells written (Ok None) is =
+            further ask form xid old new before bytes held.items lines ended told.0 stands kept text'.items (contents writer) (contents writer') told.1 tells written new.allowed is refl counts rest
+        by_told ask form xid before lines stands kept tells written (Ok (Some what)) is =
+            subst (ShowsFurther ask form xid new (before ++ bytes) lines (contents writer) (contents writer')) is
+            (at_end ask form xid old new before bytes held.items lines ended told.0 stands kept text'.items (contents writer) (contents writer') told.1 tells written (λ none. absurd (let never = sym is ∙ none in cc)))
+        by_told ask form xid before lines stands kept tells written (Err fault) is =
+            subst (ShowsFurther ask form xid new (before ++ bytes) lines (contents writer) (contents writer')) is
+            (at_end ask form xid old new before bytes held.items lines ended told.0 stands kept text'.items (contents writer) (contents writer') told.1 tells written (λ none. absurd (let never = sym is ∙ none in cc)))
+
+  -- all bytes at once
+  pub reply_shown : (ask : Ask) (form : Form) (xid : ℕ) (old new : Showing) (bytes : List ℕ) (r : Result (Option Shown) InfoFault) → StandsAfter ask form xid old [] [] → Feeds old new bytes contents writer writer' r
+      → Outcome (tell_bytes ask form xid bytes) (contents writer) (contents writer') (as_whole r)
+  reply_shown ask form xid old new bytes r stands feed = by_case (feed ask form xid [] [] stands)
+    where
+      by_result : (q : Result (Option Shown) InfoFault) (lines : List (List ℕ)) → ComesTo ask form xid new bytes lines q → EndsIn (tell_bytes ask form xid bytes) lines (as_whole q)
+      by_result (Ok None) lines comes = comes.so_far
+      by_result (Ok (Some what)) lines comes = comes
+      by_result (Err fault) lines comes = comes
+
+      by_case : Came r ⊎ ShowsFurther ask form xid new bytes [] (contents writer) (contents writer') r → Outcome (tell_bytes ask form xid bytes) (contents writer) (contents writer') (as_whole r)
+      by_case (inl came) = inl (came_whole r came)
+      by_case (inr s) = inr (record { lines = s.more; ends = by_result r s.more s.comes_to; written = s.written })
+
+  pub datagram_shown : (ask : Ask) (form : Form) (xid : ℕ) (old new : Telling) (bytes : List ℕ) (text text' : Vec ℕ) (told : ℕ × Result (Option Shown) InfoFault) (outcome : Result (Option Shown) InfoFault)
+      → rest_of old ≡ tell_reply ask form xid → text.items ≡ [] → TellsAllOr old new bytes text text' told → IsWritten told.1 text'.items contents writer writer' outcome
+      → Outcome (tell_datagram ask form xid bytes) (contents writer) (contents writer') (as_whole outcome)
+  datagram_shown ask form xid old new bytes text text' told outcome is empty all (inl came) = inl (came_whole outcome came)
+  datagram_shown ask form xid old new bytes text text' told outcome is empty (inl none) (inr w) = absurd (w.1 none)
+  datagram_shown ask form xid old new bytes text text' told outcome is empty (inr all) (inr w) = inr (record {
+    lines = all.lines;
+    ends = subst (λ (r : Result (Option Shown) InfoFault). EndsIn (tell_datagram ask form xid bytes) all.lines (as_whole r)) (sym w.0) (by_told told.1 all.up_to);
+    written = subst (Appends (contents writer) (contents writer')) (all.written ∙ ap (λ (xs : List ℕ). xs ++ lines_text all.lines) empty) w.2;
+  })
+    where
+      at_all : tell_datagram ask form xid bytes ≡ rest_of old CutOff (bytes ++ [])
+      at_all = ap (tell_reply ask form xid CutOff) (sym (append-nil bytes)) ∙ ap (λ (t : Teller Shown). t CutOff (bytes ++ [])) (sym is)
+
+      by_told : (r : Result (Option Shown) InfoFault) → UpTo old new bytes all.lines told.0 r → EndsIn (tell_datagram ask form xid bytes) all.lines (as_whole r)
+      by_told (Ok None) up =
+          at_all ∙ up.0 CutOff [] ∙ ap (λ (xs : List ℕ). add_lines all.lines (rest_of new CutOff xs)) (append-nil (drop told.0 bytes)) ∙ ap (add_lines all.lines) (up.1 CutOff)
+          ∙ ap (λ (xs : List (List ℕ)). Stop xs CutOff) (append-nil all.lines)
+      by_told (Ok (Some what)) up = (drop told.0 bytes ++ [], at_all ∙ up CutOff [] ∙ ap (λ (xs : List (List ℕ)). Done xs what (drop told.0 bytes ++ [])) (append-nil all.lines))
+      by_told (Err fault) up = at_all ∙ up CutOff []

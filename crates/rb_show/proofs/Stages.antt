@@ -1,6 +1,7 @@
 -- What is told from each stage on.
-use Rattle.std.proofs.Common.{◌≡◌, ◌<◌, ◌≤◌, ◌+◌, ℕ, Bool, true, false, List, [], ◌∷◌, ◌++◌, length, Option, Some, None, Result, Ok, Err, refl, sym, ap, ◌∙◌, append-nil}
-use Rattle.rb_xdr.specs.Xdr.{Reader}
+use Rattle.std.proofs.Common.{◌≡◌, ◌<◌, ◌≤◌, ◌+◌, ℕ, Bool, true, false, List, [], ◌∷◌, ◌++◌, length, Option, Some, None, Result, Ok, Err, refl, sym, ap, ◌∙◌, subst, append-nil}
+use Rattle.std.specs.Prelude.{IfOk}
+use Rattle.std.specs.Global.{Vec}
 use Rattle.rb_arguments.specs.declared.mapping.Mapping.{Mapping}
 use Rattle.rb_arguments.specs.declared.rpcb.Rpcb.{Rpcb}
 use Rattle.rb_show.specs.declared.ask.Question.{Question}
@@ -11,16 +12,20 @@ use Rattle.rb_show.specs.declared.form.Form.TheVariants.{Plain, Named, Json}
 use Rattle.rb_show.specs.declared.show.Shown.{Shown}
 use Rattle.rb_show.specs.declared.show.Shown.TheVariants as shown
 use Rattle.rb_show.specs.declared.stage.List.{List as Listed}
+use Rattle.rb_show.specs.declared.stage.List.TheVariants as lists
 use Rattle.rb_show.specs.declared.stage.Counted.{Counted}
 use Rattle.rb_show.specs.declared.stage.Counted.TheVariants.{Nothing, Two, Three}
-use Rattle.rb_show.specs.declared.stage.Stage.TheVariants.{Item, Numbers, LookUp, Forward}
+use Rattle.rb_show.specs.declared.stage.Stage.TheVariants.{Item, Row, Mapping as Mapped, Numbers, LookUp, Forward}
 use Rattle.rb_show.specs.declared.stat.VersionStat.{VersionStat}
 use Rattle.rb_show.specs.Statistics.{read_version, read_addr, read_call}
 use Rattle.rb_show.specs.Counts.{addr_line, call_line, count_lines, tell_lists, tell_version, tell_statistics}
 use Rattle.rb_show.specs.Telling.{Teller, ◌>>=◌, give, tell, take_one, add_lines, lines_text}
-use Rattle.rb_show.specs.Fronts.{GoesOn, Takes, Tells, items_from, items_after}
+use Rattle.rb_show.specs.declared.take.Pause.{Pause}
+use Rattle.rb_arguments.specs.Types.{read_mapping, read_rpcb}
+use Rattle.rb_show.specs.Rows.{itself, mapping_row}
+use Rattle.rb_show.specs.Fronts.{GoesOn, Takes, TakesOr, Tells, TellsOr, items_from, items_after}
 use Rattle.rb_show.specs.Replies.{tell_list, tell_summary, tell_columns, tell_ready, tell_port, tell_address, tell_unset, tell_results}
-use Rattle.rb_show.specs.Stages.{first_stage, first_lines, stage_after_line, version_of, stage_after_version, stage_after_found, stage_after_called, lines_from, lines_after, called_from, found_from, after_version, rest_at}
+use Rattle.rb_show.specs.Stages.{first_stage, first_lines, stage_after_line, version_of, stage_after_version, stage_after_found, stage_after_called, lines_from, lines_after, called_from, found_from, after_version, rest_at, as_done, sum_after, stage_after_sum}
 use Rattle.rb_show.proofs.Fronts.{no_lines, goes_then, gives_then, goes_at_once}
 
 -- ---- the results
@@ -60,12 +65,30 @@ tells_on : {A B : Type 0} (teller rest : Teller A) (teller' rest' : Teller B) (b
 tells_on teller rest teller' rest' bytes used old new t goes = record { lines = t.lines; some = t.some; within = t.within; text = t.text; goes_on = goes }
 
 module _ (form : Form) (rows : List Rpcb) (mappings : List Mapping) (bytes : List ℕ) (used : ℕ) (old new : List ℕ) where
+  some_after : (list : Listed) (count n : ℕ) → lines_after form list count (Some n) ≡ lines_from form list n
+  some_after lists.Rows count n = refl
+  some_after lists.Short count n = refl
+  some_after lists.OldRows count n = refl
+  some_after lists.OldShort count n = refl
+  some_after lists.Table count n = refl
+  some_after (lists.Entries prog) count n = refl
+
+  none_after : (list : Listed) (count : ℕ) → lines_after form list count None ≡ give count
+  none_after lists.Rows count = refl
+  none_after lists.Short count = refl
+  none_after lists.OldRows count = refl
+  none_after lists.OldShort count = refl
+  none_after lists.Table count = refl
+  none_after (lists.Entries prog) count = refl
+
   pub line_next : (list : Listed) (count : ℕ) (next : Option ℕ) → Tells (lines_from form list count) bytes used (lines_after form list count next) old new
       → Tells (rest_at form rows mappings (Item list count)) bytes used (rest_at form rows mappings (stage_after_line list count next)) old new
   line_next list count (Some n) t =
-      tells_on _ _ _ _ bytes used old new t (goes_then (lines_from form list count) (λ n. give (shown.Rows n)) bytes t.lines used (lines_from form list n) t.goes_on)
+      let goes : GoesOn (lines_from form list count) bytes t.lines used (lines_from form list n) = subst (GoesOn (lines_from form list count) bytes t.lines used) (some_after list count n) t.goes_on in
+      tells_on _ _ _ _ bytes used old new t (goes_then (lines_from form list count) (λ n. give (shown.Rows n)) bytes t.lines used (lines_from form list n) goes)
   line_next list count None t =
-      tells_on _ _ _ _ bytes used old new t (gives_then (lines_from form list count) (λ n. give (shown.Rows n)) bytes t.lines used count t.goes_on)
+      let goes : GoesOn (lines_from form list count) bytes t.lines used (give count) = subst (GoesOn (lines_from form list count) bytes t.lines used) (none_after list count) t.goes_on in
+      tells_on _ _ _ _ bytes used old new t (gives_then (lines_from form list count) (λ n. give (shown.Rows n)) bytes t.lines used count goes)
 
   -- the numbers of a version
   pub numbers_next : (counted : Counted) (n : VersionStat) → 0 < used → Takes (take_one read_version) bytes n used → new ≡ old ++ lines_text (count_lines form (version_of counted) n)
@@ -115,3 +138,18 @@ module _ (form : Form) (rows : List Rpcb) (mappings : List Mapping) (bytes : Lis
       rw (sym (after_is counted (found, count))) (tells_on _ _ _ _ bytes used old new t
       (gives_then (called_from form vers found count) (after_version form counted) bytes t.lines used (found, count)
       (gives_then (items_from read_call (call_line form vers) count) (λ called. give (found, called)) bytes t.lines used count t.goes_on)))
+
+-- something was shown
+pub done_next : (form : Form) (rows : List Rpcb) (mappings : List Mapping) (teller : Teller Shown) (bytes : List ℕ) (text : Vec ℕ) (taken : Result (Shown × ℕ) Pause) → TakesOr teller bytes taken
+    → IfOk taken (λ (t : Shown × ℕ). 0 < t.1) → TellsOr teller bytes (rest_at form rows mappings) text text (as_done taken)
+done_next form rows mappings teller bytes text (Ok t) takes some = record { lines = []; some = some; within = takes.within; text = sym (append-nil text.items); goes_on = takes.goes_on }
+done_next form rows mappings teller bytes text (Err pause) takes some = (refl, takes)
+
+-- items that are summed up
+pub row_after : (form : Form) (rows : List Rpcb) (mappings : List Mapping) (what : Option Shown) → sum_after form read_rpcb itself rows what ≡ rest_at form rows mappings (stage_after_sum Row what)
+row_after form rows mappings None = refl
+row_after form rows mappings (Some what) = refl
+
+pub mapping_after : (form : Form) (rows : List Rpcb) (mappings : List Mapping) (what : Option Shown) → sum_after form read_mapping mapping_row mappings what ≡ rest_at form rows mappings (stage_after_sum Mapped what)
+mapping_after form rows mappings None = refl
+mapping_after form rows mappings (Some what) = refl

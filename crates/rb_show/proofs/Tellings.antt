@@ -33,7 +33,7 @@ results_follow : (form : Form) (ask : Ask) (xid : ℕ) (head : ReplyHead) → ch
 unfolding by_head
 results_follow form ask xid head e = by_tests (nat_eq head.xid xid) (is_success head.status) e
   where
-    by_tests : (same success : Bool) → cond same (cond success (Ok tt) (Err (Refused head))) (Err Unreadable) ≡ Ok tt
+    by_tests : (same success : Bool) → cond {A = Result (Unit {0}) InfoFault} same (cond success (Ok tt) (Err (Refused head))) (Err Unreadable) ≡ Ok tt
         → cond same (cond success (tell_results form ask.question) (stop (Refused head))) (stop Unreadable) ≡ tell_results form ask.question
     by_tests true true is = refl
     by_tests true false is = absurd cc
@@ -43,7 +43,7 @@ results_stop : (form : Form) (ask : Ask) (xid : ℕ) (head : ReplyHead) (fault :
 unfolding by_head
 results_stop form ask xid head fault e = by_tests (nat_eq head.xid xid) (is_success head.status) e
   where
-    by_tests : (same success : Bool) → cond same (cond success (Ok tt) (Err (Refused head))) (Err Unreadable) ≡ Err fault
+    by_tests : (same success : Bool) → cond {A = Result (Unit {0}) InfoFault} same (cond success (Ok tt) (Err (Refused head))) (Err Unreadable) ≡ Err fault
         → cond same (cond success (tell_results form ask.question) (stop (Refused head))) (stop Unreadable) ≡ stop fault
     by_tests true true is = absurd cc
     by_tests true false is = ap stop (let same : Refused head ≡ fault = cc in same)
@@ -57,7 +57,7 @@ module _ (ask : Ask) (form : Form) (xid : ℕ) (bytes : List ℕ) (head : ReplyH
   pub head_stops : (fault : InfoFault) → check_head head xid ≡ Err fault → Pauses (tell_reply ask form xid) bytes (Fault fault)
   head_stops fault e =
       pauses_after (tell_reply ask form xid) bytes used (stop fault) (Fault fault)
-      (subst (GoesOn (tell_reply ask form xid) bytes [] used) (results_stop form ask xid head fault e) after_head) (breaks {A = Shown} fault _)
+      (subst (GoesOn (tell_reply ask form xid) bytes [] used) (results_stop form ask xid head fault e) after_head) (breaks {A = Shown} fault (drop used bytes))
 
   pub head_tells : (old new : List ℕ) → 0 < used → check_head head xid ≡ Ok tt → new ≡ old ++ lines_text (first_lines form ask.question)
       → Tells (tell_reply ask form xid) bytes used (rest_at form [] [] (first_stage ask.question)) old new
@@ -125,21 +125,21 @@ pub told_more : (old now new : Telling) (bytes : List ℕ) (text text' text'' : 
     → TellsAllOr old new bytes text text'' (used, Ok None)
 told_more old now new bytes text text' text'' used h s = inr (record {
   lines = h.lines;
-  written = s.1.0 ∙ h.written;
+  written = s.1 ∙ h.written;
   up_to = (
     subst (GoesOn (rest_of old) bytes h.lines used) (sym s.0) h.goes_on,
-    subst (λ (rest : Teller Shown). Lacks rest (drop used bytes)) (sym s.0) s.1.1,
+    subst (λ (rest : Teller Shown). Lacks rest (drop used bytes)) (sym s.0) s.2,
   );
 })
 
 pub told_fault : (old now new : Telling) (bytes : List ℕ) (text text' text'' : Vec ℕ) (used : ℕ) (fault : InfoFault) → HasTold old now bytes text.items text'.items used
     → StepsTo now new (drop used bytes) text' text'' (Err (Fault fault)) → TellsAllOr old new bytes text text'' (used, Err fault)
-told_fault old now new bytes text text' text'' used fault h s = by_pause s.1.1
+told_fault old now new bytes text text' text'' used fault h s = by_pause s.2
   where
     by_pause : Pauses (rest_of now) (drop used bytes) (Fault fault) → TellsAllOr old new bytes text text'' (used, Err fault)
     by_pause (inl e) = inl (ap (λ (f : InfoFault). Err f) e)
     by_pause (inr p) = inr (record {
       lines = h.lines;
-      written = s.1.0 ∙ h.written;
+      written = s.1 ∙ h.written;
       up_to = λ end more. h.goes_on end more ∙ ap (add_lines h.lines) (p end more) ∙ ap (λ (xs : List (List ℕ)). Stop xs fault) (append-nil h.lines);
     })

@@ -85,6 +85,17 @@ UnmarksOr old new bytes held held' (Err refused) = ⊤
 abbrev pub lack_of : Bool → ℕ → Result (Option Shown) InfoFault
 lack_of ended allowed = if ended then Err CutOff else if allowed == 0 then Err TooLong else Ok None
 
+abbrev pub after_piece : Result (Option Shown) InfoFault → Bool → ℕ → Result (Option Shown) InfoFault
+after_piece (Ok None) ended allowed = lack_of ended allowed
+after_piece (Ok (Some shown)) ended allowed = Ok (Some shown)
+after_piece (Err fault) ended allowed = Err fault
+
+-- if no more bytes come
+abbrev pub as_whole : Result (Option Shown) InfoFault → Result Shown InfoFault
+as_whole (Ok None) = Err CutOff
+as_whole (Ok (Some shown)) = Ok shown
+as_whole (Err fault) = Err fault
+
 -- the text was written
 abbrev pub IsWritten : {W : Type 0} → Result (Option Shown) InfoFault → List ℕ → (W → Option (List ℕ)) → W → W → Result (Option Shown) InfoFault → Type 0
 IsWritten told text contents writer writer' result =

@@ -94,8 +94,12 @@ lines_from form lists.Table count = items_from read_mapping (mapping_line form) 
 lines_from form (lists.Entries prog) count = items_from read_entry (entry_line form prog) count
 
 abbrev pub lines_after : Form → Listed → ℕ → Option ℕ → Teller ℕ
-lines_after form list count (Some next) = lines_from form list next
-lines_after form list count None = give count
+lines_after form lists.Rows count = items_after read_rpcb (λ item. row_line form (itself item)) count
+lines_after form lists.Short count = items_after read_rpcb (λ item. short_line form (itself item)) count
+lines_after form lists.OldRows count = items_after read_mapping (λ item. row_line form (mapping_row item)) count
+lines_after form lists.OldShort count = items_after read_mapping (λ item. short_line form (mapping_row item)) count
+lines_after form lists.Table count = items_after read_mapping (mapping_line form) count
+lines_after form (lists.Entries prog) count = items_after read_entry (entry_line form prog) count
 
 -- of items that are summed up, after these
 abbrev pub sum_from : {A : Type 0} → Form → Reader A → (A → Rpcb) → List A → Teller Shown
@@ -143,6 +147,10 @@ is_plain stage = true
 abbrev pub as_done : Result (Shown × ℕ) Pause → Result (Stage × ℕ) Pause
 as_done (Ok taken) = Ok (Done taken.0, taken.1)
 as_done (Err pause) = Err pause
+
+abbrev pub stage_after_sum : Stage → Option Shown → Stage
+stage_after_sum stage (Some what) = Done what
+stage_after_sum stage None = stage
 
 -- of a list that is summed up: what was shown, or more
 abbrev pub sum_after : {A : Type 0} → Form → Reader A → (A → Rpcb) → List A → Option Shown → Teller Shown

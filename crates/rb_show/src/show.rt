@@ -5,7 +5,7 @@ ghost use Rattle.rb_show.specs.Replies.{tell_bytes, tell_datagram};
 use crate::ask::Ask;
 use crate::fault::InfoFault;
 use crate::form::Form;
-use crate::showing::{Showing, written};
+use crate::showing::{Showing, as_whole, written};
 use crate::telling::Telling;
 use rb_uaddr::Uaddr;
 use std::alloc::Global;
@@ -50,11 +50,7 @@ pub fn show_reply<W: Write>(
         (W.contents writer.old) (W.contents writer.new) result }
 {
     let mut showing = Showing::new(alloc, ask, form, xid);
-    match showing.feed(alloc, bytes, writer) {
-        Ok(Some(shown)) => Ok(shown),
-        Ok(None) => Err(InfoFault::CutOff),
-        Err(fault) => Err(fault),
-    }
+    as_whole(showing.feed(alloc, bytes, writer))
 }
 
 /// Writes what the datagram tells that is the reply to the call with this xid, without marks. No fault is `TooLong`; the
@@ -73,9 +69,5 @@ pub fn show_datagram<W: Write>(
     let mut telling = Telling::new(alloc, *ask, form, xid);
     let mut text = Vec::new(alloc);
     let (_used, told) = telling.tell(alloc, bytes, &mut text);
-    match written(told, &text, writer) {
-        Ok(Some(shown)) => Ok(shown),
-        Ok(None) => Err(InfoFault::CutOff),
-        Err(fault) => Err(fault),
-    }
+    as_whole(written(told, &text, writer))
 }

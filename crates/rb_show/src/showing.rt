@@ -1,6 +1,6 @@
 //! A marked reply that is shown as its bytes come.
-ghost use Rattle.std.specs.Prelude.{◌≡◌, ◌≤◌, drop, length, OnOk};
-ghost use Rattle.rb_show.specs.Showings.{Keeps, UnmarksOr, IsWritten, lack_of};
+ghost use Rattle.std.specs.Prelude.{◌≡◌, ◌≤◌, [], drop, length, OnOk};
+ghost use Rattle.rb_show.specs.Showings.{Keeps, UnmarksOr, IsWritten, lack_of, after_piece, as_whole};
 
 use crate::ask::Ask;
 use crate::fault::InfoFault;
@@ -19,9 +19,10 @@ fn keep(part: Part, byte: u8, held: &mut Vec<u8>) -> Result<(), AllocError>
     ensures { OnOk result (Keeps part byte held.old.items held.new.items) }
 {
     match part {
-        Part::Data => held.push(byte),
-        Part::Header => Ok(()),
+        Part::Data => held.push(byte)?,
+        Part::Header => {}
     }
+    Ok(())
 }
 
 /// Keeps the data of the record among these bytes, and says whether the record ends in them.
@@ -66,6 +67,32 @@ fn lack_of(ended: bool, allowed: u32) -> Result<Option<Shown>, InfoFault>
         return Err(InfoFault::TooLong);
     }
     Ok(None)
+}
+
+/// What a piece of the bytes comes to.
+fn after_piece(
+    told: Result<Option<Shown>, InfoFault>,
+    ended: bool,
+    allowed: u32,
+) -> Result<Option<Shown>, InfoFault>
+    ensures { result ≡ after_piece told ended allowed }
+{
+    match told {
+        Ok(None) => lack_of(ended, allowed),
+        Ok(Some(shown)) => Ok(Some(shown)),
+        Err(fault) => Err(fault),
+    }
+}
+
+/// What all bytes come to.
+pub(crate) fn as_whole(told: Result<Option<Shown>, InfoFault>) -> Result<Shown, InfoFault>
+    ensures { result ≡ as_whole told }
+{
+    match told {
+        Ok(None) => Err(InfoFault::CutOff),
+        Ok(Some(shown)) => Ok(shown),
+        Err(fault) => Err(fault),
+    }
 }
 
 /// Drops the front of a buffer.
@@ -123,9 +150,6 @@ impl<'a> Showing<'a> {
         let mut text = Vec::new(alloc);
         let (used, told) = self.telling.tell(alloc, &self.held, &mut text);
         drop_front(&mut self.held, used);
-        match written(told, &text, writer) {
-            Ok(None) => lack_of(ended, self.allowed),
-            outcome => outcome,
-        }
+        after_piece(written(told, &text, writer), ended, self.allowed)
     }
 }

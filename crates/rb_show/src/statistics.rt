@@ -27,9 +27,12 @@ fn count_lines(
     if form.is_json() {
         return numbers_object(alloc, vers, numbers);
     }
-    let info = joined_ints(alloc, &numbers.info, " ")?;
+    let counts = joined_ints(alloc, &numbers.info, " ")?;
     let (set, unset) = (numbers.setinfo, numbers.unsetinfo);
-    format!(in alloc; "version {vers}\ninfo {info}\nset {set} unset {unset}\n")
+    let heading = format!(in alloc; "version {vers}\n")?;
+    let info = format!(in alloc; "info {counts}\n")?;
+    let sets = format!(in alloc; "set {set} unset {unset}\n")?;
+    format!(in alloc; "{heading}{info}{sets}")
 }
 
 fn addr_columns(alloc: Global, item: &AddrStat) -> Result<String, AllocError>

@@ -7,7 +7,7 @@ ghost use Rattle.rb_show.specs.Lines.{heading};
 ghost use Rattle.rb_show.specs.Replies.{tell_port, address_in, tell_address, removed_line, is_success};
 ghost use Rattle.rb_show.specs.declared.form.Form.{Form};
 ghost use Rattle.rb_show.specs.declared.stage.Stage.TheVariants.{Item, Unset};
-ghost use Rattle.rb_show.specs.Stages.{first_lines, lines_from, lines_after, is_plain, as_done, NextIs, SumsUp};
+ghost use Rattle.rb_show.specs.Stages.{first_lines, lines_from, lines_after, is_plain, as_done, check_head, stage_after_sum, NextIs, SumsUp};
 
 use crate::ask::{Ask, Question};
 use crate::fault::InfoFault;
@@ -199,6 +199,16 @@ fn sum_up<T: Xdr + AsRow>(
     Ok((Some(Shown::Rows(count)), used))
 }
 
+/// After the next of the items that are summed up, or at their end.
+fn stage_after_sum(stage: Stage, shown: Option<Shown>) -> Stage
+    ensures { result ≡ stage_after_sum stage shown }
+{
+    match shown {
+        Some(shown) => Stage::Done(shown),
+        None => stage,
+    }
+}
+
 fn is_success(status: ReplyStatus) -> bool
     ensures { result ≡ is_success status }
 {
@@ -302,16 +312,12 @@ impl<'a> Telling<'a> {
         match stage {
             Stage::Row => {
                 let (shown, used) = sum_up(alloc, self.form, &mut self.rows, bytes, text)?;
-                if let Some(shown) = shown {
-                    self.at = At::Results(Stage::Done(shown));
-                }
+                self.at = At::Results(stage_after_sum(Stage::Row, shown));
                 Ok(used)
             }
             Stage::Mapping => {
                 let (shown, used) = sum_up(alloc, self.form, &mut self.mappings, bytes, text)?;
-                if let Some(shown) = shown {
-                    self.at = At::Results(Stage::Done(shown));
-                }
+                self.at = At::Results(stage_after_sum(Stage::Mapping, shown));
                 Ok(used)
             }
             _ => {

@@ -1,4 +1,3 @@
-use Rattle.rb_show.proofs.Tellings.{told_fault}
 use Rattle.rb_show.proofs.head.reply_stat.Goals as goal
 
 pub returns-in-0 : goal.returns-in-0
