@@ -31,4 +31,3 @@ pub mod LogChoice
 pub mod LogLaws
 pub mod Handed
 pub mod Watchdogs
-pub mod Machine

@@ -30,8 +30,7 @@ pub(crate) fn is_same(a: Host, b: Host) -> bool
     a == b
 }
 
-/// Whether a host is one of these.
-pub fn has_host(hosts: &[Host], wanted: Host) -> bool
+pub(crate) fn has_host(hosts: &[Host], wanted: Host) -> bool
     ensures { result ≡ has_host wanted hosts.now }
 {
     hosts.iter().any(|host| is_same(*host, wanted))

@@ -1,5 +1,3 @@
 pub mod Settings
 pub mod Events
 pub mod Faults
-pub mod Machine
-pub mod MachineExamples

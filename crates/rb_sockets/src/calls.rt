@@ -10,7 +10,6 @@ use rb_address::{Family, Host, Network, Peer, Source, Who};
 use rb_descriptors::{share, udp_socket};
 use rb_policy::{Beliefs, Entrance, WaysBack, address_of, asker, ip_of, sender, trust_of};
 use std::io;
-use std::io::ErrorKind;
 use std::net::{Net, SocketAddr};
 use std::os::fd::{AsRawFd, RawFd};
 
@@ -26,8 +25,7 @@ fn bind_udp(net: &impl Net, host: Host, port: u16, shares: bool) -> Result<UdpSo
 /// Where calls come in as datagrams, and where replies to them go out.
 #[derive(Drop)]
 pub struct CallSocket {
-    /// None once its host is listened on no more.
-    socket: Option<UdpSocket>,
+    socket: UdpSocket,
     bound: Host,
     beliefs: Beliefs,
 }
@@ -47,7 +45,7 @@ impl CallSocket {
             None => bind_udp(net, host, port, shares)?,
         };
         Ok(CallSocket {
-            socket: Some(socket),
+            socket,
             bound: host,
             beliefs,
         })
@@ -55,10 +53,7 @@ impl CallSocket {
 
     /// Whether it shares its host and port from here on.
     pub(crate) fn share(&self, shares: bool) -> io::Result<()> {
-        match &self.socket {
-            Some(socket) => share(socket, shares),
-            None => Ok(()),
-        }
+        share(&self.socket, shares)
     }
 
     /// The host to which it is bound.
@@ -66,24 +61,11 @@ impl CallSocket {
         self.bound
     }
 
-    /// Its host is listened on no more.
-    pub(crate) fn close(&mut self) {
-        self.socket = None;
-    }
-
-    /// Whether its host is listened on no more, so that another one may have its place.
-    pub(crate) fn is_closed(&self) -> bool {
-        self.socket.is_none()
-    }
-
     /// A datagram, how long it is, and from whom, if that caller may call when these networks are served.
     pub fn receive(&self, networks: &[Network], room: &mut [u8]) -> io::Result<(usize, Option<Who>)>
         ensures { IfOk result (λ r. r.0 ≤ length room.new) }
     {
-        let Some(socket) = &self.socket else {
-            return Err(io::Error::from(ErrorKind::WouldBlock));
-        };
-        let (len, from) = socket.recv_from(room)?;
+        let (len, from) = self.socket.recv_from(room)?;
         let who = match asker(networks, sender(from)) {
             Some(peer) => Some(self.who(peer)),
             None => None,
@@ -104,23 +86,17 @@ impl CallSocket {
 
     /// Sends a reply. One that the socket does not take is lost.
     pub fn reply(&self, reply: &[u8], to: Who) {
-        if let (Some(socket), Source::Inet(peer)) = (&self.socket, to.source) {
-            let _ = socket.send_to(reply, address_of(peer));
+        if let Source::Inet(peer) = to.source {
+            let _ = self.socket.send_to(reply, address_of(peer));
         }
     }
 
     pub(crate) fn as_raw_fd(&self) -> RawFd {
-        match &self.socket {
-            Some(socket) => socket.as_raw_fd(),
-            None => -1,
-        }
+        self.socket.as_raw_fd()
     }
 
     pub(crate) fn register(&mut self, registry: &Registry, token: Token) -> io::Result<()> {
-        match &mut self.socket {
-            Some(socket) => registry.register(socket, token, Interest::READABLE),
-            None => Ok(()),
-        }
+        registry.register(&mut self.socket, token, Interest::READABLE)
     }
 }
 
@@ -153,16 +129,6 @@ impl CallSockets {
     /// The forwarded call of this number has ended, and has no reply.
     pub fn drop_forwarded(&mut self, number: u64) {
         let _ = self.ways_back.take(number);
-    }
-
-    /// The place of one whose host is listened on no more, or the next one.
-    pub(crate) fn free_place(&self) -> usize {
-        for (i, calls) in self.all.iter().enumerate() {
-            if calls.socket.is_closed() {
-                return i;
-            }
-        }
-        self.all.len()
     }
 
     pub(crate) fn is_left(&self) -> bool {
