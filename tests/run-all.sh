@@ -82,7 +82,7 @@ begin() {
     local name=$1
     shift
     (
-        trap 'kill "${run:-}" 2> /dev/null; wait; exit 1' TERM
+        trap 'kill "${run:-}" 2> /dev/null; exec > /dev/null; wait; exit 1' TERM
         exec > >(tee "$work/$name.log")
         said=$!
         env SECONDS="$SECONDS" "$@" 2>&1 &
