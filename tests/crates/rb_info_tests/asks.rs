@@ -1,6 +1,5 @@
 use rb_show::{
-    Ask, Form, InfoFault, Question, Shown, show_datagram, show_reply, write_call,
-    write_marked_call,
+    Ask, Form, InfoFault, Question, Shown, show_datagram, show_reply, write_call, write_marked_call,
 };
 use std::test::Fail;
 

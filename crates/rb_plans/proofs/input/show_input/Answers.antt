@@ -17,4 +17,4 @@ returns-in_err-bytes g c =
 pub returns : goal.returns
 returns g c =
     told_of_input (g.I.Read.remaining c.args.input.now) c.in_ok-text.text.items c.args.ask.now c.args.form (g.O.Write.contents c.args.output.now) (g.O.Write.contents c.show_reply.new.writer) c.show_reply.result c.in_ok-text.ensures.bytes
-    (told_reply c.args.ask.now c.args.form c.in_ok-text.text.items c.in_ok-bytes.bytes.items (g.O.Write.contents c.args.output.now) (g.O.Write.contents c.show_reply.new.writer) c.show_reply.result c.in_ok-bytes.ensures.ok c.show_reply.ensures)
+    (told_reply c.args.ask.now c.args.form c.in_ok-text.text.items c.in_ok-bytes.bytes.items (g.O.Write.contents c.args.output.now) (g.O.Write.contents c.show_reply.new.writer) c.show_reply.result c.in_ok-bytes.ensures.ok (rw c.deref.ensures.value at c.show_reply.ensures))
