@@ -2,7 +2,7 @@
 //! taken: eight connections may be open, of which one user keeps two.
 use crate::client::Client;
 use crate::door::{ACTIVE, calls};
-use crate::messages::{bytes_of, null_record};
+use crate::messages::{bytes_of, null_record, null_reply_record};
 use crate::trust::{by_datagram, by_record};
 use crate::turns::{HERE, Host, PORT, Stopped, plain};
 use rb_daemon::Settings;
