@@ -1,13 +1,11 @@
 -- Lines and fields, one by one.
-use Rattle.std.proofs.Common.{zero, suc, add-one, ◌≡◌, ◌<◌, ◌≤◌, ◌+◌, ℕ, Bool, true, false, eqb, List, [], ◌∷◌, ◌++◌, length, filter, Option, Some, None, refl, sym, ap, ◌∙◌, arith}
+use Rattle.std.proofs.Common.{zero, suc, add-one, ◌≡◌, ◌<◌, ◌≤◌, ◌+◌, ℕ, true, false, eqb, List, [], ◌∷◌, length, filter, Some, None, refl, sym, ap, ◌∙◌, arith}
 use Rattle.std.specs.Prelude.{slice_get, not, ◌==◌}
 use Rattle.std.specs.List.{slice_split}
-use Rattle.std.specs.Borrow.{Bor}
-use Rattle.std.specs.Option.{is_some}
 use Rattle.std.proofs.lemmas.Bool.{ne_eqb, eq-eqb, eqb-true, eqb-false}
 use Rattle.std.proofs.lemmas.List.{length-append}
 use Rattle.std.proofs.lemmas.List.Splits.{slice_split_none, slice_split_at}
-use Rattle.rb_evidence.specs.Table.{pieces_of, lines_of, is_something, fields_of, the_only, IsWithout, IsCutAt, borrowed, option_list}
+use Rattle.rb_evidence.specs.Table.{pieces_of, is_something, fields_of, IsWithout, IsCutAt}
 
 pub cut_pieces : (at : ℕ) (front back text : List ℕ) → IsCutAt at front back text → pieces_of at text ≡ front ∷ pieces_of at back
 unfolding pieces_of
@@ -65,39 +63,3 @@ field_first fields more field (suc n) is none = absurd (omega (arith, none))
 
 pub no_field : (fields : List (List ℕ)) (n : ℕ) → fields ≡ [] → slice_get fields n ≡ None
 no_field fields n is = ap (λ (fs : List (List ℕ)). slice_get fs n) is
-
--- ---- the lines between two peers
-
-lines_behind : (line back rest : List ℕ) → IsCutAt 10 line back rest → lines_of rest ≡ line ∷ lines_of back
-lines_behind line back rest cut = cut_pieces 10 line back rest cut
-
-pub one_more : (p : List ℕ → Bool) (line back rest : List ℕ) → IsCutAt 10 line back rest → p line ≡ true → filter p (lines_of rest) ≡ line ∷ filter p (lines_of back)
-one_more p line back rest cut is = ap (filter p) (lines_behind line back rest cut) ∙ rw is refl
-
-pub none_more : (p : List ℕ → Bool) (line back rest : List ℕ) → IsCutAt 10 line back rest → p line ≡ false → filter p (lines_of rest) ≡ filter p (lines_of back)
-none_more p line back rest cut is = ap (filter p) (lines_behind line back rest cut) ∙ rw is refl
-
-pub last_is : (p : List ℕ → Bool) (rest : List ℕ) → IsWithout 10 rest → p rest ≡ true → filter p (lines_of rest) ≡ rest ∷ []
-last_is p rest without is = ap (filter p) (one_piece 10 rest without) ∙ rw is refl
-
-pub last_is_not : (p : List ℕ → Bool) (rest : List ℕ) → IsWithout 10 rest → p rest ≡ false → filter p (lines_of rest) ≡ []
-last_is_not p rest without is = ap (filter p) (one_piece 10 rest without) ∙ rw is refl
-
--- those of the table, if the lines so far had this one or none
-abbrev pub IsSeen : List (List ℕ) → Option (Bor (List ℕ)) → List (List ℕ) → Type 0
-IsSeen all found rest = all ≡ option_list (borrowed found) ++ rest
-
-pub second : (all rest more : List (List ℕ)) (line : List ℕ) (found : Option (Bor (List ℕ))) → IsSeen all found rest → true ≡ is_some found → rest ≡ line ∷ more → None ≡ the_only all
-second all rest more line None seen one is = cc
-second all rest more line (Some f) seen one is = sym (ap the_only (seen ∙ ap (λ (ls : List (List ℕ)). f.now ∷ ls) is))
-
-pub first : (all rest : List (List ℕ)) (found : Option (Bor (List ℕ))) → IsSeen all found rest → false ≡ is_some found → all ≡ rest
-first all rest None seen none = seen
-first all rest (Some f) seen none = cc
-
-pub passed : (all rest back : List (List ℕ)) (found : Option (Bor (List ℕ))) → IsSeen all found rest → rest ≡ back → IsSeen all found back
-passed all rest back found seen is = seen ∙ ap (λ (ls : List (List ℕ)). option_list (borrowed found) ++ ls) is
-
-pub at_end : (all rest : List (List ℕ)) (found : Option (Bor (List ℕ))) → IsSeen all found rest → rest ≡ [] → borrowed found ≡ the_only all
-at_end all rest None seen is = sym (ap the_only (seen ∙ is))
-at_end all rest (Some f) seen is = sym (ap the_only (seen ∙ ap (λ (ls : List (List ℕ)). f.now ∷ ls) is))

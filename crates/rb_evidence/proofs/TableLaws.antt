@@ -1,23 +1,27 @@
 -- The uid is of one line, which is of one connection.
 use Rattle.std.proofs.Common.{◌≡◌, ◌<◌, ◌*◌, ◌/◌, ◌%◌, ◌^◌, ◌&&◌, ℕ, zero, suc, Bool, true, false, cond, not, eqb, List, [], ◌∷◌, ◌++◌, length, filter, get_or, Option, Some, None, refl, sym, ap, subst, ◌∙◌, arith, length-append, append_assoc, drop, replicate, lit<, ◌-◌}
 use Rattle.std.specs.Prelude.{slice_get, codes, All}
-use Rattle.std.proofs.lemmas.Bool.{and_parts, not-true, eqb-false}
+use Rattle.std.specs.List.{list_all}
+use Rattle.std.specs.Option.{option_map}
+use Rattle.std.proofs.lemmas.Bool.{and_parts, not-true, eqb-true, eqb-false}
+use Rattle.std.proofs.lemmas.List.Sums.{AllPass-from_list_all}
 use Rattle.std.proofs.lemmas.Bool.Decides.{nat_tests}
-use Rattle.std.proofs.lemmas.List.Elements.{All-head, All-append, All-drop, All-cons, All-nil, filter_passes}
+use Rattle.std.proofs.lemmas.List.Elements.{All-append, All-drop, All-cons, All-nil, filter_passes}
 use Rattle.std.proofs.lemmas.Option.{none-some, same_Some}
 use Rattle.std.proofs.lemmas.Slice.Eq.{bytes_eq-Decides}
 use Rattle.rb_address.specs.declared.host.Host.{Host}
 use Rattle.rb_address.specs.declared.host.Host.TheVariants.{V4, V6}
 use Rattle.rb_address.specs.Hosts.{octets_of_host, is_mapped, mapped_host, mapped_front}
 use Rattle.rb_address.specs.Peers.{IsPeer}
-use Rattle.rb_address.specs.Reading.{◌>>=◌, number_below, plain_number}
+use Rattle.rb_address.specs.Reading.{number_below, plain_number}
 use Rattle.rb_address.proofs.Words.{bound}
-use Rattle.rb_evidence.specs.Table.{lines_of, fields_of, is_text, is_field, is_between, the_only, only_between, owner_in, uid_between, upper_digit, byte_text, words_text, text_at, endpoint_text, mapped_text}
-use Rattle.rb_evidence.specs.Laws.{EndpointsDiffer, MappedDiffer, IsOwnedLine, UidIsOfOneLine, TwoLinesAreNone}
+use Rattle.rb_evidence.specs.declared.table.OwnedSocket.{OwnedSocket}
+use Rattle.rb_evidence.specs.Table.{lines_of, fields_of, is_text, is_field, is_between, is_same_socket, the_socket, socket_in, socket_between, uid_between, upper_digit, byte_text, words_text, text_at, endpoint_text, mapped_text}
+use Rattle.rb_evidence.specs.Laws.{EndpointsDiffer, MappedDiffer, IsOwnedLine, UidIsOfOneSocket, TwoSocketsAreNone, ShownTwiceIsOne}
 
 -- ---- one line
 
-cond_some : (b : Bool) (o : Option ℕ) (n : ℕ) → cond b o None ≡ Some n → (b ≡ true) × (o ≡ Some n)
+cond_some : {A : Type 0} (b : Bool) (o : Option A) (n : A) → cond b o None ≡ Some n → (b ≡ true) × (o ≡ Some n)
 cond_some true o n is = (refl, is)
 cond_some false o n is = absurd (none-some n is)
 
@@ -25,43 +29,78 @@ field_is : (text : List ℕ) (field : Option (List ℕ)) → is_text text field 
 field_is text None is = cc
 field_is text (Some field) is = ap (λ (t : List ℕ). Some t) ((bytes_eq-Decides field text).0 is)
 
-only_is : (lines : List (List ℕ)) (line : List ℕ) → the_only lines ≡ Some line → lines ≡ line ∷ []
-only_is [] line is = absurd (none-some line is)
-only_is (first ∷ []) line is = ap (λ (l : List ℕ). l ∷ []) (same_Some first line is)
-only_is (first ∷ second ∷ more) line is = absurd (none-some line is)
-
-passes_alone : (p : List ℕ → Bool) (lines : List (List ℕ)) (line : List ℕ) → filter p lines ≡ line ∷ [] → p line ≡ true
-passes_alone p lines line is = All-head (λ (l : List ℕ). p l ≡ true) line [] (subst (All (λ (l : List ℕ). p l ≡ true)) is (filter_passes p lines))
-
-owned : (theirs ours line : List ℕ) (uid : ℕ) → is_between theirs ours line ≡ true → owner_in line ≡ Some uid → IsOwnedLine theirs ours line uid
-unfolding owner_in
-owned theirs ours line uid between is =
-    let (uid_text, uid_field, rest1) = bound (slice_get (fields_of line) 7) _ uid is in
-    let (inode_text, inode_field, rest2) = bound (slice_get (fields_of line) 9) _ uid rest1 in
-    let (inode, inode_is, rest3) = bound (number_below (2 ^ 64) inode_text) _ uid rest2 in
-    let found = cond_some (is_field 3 (codes "01") line && not (eqb inode 0)) (plain_number (2 ^ 32) uid_text) uid rest3 in
+owned : (theirs ours line : List ℕ) (socket : OwnedSocket) → is_between theirs ours line ≡ true → socket_in line ≡ Some socket → IsOwnedLine theirs ours line socket.uid socket.inode
+unfolding socket_in
+owned theirs ours line socket between is =
+    let (uid_text, uid_field, rest1) = bound (slice_get (fields_of line) 7) _ socket is in
+    let (inode_text, inode_field, rest2) = bound (slice_get (fields_of line) 9) _ socket rest1 in
+    let (inode, inode_is, rest3) = bound (number_below (2 ^ 64) inode_text) _ socket rest2 in
+    let (uid, uid_is, rest4) = bound (cond (is_field 3 (codes "01") line && not (eqb inode 0)) (plain_number (2 ^ 32) uid_text) None) _ socket rest3 in
+    let found = cond_some (is_field 3 (codes "01") line && not (eqb inode 0)) (plain_number (2 ^ 32) uid_text) uid uid_is in
+    let shown : record { uid = uid; inode = inode } ≡ socket = same_Some _ socket rest4 in
     let tests = and_parts _ _ found.0 in
     let ends = and_parts _ _ between in
-    record {
-      inode = inode;
+    let line_is : IsOwnedLine theirs ours line uid inode = record {
       own = field_is theirs _ ends.0;
       other = field_is ours _ ends.1;
       established = field_is (codes "01") _ tests.0;
       has_socket = eqb-false _ _ (not-true _ tests.1);
       inode_is = (inode_text, inode_field, inode_is);
       uid_is = (uid_text, uid_field, found.1);
-    }
+    } in
+    subst (λ (s : OwnedSocket). IsOwnedLine theirs ours line s.uid s.inode) shown line_is
 
-pub uid_is_of_one_line : UidIsOfOneLine
-unfolding uid_between only_between
-uid_is_of_one_line table theirs ours uid is =
-    let (line, only, owner) = bound (the_only (filter (is_between theirs ours) (lines_of table))) _ uid is in
-    let one = only_is _ line only in
-    (line, one, owned theirs ours line uid (passes_alone (is_between theirs ours) (lines_of table) line one) owner)
+-- ---- one socket
 
-pub two_lines_are_none : TwoLinesAreNone
-unfolding uid_between only_between
-two_lines_are_none table theirs ours a b more is = ap (λ (lines : List (List ℕ)). the_only lines >>= owner_in) is
+same_some : (a b : Option OwnedSocket) (s : OwnedSocket) → a ≡ Some s → is_same_socket a b ≡ true → b ≡ Some s
+same_some None b s is same = absurd (none-some s is)
+same_some (Some a) None s is same = cc
+same_some (Some a) (Some b) s is same =
+    let parts = and_parts _ _ same in
+    let uids = eqb-true a.uid b.uid parts.0 in
+    let inodes = eqb-true a.inode b.inode parts.1 in
+    ap (λ (t : OwnedSocket). Some t) (λ i. record { uid = sym uids i; inode = sym inodes i }) ∙ is
+
+uid_some : (o : Option OwnedSocket) (uid : ℕ) → option_map (λ (s : OwnedSocket). s.uid) o ≡ Some uid → (s : OwnedSocket) × (o ≡ Some s) × (s.uid ≡ uid)
+uid_some None uid is = absurd (none-some uid is)
+uid_some (Some s) uid is = (s, refl, same_Some s.uid uid is)
+
+-- the first of some lines shows the socket, and so does each other one
+shows_each : (lines : List (List ℕ)) (s : OwnedSocket) → the_socket lines ≡ Some s → (0 < length lines) × All (λ (l : List ℕ). socket_in l ≡ Some s) lines
+shows_each [] s is = absurd (none-some s is)
+shows_each (line ∷ more) s is =
+    let P : List ℕ → Type 0 = λ l. socket_in l ≡ Some s in
+    let p : List ℕ → Bool = λ l. is_same_socket (socket_in line) (socket_in l) in
+    let found = cond_some (list_all p more) (socket_in line) s is in
+    let all = AllPass-from_list_all p more found.0 in
+    (omega arith, All-cons P line more found.1 (λ k d l. same_some (socket_in line) _ s found.1 (all k d l)))
+
+each_owned : (theirs ours : List ℕ) (lines : List (List ℕ)) (s : OwnedSocket) → All (λ (l : List ℕ). is_between theirs ours l ≡ true) lines → All (λ (l : List ℕ). socket_in l ≡ Some s) lines
+    → All (λ (l : List ℕ). IsOwnedLine theirs ours l s.uid s.inode) lines
+each_owned theirs ours lines s between shown k d l = owned theirs ours _ s (between k d l) (shown k d l)
+
+pub uid_is_of_one_socket : UidIsOfOneSocket
+unfolding uid_between socket_between
+uid_is_of_one_socket table theirs ours uid is =
+    let found = filter (is_between theirs ours) (lines_of table) in
+    let (s, shown, uid_is) = uid_some (the_socket found) uid is in
+    let (some, each) = shows_each found s shown in
+    let owned = each_owned theirs ours found s (filter_passes (is_between theirs ours) (lines_of table)) each in
+    record { inode = s.inode; are_some = some; each = subst (λ (u : ℕ). All (λ (l : List ℕ). IsOwnedLine theirs ours l u s.inode) found) uid_is owned }
+
+abbrev uid_in : List (List ℕ) → Option ℕ
+uid_in lines = option_map (λ (s : OwnedSocket). s.uid) (the_socket lines)
+
+abbrev uid_by : Bool → Option OwnedSocket → Option ℕ
+uid_by b o = option_map (λ (s : OwnedSocket). s.uid) (cond b o None)
+
+pub two_sockets_are_none : TwoSocketsAreNone
+unfolding uid_between socket_between
+two_sockets_are_none table theirs ours a b more is other = ap uid_in is ∙ rw other refl
+
+pub shown_twice_is_one : ShownTwiceIsOne
+unfolding uid_between socket_between
+shown_twice_is_one table theirs ours line again s is shown same = ap uid_in is ∙ rw same (ap (uid_by true) shown)
 
 -- ---- one connection
 

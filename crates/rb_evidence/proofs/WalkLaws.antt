@@ -1,15 +1,16 @@
 -- What a walk through a table that comes in slices sees.
-use Rattle.std.proofs.Common.{◌≡◌, ◌≤◌, ◌+◌, ◌-◌, ℕ, Bool, true, false, cond, List, [], ◌∷◌, ◌++◌, length, filter, take, drop, Option, refl, sym, ap, subst, ◌∙◌, arith, append_assoc, append-nil}
+use Rattle.std.proofs.Common.{◌≡◌, ◌&&◌, ◌≤◌, ◌+◌, ◌-◌, ℕ, Bool, true, false, cond, List, [], ◌∷◌, ◌++◌, length, filter, take, drop, Option, None, refl, sym, ap, subst, ◌∙◌, arith, append_assoc, append-nil}
 use Rattle.std.proofs.lemmas.List.{length-take-le, length-take, length-append, length-drop, take-append-le, drop-append-le, drop-take}
 use Rattle.std.proofs.Math.Seq.{take-append-add, take-append_seam}
-use Rattle.std.specs.List.{copy_within}
+use Rattle.std.specs.List.{copy_within, list_all}
+use Rattle.std.specs.Option.{option_map}
+use Rattle.rb_evidence.specs.declared.table.OwnedSocket.{OwnedSocket}
 use Rattle.rb_evidence.specs.declared.sight.Seen.{Seen}
-use Rattle.rb_evidence.specs.declared.sight.Seen.TheVariants.{Nothing, Once, Often}
+use Rattle.rb_evidence.specs.declared.sight.Seen.TheVariants.{Nothing, One, Several}
 use Rattle.rb_evidence.specs.declared.sight.Sight.{Sight}
-use Rattle.rb_evidence.specs.Table.{lines_of, is_between, the_only, only_between, owner_in, uid_between, IsCutAt}
+use Rattle.rb_evidence.specs.Table.{lines_of, is_between, is_same_socket, the_socket, socket_in, socket_between, uid_between, IsCutAt}
 use Rattle.rb_evidence.specs.Walks.{seen_more, after_lines, after_line_of_all, after_lines_of_all, uid_seen, WalksSeeTheWhole, IsWalk, CutLinesAreOne, IsReadBehind, HasPassed}
 use Rattle.rb_evidence.specs.Walks.IsWalk.{takes, reads, ends}
-use Rattle.rb_address.specs.Reading.{◌>>=◌}
 use borrow.Rule.Slice.PartMut.{post_of}
 use Rattle.rb_evidence.proofs.Cuts.{cut_pieces, one_piece}
 
@@ -35,51 +36,65 @@ cut_lines_are_one table lines walk = walked [] table lines walk
 
 -- ---- what is seen
 
--- by the lines that are between the two
+-- by the lines that are between the two, of which this socket was shown
+abbrev seen_behind : Option OwnedSocket → List (List ℕ) → Seen
+seen_behind shown found = cond (list_all (λ (l : List ℕ). is_same_socket shown (socket_in l)) found) (One shown) Several
+
 abbrev seen_of : List (List ℕ) → Seen
 seen_of [] = Nothing
-seen_of (line ∷ []) = Once (owner_in line)
-seen_of (line ∷ other ∷ more) = Often
+seen_of (line ∷ more) = seen_behind (socket_in line) more
 
-often_by : (b : Bool) (uid : Option ℕ) (theirs ours : List ℕ) (lines : List (List ℕ)) → after_lines theirs ours Often lines ≡ Often
-    → after_lines theirs ours (cond b (seen_more Often uid) Often) lines ≡ Often
-often_by true uid theirs ours lines is = is
-often_by false uid theirs ours lines is = is
+several_by : (b : Bool) (socket : Option OwnedSocket) (theirs ours : List ℕ) (lines : List (List ℕ)) → after_lines theirs ours Several lines ≡ Several
+    → after_lines theirs ours (cond b (seen_more Several socket) Several) lines ≡ Several
+several_by true socket theirs ours lines is = is
+several_by false socket theirs ours lines is = is
 
-often : (theirs ours : List ℕ) (lines : List (List ℕ)) → after_lines theirs ours Often lines ≡ Often
-often theirs ours [] = refl
-often theirs ours (line ∷ lines) = often_by (is_between theirs ours line) (owner_in line) theirs ours lines (often theirs ours lines)
+several : (theirs ours : List ℕ) (lines : List (List ℕ)) → after_lines theirs ours Several lines ≡ Several
+several theirs ours [] = refl
+several theirs ours (line ∷ lines) = several_by (is_between theirs ours line) (socket_in line) theirs ours lines (several theirs ours lines)
 
-once_by : (b : Bool) (uid first : Option ℕ) (theirs ours line mine : List ℕ) (lines found : List (List ℕ))
-    → after_lines theirs ours (Once first) lines ≡ seen_of (mine ∷ found)
-    → after_lines theirs ours (cond b (seen_more (Once first) uid) (Once first)) lines ≡ seen_of (mine ∷ cond b (line ∷ found) found)
-once_by true uid first theirs ours line mine lines found is = often theirs ours lines
-once_by false uid first theirs ours line mine lines found is = is
+-- whether the line is between the two, and whether it shows the same socket
+one_by : (b same : Bool) (shown : Option OwnedSocket) (theirs ours : List ℕ) (lines found : List (List ℕ)) (others : Bool)
+    → after_lines theirs ours (One shown) lines ≡ cond others (One shown) Several
+    → after_lines theirs ours (cond b (cond same (One shown) Several) (One shown)) lines ≡ cond (cond b (same && others) others) (One shown) Several
+one_by true true shown theirs ours lines found others is = is
+one_by true false shown theirs ours lines found others is = several theirs ours lines
+one_by false same shown theirs ours lines found others is = is
 
-once : (theirs ours mine : List ℕ) (lines : List (List ℕ)) → after_lines theirs ours (Once (owner_in mine)) lines ≡ seen_of (mine ∷ filter (is_between theirs ours) lines)
-once theirs ours mine [] = refl
-once theirs ours mine (line ∷ lines) =
-    once_by (is_between theirs ours line) (owner_in line) (owner_in mine) theirs ours line mine lines _ (once theirs ours mine lines)
+all_by : (p : List ℕ → Bool) (b : Bool) (line : List ℕ) (found : List (List ℕ)) → list_all p (cond b (line ∷ found) found) ≡ cond b (p line && list_all p found) (list_all p found)
+all_by p true line found = refl
+all_by p false line found = refl
+
+one : (theirs ours : List ℕ) (shown : Option OwnedSocket) (lines : List (List ℕ)) → after_lines theirs ours (One shown) lines ≡ seen_behind shown (filter (is_between theirs ours) lines)
+one theirs ours shown [] = refl
+one theirs ours shown (line ∷ lines) =
+    let p : List ℕ → Bool = λ l. is_same_socket shown (socket_in l) in
+    let found = filter (is_between theirs ours) lines in
+    one_by (is_between theirs ours line) (p line) shown theirs ours lines found (list_all p found) (one theirs ours shown lines)
+    ∙ ap (λ (b : Bool). cond b (One shown) Several) (sym (all_by p (is_between theirs ours line) line found))
 
 nothing_by : (b : Bool) (theirs ours line : List ℕ) (lines found : List (List ℕ))
-    → after_lines theirs ours (Once (owner_in line)) lines ≡ seen_of (line ∷ found)
+    → after_lines theirs ours (One (socket_in line)) lines ≡ seen_of (line ∷ found)
     → after_lines theirs ours Nothing lines ≡ seen_of found
-    → after_lines theirs ours (cond b (seen_more Nothing (owner_in line)) Nothing) lines ≡ seen_of (cond b (line ∷ found) found)
-nothing_by true theirs ours line lines found one none = one
-nothing_by false theirs ours line lines found one none = none
+    → after_lines theirs ours (cond b (seen_more Nothing (socket_in line)) Nothing) lines ≡ seen_of (cond b (line ∷ found) found)
+nothing_by true theirs ours line lines found some none = some
+nothing_by false theirs ours line lines found some none = none
 
 nothing : (theirs ours : List ℕ) (lines : List (List ℕ)) → after_lines theirs ours Nothing lines ≡ seen_of (filter (is_between theirs ours) lines)
 nothing theirs ours [] = refl
 nothing theirs ours (line ∷ lines) =
-    nothing_by (is_between theirs ours line) theirs ours line lines _ (once theirs ours line lines) (nothing theirs ours lines)
+    nothing_by (is_between theirs ours line) theirs ours line lines _ (one theirs ours (socket_in line) lines) (nothing theirs ours lines)
 
-uid_of_seen : (lines : List (List ℕ)) → uid_seen (seen_of lines) ≡ (the_only lines >>= owner_in)
+uid_by : (b : Bool) (shown : Option OwnedSocket) → uid_seen (cond b (One shown) Several) ≡ option_map (λ (s : OwnedSocket). s.uid) (cond b shown None)
+uid_by true shown = refl
+uid_by false shown = refl
+
+uid_of_seen : (lines : List (List ℕ)) → uid_seen (seen_of lines) ≡ option_map (λ (s : OwnedSocket). s.uid) (the_socket lines)
 uid_of_seen [] = refl
-uid_of_seen (line ∷ []) = refl
-uid_of_seen (line ∷ other ∷ more) = refl
+uid_of_seen (line ∷ more) = uid_by (list_all (λ (l : List ℕ). is_same_socket (socket_in line) (socket_in l)) more) (socket_in line)
 
 pub walks_see_the_whole : WalksSeeTheWhole
-unfolding uid_between only_between
+unfolding uid_between socket_between
 walks_see_the_whole table theirs ours =
     ap uid_seen (nothing theirs ours (lines_of table)) ∙ uid_of_seen (filter (is_between theirs ours) (lines_of table))
 

@@ -2,11 +2,12 @@
 -- (proc(5), /proc/net/tcp and /proc/net/tcp6). Places of fields count from 0: 1 is the socket's own address, 2 the one that
 -- it is connected to, 3 the state, 7 the uid and 9 the inode.
 use Rattle.std.specs.Prelude.{◌≡◌, ℕ, ◌+◌, ◌/◌, ◌%◌, ◌^◌, ◌==◌, ◌&&◌, nat_lt, not, Bool, false, if◌then◌else◌, List, [], ◌∷◌, ◌++◌, length, filter, slice_get, All, codes, Option, Some, None, bytes_eq}
-use Rattle.std.specs.List.{slice_split}
+use Rattle.std.specs.List.{slice_split, list_all}
 use Rattle.std.specs.Option.{option_map}
 use Rattle.std.specs.Borrow.{Bor}
 use Rattle.rb_address.specs.declared.peer.Peer.{Peer}
 use Rattle.rb_address.specs.declared.host.Host.{Host}
+use Rattle.rb_evidence.specs.declared.table.OwnedSocket.{OwnedSocket}
 use Rattle.rb_address.specs.Hosts.{octets_of_host, mapped_host}
 use Rattle.rb_address.specs.Reading.{◌>>=◌, number_below, plain_number}
 
@@ -68,32 +69,36 @@ mapped_text p = text_at (mapped_host p.host) p.port
 abbrev pub is_between : List ℕ → List ℕ → List ℕ → Bool
 is_between theirs ours line = is_field 1 theirs line && is_field 2 ours line
 
-abbrev pub the_only : List (List ℕ) → Option (List ℕ)
-the_only [] = None
-the_only (line ∷ []) = Some line
-the_only (line ∷ another ∷ more) = None
-
--- EVIDENCE-1: A connection's user is the one that the table shows in its only line between the
--- peer's address and ours, the peer's first; if there is none, or more than one, the table shows no
--- user.
-unfoldable pub only_between : List ℕ → List ℕ → List ℕ → Option (List ℕ)
-only_between table theirs ours = the_only (filter (is_between theirs ours) (lines_of table))
-
--- EVIDENCE-2: The line that shows a connection's user must be of a connection that is established,
+-- EVIDENCE-2: A line that shows a connection's user must be of a connection that is established,
 -- and have an inode other than 0: a client that has closed stands there with the uid 0 and without
 -- a socket.
-unfoldable pub owner_in : List ℕ → Option ℕ
-owner_in line = do
-  uid ← slice_get (fields_of line) 7
-  inode ← slice_get (fields_of line) 9
-  number ← number_below (2 ^ 64) inode
-  if is_field 3 (codes "01") line && not (number == 0) then plain_number (2 ^ 32) uid else None
+unfoldable pub socket_in : List ℕ → Option OwnedSocket
+socket_in line = do
+  user ← slice_get (fields_of line) 7
+  text ← slice_get (fields_of line) 9
+  number ← number_below (2 ^ 64) text
+  uid ← if is_field 3 (codes "01") line && not (number == 0) then plain_number (2 ^ 32) user else None
+  Some (record { uid = uid; inode = number })
 
--- the uid of the one line from them to us
+-- EVIDENCE-7: Lines of one uid and one inode are of one socket, which Linux may show twice.
+abbrev pub is_same_socket : Option OwnedSocket → Option OwnedSocket → Bool
+is_same_socket (Some a) (Some b) = (a.uid == b.uid) && (a.inode == b.inode)
+is_same_socket a b = false
+
+-- the socket that each of these lines shows
+abbrev pub the_socket : List (List ℕ) → Option OwnedSocket
+the_socket [] = None
+the_socket (line ∷ more) = if list_all (λ l. is_same_socket (socket_in line) (socket_in l)) more then socket_in line else None
+
+-- EVIDENCE-1: A connection's user is that of the only socket that the table shows between the
+-- peer's address and ours, the peer's first; if there is none, or more than one, the table shows no
+-- user.
+unfoldable pub socket_between : List ℕ → List ℕ → List ℕ → Option OwnedSocket
+socket_between table theirs ours = the_socket (filter (is_between theirs ours) (lines_of table))
+
+-- the uid of that socket
 unfoldable pub uid_between : List ℕ → List ℕ → List ℕ → Option ℕ
-uid_between table theirs ours = do
-  line ← only_between table theirs ours
-  owner_in line
+uid_between table theirs ours = option_map (λ socket. socket.uid) (socket_between table theirs ours)
 
 -- EVIDENCE-1
 unfoldable pub uid_of : List ℕ → Peer → Peer → Option ℕ
@@ -116,7 +121,3 @@ pub record IsCutAt (at : ℕ) (front back text : List ℕ) : Type 0 where
 
 abbrev pub borrowed : Option (Bor (List ℕ)) → Option (List ℕ)
 borrowed text = option_map (λ t. t.now) text
-
-abbrev pub option_list : Option (List ℕ) → List (List ℕ)
-option_list None = []
-option_list (Some line) = line ∷ []

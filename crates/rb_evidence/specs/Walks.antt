@@ -1,21 +1,23 @@
 -- A walk through a table that comes in slices: its lines, each once, and what they show of a connection.
 use Rattle.std.specs.Prelude.{◌≡◌, ℕ, if◌then◌else◌, List, [], ◌∷◌, ◌++◌, length, map, Option, None}
 use Rattle.std.specs.Option.{option_map}
+use Rattle.rb_evidence.specs.declared.table.OwnedSocket.{OwnedSocket}
 use Rattle.rb_evidence.specs.declared.sight.Seen.{Seen}
 use Rattle.rb_evidence.specs.declared.sight.Sight.{Sight}
-use Rattle.rb_evidence.specs.declared.sight.Seen.TheVariants.{Nothing, Once, Often}
-use Rattle.rb_evidence.specs.Table.{lines_of, is_between, owner_in, uid_between, IsWithout, IsCutAt}
+use Rattle.rb_evidence.specs.declared.sight.Seen.TheVariants.{Nothing, One, Several}
+use Rattle.rb_evidence.specs.Table.{lines_of, is_between, is_same_socket, socket_in, uid_between, IsWithout, IsCutAt}
 
 -- ---- what was seen of a connection
 
--- after one more line, whose socket is of this uid, if it has one
-abbrev pub seen_more : Seen → Option ℕ → Seen
-seen_more Nothing uid = Once uid
-seen_more (Once other) uid = Often
-seen_more Often uid = Often
+-- after one more line, which shows this socket, if it shows one
+-- EVIDENCE-7
+abbrev pub seen_more : Seen → Option OwnedSocket → Seen
+seen_more Nothing socket = One socket
+seen_more (One before) socket = if is_same_socket before socket then One before else Several
+seen_more Several socket = Several
 
 abbrev pub after_line : List ℕ → List ℕ → Seen → List ℕ → Seen
-after_line theirs ours seen line = if is_between theirs ours line then seen_more seen (owner_in line) else seen
+after_line theirs ours seen line = if is_between theirs ours line then seen_more seen (socket_in line) else seen
 
 abbrev pub after_lines : List ℕ → List ℕ → Seen → List (List ℕ) → Seen
 after_lines theirs ours seen [] = seen
@@ -41,8 +43,8 @@ after_lines_of_all (line ∷ lines) places = after_lines_of_all lines (after_lin
 
 abbrev pub uid_seen : Seen → Option ℕ
 uid_seen Nothing = None
-uid_seen (Once uid) = uid
-uid_seen Often = None
+uid_seen (One socket) = option_map (λ s. s.uid) socket
+uid_seen Several = None
 
 -- EVIDENCE-5: A walk looks at each line of a table once, for all connections that are looked for, and finds of each what the whole table shows.
 abbrev pub WalksSeeTheWhole : Type 0

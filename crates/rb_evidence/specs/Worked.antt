@@ -39,7 +39,7 @@ table6 = codes "  sl  local_address                         remote_address      
 pub record OverIpv6 : Type 0 where
   pub client : uid_of table6 (of__1 39804) (of__1 31114) ≡ Some 65534
   pub closed : uid_of table6 (of__1 39820) (of__1 31114) ≡ None
-  pub twice : uid_of (table6 ++ table6) (of__1 39804) (of__1 31114) ≡ None
+  pub shown_twice : uid_of (table6 ++ table6) (of__1 39804) (of__1 31114) ≡ Some 65534
 
 -- a socket of IPv6 that is connected to ::ffff:127.0.0.1: the listener's end, of IPv4, is not in this table
 abbrev pub table_mapped : List ℕ

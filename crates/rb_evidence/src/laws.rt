@@ -1,14 +1,15 @@
 //! What holds of each table, and worked examples.
-ghost use Rattle.rb_evidence.specs.Laws.{EndpointsDiffer, MappedDiffer, UidIsOfOneLine, TwoLinesAreNone};
+ghost use Rattle.rb_evidence.specs.Laws.{EndpointsDiffer, MappedDiffer, UidIsOfOneSocket, TwoSocketsAreNone, ShownTwiceIsOne};
 ghost use Rattle.rb_evidence.specs.Walks.{CutLinesAreOne, WalksSeeTheWhole};
 ghost use Rattle.rb_evidence.specs.Worked.{OverIpv4, OverIpv6, OverIpv4InIpv6};
 
-/// The uid is of one line, which is of this connection and no other.
+/// The uid is of one socket, which is of this connection and no other, in however many lines it is shown.
 pub fn table_laws()
     ensures endpoints_differ { EndpointsDiffer }
     ensures mapped_differ { MappedDiffer }
-    ensures uid_is_of_one_line { UidIsOfOneLine }
-    ensures two_lines_are_none { TwoLinesAreNone }
+    ensures uid_is_of_one_socket { UidIsOfOneSocket }
+    ensures two_sockets_are_none { TwoSocketsAreNone }
+    ensures shown_twice_is_one { ShownTwiceIsOne }
 {}
 
 /// However a table is cut into slices, its lines are looked at once, and show of a connection what the whole table shows.

@@ -3,7 +3,7 @@ ghost use Rattle.std.specs.Prelude.{◌≡◌};
 ghost use Rattle.rb_evidence.specs.Walks.{seen_more, uid_seen, place_after, after_line_of_all};
 
 use crate::endpoint::{Endpoint, endpoint_text, mapped_text};
-use crate::table::{Line, owner_in};
+use crate::table::{Line, OwnedSocket, is_same_socket, socket_in};
 use rb_address::Peer;
 
 /// What was seen so far.
@@ -11,10 +11,10 @@ use rb_address::Peer;
 pub enum Seen {
     /// No line of it.
     Nothing,
-    /// One line, and the uid of its socket, if that is established and has an inode.
-    Once(Option<u32>),
-    /// More than one line.
-    Often,
+    /// One line, or more of one socket, and that socket, if it is established and has an inode.
+    One(Option<OwnedSocket>),
+    /// Lines that are not of one socket.
+    Several,
 }
 
 /// A connection that is looked for in a table, by the texts of its two ends there.
@@ -65,13 +65,13 @@ impl Sight {
             self.theirs.as_str().as_bytes(),
             self.ours.as_str().as_bytes(),
         ) {
-            self.seen = seen_more(self.seen, owner_in(line.text()));
+            self.seen = seen_more(self.seen, socket_in(line.text()));
         }
     }
 
-    /// The uid of the process's socket at the other end, if all lines of the table were looked at: of the one line from
-    /// that peer to us, which is established and has an inode. `None` if there is none, more than one, or a line of
-    /// another form.
+    /// The uid of the process's socket at the other end, if all lines of the table were looked at: of the one socket that is
+    /// shown from that peer to us, which is established and has an inode. `None` if there is none, more than one, or a line
+    /// of another form.
     pub fn uid(&self) -> Option<u32>
         ensures { result ≡ uid_seen self.now.seen }
     {
@@ -99,13 +99,16 @@ fn look_at_for(place: &mut Option<Sight>, line: &Line<'_>)
     }
 }
 
-/// After one more line, whose socket is of this uid, if it has one.
-fn seen_more(seen: Seen, uid: Option<u32>) -> Seen
-    ensures { result ≡ seen_more seen uid }
+// EVIDENCE-7
+/// After one more line, which shows this socket, if it shows one. The kernel may show a socket again: when it has shown all,
+/// and others have come meanwhile, it goes on with the last ones.
+fn seen_more(seen: Seen, socket: Option<OwnedSocket>) -> Seen
+    ensures { result ≡ seen_more seen socket }
 {
     match seen {
-        Seen::Nothing => Seen::Once(uid),
-        Seen::Once(_) | Seen::Often => Seen::Often,
+        Seen::Nothing => Seen::One(socket),
+        Seen::One(before) if is_same_socket(before, socket) => seen,
+        Seen::One(_) | Seen::Several => Seen::Several,
     }
 }
 
@@ -113,7 +116,7 @@ fn uid_seen(seen: Seen) -> Option<u32>
     ensures { result ≡ uid_seen seen }
 {
     match seen {
-        Seen::Once(uid) => uid,
-        Seen::Nothing | Seen::Often => None,
+        Seen::One(Some(socket)) => Some(socket.uid),
+        Seen::One(None) | Seen::Nothing | Seen::Several => None,
     }
 }

@@ -1,12 +1,19 @@
 //! A line of the kernel's table: between whom it is, and whose.
 ghost use Rattle.std.specs.Prelude.{◌≡◌, slice_get};
-ghost use Rattle.rb_evidence.specs.Table.{fields_of, is_text, owner_in, borrowed};
+ghost use Rattle.rb_evidence.specs.Table.{fields_of, is_text, is_same_socket, socket_in, borrowed};
 
 use crate::fields::{field_at, is_field};
 use rb_address::{number_below, plain_number};
 
 /// The state of a connection that is established: TCP_ESTABLISHED of the kernel.
 const ESTABLISHED: &[u8] = b"01";
+
+/// A socket that a line shows: of which user it is, and its inode, which no other socket has meanwhile.
+#[derive(Clone, Copy, Debug, PartialEq, Eq)]
+pub struct OwnedSocket {
+    pub(crate) uid: u32,
+    pub(crate) inode: u64,
+}
 
 /// A line, of which the two ends were read.
 #[derive(Clone, Copy)]
@@ -58,10 +65,10 @@ fn is_text(field: Option<&[u8]>, text: &[u8]) -> bool
     }
 }
 
-/// The uid of a line, if that is established and has a socket.
-#[tactic(auto, unfolding(crate::specs::Table::owner_in))]
-pub(crate) fn owner_in(line: &[u8]) -> Option<u32>
-    ensures { result ≡ owner_in line.now }
+/// The socket of a line, if that is established and has one.
+#[tactic(auto, unfolding(crate::specs::Table::socket_in))]
+pub(crate) fn socket_in(line: &[u8]) -> Option<OwnedSocket>
+    ensures { result ≡ socket_in line.now }
 {
     let uid = field_at(line, 7)?;
     let inode = number_below(field_at(line, 9)?)?;
@@ -69,5 +76,18 @@ pub(crate) fn owner_in(line: &[u8]) -> Option<u32>
         return None;
     }
     let uid = plain_number(uid, 1 << 32)?;
-    Some(uid as u32)
+    Some(OwnedSocket {
+        uid: uid as u32,
+        inode,
+    })
+}
+
+/// Whether two lines show one socket.
+pub(crate) fn is_same_socket(a: Option<OwnedSocket>, b: Option<OwnedSocket>) -> bool
+    ensures { result ≡ is_same_socket a b }
+{
+    match (a, b) {
+        (Some(a), Some(b)) => a.uid == b.uid && a.inode == b.inode,
+        _ => false,
+    }
 }

@@ -174,6 +174,20 @@ const GIVEN_AWAY: &[&str] = &[
     "   7: 0100007F:7992 0200007F:8C6D 01 00000000:00000000 00:00000000 00000000     0        0 657325 1 00000000d80beef8 20 0 0 10 -1                    ",
 ];
 
+/// The same with another socket.
+const ANOTHER_SOCKET: &str =
+    "   9: 0200007F:8C6D 0100007F:7992 01 00000000:00000000 00:00000000 00000000  1234        0 657326 2 000000004e7a58aa 20 0 0 10 -1                    ";
+
+/// A client of uid 1234 at 127.0.0.1, whose two ends were shown again: others had come when all lines were read.
+const SHOWN_AGAIN: &[&str] = &[
+    "   1: 0100007F:7994 00000000:0000 0A 00000000:00000000 00:00000000 00000000     0        0 799435 1 000000007a4bf052 100 0 0 10 0                    ",
+    "   7: 0100007F:E892 0100007F:7994 01 00000000:00000000 00:00000000 00000000  1234        0 799440 2 00000000ff517fc4 20 0 0 10 -1                    ",
+    "   8: 0100007F:E894 0100007F:7994 01 00000000:00000000 00:00000000 00000000  1234        0 799442 2 00000000480c6113 20 0 0 10 -1                    ",
+    "   9: 0100007F:7994 0100007F:E894 01 00000000:00000000 00:00000000 00000000  1234        0 799443 1 00000000555f07b7 20 0 0 10 -1                    ",
+    "  10: 0100007F:E894 0100007F:7994 01 00000000:00000000 00:00000000 00000000  1234        0 799442 2 00000000480c6113 20 0 0 10 -1                    ",
+    "  11: 0100007F:7994 0100007F:E894 01 00000000:00000000 00:00000000 00000000  1234        0 799443 1 00000000555f07b7 20 0 0 10 -1                    ",
+];
+
 const V4: Host = Host::V4([127, 0, 0, 1]);
 
 const V6: Host = Host::V6([0, 0, 0, 0, 0, 0, 0, 0, 0, 0, 0, 0, 0, 0, 0, 1]);
@@ -348,19 +362,44 @@ fn clients_come_and_go(rt: HostRuntime) -> Result<(), Fail> {
     Ok(())
 }
 
-/// A table without lines, one that is cut off in the line, and one that has it twice.
+// EVIDENCE-7
+#[test]
+fn socket_shown_again_is_one(rt: HostRuntime) -> Result<(), Fail> {
+    let table = table_of(rt.alloc(), HEAD, SHOWN_AGAIN)?;
+    let ours = Peer::new(V4, 31_124);
+    let [again, once] = [59_540, 59_538].map(|port| Peer::new(V4, port));
+    assert_eq!(rt; uid_of(rt.alloc(), &table, &again, &ours), Some(1234));
+    assert_eq!(rt; uid_of(rt.alloc(), &table, &ours, &again), Some(1234));
+    assert_eq!(rt; uid_of(rt.alloc(), &table, &once, &ours), Some(1234));
+    Ok(())
+}
+
+// EVIDENCE-1
+/// Lines of two uids, and of two inodes.
+#[test]
+fn two_sockets_are_nobody(rt: HostRuntime) -> Result<(), Fail> {
+    let other = Host::V4([127, 0, 0, 2]);
+    let uids = [FROM_ANOTHER[0], GIVEN_AWAY[0]];
+    let inodes = [GIVEN_AWAY[0], ANOTHER_SOCKET];
+    assert_eq!(rt;
+        shown(&rt, &[ANOTHER_SOCKET], other, 35_949),
+        Ok(Some(1234))
+    );
+    assert_eq!(rt; shown(&rt, &uids, other, 35_949), Ok(None));
+    assert_eq!(rt; shown(&rt, &inodes, other, 35_949), Ok(None));
+    Ok(())
+}
+
+/// A table without lines, and one that is cut off in the line.
 #[test]
 fn other_tables_show_nobody(rt: HostRuntime) -> Result<(), Fail> {
     let door = AT_31112;
     let ours = Peer::new(V4, door.port);
     let [first, ..] = door.clients.map(|port| Peer::new(V4, port));
     assert_eq!(rt; uid_of(rt.alloc(), b"", &first, &ours), None);
-    let mut table = table_at(rt.alloc(), &door)?;
+    let table = table_at(rt.alloc(), &door)?;
     let place = HEAD.len() + 1 + 150 + 75;
     assert_eq!(rt; uid_of(rt.alloc(), &table[..place], &first, &ours), None);
-    let again = table_at(rt.alloc(), &door)?;
-    table.extend_from_slice(&again)?;
-    assert_eq!(rt; uid_of(rt.alloc(), &table, &first, &ours), None);
     Ok(())
 }
 
