@@ -85,9 +85,10 @@ release:
 	@LEAVE_OUT="$(LEAVE_OUT)" CACHE="$(CACHE)" packaging/release.sh
 
 # The time of a call, over the built program: TCP in single bytes and in one piece, datagrams over 300 rows, and long lists;
-# and that of a SET with --keep, beside one without.
+# that of a SET with --keep, beside one without; calls and lists as ratios to the least server in C, with their instructions
+# by callgrind; and connections as ratios to Debian's rpcbind. It says what is not there. PARTS='replay keep beside debian'.
 bench:
-	tests/run-bench.sh
+	tests/run-bench.sh $(PARTS)
 
 # The documents that scripts make of the sources, docs/RULES.md, ANSWERS.md and BELIEVED.md, and what is drawn in others.
 documents:

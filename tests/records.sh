@@ -227,22 +227,28 @@ END
     judge $bad "a log of changes"
 }
 
-# With --log all it tells of refused calls too, of 20 in a second, and of how many more there were.
-run_log_of_all() {
-    local bad=0 told more begin seconds
-    start_daemon "$work/log" --port 20112 --log all || { judge 1 "a log of all"; return; }
-    begin=$SECONDS
-    yes '9 0' | head -n 100 | send_calls || bad=1
+# Sends this call a hundred times, and waits until the log tells of each: of 20 in a second by a line of this pattern, and
+# of how many more there were, `N more WHAT`.
+tells_of_100() {
+    local call=$1 line=$2 what=$3 told more begin=$SECONDS seconds
+    yes "$call" | head -n 100 | send_calls || return 1
     seconds=$((SECONDS - begin + 2))
     for _ in $(seq 600); do
-        told=$(grep -c '^rpcbind: call by 127.0.0.1:20113 refused: version unavailable$' "$work/log")
-        more=$(awk '/^rpcbind: [0-9]+ more refused calls of unknown$/ { sum += $2 } END { print sum + 0 }' "$work/log")
+        told=$(grep -cE "$line" "$work/log")
+        more=$(awk -v line="^rpcbind: [0-9]+ more $what\$" '$0 ~ line { sum += $2 } END { print sum + 0 }' "$work/log")
         [ $((told + more)) -lt 100 ] || break
         sleep 0.1
     done
+    [ $((told + more)) -eq 100 ] && [ "$told" -ge 20 ] && [ "$told" -le $((20 * seconds)) ]
+}
+
+# With --log all it tells of refused calls too, of 20 in a second, and of how many more there were.
+run_log_of_all() {
+    local line='^rpcbind: call by 127.0.0.1:20113 refused: version unavailable$' bad=0
+    start_daemon "$work/log" --port 20112 --log all || { judge 1 "a log of all"; return; }
+    tells_of_100 '9 0' "$line" 'refused calls of unknown' || bad=1
     kill "$daemon"
     wait "$daemon" 2> /dev/null
-    [ $((told + more)) -eq 100 ] && [ "$told" -ge 20 ] && [ "$told" -le $((20 * seconds)) ] || bad=1
     judge $bad "a log of all"
 }
 
@@ -281,25 +287,16 @@ END
 # LOG-7 LOG-8
 # Of a connection that is given up --log changes says nothing; and refused changes, over 20 in a second, are counted as such.
 run_log_of_many_refused() {
-    local bad=0 told more begin seconds
+    local what='refused changes of unknown' bad=0
     local line='^rpcbind: SET 200001 1 tcp\? 127.0.0.1.8.1 of unknown by 127.0.0.1:20113: refused: no address$'
     start_daemon "$work/log" --port 20112 --conns 1 --log changes || { judge 1 "a log of refused changes"; return; }
     python3 -B tests/crowd.py 127.0.0.1 20112 <<< $'open a 127.0.0.1\nopen b 127.0.0.1\ncall a' > "$work/stdout"
     printf '%s\n' 'a answered' 'b answered' 'a closed' > "$work/wanted"
     same "$work/wanted" "$work/stdout" "what became of connections" || bad=1
-    begin=$SECONDS
-    yes '4 set 200001 1 tcp\n 127.0.0.1.8.1' | head -n 100 | send_calls || bad=1
-    seconds=$((SECONDS - begin + 2))
-    for _ in $(seq 100); do
-        told=$(grep -cE "$line" "$work/log")
-        more=$(awk '/^rpcbind: [0-9]+ more refused changes of unknown$/ { sum += $2 } END { print sum + 0 }' "$work/log")
-        [ $((told + more)) -lt 100 ] || break
-        sleep 0.1
-    done
+    tells_of_100 '4 set 200001 1 tcp\n 127.0.0.1.8.1' "$line" "$what" || bad=1
     kill "$daemon"
     wait "$daemon" 2> /dev/null
-    [ $((told + more)) -eq 100 ] && [ "$told" -le $((20 * seconds)) ] || bad=1
-    grep -vE "$line|^rpcbind: [0-9]+ more refused changes of unknown$" "$work/log" > "$work/stdout"
+    grep -vE "$line|^rpcbind: [0-9]+ more $what$" "$work/log" > "$work/stdout"
     echo 'rpcbind: listening on 127.0.0.1 port 20112' > "$work/wanted"
     same "$work/wanted" "$work/stdout" "the rest of the log" || bad=1
     judge $bad "a log of refused changes"

@@ -2,11 +2,14 @@
 # Times the built program, and prints the time of a call: of 1,000 TCP NULL calls of 40 bytes in single-byte pieces, of the
 # same in one piece each, and of 10,000 datagram GETPORTs over 300 rows; and that of a row in 1,000 DUMPs of 4,096 rows over
 # TCP, fragment by fragment, without the SETs of these rows. Then tests/bench-keep.py times SETs of a daemon that keeps its
-# rows, beside one that does not.
+# rows, beside one that does not; tests/bench-beside.py calls and lists, beside the least server; and tests/bench-debian.py
+# connections from this machine, beside Debian's rpcbind. Words are parts, in place of all: replay, keep, beside, debian.
 set -eu
 cd "$(dirname "$0")/.."
+. tests/beside.sh
 
-program=crates/rpcbind/out/rpcbind
+program=${PROGRAM:-crates/rpcbind/out/rpcbind}
+rpcinfo=${RPCINFO:-crates/rpcinfo/out/rpcinfo}
 work=$(mktemp -d)
 trap 'rm -rf "$work"' EXIT
 [ -x "$program" ] || { echo "no program $program: run 'make' first"; exit 1; }
@@ -80,13 +83,39 @@ time_dumps() {
     echo "1,000 DUMPs of 4,096 rows: $(((all - before) / 4096000)) nanoseconds per row"
 }
 
-single_bytes > "$work/events"
-time_run '1,000 TCP calls in single bytes' 1000
-whole_calls > "$work/events"
-time_run '1,000 TCP calls in one piece' 1000
-getports > "$work/events"
-time_run '10,000 GETPORTs over 300 rows' 10000
-time_dumps
-if command -v python3 > /dev/null; then
+run_replay() {
+    single_bytes > "$work/events"
+    time_run '1,000 TCP calls in single bytes' 1000
+    whole_calls > "$work/events"
+    time_run '1,000 TCP calls in one piece' 1000
+    getports > "$work/events"
+    time_run '10,000 GETPORTs over 300 rows' 10000
+    time_dumps
+}
+
+run_keep() {
     python3 -B tests/bench-keep.py "$program"
-fi
+}
+
+run_beside() {
+    python3 -B tests/bench-beside.py "$program"
+}
+
+# In namespaces of their own, as Debian's takes port 111 and files of /run.
+run_debian() {
+    if has_namespaces; then
+        "${namespaces[@]}" sh -c 'mount -t tmpfs tmpfs /run && mkdir /run/rpcbind && ip link set lo up && exec "$@"' sh \
+            python3 -B tests/bench-debian.py "$program" "$rpcinfo"
+    else
+        echo "skipped: connections beside Debian's rpcbind: that wants root, unshare and ip"
+    fi
+}
+
+[ $# -gt 0 ] || set -- replay keep beside debian
+for part in "$@"; do
+    if [ "$part" = replay ] || command -v python3 > /dev/null; then
+        "run_$part"
+    else
+        echo "skipped: $part: there is no python3"
+    fi
+done

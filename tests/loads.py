@@ -1,0 +1,146 @@
+"""What bench-beside.py and bench-debian.py share: servers, loads on them in slices that take turns, and ratios of the best.
+
+Other work on the machine only ever slows a slice. So of the slices of each server one of the best is taken, and two servers
+are compared in one run.
+"""
+import os
+import socket
+import struct
+import subprocess
+import time
+
+from ask import as_record, fragments_from, read_all
+from row import Encoder
+
+HOST = "127.0.0.1"
+SLICES = 16
+MILLISECONDS = 60
+DEEP = 16
+
+ENCODER = Encoder()
+
+
+def encoded(words):
+    return ENCODER.bytes_of(words.split())
+
+
+def compile_in(folder):
+    """Compiles the load and the least server in a folder."""
+    here = os.path.dirname(os.path.abspath(__file__))
+    for name in ("load", "least-server"):
+        subprocess.run(["cc", "-O2", "-o", f"{folder}/{name}", f"{here}/{name}.c"], check=True)
+
+
+def processor_seconds(pid):
+    with open(f"/proc/{pid}/schedstat") as stat:
+        return int(stat.read().split()[0]) / 1e9
+
+
+class Load:
+    """A call again and again: `tcp` with so many at once on one connection, `udp` with so many out, or `connect` with a
+    connection for each, so many at a time."""
+
+    def __init__(self, name, kind, count, words):
+        self.name, self.kind, self.count = name, kind, count
+        self.is_stream = kind != "udp"
+        self.call = as_record(encoded(words)) if self.is_stream else encoded(words)
+
+
+class Server:
+    """A server of a process of its own, at a port, which says that it listens."""
+
+    def __init__(self, words, port, given=None):
+        self.port = port
+        self.process = subprocess.Popen(words, stdin=subprocess.PIPE, stdout=subprocess.PIPE, stderr=subprocess.STDOUT)
+        if given is not None:
+            self.process.stdin.write(given.encode())
+        self.process.stdin.close()
+        while b"listening" not in (line := self.process.stdout.readline()):
+            if not line:
+                raise SystemExit(f"{words[0]} does not listen")
+
+    def connected(self, load, host=HOST):
+        family = socket.AF_INET6 if ":" in host else socket.AF_INET
+        asker = socket.socket(family, socket.SOCK_STREAM if load.is_stream else socket.SOCK_DGRAM)
+        asker.settimeout(30)
+        asker.connect((host, self.port))
+        return asker
+
+    def reply(self, load, host=HOST):
+        """The whole reply to a load's call, over TCP with the marks of its fragments."""
+        with self.connected(load, host) as asker:
+            asker.sendall(load.call)
+            if not load.is_stream:
+                return asker.recv(65536)
+            found = list(fragments_from(asker))
+            marks = [struct.pack(">I", len(it) | (i == len(found) - 1) << 31) for i, it in enumerate(found)]
+            return b"".join(mark + it for mark, it in zip(marks, found))
+
+    def ask(self, load, calls):
+        """Makes so many calls, as many at once as the load does."""
+        length = len(self.reply(load))
+        with self.connected(load) as asker:
+            for _ in range(calls // load.count):
+                for _ in range(load.count) if not load.is_stream else [0]:
+                    asker.sendall(load.call * (load.count if load.is_stream else 1))
+                for _ in range(load.count):
+                    read_all(asker, length)
+
+    def end(self):
+        self.process.kill()
+        self.process.wait()
+        self.process.stdout.close()
+
+
+def slice_of(folder, server, load, length, host=HOST, milliseconds=MILLISECONDS):
+    """Calls a second, and processor seconds of the server for each."""
+    words = [host, server.port, load.kind, load.count, milliseconds, length, load.call.hex()]
+    began = processor_seconds(server.process.pid)
+    run = subprocess.run([f"{folder}/load", *map(str, words)], capture_output=True, text=True)
+    if run.returncode:
+        raise SystemExit(f"{load.name}: {run.stderr}")
+    count, nanoseconds = map(int, run.stdout.split())
+    return 1e9 * count / nanoseconds, (processor_seconds(server.process.pid) - began) / count
+
+
+class Beside:
+    """Calls a second and microseconds of processor time a call, of one server and of another."""
+
+    def __init__(self, calls, taken):
+        self.calls, self.taken = calls, [1e6 * it for it in taken]
+        self.of_calls, self.times = calls[0] / calls[1], taken[0] / taken[1]
+
+
+def compare(folder, ours, other, load, host=HOST):
+    """What a load gets of ours, beside the other."""
+    lengths = [len(server.reply(load, host)) for server in (ours, other)]
+    slices = ([], [])
+    for _ in range(SLICES):
+        for found, server, length in zip(slices, (ours, other), lengths):
+            found.append(slice_of(folder, server, load, length, host))
+    calls = [sorted(it[0] for it in found)[-2] for found in slices]
+    taken = [sorted(it[1] for it in found)[1] for found in slices]
+    return Beside(calls, taken)
+
+
+def fill(port, changes):
+    """Makes these changes, words of calls, by a caller whose claims are believed."""
+    with socket.create_connection((HOST, port)) as client:
+        client.settimeout(30)
+        for words in changes:
+            client.sendall(as_record(encoded(words)))
+            reply = b"".join(fragments_from(client))
+            if reply[24:] != struct.pack(">I", 1):
+                raise SystemExit(f"{words}: not answered with TRUE")
+
+
+def pace():
+    """What the fixed loop takes now: the middle of three runs."""
+    here = os.path.dirname(os.path.abspath(__file__))
+    runs = [subprocess.run([f"{here}/fixed-loop.py"], capture_output=True, text=True, check=True) for _ in range(3)]
+    return sorted(float(run.stdout) for run in runs)[1]
+
+
+def say_pace(before):
+    told = f"{before:.2f} seconds before these, and {pace():.2f} after"
+    print(f"the machine: a fixed loop, which takes half a second of a quiet one, took {told}")
