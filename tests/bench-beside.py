@@ -3,8 +3,8 @@
 
 A line of a load has the calls a second and the processor time of a call as ratios to the least server's, the microseconds of
 both, and the instructions of a call of the daemon's by callgrind, which is the steady measure. The servers take turns in
-slices of 60 ms, and of each one of its best slices counts. At most some three minutes. Needs cc; without valgrind the
-instructions are left out.
+slices of 60 ms, and of each one of its best slices counts. At most some three minutes. Needs a C compiler; without valgrind
+the instructions are left out.
 """
 import os
 import shutil
@@ -13,7 +13,7 @@ import sys
 import tempfile
 import time
 
-from loads import DEEP, HOST, Load, Server, compare, compile_in, fill, pace, say_pace
+from loads import COMPILER, DEEP, HOST, Load, Server, compare, compile_in, fill, pace, say_pace
 
 PORT, LEAST_PORT, COUNTED_PORT = 20117, 20118, 20119
 LISTED = 200001
@@ -128,8 +128,8 @@ def ratios_of(program, folder, rows, loads):
 
 def main():
     program = os.path.abspath(sys.argv[1])
-    if not shutil.which("cc"):
-        print("skipped: the ratios to the least server want cc")
+    if not shutil.which(COMPILER):
+        print("skipped: the ratios to the least server want a C compiler")
         return
     before = pace()
     with tempfile.TemporaryDirectory() as folder:

@@ -4,7 +4,7 @@
 Both listen at once, on IPv4 and IPv6, in namespaces of their own: `run-bench.sh` makes them. A line has the connections a
 second, as a ratio to Debian's, and those of both: one after another with one NULL or GETPORT each, and 64 at once. Then come
 the medians of a SET over a new TCP connection of another user than root, and of `rpcinfo -p`, beside a daemon that believes
-claims. At most a minute. Needs cc, root and Debian's package rpcbind.
+claims. At most a minute. Needs a C compiler, root and Debian's package rpcbind.
 """
 import os
 import shutil
@@ -17,7 +17,7 @@ import tempfile
 import time
 
 from ask import as_record, read_all
-from loads import HOST, Load, Server, compare, compile_in, encoded, pace, say_pace
+from loads import COMPILER, HOST, Load, Server, compare, compile_in, encoded, pace, say_pace
 
 DEBIANS, PORT, BELIEVING_PORT = 111, 20117, 20118
 AT_ONCE = 64
@@ -34,8 +34,8 @@ LOADS = [
 
 
 def why_skipped():
-    if not shutil.which("cc"):
-        return "there is no cc"
+    if not shutil.which(COMPILER):
+        return "there is no C compiler"
     if os.getuid() != 0:
         return "that wants root"
     if subprocess.run(["dpkg-query", "-W", "rpcbind"], capture_output=True).returncode or not os.path.exists("/usr/sbin/rpcbind"):

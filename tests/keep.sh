@@ -531,7 +531,7 @@ run_keep_without_room() {
     fi
     kill "$daemon"
     # It is no child of this shell: under a process 1 that reaps none it stays for ever.
-    for _ in {1..100}; do
+    for _ in {1..600}; do
         kill -0 "$daemon" 2> /dev/null || break
         sleep 0.05
     done

@@ -1,7 +1,7 @@
 """What bench-beside.py and bench-debian.py share: servers, loads on them in slices that take turns, and ratios of the best.
 
-Other work on the machine only ever slows a slice. So of the slices of each server one of the best is taken, and two servers
-are compared in one run.
+Other work on the machine only ever slows a slice. So of the slices of each server one is taken that a tenth are better
+than, and two servers are compared in one run.
 """
 import os
 import socket
@@ -12,10 +12,12 @@ import time
 from ask import as_record, fragments_from, read_all
 from row import Encoder
 
+COMPILER = os.environ.get("CC", "cc")
 HOST = "127.0.0.1"
-SLICES = 16
-MILLISECONDS = 60
+SLICES = 40
+MILLISECONDS = 40
 DEEP = 16
+AT_ONCE = 100
 
 ENCODER = Encoder()
 
@@ -28,7 +30,7 @@ def compile_in(folder):
     """Compiles the load and the least server in a folder."""
     here = os.path.dirname(os.path.abspath(__file__))
     for name in ("load", "least-server"):
-        subprocess.run(["cc", "-O2", "-o", f"{folder}/{name}", f"{here}/{name}.c"], check=True)
+        subprocess.run([COMPILER, "-O2", "-o", f"{folder}/{name}", f"{here}/{name}.c"], check=True)
 
 
 def processor_seconds(pid):
@@ -115,23 +117,26 @@ def compare(folder, ours, other, load, host=HOST):
     """What a load gets of ours, beside the other."""
     lengths = [len(server.reply(load, host)) for server in (ours, other)]
     slices = ([], [])
+    turns = list(zip(slices, (ours, other), lengths))
     for _ in range(SLICES):
-        for found, server, length in zip(slices, (ours, other), lengths):
+        turns.reverse()
+        for found, server, length in turns:
             found.append(slice_of(folder, server, load, length, host))
-    calls = [sorted(it[0] for it in found)[-2] for found in slices]
-    taken = [sorted(it[1] for it in found)[1] for found in slices]
+    calls = [sorted(it[0] for it in found)[-SLICES // 10] for found in slices]
+    taken = [sorted(it[1] for it in found)[SLICES // 10] for found in slices]
     return Beside(calls, taken)
 
 
 def fill(port, changes):
     """Makes these changes, words of calls, by a caller whose claims are believed."""
     with socket.create_connection((HOST, port)) as client:
-        client.settimeout(30)
-        for words in changes:
-            client.sendall(as_record(encoded(words)))
-            reply = b"".join(fragments_from(client))
-            if reply[24:] != struct.pack(">I", 1):
-                raise SystemExit(f"{words}: not answered with TRUE")
+        client.settimeout(60)
+        for first in range(0, len(changes), AT_ONCE):
+            some = changes[first : first + AT_ONCE]
+            client.sendall(b"".join(as_record(encoded(words)) for words in some))
+            for words in some:
+                if read_all(client, 32)[28:] != struct.pack(">I", 1):
+                    raise SystemExit(f"{words}: not answered with TRUE")
 
 
 def pace():

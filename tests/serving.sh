@@ -131,6 +131,29 @@ END
     done
 }
 
+# EVIDENCE-7
+# Whoever registers over TCP from this machine is known though the kernel's table grows while it is read, by tests/grow.c in
+# front of the C library: at its end the kernel shows the last lines again then, which are one connection's in every other
+# SET of these.
+run_growing_table() {
+    local daemon program=$program numbers
+    if [ -n "$has_checks" ] || ! "${CC:-cc}" -O1 -shared -fPIC -o "$work/grow.so" tests/grow.c; then
+        echo 'not run: a table that grows while it is read'
+        return
+    fi
+    printf '#!/bin/sh\nexec env LD_PRELOAD="%s" "%s" "$@" 9> "%s"\n' "$work/grow.so" "$program" "$work/grown" > "$work/growing"
+    chmod 755 "$work/growing"
+    program=$work/growing
+    start_daemon "$work/listening" --port 20112 || { judge 1 "a daemon whose table grows"; return; }
+    numbers=$(seq 200001 200030)
+    printf 'tcp 127.0.0.1 4 set %s 1 tcp 127.0.0.1.8.1: 1\n' $numbers | asked_are
+    judge $? "30 SETs while the table grows"
+    [ -s "$work/grown" ] && ! "$rpcinfo" --port 20112 127.0.0.1 | grep -E '^2000[0-9]+ .* unknown$'
+    judge $? "who registers while the table grows is known"
+    kill "$daemon"
+    wait "$daemon" 2> /dev/null
+}
+
 # Whether a call over TCP (t) or UDP (u) to this address of the machine, and so from it, is answered, in these seconds.
 is_answered() {
     timeout "${3:-60}" "$rpcinfo" --port 20112 "-$1" "$2" 100000 2 > /dev/null 2>&1
@@ -170,6 +193,7 @@ run_serving() {
     run_connections_at_once
     run_full_queue_in_the_way
     run_local_socket
+    run_growing_table
     run_callers_of_networks
 }
 
