@@ -16,7 +16,10 @@ use rb_policy::{
     Admission, Again, Brake, Deadlines, Evidence, Next, Origin, RETRY, Round, SOCKET_CALLS, Share,
     after_accept, after_all_calls, after_receive, is_behind, origin_of, outcome_of, serves_another,
 };
-use rb_sockets::{Shown, Slice, SocketFault, Sockets, Step, Stream, Table, TableFault, Visitor};
+use rb_sockets::{
+    AddressNews, Follower, Shown, Slice, SocketFault, Sockets, Step, Stream, Table, TableFault,
+    Visitor,
+};
 use std::alloc::{AllocError, Global};
 use std::fs::Files;
 use std::io;
@@ -197,12 +200,13 @@ impl<H: Files> Serving<H> {
 
     /// The moment at which the next turn comes though nothing shows it, given that it would otherwise come at this
     /// deadline, if there is one: for a line of the log on those that were left out; for a socket that failed; for the
-    /// abstract name.
+    /// abstract name; for addresses that are followed.
     pub(crate) fn next_turn(&self, deadline: Option<u64>) -> Option<u64> {
         let mut next = sooner(deadline, self.engine.next_log_line());
         if self.sockets.is_tried_again() {
             next = sooner(next, Some(self.turn.moment.saturating_add(RETRY)));
         }
+        next = sooner(next, self.sockets.next_look());
         sooner(next, self.sockets.next_name_try())
     }
 
@@ -575,6 +579,20 @@ impl<H: Files> Serving<H> {
     /// Tries again to take the abstract name, if that is due. What is to be told of it.
     pub(crate) fn take_name<N: Files + Net>(&mut self, host: &N) -> Option<io::Result<()>> {
         self.sockets.take_name(host, self.turn.moment)
+    }
+
+    /// Addresses are followed from here on.
+    pub(crate) fn follow_by(&mut self, follower: Follower) -> Result<(), AllocError> {
+        self.sockets.follow_by(follower)
+    }
+
+    /// Listens on an address that has come, or no more on one that has gone. What is to be told.
+    pub(crate) fn follow<N: Files + Net>(
+        &mut self,
+        host: &N,
+        registry: &Registry,
+    ) -> Option<AddressNews> {
+        self.sockets.follow(host, registry, self.turn.moment)
     }
 
     // DOOR-7: The connection that is given up is closed for the core before the one that takes its
