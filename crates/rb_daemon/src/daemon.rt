@@ -418,7 +418,8 @@ fn open<B: Files + Net, H: Files>(
     let waiting = Waiting::new(alloc, host)?;
     let sockets = bind(alloc, host, settings, handed, waiting.registry())?;
     let (places, shortage) = places_of(host, settings, &sockets);
-    match Room::new(alloc, places, !sockets.are_claims_believed) {
+    let networks = settings.from.as_slice();
+    match Room::new(alloc, networks, places, !sockets.are_claims_believed) {
         Ok(room) => Ok(Outer {
             waiting,
             sockets,

@@ -8,7 +8,7 @@ use crate::load::Load;
 use crate::steps::{Progress, serve};
 use mio::Registry;
 use mio::event::Event;
-use rb_address::{Family, Peer, Source, Who};
+use rb_address::{Family, Network, Peer, Source, Who};
 use rb_forward::sooner;
 use rb_links::{Places, Turn};
 use rb_model::Limits;
@@ -39,6 +39,8 @@ pub(crate) struct Serving<H: Files> {
     /// Where the rows are kept that were set.
     keeper: Keeper<H>,
     sockets: Sockets,
+    /// The networks whose hosts may ask.
+    networks: Vec<Network>,
     places: Places,
     /// Where the last connection at each place came from.
     sources: Vec<Source>,
@@ -66,9 +68,11 @@ pub(crate) struct Serving<H: Files> {
     has_table_failed: bool,
 }
 
-/// The memory with which connections and datagrams are served.
+/// The memory with which connections and datagrams are served, and whom.
 #[derive(Drop)]
 pub(crate) struct Room<H: Files> {
+    /// The networks whose hosts may ask.
+    networks: Vec<Network>,
     places: Places,
     sources: Vec<Source>,
     datagram: Vec<u8>,
@@ -76,17 +80,20 @@ pub(crate) struct Room<H: Files> {
 }
 
 impl<H: Files> Room<H> {
-    /// With this many places for connections, and with room for a slice of the kernel's tables if they are read. An
-    /// error if an allocation is refused.
+    /// For hosts of these networks, with this many places for connections, and with room for a slice of the kernel's
+    /// tables if they are read. An error if an allocation is refused.
     pub(crate) fn new(
         alloc: Global,
+        networks: &[Network],
         places: usize,
         are_tables_read: bool,
     ) -> Result<Room<H>, AllocError> {
+        let networks = networks.to_vec(alloc)?;
         let datagram = filled(alloc, LONGEST_DATAGRAM, 0)?;
         let sources = filled(alloc, places, Source::Local)?;
         let table = Table::new(alloc, are_tables_read)?;
         Ok(Room {
+            networks,
             places: Places::new(alloc, places)?,
             sources,
             datagram,
@@ -122,6 +129,7 @@ impl<H: Files> Serving<H> {
         brake: Option<Brake>,
     ) -> Serving<H> {
         let Room {
+            networks,
             places,
             sources,
             datagram,
@@ -131,6 +139,7 @@ impl<H: Files> Serving<H> {
             engine,
             keeper,
             sockets,
+            networks,
             places,
             sources,
             most_rows: limits.rows,
@@ -327,10 +336,7 @@ impl<H: Files> Serving<H> {
             let Some(calls) = self.sockets.calls.all.get(i) else {
                 break;
             };
-            match calls
-                .socket
-                .receive(&self.sockets.networks, &mut self.datagram)
-            {
+            match calls.socket.receive(&self.networks, &mut self.datagram) {
                 Ok((len, from)) => {
                     got_some = true;
                     self.answer(host, i, len, from);
@@ -527,7 +533,7 @@ impl<H: Files> Serving<H> {
             let Some(listener) = self.sockets.listeners.get_mut(which) else {
                 break;
             };
-            match listener.socket.accept(host, &self.sockets.networks) {
+            match listener.socket.accept(host, &self.networks) {
                 Ok((stream, from)) => {
                     got_some = true;
                     *left = left.saturating_sub(1);

@@ -14,7 +14,7 @@ use crate::user_namespace::unmapped;
 use crate::watched::Watched;
 use mio::net::UnixListener;
 use mio::{Registry, Token};
-use rb_address::{Family, Host, Network};
+use rb_address::{Family, Host};
 use rb_descriptors::least_free;
 use rb_policy::machine::AddressChange;
 use rb_policy::{
@@ -62,8 +62,6 @@ pub struct Sockets {
     pub forwards: ForwardSockets,
     /// Where connections come in: over TCP one for each host, then the local socket.
     pub listeners: Vec<Watched<Listener>>,
-    /// The networks whose hosts may ask.
-    pub networks: Vec<Network>,
     /// Whether callers are believed what they claim.
     pub are_claims_believed: bool,
     /// The abstract name of the local socket, if it is to be held.
@@ -84,8 +82,6 @@ impl Sockets {
         settings: &Settings<'_>,
         handed: Handed,
     ) -> Result<Sockets, BindFault> {
-        let mut networks = Vec::with_capacity(alloc, settings.from.len())?;
-        networks.extend_from_slice(settings.from.as_slice())?;
         let ways_back = WaysBack::new(alloc, settings.limits.forwards)?;
         let mut inet = Inet::bind(alloc, rt, settings, handed)?;
         let forwards = bind_forwards(rt, settings)?;
@@ -101,7 +97,6 @@ impl Sockets {
             calls: CallSockets { all, ways_back },
             forwards,
             listeners,
-            networks,
             are_claims_believed: beliefs.claims,
             abstract_name,
             follower: None,
