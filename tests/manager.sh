@@ -61,6 +61,9 @@ datagrams:$work/own.sock;does not listen (Accept= must be no)
 file:/dev/null;is none of TCP, UDP or a local listener
 udp:127.0.0.1:20112 udp:127.0.0.1:20112;descriptor 4 (127.0.0.1:20112) has the address of another one
 END
+    hand_over tcp:0.0.0.0:20112 serve --bind all --port 20112 --turns 1
+    ended_by 3 '(0.0.0.0:20112) is where no option listens (--bind, --loopback6, --local)'
+    judge $? "not taken: a socket of 0.0.0.0 with --bind all"
 }
 
 # HANDED-1

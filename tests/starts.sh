@@ -76,6 +76,57 @@ run_daemon_elsewhere() {
     judge $? "a daemon at an address that is not there"
 }
 
+# Runs the daemon in a network of its own, with two interfaces, for a turn.
+run_in_a_network() {
+    cat > "$work/in-a-network" << 'END'
+ip link set lo up && ip link add here type veth peer name there && ip link set here up && ip link set there up
+ip address add 192.0.2.3/24 dev here && ip address add 192.0.2.1/24 dev here && ip address add 2001:db8::1/64 dev here nodad
+ip address add 198.51.100.1/24 dev there
+for last in $1; do ip address add "192.0.2.$last/24" dev here; done
+shift
+exec "$@"
+END
+    local more=$1
+    shift
+    unshare --net bash "$work/in-a-network" "$more" "$program" serve --port 20112 --turns 1 "$@" \
+        < /dev/null > "$work/stdout" 2> "$work/stderr"
+    got=$?
+}
+
+# BIND-5 BIND-7 FOLLOW-2
+# The addresses of an interface or of all are listened on, the loopback's last, at most 16 in all. A name may be of no interface
+# yet. With sockets that are handed over no other addresses are bound.
+run_interfaces() {
+    local bind hosts line
+    if [ "$(id -u)" -ne 0 ] || ! type ip > /dev/null 2>&1 || ! unshare --net true 2> /dev/null; then
+        echo "interfaces are not tried: that wants root, unshare and ip"
+        return
+    fi
+    while IFS=';' read -r bind hosts line; do
+        # shellcheck disable=SC2086
+        printf 'rpcbind: listening on %s port 20112\n' $hosts 127.0.0.1 ::1 > "$work/wanted"
+        printf '%s' "${line:+$line$'\n'}" > "$work/wanted-stderr"
+        # shellcheck disable=SC2086
+        run_in_a_network '' $bind
+        as_wanted "$work/wanted" "$work/wanted-stderr" 0
+        judge $? "addresses of $bind"
+    done << 'END'
+--bind all;192.0.2.1 192.0.2.3 198.51.100.1 2001:db8::1
+--bind=here;192.0.2.1 192.0.2.3 2001:db8::1
+--bind there --bind 192.0.2.3;192.0.2.3 198.51.100.1
+--bind here --bind there --loopback6;192.0.2.1 192.0.2.3 2001:db8::1 198.51.100.1
+--bind lo;
+--bind localhost;;rpcbind: --bind localhost adds no address now; it is tried again
+END
+    # shellcheck disable=SC2046
+    printf 'rpcbind: listening on %s port 20112\n' 192.0.2.1 192.0.2.3 $(printf '192.0.2.%s ' $(seq 10 21)) 127.0.0.1 ::1 \
+        > "$work/wanted"
+    echo 'rpcbind: more than 16 addresses: 192.0.2.22 and those behind it are not listened on' > "$work/wanted-stderr"
+    run_in_a_network "$(seq -s ' ' 10 29)" --bind all
+    as_wanted "$work/wanted" "$work/wanted-stderr" 0
+    judge $? "more addresses than are listened on"
+}
+
 # START-1
 # Clients from elsewhere can make nothing of 0.0.0.0.
 run_daemon_without_announce() {
@@ -119,7 +170,7 @@ record-limit:16777217:a number from 1000 to 16777216
 keep::the path of a file
 log:none:changes or all
 log:change:changes or all
-bind:localhost:an address as 192.0.2.1 or 2001:db8::1
+bind:192.0.2.300:an address as 192.0.2.1 or 2001:db8::1
 from:localhost:a network as 192.0.2.0/24, with no bit set behind its length,
 from:192.0.2.0/33:a network as 192.0.2.0/24, with no bit set behind its length,
 from:192.0.2.1/24:a network as 192.0.2.0/24, with no bit set behind its length,
@@ -346,6 +397,7 @@ run_starts() {
     run_file_in_the_way
     run_daemon_with_bad_limits
     run_daemon_elsewhere
+    run_interfaces
     run_daemon_without_announce
     run_bad_words_of_serve
     run_daemon_of_networks

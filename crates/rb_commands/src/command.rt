@@ -174,7 +174,7 @@ fn add_bind<'a>(alloc: Global, args: &mut Vec<Arg<'a>>) -> Result<(), AllocError
         alloc,
         "bind",
         "HOST",
-        "Address to listen on over TCP and UDP, 0.0.0.0 for all of IPv4, :: for all; may be given up to 16 times",
+        "Address to listen on over TCP and UDP, 0.0.0.0 for all of IPv4, :: for all; or an interface, or all, for each address there; may be given up to 16 times",
     );
     args.push(
         bind.action(ArgAction::Append)

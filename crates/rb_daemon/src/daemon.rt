@@ -13,7 +13,8 @@ use rb_lines::bad_limit;
 use rb_policy::{Moments, place_count, wait_of};
 use rb_registry::Row;
 use rb_sockets::{
-    BindFault, DaemonFault, Handed, Settings, Shortage, SocketFault, Sockets, Step, TableFault,
+    AddressNews, BindFault, DaemonFault, Follower, Handed, Settings, Shortage, SocketFault,
+    Sockets, Step, TableFault,
 };
 use std::alloc::{AllocError, Global};
 use std::fs::Files;
@@ -181,6 +182,17 @@ impl<'a, R: Clock, H: Files> Daemon<'a, R, H> {
     /// turn knows of. What is to be told of it, once each: why it was not taken at the start, and that it was taken later.
     pub fn take_name<N: Files + Net>(&mut self, host: &N) -> Option<io::Result<()>> {
         self.serving.take_name(host)
+    }
+
+    /// From here on addresses are followed. An error if an allocation is refused.
+    pub fn follow_by(&mut self, follower: Follower) -> Result<(), AllocError> {
+        self.serving.follow_by(follower)
+    }
+
+    /// Listens on an address that has come, or no more on one that has gone, if addresses are followed: they are found out
+    /// every 10 seconds, which a turn knows of. What is to be told, once each; nothing once all is done.
+    pub fn follow<N: Files + Net>(&mut self, host: &N) -> Option<AddressNews> {
+        self.serving.follow(host, self.waiting.registry())
     }
 
     /// Writes what was recorded of the turns and not yet written (docs/EVENTS.md). After an error nothing more is
@@ -406,7 +418,8 @@ fn open<B: Files + Net, H: Files>(
     let waiting = Waiting::new(alloc, host)?;
     let sockets = bind(alloc, host, settings, handed, waiting.registry())?;
     let (places, shortage) = places_of(host, settings, &sockets);
-    match Room::new(alloc, places, !sockets.are_claims_believed) {
+    let networks = settings.from.as_slice();
+    match Room::new(alloc, networks, places, !sockets.are_claims_believed) {
         Ok(room) => Ok(Outer {
             waiting,
             sockets,

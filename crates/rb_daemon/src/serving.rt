@@ -8,7 +8,7 @@ use crate::load::Load;
 use crate::steps::{Progress, serve};
 use mio::Registry;
 use mio::event::Event;
-use rb_address::{Family, Peer, Source, Who};
+use rb_address::{Family, Network, Peer, Source, Who};
 use rb_forward::sooner;
 use rb_links::{Places, Turn};
 use rb_model::Limits;
@@ -16,7 +16,10 @@ use rb_policy::{
     Admission, Again, Brake, Deadlines, Evidence, Next, Origin, RETRY, Round, SOCKET_CALLS, Share,
     after_accept, after_all_calls, after_receive, is_behind, origin_of, outcome_of, serves_another,
 };
-use rb_sockets::{Shown, Slice, SocketFault, Sockets, Step, Stream, Table, TableFault, Visitor};
+use rb_sockets::{
+    AddressNews, Follower, Shown, Slice, SocketFault, Sockets, Step, Stream, Table, TableFault,
+    Visitor,
+};
 use std::alloc::{AllocError, Global};
 use std::fs::Files;
 use std::io;
@@ -36,6 +39,8 @@ pub(crate) struct Serving<H: Files> {
     /// Where the rows are kept that were set.
     keeper: Keeper<H>,
     sockets: Sockets,
+    /// The networks whose hosts may ask.
+    networks: Vec<Network>,
     places: Places,
     /// Where the last connection at each place came from.
     sources: Vec<Source>,
@@ -63,9 +68,11 @@ pub(crate) struct Serving<H: Files> {
     has_table_failed: bool,
 }
 
-/// The memory with which connections and datagrams are served.
+/// The memory with which connections and datagrams are served, and whom.
 #[derive(Drop)]
 pub(crate) struct Room<H: Files> {
+    /// The networks whose hosts may ask.
+    networks: Vec<Network>,
     places: Places,
     sources: Vec<Source>,
     datagram: Vec<u8>,
@@ -73,17 +80,20 @@ pub(crate) struct Room<H: Files> {
 }
 
 impl<H: Files> Room<H> {
-    /// With this many places for connections, and with room for a slice of the kernel's tables if they are read. An
-    /// error if an allocation is refused.
+    /// For hosts of these networks, with this many places for connections, and with room for a slice of the kernel's
+    /// tables if they are read. An error if an allocation is refused.
     pub(crate) fn new(
         alloc: Global,
+        networks: &[Network],
         places: usize,
         are_tables_read: bool,
     ) -> Result<Room<H>, AllocError> {
+        let networks = networks.to_vec(alloc)?;
         let datagram = filled(alloc, LONGEST_DATAGRAM, 0)?;
         let sources = filled(alloc, places, Source::Local)?;
         let table = Table::new(alloc, are_tables_read)?;
         Ok(Room {
+            networks,
             places: Places::new(alloc, places)?,
             sources,
             datagram,
@@ -119,6 +129,7 @@ impl<H: Files> Serving<H> {
         brake: Option<Brake>,
     ) -> Serving<H> {
         let Room {
+            networks,
             places,
             sources,
             datagram,
@@ -128,6 +139,7 @@ impl<H: Files> Serving<H> {
             engine,
             keeper,
             sockets,
+            networks,
             places,
             sources,
             most_rows: limits.rows,
@@ -197,12 +209,13 @@ impl<H: Files> Serving<H> {
 
     /// The moment at which the next turn comes though nothing shows it, given that it would otherwise come at this
     /// deadline, if there is one: for a line of the log on those that were left out; for a socket that failed; for the
-    /// abstract name.
+    /// abstract name; for addresses that are followed.
     pub(crate) fn next_turn(&self, deadline: Option<u64>) -> Option<u64> {
         let mut next = sooner(deadline, self.engine.next_log_line());
         if self.sockets.is_tried_again() {
             next = sooner(next, Some(self.turn.moment.saturating_add(RETRY)));
         }
+        next = sooner(next, self.sockets.next_look());
         sooner(next, self.sockets.next_name_try())
     }
 
@@ -323,10 +336,7 @@ impl<H: Files> Serving<H> {
             let Some(calls) = self.sockets.calls.all.get(i) else {
                 break;
             };
-            match calls
-                .socket
-                .receive(&self.sockets.networks, &mut self.datagram)
-            {
+            match calls.socket.receive(&self.networks, &mut self.datagram) {
                 Ok((len, from)) => {
                     got_some = true;
                     self.answer(host, i, len, from);
@@ -523,7 +533,7 @@ impl<H: Files> Serving<H> {
             let Some(listener) = self.sockets.listeners.get_mut(which) else {
                 break;
             };
-            match listener.socket.accept(host, &self.sockets.networks) {
+            match listener.socket.accept(host, &self.networks) {
                 Ok((stream, from)) => {
                     got_some = true;
                     *left = left.saturating_sub(1);
@@ -575,6 +585,20 @@ impl<H: Files> Serving<H> {
     /// Tries again to take the abstract name, if that is due. What is to be told of it.
     pub(crate) fn take_name<N: Files + Net>(&mut self, host: &N) -> Option<io::Result<()>> {
         self.sockets.take_name(host, self.turn.moment)
+    }
+
+    /// Addresses are followed from here on.
+    pub(crate) fn follow_by(&mut self, follower: Follower) -> Result<(), AllocError> {
+        self.sockets.follow_by(follower)
+    }
+
+    /// Listens on an address that has come, or no more on one that has gone. What is to be told.
+    pub(crate) fn follow<N: Files + Net>(
+        &mut self,
+        host: &N,
+        registry: &Registry,
+    ) -> Option<AddressNews> {
+        self.sockets.follow(host, registry, self.turn.moment)
     }
 
     // DOOR-7: The connection that is given up is closed for the core before the one that takes its

@@ -3,7 +3,7 @@ ghost use Rattle.std.specs.Prelude.{◌≡◌, [], ◌∷◌, IfSome, IfNone, sl
 ghost use Rattle.rb_evidence.specs.Table.{IsCutAt, IsWithout, fields_of, is_field, borrowed};
 
 /// What stands before the first such byte, and what stands after it.
-pub(crate) fn around(text: &[u8], at: u8) -> Option<(&[u8], &[u8])>
+pub fn around(text: &[u8], at: u8) -> Option<(&[u8], &[u8])>
     ensures some { IfSome result (λ found. IsCutAt at found.0.now found.1.now text.now) }
     ensures none { IfNone result (IsWithout at text.now) }
 {

@@ -8,6 +8,7 @@ mod lines;
 mod sight;
 mod table;
 
+pub use fields::around;
 pub use laws::{table_laws, walk_laws, worked_examples};
 pub use lines::{Lines, SLICE};
 pub use sight::{Seen, Sight};

@@ -31,3 +31,4 @@ pub mod LogChoice
 pub mod LogLaws
 pub mod Handed
 pub mod Watchdogs
+pub mod Machine

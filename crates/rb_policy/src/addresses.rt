@@ -30,7 +30,8 @@ pub(crate) fn is_same(a: Host, b: Host) -> bool
     a == b
 }
 
-pub(crate) fn has_host(hosts: &[Host], wanted: Host) -> bool
+/// Whether a host is one of these.
+pub fn has_host(hosts: &[Host], wanted: Host) -> bool
     ensures { result ≡ has_host wanted hosts.now }
 {
     hosts.iter().any(|host| is_same(*host, wanted))

@@ -16,6 +16,7 @@ mod local_file;
 pub mod log_choice;
 pub mod log_lines;
 pub mod log_rate;
+pub mod machine;
 mod moments;
 mod networks;
 mod origin;
@@ -34,7 +35,7 @@ mod ways_back;
 
 pub use addresses::{
     ANY, LOOPBACK, LOOPBACK6, announced_inet, announced_inet6, binds_every_inet, binds_loopback6,
-    forwards_inet, forwards_inet6, has_every_host, has_every_inet, is_no_address,
+    forwards_inet, forwards_inet6, has_every_host, has_every_inet, has_host, is_no_address,
 };
 pub use asks::{Held, held_in, may_change};
 pub use brake::{Brake, Rate};

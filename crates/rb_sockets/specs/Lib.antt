@@ -1,3 +1,5 @@
 pub mod Settings
 pub mod Events
 pub mod Faults
+pub mod Machine
+pub mod MachineExamples

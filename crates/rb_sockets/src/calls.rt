@@ -10,6 +10,7 @@ use rb_address::{Family, Host, Network, Peer, Source, Who};
 use rb_descriptors::{share, udp_socket};
 use rb_policy::{Beliefs, Entrance, WaysBack, address_of, asker, ip_of, sender, trust_of};
 use std::io;
+use std::io::ErrorKind;
 use std::net::{Net, SocketAddr};
 use std::os::fd::{AsRawFd, RawFd};
 
@@ -25,7 +26,8 @@ fn bind_udp(net: &impl Net, host: Host, port: u16, shares: bool) -> Result<UdpSo
 /// Where calls come in as datagrams, and where replies to them go out.
 #[derive(Drop)]
 pub struct CallSocket {
-    socket: UdpSocket,
+    /// None once its host is listened on no more.
+    socket: Option<UdpSocket>,
     bound: Host,
     beliefs: Beliefs,
 }
@@ -45,7 +47,7 @@ impl CallSocket {
             None => bind_udp(net, host, port, shares)?,
         };
         Ok(CallSocket {
-            socket,
+            socket: Some(socket),
             bound: host,
             beliefs,
         })
@@ -53,7 +55,10 @@ impl CallSocket {
 
     /// Whether it shares its host and port from here on.
     pub(crate) fn share(&self, shares: bool) -> io::Result<()> {
-        share(&self.socket, shares)
+        match &self.socket {
+            Some(socket) => share(socket, shares),
+            None => Ok(()),
+        }
     }
 
     /// The host to which it is bound.
@@ -61,11 +66,24 @@ impl CallSocket {
         self.bound
     }
 
+    /// Its host is listened on no more.
+    pub(crate) fn close(&mut self) {
+        self.socket = None;
+    }
+
+    /// Whether its host is listened on no more, so that another one may have its place.
+    pub(crate) fn is_closed(&self) -> bool {
+        self.socket.is_none()
+    }
+
     /// A datagram, how long it is, and from whom, if that caller may call when these networks are served.
     pub fn receive(&self, networks: &[Network], room: &mut [u8]) -> io::Result<(usize, Option<Who>)>
         ensures { IfOk result (λ r. r.0 ≤ length room.new) }
     {
-        let (len, from) = self.socket.recv_from(room)?;
+        let Some(socket) = &self.socket else {
+            return Err(io::Error::from(ErrorKind::WouldBlock));
+        };
+        let (len, from) = socket.recv_from(room)?;
         let who = match asker(networks, sender(from)) {
             Some(peer) => Some(self.who(peer)),
             None => None,
@@ -86,17 +104,23 @@ impl CallSocket {
 
     /// Sends a reply. One that the socket does not take is lost.
     pub fn reply(&self, reply: &[u8], to: Who) {
-        if let Source::Inet(peer) = to.source {
-            let _ = self.socket.send_to(reply, address_of(peer));
+        if let (Some(socket), Source::Inet(peer)) = (&self.socket, to.source) {
+            let _ = socket.send_to(reply, address_of(peer));
         }
     }
 
     pub(crate) fn as_raw_fd(&self) -> RawFd {
-        self.socket.as_raw_fd()
+        match &self.socket {
+            Some(socket) => socket.as_raw_fd(),
+            None => -1,
+        }
     }
 
     pub(crate) fn register(&mut self, registry: &Registry, token: Token) -> io::Result<()> {
-        registry.register(&mut self.socket, token, Interest::READABLE)
+        match &mut self.socket {
+            Some(socket) => registry.register(socket, token, Interest::READABLE),
+            None => Ok(()),
+        }
     }
 }
 
@@ -129,6 +153,16 @@ impl CallSockets {
     /// The forwarded call of this number has ended, and has no reply.
     pub fn drop_forwarded(&mut self, number: u64) {
         let _ = self.ways_back.take(number);
+    }
+
+    /// The place of one whose host is listened on no more, or the next one.
+    pub(crate) fn free_place(&self) -> usize {
+        for (i, calls) in self.all.iter().enumerate() {
+            if calls.socket.is_closed() {
+                return i;
+            }
+        }
+        self.all.len()
     }
 
     pub(crate) fn is_left(&self) -> bool {

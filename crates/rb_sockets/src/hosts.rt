@@ -23,7 +23,8 @@ pub fn lacks_loopback6<R: Net>(rt: &R) -> bool {
     is_missing(rt, Host::V6(LOOPBACK6))
 }
 
-fn is_missing<R: Net>(rt: &R, host: Host) -> bool {
+/// Whether no socket can be bound at a host since the machine does not have it.
+pub(crate) fn is_missing<R: Net>(rt: &R, host: Host) -> bool {
     match udp_socket(rt, SocketAddr::new(ip_of(host), 0), false) {
         Ok(_) => false,
         Err(error) => is_no_host(&error),

@@ -9,6 +9,7 @@ use rb_descriptors::tcp_listener;
 use rb_policy::{ANY, Beliefs, Entrance, Evidence, asker, ip_of, is_shown, sender, trust_of};
 use std::fs::Files;
 use std::io;
+use std::io::ErrorKind;
 use std::net::{Net, SocketAddr};
 use std::os::fd::{AsRawFd, RawFd};
 
@@ -60,6 +61,8 @@ pub enum Listener {
     Tcp(TcpListener, Beliefs),
     /// On the local socket.
     Local(LocalListener),
+    /// Nowhere: its host is listened on no more, and another one may have its place.
+    Closed,
 }
 
 impl Listener {
@@ -108,13 +111,30 @@ impl Listener {
                 };
                 Ok((Stream::Local(stream), Some(Visitor::Known(who))))
             }
+            Listener::Closed => Err(io::Error::from(ErrorKind::WouldBlock)),
         }
+    }
+
+    /// Whether it is over TCP, at this host.
+    pub(crate) fn is_at(&self, host: Host) -> bool {
+        match self {
+            Listener::Tcp(listener, _) => match listener.local_addr() {
+                Ok(address) => Peer::of(address).host() == host,
+                Err(_) => false,
+            },
+            Listener::Local(_) | Listener::Closed => false,
+        }
+    }
+
+    /// Whether its host is listened on no more.
+    pub(crate) fn is_closed(&self) -> bool {
+        matches!(self, Listener::Closed)
     }
 
     /// Whether it was found since the last question that it is the local socket, and root's no longer.
     pub(crate) fn take_change(&mut self) -> bool {
         match self {
-            Listener::Tcp(_, _) => false,
+            Listener::Tcp(_, _) | Listener::Closed => false,
             Listener::Local(local) => local.take_change(),
         }
     }
@@ -123,6 +143,7 @@ impl Listener {
         match self {
             Listener::Tcp(listener, _) => listener.as_raw_fd(),
             Listener::Local(local) => local.listener.as_raw_fd(),
+            Listener::Closed => -1,
         }
     }
 
@@ -132,6 +153,7 @@ impl Listener {
             Listener::Local(local) => {
                 registry.register(&mut local.listener, token, Interest::READABLE)
             }
+            Listener::Closed => Ok(()),
         }
     }
 }

@@ -4,6 +4,8 @@ ghost use Rattle.rb_sockets.specs.Events.{shown_by, family_at, MayBeShown};
 
 use crate::calls::{CallSocket, CallSockets, ForwardSocket, ForwardSockets};
 use crate::faults::{BindFault, Step};
+use crate::few::MOST;
+use crate::follow::{AddressNews, Follower};
 use crate::handed::Handed;
 use crate::listener::Listener;
 use crate::local::{AbstractName, LocalListener};
@@ -12,8 +14,9 @@ use crate::user_namespace::unmapped;
 use crate::watched::Watched;
 use mio::net::UnixListener;
 use mio::{Registry, Token};
-use rb_address::{Family, Host, Network};
+use rb_address::{Family, Host};
 use rb_descriptors::least_free;
+use rb_policy::machine::AddressChange;
 use rb_policy::{
     ANY, Beliefs, LOOPBACK, LOOPBACK6, WaysBack, binds_every_inet, binds_loopback6, forwards_inet,
     forwards_inet6, has_every_host, has_every_inet, ip_of, takes_abstract_name,
@@ -59,12 +62,14 @@ pub struct Sockets {
     pub forwards: ForwardSockets,
     /// Where connections come in: over TCP one for each host, then the local socket.
     pub listeners: Vec<Watched<Listener>>,
-    /// The networks whose hosts may ask.
-    pub networks: Vec<Network>,
     /// Whether callers are believed what they claim.
     pub are_claims_believed: bool,
     /// The abstract name of the local socket, if it is to be held.
     abstract_name: Option<AbstractName>,
+    /// Which addresses are followed, if some are.
+    follower: Option<Follower>,
+    port: u16,
+    beliefs: Beliefs,
 }
 
 impl Sockets {
@@ -77,8 +82,6 @@ impl Sockets {
         settings: &Settings<'_>,
         handed: Handed,
     ) -> Result<Sockets, BindFault> {
-        let mut networks = Vec::with_capacity(alloc, settings.from.len())?;
-        networks.extend_from_slice(settings.from.as_slice())?;
         let ways_back = WaysBack::new(alloc, settings.limits.forwards)?;
         let mut inet = Inet::bind(alloc, rt, settings, handed)?;
         let forwards = bind_forwards(rt, settings)?;
@@ -86,6 +89,7 @@ impl Sockets {
         let Inet {
             listeners,
             calls: all,
+            port,
             beliefs,
             ..
         } = inet;
@@ -93,9 +97,11 @@ impl Sockets {
             calls: CallSockets { all, ways_back },
             forwards,
             listeners,
-            networks,
             are_claims_believed: beliefs.claims,
             abstract_name,
+            follower: None,
+            port,
+            beliefs,
         })
     }
 
@@ -143,6 +149,89 @@ impl Sockets {
     /// why the try at the start failed, and that it was taken after that.
     pub fn take_name<R: Files + Net>(&mut self, rt: &R, now: u64) -> Option<io::Result<()>> {
         self.abstract_name.as_mut()?.take(rt, now)
+    }
+
+    /// Addresses are followed from here on, for which places are taken. An error if an allocation is refused.
+    pub fn follow_by(&mut self, follower: Follower) -> Result<(), AllocError> {
+        self.calls.all.reserve(MOST)?;
+        self.listeners.reserve(MOST)?;
+        self.follower = Some(follower);
+        Ok(())
+    }
+
+    /// The moment at which is next found out which addresses there are, in milliseconds, if they are followed.
+    pub fn next_look(&self) -> Option<u64> {
+        match &self.follower {
+            Some(follower) => Some(follower.next_look()),
+            None => None,
+        }
+    }
+
+    // FOLLOW-1: With `--bind` of `all` or of an interface the addresses are found out every 10 seconds: one that has come is
+    // listened on, and one that has gone no more. None ends the daemon.
+    /// Listens on an address that has come, or no more on one that has gone, if addresses are followed, and it was found out by
+    /// this moment, in milliseconds. What is to be told; nothing once all is done.
+    pub fn follow<R: Files + Net>(
+        &mut self,
+        rt: &R,
+        registry: &Registry,
+        now: u64,
+    ) -> Option<AddressNews> {
+        for _ in 0..=MOST {
+            let change = self.follower.as_mut()?.next_change(rt, now);
+            let news = self.change(rt, registry, change);
+            if news.is_some() || change.is_none() {
+                return news;
+            }
+        }
+        None
+    }
+
+    /// Makes a change, if there is one. What is to be told.
+    fn change<R: Net>(
+        &mut self,
+        rt: &R,
+        registry: &Registry,
+        change: Option<AddressChange>,
+    ) -> Option<AddressNews> {
+        match change {
+            Some(AddressChange::Leave(host)) => {
+                self.leave(host);
+                self.follower.as_mut()?.note_gone(host);
+                Some(AddressNews::Gone(host))
+            }
+            Some(AddressChange::Listen(host)) => {
+                let listening = self.listen(rt, registry, host);
+                self.follower.as_mut()?.note_tried(host, listening)
+            }
+            None => self.follower.as_mut()?.take_news(),
+        }
+    }
+
+    /// Closes the sockets of a host.
+    fn leave(&mut self, host: Host) {
+        for calls in &mut self.calls.all {
+            if calls.socket.bound() == host {
+                calls.socket.close();
+            }
+        }
+        for listener in &mut self.listeners {
+            if listener.socket.is_at(host) {
+                listener.socket = Listener::Closed;
+            }
+        }
+    }
+
+    /// Listens on a host too, in the place of one that is listened on no more, if there is one.
+    fn listen<R: Net>(&mut self, rt: &R, registry: &Registry, host: Host) -> Result<(), BindFault> {
+        let mut listener = Listener::bind_tcp(rt, None, host, self.port, self.beliefs)?;
+        let mut calls = CallSocket::bind(rt, None, host, self.port, false, self.beliefs)?;
+        let place = self.calls.free_place();
+        let door = free_door(&self.listeners);
+        check_shown(calls.register(registry, token_of(Shown::Calls(place))))?;
+        check_shown(listener.register(registry, token_of(Shown::Listener(door))))?;
+        put_at(&mut self.calls.all, place, calls)?;
+        put_at(&mut self.listeners, door, listener)
     }
 
     /// Whether it was found since the last question that the local socket is root's no longer.
@@ -431,6 +520,35 @@ fn bind_local<R: Files + Net>(
     match LocalListener::bind(alloc, rt, handed, local, beliefs)? {
         Ok(listener) => Ok(Listener::Local(listener)),
         Err(error) => Err(BindFault::Socket(Step::BindLocal.failed(error))),
+    }
+}
+
+/// The place of a listener whose host is listened on no more, or the next one.
+fn free_door(listeners: &[Watched<Listener>]) -> usize {
+    for (i, listener) in listeners.iter().enumerate() {
+        if listener.socket.is_closed() {
+            return i;
+        }
+    }
+    listeners.len()
+}
+
+/// Whether the events of a socket are shown.
+fn check_shown(registered: io::Result<()>) -> Result<(), BindFault> {
+    match registered {
+        Ok(()) => Ok(()),
+        Err(error) => Err(BindFault::Socket(Step::Prepare.failed(error))),
+    }
+}
+
+/// Puts a socket at a place, or after the others.
+fn put_at<S: Drop>(all: &mut Vec<Watched<S>>, place: usize, socket: S) -> Result<(), BindFault> {
+    match all.get_mut(place) {
+        Some(watched) => {
+            *watched = Watched::new(socket);
+            Ok(())
+        }
+        None => put(all, socket),
     }
 }
 

@@ -6,6 +6,7 @@ ghost use Rattle.std.specs.Prelude.{◌≤◌, IfErr};
 mod ending;
 mod files;
 mod foreign;
+mod interfaces;
 mod keep;
 mod leveled;
 mod manager;
@@ -16,6 +17,7 @@ mod telling;
 mod users;
 
 use foreign::{say_hosts, translate_words};
+use interfaces::{Binds, take_interfaces};
 use leveled::{Leveled, is_journal};
 use rb_commands::{Words, command_words, read_words};
 use rb_lines::{Beginning, Fault, explain};
@@ -74,33 +76,30 @@ fn read_command<'a, E: Write>(
     read_words(rt.alloc(), words, &mut io::writer(rt), faults)
 }
 
-/// The words of the command line, with those of ours in the place of Debian's, and uids in that of users' names. If they can't
-/// be had, it is said why, and the error is the exit status.
-fn words_of<E: Write>(rt: &HostRuntime, faults: &mut E) -> Result<Vec<String>, u8>
+/// The words of the command line, with those of ours in the place of Debian's, and uids in that of users' names; without
+/// interfaces of `--bind`, which come with them. If they can't be had, it is said why, and the error is the exit status.
+fn words_of<E: Write>(rt: &HostRuntime, faults: &mut E) -> Result<(Vec<String>, Binds), u8>
     ensures { IfErr result (λ status. status ≤ 2) }
 {
     let words = command_words(rt, faults)?;
     let mut words = translate_words(rt, words, faults)?;
     name_users(rt, &mut words, faults)?;
-    Ok(words)
-}
-
-/// Whether the word is the option `--bind`, alone or with its value.
-fn is_bind(word: &str) -> bool {
-    word == "--bind" || word.starts_with("--bind=")
+    match take_interfaces(rt.alloc(), words) {
+        Ok(taken) => Ok(taken),
+        Err(_) => Err(explain(Fault::NoMemory, faults).status),
+    }
 }
 
 fn main(rt: HostRuntime) -> ExitCode {
     let mut faults = Leveled::standard_error(rt.stderr(), is_journal(&rt));
-    let words = match words_of(&rt, &mut faults) {
+    let (words, binds) = match words_of(&rt, &mut faults) {
         Ok(words) => words,
         Err(status) => return ExitCode::from(status),
     };
     let status = match read_command(&rt, &words, &mut faults) {
         Ok(Words::Serve(serve)) => {
             say_hosts(&rt, &mut faults);
-            let is_bind_given = words.iter().any(|word| is_bind(word));
-            run_service(&rt, serve, is_bind_given, &mut faults).status()
+            run_service(&rt, serve, binds, &mut faults).status()
         }
         Ok(Words::Replay(beginning)) => replay(&rt, &beginning),
         Ok(Words::Check(beginning)) => check(&rt, &beginning),

@@ -1,18 +1,20 @@
 //! The command `serve`.
 use crate::ending::{End, end_after, end_at_start};
+use crate::interfaces::Binds;
 use crate::keep::{lock_keep, read_keep, say_keep_news, say_left_out};
 use crate::leveled::{Level, Leveled};
 use crate::manager::{Manager, News};
 use crate::record::{Recorder, make_record};
 use crate::telling::{
-    explain_fault, explain_handed, say_local_change, say_loopback6, say_missing, say_name,
-    say_start, say_table_fault,
+    explain_fault, explain_handed, say_address, say_local_change, say_loopback6, say_missing,
+    say_name, say_silent, say_start, say_table_fault,
 };
 use rb_address::Host;
 use rb_commands::Serve;
 use rb_daemon::{Daemon, DaemonFault, Handed, Settings};
 use rb_forward::sooner;
-use rb_sockets::{HandedFault, lacks_loopback6, missing_host, take_handed};
+use rb_lines::{Fault, explain};
+use rb_sockets::{Follower, HandedFault, MOST, lacks_loopback6, missing_host, take_handed};
 use std::env::Env;
 use std::fs::{File, Files};
 use std::io::Write;
@@ -37,7 +39,7 @@ const _: () = prove!(HOST_TRIES * HOST_PAUSE == 30_000);
 /// Serves, and says on standard output where it listens, and to a service manager that it serves. If it can't start, or a turn
 /// fails, the reason goes to `faults`, as the last line.
 /// If `--bind` is not given, it listens at the hosts of sockets that a service manager handed over.
-pub fn run_service<R, E>(rt: &R, mut serve: Serve<'_>, is_bind_given: bool, faults: &mut E) -> End
+pub fn run_service<R, E>(rt: &R, mut serve: Serve<'_>, binds: Binds, faults: &mut E) -> End
 where
     R: Net + Files<File = File> + Clock + RandomSource + Wait + AllocGlobal + Print + Env,
     E: Write,
@@ -45,7 +47,7 @@ where
     let mut manager = Manager::of(rt);
     let end = match lock_keep(rt, &serve, faults) {
         Ok(lock) => {
-            let end = run_locked(rt, &mut serve, is_bind_given, &mut manager, faults);
+            let end = run_locked(rt, &mut serve, binds, &mut manager, faults);
             drop(lock);
             end
         }
@@ -59,7 +61,7 @@ where
 fn run_locked<R, E>(
     rt: &R,
     serve: &mut Serve<'_>,
-    is_bind_given: bool,
+    binds: Binds,
     manager: &mut Manager,
     faults: &mut E,
 ) -> End
@@ -67,7 +69,7 @@ where
     R: Net + Files + Clock + RandomSource + Wait + AllocGlobal + Print + Env,
     E: Write,
 {
-    match begin(rt, serve, is_bind_given, manager, faults) {
+    match begin(rt, serve, binds, manager, faults) {
         Ok(mut daemon) => serve_until_the_end(rt, &mut daemon, serve, manager, faults),
         Err(end) => end,
     }
@@ -88,13 +90,57 @@ fn take_sockets<R: Env + AllocGlobal>(
     handed.settle(rt.alloc(), settings)
 }
 
+/// The addresses of interfaces that `--bind` names, or of all, are among the hosts of the settings from here on, and are
+/// followed. What there is to be said of them is said. If memory is refused, that is said, and the error is how it ends.
+fn find_hosts<R, E>(
+    rt: &R,
+    settings: &mut Settings<'_>,
+    binds: Binds,
+    faults: &mut E,
+) -> Result<Option<Follower>, End>
+where
+    R: Net + Files + AllocGlobal,
+    E: Write,
+{
+    let Binds {
+        interfaces,
+        are_hosts,
+    } = binds;
+    if interfaces.is_empty() {
+        return Ok(None);
+    }
+    let given: &[Host] = if are_hosts {
+        settings.bind.as_slice()
+    } else {
+        &[]
+    };
+    let Ok(mut follower) = Follower::new(rt.alloc(), interfaces, given) else {
+        return Err(no_memory(faults));
+    };
+    settings.bind = follower.begin(rt);
+    say_silent(follower.silent(), faults);
+    for _ in 0..MOST {
+        match follower.take_news() {
+            Some(news) => say_address(settings.port, news, faults),
+            None => break,
+        }
+    }
+    Ok(Some(follower))
+}
+
+/// Ends for want of memory.
+fn no_memory<E: Write>(faults: &mut E) -> End {
+    let _ = explain(Fault::NoMemory, faults);
+    End::Failed
+}
+
 // KEEP-10: Kept rows are read, and asked, before anything listens.
 /// A daemon that has the rows that were kept, which are read before anything listens; those that it has not are said. It has the
 /// sockets that were handed over.
 fn begin<'a, R, E>(
     rt: &'a R,
     serve: &mut Serve<'_>,
-    is_bind_given: bool,
+    binds: Binds,
     manager: &Manager,
     faults: &mut E,
 ) -> Result<Daemon<'a, R, R>, End>
@@ -102,7 +148,9 @@ where
     R: Net + Files + Clock + RandomSource + AllocGlobal + Env,
     E: Write,
 {
-    let handed = match take_sockets(rt, &mut serve.settings, is_bind_given) {
+    let are_given = binds.are_given();
+    let follower = find_hosts(rt, &mut serve.settings, binds, faults)?;
+    let handed = match take_sockets(rt, &mut serve.settings, are_given) {
         Ok(handed) => handed,
         Err(fault) => return Err(explain_handed(&fault, faults)),
     };
@@ -112,8 +160,13 @@ where
     }
     let rows = read_keep(rt, serve, faults)?;
     match Daemon::new(rt.alloc(), rt, rt, settings, &rows, handed) {
-        Ok(daemon) => {
+        Ok(mut daemon) => {
             say_left_out(settings, &rows, daemon.left_out(), faults);
+            if let Some(follower) = follower {
+                if daemon.follow_by(follower).is_err() {
+                    return Err(no_memory(faults));
+                }
+            }
             Ok(daemon)
         }
         Err(fault) => {
@@ -195,6 +248,7 @@ fn take_turn<R: Clock + Files + Net, F: Write + Drop, E: Write>(
     let turned = daemon.turn(rt, sooner(longest, manager.wait(daemon.moment())));
     recorder.write(daemon, faults);
     let _ = daemon.write_log(&mut Leveled::new(&mut *faults, Level::Info));
+    follow_addresses(rt, daemon, settings, faults);
     let mut warnings = Leveled::new(faults, Level::Warning);
     if let Some(fault) = daemon.take_fault() {
         let _ = writeln!(warnings, "rpcbind: {fault}; it is tried again");
@@ -207,6 +261,24 @@ fn take_turn<R: Clock + Files + Net, F: Write + Drop, E: Write>(
         manager.tell(News::Turn(daemon.load()));
     }
     turned
+}
+
+/// More than can change at once of addresses that are followed.
+const CHANGES: usize = 64;
+
+/// Listens on addresses that have come, and no more on those that have gone, and says each.
+fn follow_addresses<R: Clock + Files + Net, E: Write>(
+    rt: &R,
+    daemon: &mut Daemon<'_, R, R>,
+    settings: &Settings<'_>,
+    faults: &mut E,
+) {
+    for _ in 0..CHANGES {
+        match daemon.follow(rt) {
+            Some(news) => say_address(settings.port, news, faults),
+            None => return,
+        }
+    }
 }
 
 fn take_turns<R: Clock + Files + Net + Wait, F: Write + Drop, E: Write>(

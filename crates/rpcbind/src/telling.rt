@@ -10,7 +10,8 @@ use rb_lines::{Ending, Fault, explain, explain_run};
 use rb_policy::is_no_address;
 use rb_proto::Announced;
 use rb_sockets::{
-    DaemonFault, HandedFault, LocalSocket, Settings, Shortage, SocketFault, Step, TableFault,
+    AddressNews, DaemonFault, HandedFault, LocalSocket, MOST, Settings, Shortage, SocketFault,
+    Step, TableFault,
 };
 use std::fmt::{Display, Formatter};
 use std::io::Write;
@@ -95,6 +96,40 @@ pub fn say_name<E: Write>(tried: Option<io::Result<()>>, faults: &mut E) {
 /// Says that the start waits for an address that the machine does not have.
 pub fn say_missing<E: Write>(host: Host, faults: &mut E) {
     let _ = writeln!(faults, "rpcbind: waits for the address {host}");
+}
+
+/// Says that an interface of `--bind` adds no address now.
+pub fn say_silent<E: Write>(name: Option<&str>, faults: &mut E) {
+    if let Some(name) = name {
+        let mut warnings = Leveled::new(faults, Level::Warning);
+        let _ = writeln!(
+            warnings,
+            "rpcbind: --bind {name} adds no address now; it is tried again"
+        );
+    }
+}
+
+// FOLLOW-2: A line names each address that is listened on, that has come, that has gone, and that is one too many.
+/// Says what there is to be told of addresses that are followed.
+pub fn say_address<E: Write>(port: u16, news: AddressNews, faults: &mut E) {
+    let level = match &news {
+        AddressNews::Came(_) | AddressNews::Gone(_) => Level::Notice,
+        AddressNews::LeftOut(_) | AddressNews::Unread(_) | AddressNews::Failed(_) => Level::Warning,
+    };
+    let mut lines = Leveled::new(faults, level);
+    let _ = match news {
+        AddressNews::Came(host) => writeln!(lines, "rpcbind: listening on {host} port {port}"),
+        AddressNews::Gone(host) => writeln!(lines, "rpcbind: {host} is gone, and left"),
+        AddressNews::LeftOut(host) => writeln!(
+            lines,
+            "rpcbind: more than {MOST} addresses: {host} and those behind it are not listened on"
+        ),
+        AddressNews::Unread(TableFault { path, error }) => writeln!(
+            lines,
+            "rpcbind: read {path}: {error}; meanwhile addresses are not followed"
+        ),
+        AddressNews::Failed(fault) => writeln!(lines, "rpcbind: {fault}; it is tried again"),
+    };
 }
 
 /// The port of the portmapper (RFC 1833 section 3.1).
