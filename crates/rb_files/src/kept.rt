@@ -41,7 +41,8 @@ pub struct KeptFile<H: Files> {
 }
 
 impl<H: Files> KeptFile<H> {
-    ghost use Rattle.std.specs.Prelude.{◌≡◌, ◌+◌, ◌++◌, length, string_bytes, codes, IfOk, OnOk};
+    ghost use Rattle.std.specs.Prelude.{◌≡◌, ◌+◌, ◌++◌, length, string_bytes, codes, None, IfOk, OnOk, OnErr};
+    ghost use Rattle.std.specs.Option.{is_some};
 
     /// The file at the path, whose new text is written beside it, at the path with `.new` after it. It takes the
     /// memory for both paths, and looks at no file. An error if the allocation is refused.
@@ -68,8 +69,17 @@ impl<H: Files> KeptFile<H> {
     }
 
     /// Whether text may be added: a file was put in place, and nothing failed since.
-    pub fn is_placed(&self) -> bool {
+    pub fn is_placed(&self) -> bool
+        ensures { result ≡ is_some self.now.placed }
+    {
         self.placed.is_some()
+    }
+
+    /// Nothing is added from here on, until a file is put in place.
+    pub fn leave(&mut self)
+        ensures { self.new.placed ≡ None }
+    {
+        self.placed = None;
     }
 
     // FILE-4: A file of kept rows is replaced as a whole: the new text is written beside it, under its
@@ -80,6 +90,7 @@ impl<H: Files> KeptFile<H> {
     /// system refuses a step, its error: what is at the path stays, and the file beside goes.
     pub fn replace(&mut self, rt: &H, text: &[u8]) -> io::Result<()>
         ensures bytes { OnOk result (self.new.len ≡ length text.now) }
+        ensures failed { OnErr result (self.new.placed ≡ None) }
     {
         self.placed = None;
         let file = new_file(rt, &self.beside)?;
@@ -115,6 +126,7 @@ impl<H: Files> KeptFile<H> {
     /// the system refuses a step. After either nothing is added until a file is put in place.
     pub fn append(&mut self, rt: &H, text: &[u8]) -> Result<(), AppendFault>
         ensures bytes { OnOk result (self.new.len ≡ self.old.len + length text.now) }
+        ensures failed { OnErr result (self.new.placed ≡ None) }
     {
         let Some(mut placed) = self.placed.take() else {
             return Err(AppendFault::Another);
