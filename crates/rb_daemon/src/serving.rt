@@ -666,10 +666,9 @@ impl<H: Files> Serving<H> {
     /// else was to be done. A pass begins at once, unless one goes on, and is for all that wait then.
     pub(crate) fn look_in_tables(&mut self, rt: &H, is_idle: bool) {
         let now = self.turn.moment;
-        if self.walk.is_none() && !self.places.are_sought() || !self.share.may_read(now, is_idle) {
+        if self.walk.is_none() && !self.places.are_sought() || !self.share.reads(now, is_idle) {
             return;
         }
-        self.share.note_read(now);
         if self.walk.is_none() {
             self.places.begin_pass();
             self.begin_walk(rt);
