@@ -122,6 +122,7 @@ run_local_socket() {
 local $path 4 set 200001 1 tcp 0.0.0.0.8.1: 1
 local $path 4 getaddrlist 200001 1: tcp 127.0.0.2.8.1
 tcp 127.0.0.1 4 getaddrlist 200001 1: tcp 127.0.0.1.8.1
+tcp 127.0.0.2 4 getaddrlist 200001 1: tcp 127.0.0.2.8.1
 END
         listed=$?
         [ $listed -eq 0 ] && "$rpcinfo" --port 20112 127.0.0.1 | grep -qx "200001 1 tcp 0.0.0.0.8.1 $owner"
@@ -129,6 +130,25 @@ END
         kill "$daemon"
         wait "$daemon" 2> /dev/null
     done
+}
+
+# BIND-4
+# Beside a daemon at 0.0.0.0 no other program has a part of its port over UDP, though it would share it.
+run_port_is_not_shared() {
+    local daemon
+    start_daemon "$work/listening" --port 20112 --bind 0.0.0.0
+    python3 -c '
+import errno, socket, sys
+other = socket.socket(socket.AF_INET, socket.SOCK_DGRAM)
+other.setsockopt(socket.SOL_SOCKET, socket.SO_REUSEADDR, 1)
+try:
+    other.bind(("127.0.0.9", 20112))
+except OSError as error:
+    sys.exit(error.errno != errno.EADDRINUSE)
+sys.exit("another program has a part of the port")'
+    judge $? "a port that is not shared"
+    kill "$daemon"
+    wait "$daemon" 2> /dev/null
 }
 
 # Whether a call over TCP (t) or UDP (u) to this address of the machine, and so from it, is answered, in these seconds.
@@ -170,6 +190,7 @@ run_serving() {
     run_connections_at_once
     run_full_queue_in_the_way
     run_local_socket
+    run_port_is_not_shared
     run_callers_of_networks
 }
 
