@@ -4,3 +4,5 @@ pub mod Recording
 pub mod ServedLaws
 pub mod PlainCallers
 pub mod Keeping
+pub mod Sending
+pub mod Links

@@ -413,7 +413,9 @@ fn open<B: Files + Net, H: Files>(
     let sockets = bind(alloc, host, settings, handed, waiting.registry())?;
     let (places, shortage) = places_of(host, settings, &sockets);
     let networks = settings.from.as_slice();
-    match Room::new(alloc, networks, places, !sockets.are_claims_believed) {
+    let forwards = settings.limits.forwards;
+    let are_tables_read = !sockets.are_claims_believed;
+    match Room::new(alloc, networks, places, forwards, are_tables_read) {
         Ok(room) => Ok(Outer {
             waiting,
             sockets,
