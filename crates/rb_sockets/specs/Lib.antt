@@ -5,3 +5,5 @@ pub mod Machine
 pub mod MachineExamples
 pub mod Dispatches
 pub mod Arrivals
+pub mod Handed
+pub mod Watching

@@ -2,6 +2,7 @@
 //! out on the wrong one.
 ghost use Rattle.std.specs.Prelude.{IfOk, IfSome, ◌≡◌, ◌≤◌, length};
 ghost use Rattle.rb_sockets.specs.Arrivals.{datagram_arrival, IsReceived};
+ghost use Rattle.rb_sockets.specs.Watching.{is_at_once, is_after_wait, holds_of, of_calls, of_forwards};
 
 use crate::arrival::Arrival;
 use crate::faults::{BindFault, Step};
@@ -192,11 +193,15 @@ impl CallSockets {
         self.all.len()
     }
 
-    pub(crate) fn is_left(&self) -> bool {
+    pub(crate) fn is_left(&self) -> bool
+        ensures { result ≡ of_calls is_at_once self.now }
+    {
         self.all.iter().any(|calls| calls.is_left())
     }
 
-    pub(crate) fn is_tried_again(&self) -> bool {
+    pub(crate) fn is_tried_again(&self) -> bool
+        ensures { result ≡ of_calls is_after_wait self.now }
+    {
         self.all.iter().any(|calls| calls.is_tried_again())
     }
 }
@@ -237,6 +242,26 @@ impl ForwardSocket {
     }
 }
 
+/// Whether the socket, if there is one, must be served at once.
+fn is_left(forwards: &Option<Watched<ForwardSocket>>) -> bool
+    ensures { result ≡ holds_of is_at_once forwards.now }
+{
+    match forwards {
+        Some(forwards) => forwards.is_left(),
+        None => false,
+    }
+}
+
+/// Whether it must be served after a wait.
+fn is_tried_again(forwards: &Option<Watched<ForwardSocket>>) -> bool
+    ensures { result ≡ holds_of is_after_wait forwards.now }
+{
+    match forwards {
+        Some(forwards) => forwards.is_tried_again(),
+        None => false,
+    }
+}
+
 /// The sockets of forwarded calls, one for each family of targets; none if no calls are forwarded.
 #[derive(Drop)]
 pub struct ForwardSockets {
@@ -263,14 +288,15 @@ impl ForwardSockets {
         }
     }
 
-    pub(crate) fn is_left(&self) -> bool {
-        let (inet, inet6) = (self.inet.as_ref(), self.inet6.as_ref());
-        inet.is_some_and(|inet| inet.is_left()) || inet6.is_some_and(|inet6| inet6.is_left())
+    pub(crate) fn is_left(&self) -> bool
+        ensures { result ≡ of_forwards is_at_once self.now }
+    {
+        is_left(&self.inet) || is_left(&self.inet6)
     }
 
-    pub(crate) fn is_tried_again(&self) -> bool {
-        let (inet, inet6) = (self.inet.as_ref(), self.inet6.as_ref());
-        inet.is_some_and(|inet| inet.is_tried_again())
-            || inet6.is_some_and(|inet6| inet6.is_tried_again())
+    pub(crate) fn is_tried_again(&self) -> bool
+        ensures { result ≡ of_forwards is_after_wait self.now }
+    {
+        is_tried_again(&self.inet) || is_tried_again(&self.inet6)
     }
 }

@@ -1,6 +1,7 @@
 //! The daemon's own sockets. Each kind is a type of its own, so that nothing goes out on the wrong one.
 ghost use Rattle.std.specs.Prelude.{◌≡◌, ⊤};
 ghost use Rattle.rb_sockets.specs.Events.{shown_by, family_at, MayBeShown};
+ghost use Rattle.rb_sockets.specs.Watching.{is_at_once, is_after_wait, of_datagrams, of_listeners, of_all};
 
 use crate::calls::{CallSocket, CallSockets, ForwardSocket, ForwardSockets};
 use crate::datagrams::Datagrams;
@@ -316,21 +317,40 @@ impl Sockets {
     }
 
     /// Whether one of them on which datagrams come in must be served at once.
-    pub fn are_datagrams_left(&self) -> bool {
+    pub fn are_datagrams_left(&self) -> bool
+        ensures { result ≡ of_datagrams is_at_once self.now }
+    {
         self.forwards.is_left() || self.calls.is_left()
     }
 
     /// Whether one of them must be served at once.
-    pub fn is_something_left(&self) -> bool {
-        self.are_datagrams_left() || self.listeners.iter().any(|listener| listener.is_left())
+    pub fn is_something_left(&self) -> bool
+        ensures { result ≡ of_all is_at_once self.now }
+    {
+        self.are_datagrams_left() || self.are_listeners_left()
+    }
+
+    fn are_listeners_left(&self) -> bool
+        ensures { result ≡ of_listeners is_at_once self.now }
+    {
+        self.listeners.iter().any(|listener| listener.is_left())
     }
 
     /// Whether one of them must be served after a wait though no event shows it.
-    pub fn is_tried_again(&self) -> bool {
-        let mut listeners = self.listeners.iter();
+    pub fn is_tried_again(&self) -> bool
+        ensures { result ≡ of_all is_after_wait self.now }
+    {
         self.forwards.is_tried_again()
             || self.calls.is_tried_again()
-            || listeners.any(|listener| listener.is_tried_again())
+            || self.are_listeners_tried_again()
+    }
+
+    fn are_listeners_tried_again(&self) -> bool
+        ensures { result ≡ of_listeners is_after_wait self.now }
+    {
+        self.listeners
+            .iter()
+            .any(|listener| listener.is_tried_again())
     }
 }
 
