@@ -1,6 +1,9 @@
 //! The place of an accepted connection: what is known of it, and its socket calls.
-ghost use Rattle.std.specs.Prelude.{◌≡◌, ◌≤◌, [], true, length, drop, IfOk, Some, None};
-ghost use Rattle.rb_links.specs.Holding.{is_between_records, must_wait};
+ghost use Rattle.std.specs.Prelude.{◌≡◌, ◌≤◌, [], true, not, ◌&&◌, ◌||◌, length, drop, IfOk, IfSome, Some, None};
+ghost use Rattle.rb_policy.specs.Origins.{origin_of};
+ghost use Rattle.rb_policy.specs.declared.asks.Held.TheVariants.{Nothing};
+ghost use Rattle.rb_sockets.specs.Arrivals.{who_of};
+ghost use Rattle.rb_links.specs.Holding.{BeginsAnew, is_between_records, must_wait, held_of, is_same_held};
 ghost use Rattle.rb_links.specs.Numbers.{HasItsBytes, IsRest};
 ghost use Rattle.rb_links.specs.Outgoing.{nothing_in, own_room};
 
@@ -154,6 +157,9 @@ impl Link {
         ensures number { self.new.id ≡ None }
         ensures inbox { self.new.inbox ≡ [] }
         ensures outbox { self.new.outbox.bytes ≡ [] }
+        ensures begins { BeginsAnew self.new }
+        ensures origin { self.new.origin ≡ origin }
+        ensures since { self.new.since ≡ moment }
     {
         self.id = None;
         self.stream = Some(stream);
@@ -190,7 +196,10 @@ impl Link {
 
     /// Holds back what was read, if it must not be handed in before it is known whose it is. Whether it is held back.
     pub fn hold_back(&mut self) -> bool
-        ensures { result ≡ must_wait self.new }
+        ensures waits { result ≡ must_wait self.new }
+        ensures held { self.new.held ≡ held_of self.new }
+        ensures progress { self.new.made_progress ≡ (self.old.made_progress
+            || (result && not (is_same_held self.new.held self.old.held))) }
     {
         if !self.must_wait() {
             self.held = Held::Nothing;
@@ -272,7 +281,13 @@ impl Link {
     // TABLES-5
     /// A pass has ended at this moment, in milliseconds. If it showed whose this is, that is where it counts from here on; and
     /// if its call is held back, the answer is how it came in. It may wait for one more pass.
-    pub(crate) fn shown(&mut self, moment: u64) -> Option<Arrival> {
+    pub(crate) fn shown(&mut self, moment: u64) -> Option<Arrival>
+        ensures origin { IfSome result (λ arrival.
+            self.new.origin ≡ origin_of (who_of arrival).trust (who_of arrival).source) }
+        ensures since { IfSome result (λ arrival. self.new.since ≡ moment) }
+        ensures held { IfSome result (λ arrival. self.new.held ≡ Nothing) }
+        ensures known { IfSome result (λ arrival. self.new.unknown ≡ None) }
+    {
         let sought = self.sought?;
         if sought.passes == 0 {
             return None;

@@ -80,12 +80,16 @@ impl Places {
     }
 
     /// How many places there are.
-    pub fn count(&self) -> usize {
+    pub fn count(&self) -> usize
+        ensures { result ≡ vec_len self.now.links }
+    {
         self.links.len()
     }
 
     /// How many of them have connections.
-    pub fn taken(&self) -> usize {
+    pub fn taken(&self) -> usize
+        ensures { result ≡ self.now.taken }
+    {
         self.taken
     }
 
