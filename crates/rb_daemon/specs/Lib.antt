@@ -6,3 +6,4 @@ pub mod PlainCallers
 pub mod Keeping
 pub mod Sending
 pub mod Links
+pub mod Logs

@@ -189,6 +189,7 @@ impl Engine {
     ghost use Rattle.rb_model.specs.Step.{unsent_call};
     ghost use Rattle.rb_model.specs.Ending.{forward_reply, expire};
     ghost use Rattle.rb_daemon.specs.Sending.{reply_after, ways_after, reply_due, ways_due, call_sent};
+    ghost use Rattle.rb_daemon.specs.Logs.{next_line};
 
     /// A new core at this moment, which is the first, and whose first forwarded call has this xid. Up to `record_limit` bytes of its events are recorded, and `logged` says of what the log has lines. `BadLimits`
     /// if a limit is out of its range, else `NoMemory` if an allocation is refused.
@@ -269,7 +270,9 @@ impl Engine {
     }
 
     /// The moment, in milliseconds, from which the log tells of lines that were left out, if some were.
-    pub(crate) fn next_log_line(&self) -> Option<u64> {
+    pub(crate) fn next_log_line(&self) -> Option<u64>
+        ensures { result ≡ next_line self.now.log }
+    {
         self.log.next_line()
     }
 

@@ -1,5 +1,5 @@
 //! The rows that were set are kept in a file: all of them, and then the lines of each change.
-ghost use Rattle.std.specs.Prelude.{◌≡◌, OnOk};
+ghost use Rattle.std.specs.Prelude.{◌≡◌, None, OnOk, OnErr};
 ghost use Rattle.rb_connections.specs.Slots.{Shows};
 ghost use Rattle.rb_core.specs.StandsFor.{StandsFor};
 ghost use Rattle.rb_keep.specs.Writing.{NotesOwners};
@@ -142,8 +142,10 @@ impl<H: Files> Journal<H> {
     /// Writes all rows anew.
     fn replace(&mut self, host: &H, engine: &mut Engine) -> io::Result<()>
         ensures lines { OnOk result (AreLinesOfRows engine.old.core.core self.new.text.items) }
+        ensures failed { OnErr result (self.new.file.placed ≡ None) }
         ensures engine { SameEngine engine.old engine.new }
     {
+        self.file.leave();
         self.text.clear();
         engine.write_rows(&mut self.text)?;
         self.lines = count_lines(&self.text);
@@ -164,6 +166,7 @@ impl<H: Files> Journal<H> {
     /// Adds the lines that were gathered.
     fn add(&mut self, host: &H) -> Result<(), AppendFault>
         ensures lines { self.new.text.items ≡ self.old.text.items }
+        ensures failed { OnErr result (self.new.file.placed ≡ None) }
     {
         self.file.append(host, self.text.as_slice())?;
         self.lines = self.lines.saturating_add(count_lines(&self.text));
@@ -171,10 +174,11 @@ impl<H: Files> Journal<H> {
     }
 
     /// Brings the file up to the rows of the core: the lines that were gathered are added, or all rows are written anew.
-    /// Returns whether another file was found in its place.
+    /// Returns whether another file was found in its place. After an error all rows are written anew.
     fn keep(&mut self, host: &H, engine: &mut Engine) -> io::Result<bool>
         ensures lines { OnOk result
             (HandsIn engine.old.core.core self.old.text.items self.new.text.items) }
+        ensures failed { OnErr result (self.new.file.placed ≡ None) }
         ensures engine { SameEngine engine.old engine.new }
     {
         let mut is_another = false;

@@ -126,6 +126,11 @@ fn passes(brake: &mut Option<Brake>, now: u64, who: &Who) -> bool {
 }
 
 impl<H: Files> Serving<H> {
+    ghost use Rattle.std.specs.Prelude.{◌≡◌, vec_len};
+    ghost use Rattle.rb_connections.specs.Slots.{Shows};
+    ghost use Rattle.rb_core.specs.StandsFor.{StandsFor};
+    ghost use Rattle.rb_daemon.specs.Served.{row_count};
+
     /// A core of these limits, what keeps its rows, and the sockets around it, which are served with this memory; and
     /// what drops datagrams of strangers, if they are limited.
     pub(crate) fn new(
@@ -192,7 +197,12 @@ impl<H: Files> Serving<H> {
     }
 
     /// How much is served now. It goes through all rows.
-    pub(crate) fn load(&mut self) -> Load {
+    pub(crate) fn load(&mut self) -> Load
+        ensures rows { Shows StandsFor row_count self.old.engine.core.core result.rows }
+        ensures most { result.most_rows ≡ self.old.most_rows }
+        ensures connections { result.connections ≡ self.old.places.taken }
+        ensures places { result.places ≡ vec_len self.old.places.links }
+    {
         Load {
             rows: self.engine.count_rows(),
             most_rows: self.most_rows,
