@@ -1,11 +1,11 @@
 //! A file that is replaced as a whole, and to which text is added.
 ghost use Rattle.std.specs.Prelude.{◌≡◌, string_bytes, IfOk};
 
+use crate::identity::{Identity, identity_of, is_same_file};
 use crate::new::new_file;
 use std::alloc::{AllocError, Global};
 use std::fs::{Files, Metadata, OpenFile};
 use std::io::Write;
-use std::os::unix::fs::MetadataExt;
 use std::{fs, io};
 
 /// What the name of the file beside ends with.
@@ -24,8 +24,7 @@ pub enum AppendFault {
 #[derive(Drop)]
 struct Placed<H: Files> {
     file: H::File,
-    device: u64,
-    inode: u64,
+    identity: Identity,
 }
 
 /// A file that is replaced as a whole, and to which text is added: who opens it finds the old text or the new one, and
@@ -114,8 +113,7 @@ impl<H: Files> KeptFile<H> {
         fs::rename(rt, self.beside.as_str(), self.path.as_str())?;
         Ok(Placed {
             file,
-            device: found.dev(),
-            inode: found.ino(),
+            identity: identity_of(&found),
         })
     }
 
@@ -147,7 +145,7 @@ impl<H: Files> KeptFile<H> {
         let Ok(found) = fs::symlink_metadata(rt, self.path.as_str()) else {
             return Err(AppendFault::Another);
         };
-        if is_left(&found, placed.device, placed.inode, self.len) {
+        if is_left(&found, placed.identity, self.len) {
             Ok(())
         } else {
             Err(AppendFault::Another)
@@ -155,9 +153,9 @@ impl<H: Files> KeptFile<H> {
     }
 }
 
-/// Whether a file of this metadata is the one of this number, with as many bytes.
-fn is_left(found: &Metadata, device: u64, inode: u64, len: u64) -> bool {
-    found.dev() == device && found.ino() == inode && found.len() == len
+/// Whether a file of this metadata is the one that was put in place, with as many bytes.
+fn is_left(found: &Metadata, placed: Identity, len: u64) -> bool {
+    is_same_file(identity_of(found), placed) && found.len() == len
 }
 
 fn add_to<H: Files>(file: &mut H::File, text: &[u8]) -> io::Result<()> {
