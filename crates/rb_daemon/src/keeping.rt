@@ -1,5 +1,5 @@
 //! The rows that were set are kept in a file: all of them, and then the lines of each change.
-ghost use Rattle.std.specs.Prelude.{◌≡◌, None, OnOk, OnErr};
+ghost use Rattle.std.specs.Prelude.{◌≡◌, OnOk};
 ghost use Rattle.rb_connections.specs.Slots.{Shows};
 ghost use Rattle.rb_core.specs.StandsFor.{StandsFor};
 ghost use Rattle.rb_keep.specs.Writing.{NotesOwners};
@@ -67,6 +67,8 @@ fn count_lines(text: &[u8]) -> usize {
 }
 
 impl<H: Files> Journal<H> {
+    ghost use Rattle.std.specs.Prelude.{None, OnErr};
+
     fn new(alloc: Global, path: &str, rows: usize) -> Result<Journal<H>, AllocError> {
         let mut text = Vec::new(alloc);
         text.resize(rows.max(MOST_LINES).saturating_mul(LONGEST_LINE), 0)?;
