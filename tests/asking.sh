@@ -44,6 +44,32 @@ with socket.create_server(("127.0.0.1", 0)) as silent, socket.socket(socket.AF_I
     wait "$silent" 2> /dev/null
 }
 
+# WAIT-8
+# A reply over TCP of which a byte comes every three seconds is waited for no longer than a minute. It is that of a list
+# without rows.
+run_rpcinfo_of_slow_reply() {
+    local slow begun waited
+    python3 -c '
+import socket, struct, time
+reply = struct.pack(">8I", 0x8000001c, 1, 1, 0, 0, 0, 0, 0)
+with socket.create_server(("127.0.0.1", 0)) as listener:
+    print(listener.getsockname()[1], flush=True)
+    near, _ = listener.accept()
+    for byte in reply:
+        time.sleep(3)
+        near.send(bytes([byte]))' > "$work/port" 2> /dev/null &
+    slow=$!
+    for _ in $(seq 300); do [ ! -s "$work/port" ] || break; sleep 0.1; done
+    echo 'rpcinfo: read failed' > "$work/wanted"
+    begun=$SECONDS
+    run_rpcinfo /dev/null --port "$(cat "$work/port")" -p 127.0.0.1
+    waited=$((SECONDS - begun))
+    as_wanted /dev/null "$work/wanted" 1 && [ "$waited" -ge 58 ] && [ "$waited" -lt 90 ]
+    judge $? "rpcinfo of a slow reply over TCP, after $waited seconds"
+    kill "$slow" 2> /dev/null
+    wait "$slow" 2> /dev/null
+}
+
 # ADDRESS-1
 # A host is there, and has no address of the netid's family.
 run_rpcinfo_of_other_family() {
@@ -235,5 +261,5 @@ run_asking() {
 }
 
 checks+=(run_asking)
-portless+=(run_rpcinfo_of_silence)
-waiting+=" run_rpcinfo_of_silence"
+portless+=(run_rpcinfo_of_silence run_rpcinfo_of_slow_reply)
+waiting+=" run_rpcinfo_of_silence run_rpcinfo_of_slow_reply"

@@ -1,20 +1,22 @@
 #!/usr/bin/env python3
 """Starts a program as a service manager does: with sockets that it hands over, and with one on which it is told.
 
-    manager.py [--watchdog MICROSECONDS] [--end-after TEXT[,COUNT]] [--pid NUMBER] [--count NUMBER] [--first] SOCKET .. -- WORD ..
+    manager.py [--watchdog MICROSECONDS] [--end-after TEXT[,COUNT]] [--pid NUMBER] [--count NUMBER] [--first] [--name] SOCKET .. -- WORD ..
 
 A SOCKET is `tcp:HOST:PORT`, `udp:HOST:PORT` or `unix:PATH[:MODE]`; IPv6 hosts stand in brackets, and their sockets are of
 IPv6 alone. `both:PORT` is a listener of both families, `idle:HOST:PORT` a connection, `file:PATH` no socket, `datagrams:PATH` a
 local one of datagrams. `quiet` in the place of the sockets is none, and no socket on which it is told.
 
-With --first a null call is sent to the first of the TCP listeners before the program starts, and its reply is waited for. Prints
-each message that it is told in a line, its own line ends as `|`. With --end-after the program is ended once that many messages
-(one, if no number is given) had the text. --pid and --count stand in LISTEN_PID and LISTEN_FDS in the place of what is true.
-The status is the program's; 99 if what is waited for did not come in two minutes.
+With --first a null call is sent to the first of the TCP listeners before the program starts, and a SET by a datagram to that
+port of 127.0.0.1; the replies are waited for, and the SET's has to be TRUE. Prints each message that it is told in a line, its
+own line ends as `|`. With --name it is told at a name, and else at a path. With --end-after the program is ended once that many
+messages (one, if no number is given) had the text. --pid and --count stand in LISTEN_PID and LISTEN_FDS in the place of what is
+true. The status is the program's; 99 if what is waited for did not come in two minutes.
 """
 import argparse
 import os
 import select
+import shutil
 import signal
 import socket
 import struct
@@ -24,6 +26,8 @@ import time
 
 LONGEST = 120
 NULL_CALL = struct.pack(">10I", 7, 0, 2, 100000, 2, 0, 0, 0, 0, 0)
+SET_CALL = struct.pack(">14I", 8, 0, 2, 100000, 2, 1, 0, 0, 0, 0, 200001, 1, 6, 2049)
+IS_SET = struct.pack(">7I", 8, 1, 0, 0, 0, 0, 1)
 
 
 def inet(text, kind):
@@ -100,17 +104,20 @@ def start(made, words, variables):
     os.execve(words[0], words, {**os.environ, **mine})
 
 
-def caller(first):
-    """A connection to the listener, on which a call was sent."""
+def callers(first):
+    """A connection to the listener and a socket of datagrams, over each of which a call was sent."""
     near = socket.create_connection(first.getsockname())
     near.sendall(struct.pack(">I", 0x80000000 | len(NULL_CALL)) + NULL_CALL)
-    return near
+    asker = socket.socket(socket.AF_INET, socket.SOCK_DGRAM)
+    asker.connect(("127.0.0.1", near.getpeername()[1]))
+    asker.send(SET_CALL)
+    return near, asker
 
 
-def has_reply(near):
+def have_replies(near, asker):
     near.settimeout(LONGEST)
-    reply = near.recv(64)
-    return reply[4:8] == NULL_CALL[:4]
+    asker.settimeout(LONGEST)
+    return near.recv(64)[4:8] == NULL_CALL[:4] and asker.recv(64) == IS_SET
 
 
 def main():
@@ -120,6 +127,7 @@ def main():
     parser.add_argument("--pid", default="PID")
     parser.add_argument("--count")
     parser.add_argument("--first", action="store_true")
+    parser.add_argument("--name", action="store_true")
     parser.add_argument("sockets", nargs="*")
     cut = sys.argv.index("--")
     given = parser.parse_args(sys.argv[1:cut])
@@ -129,21 +137,21 @@ def main():
     variables = {"LISTEN_PID": given.pid, "LISTEN_FDS": given.count or str(len(made))}
     told = socket.socket(socket.AF_UNIX, socket.SOCK_DGRAM)
     folder = tempfile.mkdtemp()
-    told.bind(folder + "/notify")
+    name = "@" + folder if given.name else folder + "/notify"
+    told.bind(name.replace("@", "\0", 1))
     if not is_quiet:
-        variables["NOTIFY_SOCKET"] = folder + "/notify"
+        variables["NOTIFY_SOCKET"] = name
     if given.watchdog:
         variables |= {"WATCHDOG_USEC": given.watchdog, "WATCHDOG_PID": "PID"}
-    near = caller(made[0]) if given.first else None
+    asked = callers(made[0]) if given.first else None
     pid = start(made, words, variables)
     try:
-        return attend(given, pid, told, near)
+        return attend(given, pid, told, asked)
     finally:
-        os.unlink(folder + "/notify")
-        os.rmdir(folder)
+        shutil.rmtree(folder)
 
 
-def attend(given, pid, told, near):
+def attend(given, pid, told, asked):
     """Prints what is told until the program has ended, and gives its status."""
     text, _, count = (given.end_after or "").partition(",")
     left = int(count or 1)
@@ -154,8 +162,8 @@ def attend(given, pid, told, near):
             print(message.replace("\n", "|"), flush=True)
             left -= bool(text) and text in message
             if left <= 0:
-                if near is not None and not has_reply(near):
-                    return 99
+                if asked is not None and not have_replies(*asked):
+                    break
                 os.kill(pid, signal.SIGTERM)
                 left = 1 << 30
             continue

@@ -19,16 +19,16 @@ ended_by() {
 }
 
 # MANAGER-1 HANDED-1 HANDED-2 HANDED-3 HANDED-6
-# All that the unit of sockets hands over: it says where, a call that came before the start is answered, and the manager is
-# told READY=1 with the load.
+# All that the unit of sockets hands over, in any order: it says where, calls that came before the start are answered, that by a
+# datagram as one at 127.0.0.1, and the manager is told READY=1 with the load.
 run_handed_sockets() {
     local socket=$work/handed.sock
     {
         printf 'rpcbind: listening on %s\n' '0.0.0.0 port 20112' ':: port 20112' "$socket"
         echo 'READY=1|STATUS=12 of 1024 rows, 0 of 64 connections'
     } > "$work/wanted"
-    hand_over --first --end-after READY=1 tcp:0.0.0.0:20112 udp:0.0.0.0:20112 'tcp:[::]:20112' 'udp:[::]:20112' \
-        udp:127.0.0.1:20112 'udp:[::1]:20112' "unix:$socket" serve --port 20112 --local "$socket"
+    hand_over --first --end-after READY=1 tcp:0.0.0.0:20112 udp:127.0.0.1:20112 'tcp:[::]:20112' 'udp:[::1]:20112' \
+        'udp:[::]:20112' udp:0.0.0.0:20112 "unix:$socket" serve --port 20112 --local "$socket"
     [ "$got" -eq 241 ] && same "$work/wanted" "$work/stdout" "standard output"
     judge $? "a daemon with all of its sockets handed over"
 }
@@ -117,12 +117,33 @@ run_watchdog() {
 }
 
 # START-3 EXIT-1
-# An address that the machine does not have is waited for, and that is told; after 30 seconds the start ends.
+# An address that the machine does not have is waited for, which is told once; after 30 seconds the start ends.
 run_missing_address() {
-    hand_over tcp:127.0.0.1:20119 --end-after waits serve --bind 192.0.2.1 --bind 127.0.0.1 --port 20119
-    [ "$got" -eq 241 ] && grep -qx 'STATUS=waits for the address 192.0.2.1' "$work/stdout" \
-        && grep -qx 'rpcbind: waits for the address 192.0.2.1' "$work/stderr"
+    printf '%s\n' 'STATUS=waits for the address 192.0.2.1' STOPPING=1 > "$work/wanted"
+    printf 'rpcbind: %s\n' 'waits for the address 192.0.2.1' 'socket failed' \
+        'bind TCP 192.0.2.1:20119: Cannot assign requested address (os error 99)' > "$work/wanted-stderr"
+    hand_over serve --bind 192.0.2.1 --port 20119
+    as_wanted "$work/wanted" "$work/wanted-stderr" 3
     judge $? "a start that waits for an address"
+}
+
+# HANDED-6
+# `--bind` says where the daemon listens, in each of its forms: a socket elsewhere is not taken.
+run_bind_beside_sockets() {
+    local words
+    for words in '--bind 127.0.0.1' --bind=127.0.0.1; do
+        hand_over tcp:0.0.0.0:20112 serve $words --port 20112 --turns 1
+        ended_by 3 '(0.0.0.0:20112) is where no option listens (--bind, --loopback6, --local)'
+        judge $? "a socket of every host beside $words"
+    done
+}
+
+# MANAGER-1
+# A manager may listen at a name.
+run_named_manager() {
+    hand_over --name --end-after READY=1 tcp:127.0.0.1:20112 serve --port 20112
+    [ "$got" -eq 241 ]
+    judge $? "a manager at a name"
 }
 
 run_under_a_manager() {
@@ -133,7 +154,10 @@ run_under_a_manager() {
     run_handed_local
     run_forwarding_socket
     run_watchdog
-    run_missing_address
+    run_bind_beside_sockets
+    run_named_manager
 }
 
 checks+=(run_under_a_manager)
+portless+=(run_missing_address)
+waiting+=" run_missing_address"

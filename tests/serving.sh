@@ -122,6 +122,7 @@ run_local_socket() {
 local $path 4 set 200001 1 tcp 0.0.0.0.8.1: 1
 local $path 4 getaddrlist 200001 1: tcp 127.0.0.2.8.1
 tcp 127.0.0.1 4 getaddrlist 200001 1: tcp 127.0.0.1.8.1
+tcp 127.0.0.2 4 getaddrlist 200001 1: tcp 127.0.0.2.8.1
 END
         listed=$?
         [ $listed -eq 0 ] && "$rpcinfo" --port 20112 127.0.0.1 | grep -qx "200001 1 tcp 0.0.0.0.8.1 $owner"
@@ -150,6 +151,25 @@ run_growing_table() {
     judge $? "30 SETs while the table grows"
     [ -s "$work/grown" ] && ! "$rpcinfo" --port 20112 127.0.0.1 | grep -E '^2000[0-9]+ .* unknown$'
     judge $? "who registers while the table grows is known"
+    kill "$daemon"
+    wait "$daemon" 2> /dev/null
+}
+
+# BIND-4
+# Beside a daemon at 0.0.0.0 no other program has a part of its port over UDP, though it would share it.
+run_port_is_not_shared() {
+    local daemon
+    start_daemon "$work/listening" --port 20112 --bind 0.0.0.0
+    python3 -c '
+import errno, socket, sys
+other = socket.socket(socket.AF_INET, socket.SOCK_DGRAM)
+other.setsockopt(socket.SOL_SOCKET, socket.SO_REUSEADDR, 1)
+try:
+    other.bind(("127.0.0.9", 20112))
+except OSError as error:
+    sys.exit(error.errno != errno.EADDRINUSE)
+sys.exit("another program has a part of the port")'
+    judge $? "a port that is not shared"
     kill "$daemon"
     wait "$daemon" 2> /dev/null
 }
@@ -194,6 +214,7 @@ run_serving() {
     run_full_queue_in_the_way
     run_local_socket
     run_growing_table
+    run_port_is_not_shared
     run_callers_of_networks
 }
 

@@ -207,6 +207,18 @@ END
     judge $? "the rows are to be kept in the file of the record"
 }
 
+# A user of --reserve may be named as in /etc/passwd, in each form of the option.
+run_names_of_users() {
+    echo 'rpcbind: listening on 127.0.0.1 port 20112' > "$work/wanted"
+    run /dev/null serve --port 20112 --turns 1 --reserve 100003=root --reserve=100005-100007=root
+    as_wanted "$work/wanted" /dev/null 0
+    judge $? "users by their names"
+    echo 'rpcbind: --reserve: /etc/passwd has no user nobody-of-this-name' > "$work/wanted"
+    run /dev/null serve --port 20112 --turns 1 --reserve=100003=nobody-of-this-name
+    as_wanted /dev/null "$work/wanted" 2
+    judge $? "a name that no user has"
+}
+
 # OPTION-5
 # Sixteen networks, of both families, with a host alone among them.
 run_daemon_of_networks() {
@@ -315,7 +327,7 @@ run_hosts_files() {
     [ "$(id -u)" -eq 0 ] && unshare -m true 2> /dev/null || { echo "not tried: files of tcpd, without a file system of its own"; return; }
     mkdir -p "$work/etc"
     printf '%s\n' '# rpcbind: ALL' 'sshd, nfsd : ALL' > "$work/etc/hosts.allow"
-    printf '%s\n' 'sshd: ALL' 'mountd portmap rpcbind: ALL EXCEPT 192.0.2.1' > "$work/etc/hosts.deny"
+    printf '%s\n' 'sshd: ALL' 'mountd ALL: ALL EXCEPT 192.0.2.1' > "$work/etc/hosts.deny"
     echo "rpcbind: /etc/hosts.deny has a line for rpcbind, which is not heeded: --from says whom it serves" > "$work/wanted-stderr"
     echo 'rpcbind: listening on 127.0.0.1 port 20112' > "$work/wanted"
     unshare -m sh -c 'mount -t tmpfs tmpfs /etc && cp "$1"/etc/* /etc && exec "$2" serve --port 20112 --turns 1' \
@@ -401,6 +413,7 @@ run_starts() {
     run_daemon_without_announce
     run_bad_words_of_serve
     run_daemon_of_networks
+    run_names_of_users
     run_options_of_debian
     run_texts_of_options
     run_hosts_files

@@ -5,3 +5,4 @@ pub mod ServedBounds
 pub mod Rooms
 pub mod ServedRecords
 pub mod Rows
+pub mod Sendings

@@ -4,3 +4,6 @@ pub mod Recording
 pub mod ServedLaws
 pub mod PlainCallers
 pub mod Keeping
+pub mod Sending
+pub mod Links
+pub mod Logs

@@ -1,5 +1,5 @@
 -- What a call of the engine does, at the engine's moment.
-use Rattle.std.specs.Prelude.{◌≡◌, ℕ, List, [], ◌∷◌, ◌++◌, length, Result}
+use Rattle.std.specs.Prelude.{◌≡◌, ℕ, List, [], ◌∷◌, ◌++◌, length, Option, Result}
 use Rattle.rb_proto.specs.declared.listener.Listener.{Listener}
 use Rattle.rb_model.specs.declared.types.Limits.{Limits}
 use Rattle.rb_model.specs.State.{State, opening}
@@ -16,6 +16,7 @@ use Rattle.rb_model.specs.Sessions.{pending_bytes}
 use Rattle.rb_core.specs.AtOnce.{Exchanges}
 use Rattle.rb_core.specs.StandsFor.{StandsFor}
 use Rattle.rb_links.specs.Outgoing.{Outgoing}
+use Rattle.rb_sockets.specs.Dispatches.{Dispatch, Hands}
 use Rattle.rb_daemon.specs.declared.engine.Engine.{Engine}
 use Rattle.rb_daemon.specs.Recording.{exchange_events, give_events}
 
@@ -30,6 +31,14 @@ Moves next old new = (s : State) → StandsFor old.core.core s → StandsFor new
 -- The same, and its result is that of the step.
 abbrev pub ActsNow : {R : Type 0} → (State → ℕ → R × State) → Engine → Engine → R → Type 0
 ActsNow step old new result = Acts StandsFor (λ s. step s old.moment) old.core.core new.core.core result
+
+-- Whatever state its core stood for, this is what the state shows.
+abbrev pub ShowsNow : {R : Type 0} → (State → ℕ → R) → Engine → R → Type 0
+ShowsNow show engine result = Shows StandsFor (λ s. show s engine.moment) engine.core.core result
+
+-- Whatever state its core stood for, the sockets were handed the datagram that this gives, if any, and no other.
+abbrev pub HandsNow : {S : Type 0} → (S → Dispatch → S → Type 0) → (State → ℕ → Option Dispatch) → Engine → S → S → Type 0
+HandsNow sends datagram engine old new = (s : State) → StandsFor engine.core.core s → Hands sends (datagram s engine.moment) old new
 
 -- Whatever state its core stood for, these events from it were recorded, each with what it gave.
 -- TAPE-4

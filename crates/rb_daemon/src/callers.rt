@@ -7,12 +7,20 @@ ghost use Rattle.rb_daemon.specs.PlainCallers.{plain_peer, plain_who};
 
 use rb_address::{Host, Owner, Peer, Source, Trust, Who};
 use rb_keep::this_machine;
+use rb_sockets::{Arrival, Asker};
 
 /// A caller.
 #[derive(Clone, Copy)]
 pub(crate) struct Caller {
     pub(crate) who: Who,
     ghost is_who: { ∥ IsWho who ∥₁ },
+}
+
+/// Who asked by a datagram, and on the socket of which number.
+#[derive(Clone, Copy)]
+pub(crate) struct Asked {
+    pub(crate) caller: Caller,
+    pub(crate) socket: usize,
 }
 
 /// Where a datagram came from.
@@ -91,10 +99,19 @@ fn plain_who(who: Who) -> Who
 impl Caller {
     ghost use Rattle.std.specs.Prelude.{◌≡◌};
     ghost use Rattle.rb_model.specs.ChangeLaws.{this_machine};
+    ghost use Rattle.rb_sockets.specs.Arrivals.{who_of};
     ghost use Rattle.rb_daemon.specs.PlainCallers.{plain_who};
 
+    // TRUST-14
+    /// Who came in so.
+    pub(crate) fn of(arrival: Arrival) -> Caller
+        ensures { result.who ≡ plain_who (who_of arrival) }
+    {
+        Caller::plain(arrival.who())
+    }
+
     /// The caller with its hosts in their plain form.
-    pub(crate) fn of(who: Who) -> Caller
+    fn plain(who: Who) -> Caller
         ensures { result.who ≡ plain_who who }
     {
         let who = plain_who(who);
@@ -106,7 +123,24 @@ impl Caller {
     pub(crate) fn of_this_machine() -> Caller
         ensures { result.who ≡ this_machine }
     {
-        Caller::of(this_machine())
+        Caller::plain(this_machine())
+    }
+}
+
+impl Asked {
+    ghost use Rattle.std.specs.Prelude.{◌≡◌};
+    ghost use Rattle.rb_sockets.specs.Arrivals.{who_of};
+    ghost use Rattle.rb_daemon.specs.PlainCallers.{plain_who};
+
+    /// Who asked so.
+    pub(crate) fn of(asker: Asker) -> Asked
+        ensures caller { result.caller.who ≡ plain_who (who_of asker.arrival) }
+        ensures socket { result.socket ≡ asker.socket }
+    {
+        Asked {
+            caller: Caller::of(asker.arrival()),
+            socket: asker.socket(),
+        }
     }
 }
 

@@ -10,7 +10,7 @@ use crate::serving::{Room, Serving};
 use crate::waiting::{EVENTS, Waiting};
 use mio::Registry;
 use rb_lines::bad_limit;
-use rb_policy::{Moments, place_count, wait_of};
+use rb_policy::{Moments, others_of, place_count, wait_of};
 use rb_registry::Row;
 use rb_sockets::{
     AddressNews, BindFault, DaemonFault, Follower, Handed, Settings, Shortage, SocketFault,
@@ -253,12 +253,6 @@ impl<'a, R: Clock, H: Files> Daemon<'a, R, H> {
     }
 }
 
-/// A descriptor is for one of the kernel's tables of connections, while that is read.
-const TABLE: u64 = 1;
-
-/// Descriptors are for the file of kept rows, for the one that takes its place, and for their lock.
-const KEPT: u64 = 3;
-
 /// How many places there are for connections, and the shortage, if they are fewer than the settings ask for.
 fn places_of<N: Net>(
     host: &N,
@@ -267,11 +261,11 @@ fn places_of<N: Net>(
 ) -> (usize, Option<Shortage>) {
     let asked = settings.limits.conns;
     let limit = settings.open_files;
-    let others = sockets
-        .count_descriptors(host)
-        .saturating_add(u64::from(settings.record_limit > 0))
-        .saturating_add(KEPT * u64::from(settings.keep.is_some()))
-        .saturating_add(TABLE);
+    let others = others_of(
+        sockets.count_descriptors(host),
+        settings.record_limit > 0,
+        settings.keep.is_some(),
+    );
     let places = place_count(asked, limit, others);
     if places == asked {
         return (places, None);
@@ -419,7 +413,9 @@ fn open<B: Files + Net, H: Files>(
     let sockets = bind(alloc, host, settings, handed, waiting.registry())?;
     let (places, shortage) = places_of(host, settings, &sockets);
     let networks = settings.from.as_slice();
-    match Room::new(alloc, networks, places, !sockets.are_claims_believed) {
+    let forwards = settings.limits.forwards;
+    let are_tables_read = !sockets.are_claims_believed;
+    match Room::new(alloc, networks, places, forwards, are_tables_read) {
         Ok(room) => Ok(Outer {
             waiting,
             sockets,

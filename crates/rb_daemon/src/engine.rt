@@ -8,24 +8,27 @@ ghost use Rattle.rb_core.specs.Looks.{rows_shown};
 ghost use Rattle.rb_core.specs.StandsFor.{StandsFor};
 ghost use Rattle.rb_record.specs.Entries.{options_of};
 ghost use Rattle.rb_record.specs.Tapes.{Records, empty_tape};
+ghost use Rattle.rb_sockets.specs.Dispatches.{Hands};
 ghost use Rattle.rb_daemon.specs.Recording.{end_entry};
+ghost use Rattle.rb_daemon.specs.Sending.{reply_told, ways_told};
 ghost use Rattle.rb_daemon.specs.Served.{IsServed, ready_of};
 
-use crate::callers::{Caller, Sender};
+use crate::callers::{Asked, Caller, Sender};
 use crate::keeping::Kept;
 use crate::log::Log;
 use crate::showing::{
     count_given, record_exchange, record_pieces, record_unsent, show_done, show_opened,
 };
-use rb_address::{Source, Who};
+use rb_address::Source;
 use rb_core::{
     CoreFault, Exchanged, Expired, Given, Limits, Listener, Metered, Response, Seen, Told,
 };
 use rb_keep::{Owners, set_call, write_change, write_rows};
 use rb_model::{Event, Output};
+use rb_policy::WaysBack;
 use rb_record::{Start, Tape};
 use rb_registry::Row;
-use rb_sockets::{CallSocket, CallSockets, ForwardSockets, Logged};
+use rb_sockets::{Datagrams, Logged, reply_to_forwarded};
 use std::alloc::Global;
 use std::io;
 use std::io::Write;
@@ -70,13 +73,17 @@ pub(crate) enum Due {
 
 /// Records the end of a forwarded call, and tells it: a caller over UDP gets the last reply from the socket on which the
 /// call came. The answer is the connection that goes on.
-fn tell(
+fn tell<S: Datagrams>(
     core: &mut Metered,
     tape: &mut Tape,
     event: &Event<&[u8]>,
     told: Told,
-    calls: &mut CallSockets,
+    sockets: &mut S,
+    ways: &mut WaysBack,
 ) -> Option<u64>
+    ensures sent { Hands S.sends
+        (reply_told ways.old.all core.old.core.reply told) sockets.old sockets.new }
+    ensures ways { ways.new ≡ ways_told ways.old told }
     ensures ready { result ≡ ready_of told }
     ensures core { OnlyBegins core.old.core core.new.core }
     ensures recorded { Records
@@ -89,12 +96,12 @@ fn tell(
         }
         Told::Datagram(call, who) => {
             let reply = core.udp_reply();
-            calls.reply_to_forwarded(call.number, reply, who);
+            reply_to_forwarded(sockets, ways, call.number, who.source, reply);
             tape.record(event, &Output::RepliedTo(who, reply));
             None
         }
         Told::Silent(call) => {
-            calls.drop_forwarded(call.number);
+            ways.take(call.number);
             tape.record(event, &Output::Silent);
             None
         }
@@ -177,7 +184,12 @@ impl Engine {
     ghost use Rattle.rb_model.specs.Gives.{given_in, bytes_given};
     ghost use Rattle.rb_core.specs.Standings.{StandsAfterPiece, StandsThen};
     ghost use Rattle.rb_daemon.specs.Served.{answer_datagram, change_count, row_count, set_again, ready_of, take_forward_reply, expire_due, send_forward};
-    ghost use Rattle.rb_daemon.specs.Moves.{IsNewEngine, Moves, ActsNow, RecordsEvent, RecordsEvents, RecordsExchange, RecordsGiven, ExchangesNow, WritesInto, CountsGiven};
+    ghost use Rattle.rb_daemon.specs.Moves.{IsNewEngine, Moves, ActsNow, RecordsEvent, RecordsEvents, RecordsExchange, RecordsGiven, ExchangesNow, WritesInto, CountsGiven, HandsNow, ShowsNow};
+    ghost use Rattle.rb_sockets.specs.Dispatches.Dispatch.{Reply};
+    ghost use Rattle.rb_model.specs.Step.{unsent_call};
+    ghost use Rattle.rb_model.specs.Ending.{forward_reply, expire};
+    ghost use Rattle.rb_daemon.specs.Sending.{reply_after, ways_after, reply_due, ways_due, call_sent};
+    ghost use Rattle.rb_daemon.specs.Logs.{next_line};
 
     /// A new core at this moment, which is the first, and whose first forwarded call has this xid. Up to `record_limit` bytes of its events are recorded, and `logged` says of what the log has lines. `BadLimits`
     /// if a limit is out of its range, else `NoMemory` if an allocation is refused.
@@ -258,7 +270,9 @@ impl Engine {
     }
 
     /// The moment, in milliseconds, from which the log tells of lines that were left out, if some were.
-    pub(crate) fn next_log_line(&self) -> Option<u64> {
+    pub(crate) fn next_log_line(&self) -> Option<u64>
+        ensures { result ≡ next_line self.now.log }
+    {
         self.log.next_line()
     }
 
@@ -365,8 +379,6 @@ impl Engine {
     }
 
     // EVENT-1
-    // ANSWER-1: A datagram gets its reply from the socket on which it came: the sockets for calls and
-    // for forwarded calls are two types.
     /// Takes a datagram in. If it has a reply, `reply` sends it.
     pub(crate) fn answer(&mut self, caller: Caller, content: &[u8]) -> Answer
         ensures acts { ActsNow (answer_datagram caller.who content.now)
@@ -395,16 +407,18 @@ impl Engine {
 
     // KEEP-16: A reply leaves the daemon only when all changes up to it were taken up by the keeper of rows:
     // their lines are in the file, or it is told that they could not be written.
-    /// Sends the reply to the last datagram over the socket on which that came, once all changes were kept. One that the
-    /// socket does not take is lost.
-    pub(crate) fn reply(&mut self, who: Who, socket: &CallSocket, kept: Kept)
+    /// Sends the reply to the last datagram to who asked by it, over the socket on which that came, once all changes were
+    /// kept.
+    pub(crate) fn reply<S: Datagrams>(&mut self, asked: Asked, sockets: &mut S, kept: Kept)
         requires { Shows StandsFor change_count self.old.core.core kept.changes }
+        ensures sent { S.sends sockets.old
+            (Reply asked.socket asked.caller.who.source self.old.core.core.reply) sockets.new }
         ensures stays { Moves (λ s now. s) self.old self.new }
         ensures tape { self.new.tape ≡ self.old.tape }
         ensures moment { self.new.moment ≡ self.old.moment }
     {
         let reply = self.core.udp_reply();
-        socket.reply(reply, who);
+        sockets.reply(asked.socket, asked.caller.who.source, reply);
     }
 
     /// Sets a row again that was kept, as its owner's SET of version 4 from this machine does. Returns whether it is set.
@@ -488,12 +502,19 @@ impl Engine {
     }
 
     /// Takes a datagram in that came where forwarded calls are sent from. The answer is the connection that goes on.
-    pub(crate) fn take_forward_reply(
+    pub(crate) fn take_forward_reply<S: Datagrams>(
         &mut self,
         sender: Sender,
         content: &[u8],
-        calls: &mut CallSockets,
+        sockets: &mut S,
+        ways: &mut WaysBack,
     ) -> Option<u64>
+        ensures sent { HandsNow S.sends
+            (λ s now. reply_after ways.old.all (forward_reply s now sender.peer content.now))
+            self.old sockets.old sockets.new }
+        ensures ways { ShowsNow
+            (λ s now. ways_after ways.old (forward_reply s now sender.peer content.now))
+            self.old ways.new }
         ensures acts { ActsNow (take_forward_reply sender.peer content.now)
             self.old self.new result }
         ensures recorded { RecordsEvent (λ now. Forward now sender.peer content.now) self.old self.new }
@@ -505,11 +526,14 @@ impl Engine {
             self.tape.record(&event, &Output::Ignored);
             return None;
         };
-        tell(&mut self.core, &mut self.tape, &event, told, calls)
+        tell(&mut self.core, &mut self.tape, &event, told, sockets, ways)
     }
 
     /// Ends what is due first.
-    pub(crate) fn expire(&mut self, calls: &mut CallSockets) -> Due
+    pub(crate) fn expire<S: Datagrams>(&mut self, sockets: &mut S, ways: &mut WaysBack) -> Due
+        ensures sent { HandsNow S.sends
+            (λ s now. reply_due ways.old.all (expire s now)) self.old sockets.old sockets.new }
+        ensures ways { ShowsNow (λ s now. ways_due ways.old (expire s now)) self.old ways.new }
         ensures acts { ActsNow expire_due self.old self.new result }
         ensures recorded { RecordsEvent (λ now. Expire now) self.old self.new }
         ensures moment { self.new.moment ≡ self.old.moment }
@@ -526,7 +550,7 @@ impl Engine {
             }
             Expired::Ended(told) => told,
         };
-        let goes_on = tell(&mut self.core, &mut self.tape, &event, told, calls);
+        let goes_on = tell(&mut self.core, &mut self.tape, &event, told, sockets, ways);
         match goes_on {
             Some(id) => Due::Ready(id),
             None => Due::Done,
@@ -535,7 +559,9 @@ impl Engine {
 
     /// Sends the first forwarded call that must be sent. It counts as sent though no socket takes it.
     /// Returns its number, if there was one.
-    pub(crate) fn send_forward(&mut self, forwards: &ForwardSockets) -> Option<u64>
+    pub(crate) fn send_forward<S: Datagrams>(&mut self, sockets: &mut S) -> Option<u64>
+        ensures sent { HandsNow S.sends
+            (λ s now. call_sent (unsent_call s)) self.old sockets.old sockets.new }
         ensures acts { ActsNow send_forward self.old self.new result }
         ensures recorded { RecordsEvents (λ s now. send_events s) self.old self.new }
         ensures moment { self.new.moment ≡ self.old.moment }
@@ -547,7 +573,7 @@ impl Engine {
         let id = unsent.id;
         number_fits(id.number);
         record_unsent(&mut self.tape, id.number, unsent.target, unsent.call);
-        forwards.call(unsent.call, unsent.target);
+        sockets.call(unsent.target, unsent.call);
         let done = self.core.sent(id);
         self.tape.record(&Event::Sent(id.number), &show_done(done));
         Some(id.number)

@@ -67,6 +67,8 @@ fn count_lines(text: &[u8]) -> usize {
 }
 
 impl<H: Files> Journal<H> {
+    ghost use Rattle.std.specs.Prelude.{None, OnErr};
+
     fn new(alloc: Global, path: &str, rows: usize) -> Result<Journal<H>, AllocError> {
         let mut text = Vec::new(alloc);
         text.resize(rows.max(MOST_LINES).saturating_mul(LONGEST_LINE), 0)?;
@@ -142,8 +144,10 @@ impl<H: Files> Journal<H> {
     /// Writes all rows anew.
     fn replace(&mut self, host: &H, engine: &mut Engine) -> io::Result<()>
         ensures lines { OnOk result (AreLinesOfRows engine.old.core.core self.new.text.items) }
+        ensures failed { OnErr result (self.new.file.placed ≡ None) }
         ensures engine { SameEngine engine.old engine.new }
     {
+        self.file.leave();
         self.text.clear();
         engine.write_rows(&mut self.text)?;
         self.lines = count_lines(&self.text);
@@ -164,6 +168,7 @@ impl<H: Files> Journal<H> {
     /// Adds the lines that were gathered.
     fn add(&mut self, host: &H) -> Result<(), AppendFault>
         ensures lines { self.new.text.items ≡ self.old.text.items }
+        ensures failed { OnErr result (self.new.file.placed ≡ None) }
     {
         self.file.append(host, self.text.as_slice())?;
         self.lines = self.lines.saturating_add(count_lines(&self.text));
@@ -171,10 +176,11 @@ impl<H: Files> Journal<H> {
     }
 
     /// Brings the file up to the rows of the core: the lines that were gathered are added, or all rows are written anew.
-    /// Returns whether another file was found in its place.
+    /// Returns whether another file was found in its place. After an error all rows are written anew.
     fn keep(&mut self, host: &H, engine: &mut Engine) -> io::Result<bool>
         ensures lines { OnOk result
             (HandsIn engine.old.core.core self.old.text.items self.new.text.items) }
+        ensures failed { OnErr result (self.new.file.placed ≡ None) }
         ensures engine { SameEngine engine.old engine.new }
     {
         let mut is_another = false;

@@ -3,11 +3,13 @@
 
 mod callers;
 mod daemon;
+mod datagrams;
 mod engine;
 mod keeping;
 mod laws;
 mod load;
 mod log;
+mod opening;
 mod outbox;
 mod secrets;
 mod serving;

@@ -34,6 +34,9 @@ pub(crate) struct Log {
 }
 
 impl Log {
+    ghost use Rattle.std.specs.Prelude.{◌≡◌};
+    ghost use Rattle.rb_daemon.specs.Logs.{next_line};
+
     /// A log of this. An error if an allocation is refused.
     pub(crate) fn new(alloc: Global, logged: Logged) -> Result<Log, AllocError> {
         let room = match logged {
@@ -75,12 +78,12 @@ impl Log {
     }
 
     /// The moment, in milliseconds, from which the log tells of lines that were left out, if some were.
-    pub(crate) fn next_line(&self) -> Option<u64> {
-        let mut next = None;
-        for rate in [&self.accepted, &self.refused, &self.calls, &self.given_up] {
-            next = sooner(next, rate.next_line());
-        }
-        next
+    pub(crate) fn next_line(&self) -> Option<u64>
+        ensures { result ≡ next_line self.now }
+    {
+        let of_changes = sooner(self.accepted.next_line(), self.refused.next_line());
+        let of_others = sooner(self.calls.next_line(), self.given_up.next_line());
+        sooner(of_changes, of_others)
     }
 
     /// Writes the lines that are not written yet, and at this moment, in milliseconds, how many were left out in the

@@ -1,10 +1,12 @@
 //! The core with its sockets and connections, and what a turn does with them.
 ghost use Rattle.std.specs.Prelude.{◌≤◌, length};
 
-use crate::callers::{Caller, Sender};
-use crate::engine::{Answer, Due, Engine};
+use crate::callers::{Asked, Sender};
+use crate::datagrams::answer_call;
+use crate::engine::{Due, Engine};
 use crate::keeping::{KeepNews, Keeper};
 use crate::load::Load;
+use crate::opening::{close_at, open_again, open_at};
 use crate::steps::{Progress, serve};
 use mio::Registry;
 use mio::event::Event;
@@ -13,12 +15,12 @@ use rb_forward::sooner;
 use rb_links::{Places, Turn};
 use rb_model::Limits;
 use rb_policy::{
-    Admission, Again, Brake, Deadlines, Evidence, Next, Origin, RETRY, Round, SOCKET_CALLS, Share,
+    Admission, Again, Brake, Deadlines, Next, Origin, RETRY, Round, SOCKET_CALLS, Share, WaysBack,
     after_accept, after_all_calls, after_receive, is_behind, origin_of, outcome_of, serves_another,
 };
 use rb_sockets::{
-    AddressNews, Follower, Shown, Slice, SocketFault, Sockets, Step, Stream, Table, TableFault,
-    Visitor,
+    AddressNews, Arrival, Asker, Follower, Shown, Slice, SocketFault, Sockets, Step, Stream, Table,
+    TableFault, Visitor,
 };
 use std::alloc::{AllocError, Global};
 use std::fs::Files;
@@ -49,6 +51,8 @@ pub(crate) struct Serving<H: Files> {
     /// As many things can be due at one moment: connections and forwarded calls.
     most_due: usize,
     datagram: Vec<u8>,
+    /// On which sockets the calls came that were forwarded.
+    ways_back: WaysBack,
     /// What drops datagrams of strangers that come too often, if that is asked for.
     brake: Option<Brake>,
     /// The kernel's tables of connections, which show whose those from this host are.
@@ -76,20 +80,23 @@ pub(crate) struct Room<H: Files> {
     places: Places,
     sources: Vec<Source>,
     datagram: Vec<u8>,
+    ways_back: WaysBack,
     table: Table<H>,
 }
 
 impl<H: Files> Room<H> {
-    /// For hosts of these networks, with this many places for connections, and with room for a slice of the kernel's
-    /// tables if they are read. An error if an allocation is refused.
+    /// For hosts of these networks, with this many places for connections and forwarded calls, and with room for a slice of
+    /// the kernel's tables if they are read. An error if an allocation is refused.
     pub(crate) fn new(
         alloc: Global,
         networks: &[Network],
         places: usize,
+        forwards: usize,
         are_tables_read: bool,
     ) -> Result<Room<H>, AllocError> {
         let networks = networks.to_vec(alloc)?;
         let datagram = filled(alloc, LONGEST_DATAGRAM, 0)?;
+        let ways_back = WaysBack::new(alloc, forwards)?;
         let sources = filled(alloc, places, Source::Local)?;
         let table = Table::new(alloc, are_tables_read)?;
         Ok(Room {
@@ -97,6 +104,7 @@ impl<H: Files> Room<H> {
             places: Places::new(alloc, places)?,
             sources,
             datagram,
+            ways_back,
             table,
         })
     }
@@ -118,6 +126,11 @@ fn passes(brake: &mut Option<Brake>, now: u64, who: &Who) -> bool {
 }
 
 impl<H: Files> Serving<H> {
+    ghost use Rattle.std.specs.Prelude.{◌≡◌, vec_len};
+    ghost use Rattle.rb_connections.specs.Slots.{Shows};
+    ghost use Rattle.rb_core.specs.StandsFor.{StandsFor};
+    ghost use Rattle.rb_daemon.specs.Served.{row_count};
+
     /// A core of these limits, what keeps its rows, and the sockets around it, which are served with this memory; and
     /// what drops datagrams of strangers, if they are limited.
     pub(crate) fn new(
@@ -133,6 +146,7 @@ impl<H: Files> Serving<H> {
             places,
             sources,
             datagram,
+            ways_back,
             table,
         } = room;
         Serving {
@@ -145,6 +159,7 @@ impl<H: Files> Serving<H> {
             most_rows: limits.rows,
             most_due: limits.conns.saturating_add(limits.forwards),
             datagram,
+            ways_back,
             brake,
             table,
             walk: None,
@@ -182,7 +197,12 @@ impl<H: Files> Serving<H> {
     }
 
     /// How much is served now. It goes through all rows.
-    pub(crate) fn load(&mut self) -> Load {
+    pub(crate) fn load(&mut self) -> Load
+        ensures rows { Shows StandsFor row_count self.old.engine.core.core result.rows }
+        ensures most { result.most_rows ≡ self.old.most_rows }
+        ensures connections { result.connections ≡ self.old.places.taken }
+        ensures places { result.places ≡ vec_len self.old.places.links }
+    {
         Load {
             rows: self.engine.count_rows(),
             most_rows: self.most_rows,
@@ -284,7 +304,7 @@ impl<H: Files> Serving<H> {
             link,
             &mut self.engine,
             &mut self.keeper,
-            &self.sockets.forwards,
+            &mut self.sockets,
             &mut self.places.long_outbox,
             self.turn,
             may_end,
@@ -298,9 +318,7 @@ impl<H: Files> Serving<H> {
 
     /// Closes the connection at a place, if there is one.
     fn close(&mut self, key: usize) {
-        if let Some(id) = self.places.close(key) {
-            self.engine.closed(id);
-        }
+        close_at(&mut self.places, &mut self.engine, key);
     }
 
     /// Closes the connection at a place, which is given up, and tells the log so.
@@ -333,13 +351,14 @@ impl<H: Files> Serving<H> {
     fn answer_calls_on(&mut self, host: &H, i: usize) -> Again {
         let mut got_some = false;
         for _ in 0..DATAGRAMS {
-            let Some(calls) = self.sockets.calls.all.get(i) else {
+            let networks = &self.networks;
+            let Some(came) = self.sockets.calls.receive(i, networks, &mut self.datagram) else {
                 break;
             };
-            match calls.socket.receive(&self.networks, &mut self.datagram) {
+            match came {
                 Ok((len, from)) => {
                     got_some = true;
-                    self.answer(host, i, len, from);
+                    self.answer(host, len, from);
                 }
                 Err(error) => {
                     if after_receive(outcome_of(&error)) == Next::AwaitEvent {
@@ -351,32 +370,26 @@ impl<H: Files> Serving<H> {
         after_all_calls(got_some)
     }
 
-    /// Answers the datagram of the first `len` bytes, which came on the socket of this number, unless the brake drops it:
-    /// what it changed is kept first. A call that is forwarded is sent at once.
-    fn answer(&mut self, host: &H, i: usize, len: usize, from: Option<Who>)
+    /// Answers the datagram of the first `len` bytes, unless the brake drops it.
+    fn answer(&mut self, host: &H, len: usize, from: Option<Asker>)
         requires { len ≤ length self.old.datagram.items }
     {
-        let (Some(who), Some(calls)) = (from, self.sockets.calls.all.get(i)) else {
+        let Some(asker) = from else {
             return;
         };
-        if !passes(&mut self.brake, self.turn.moment, &who) {
+        let asked = Asked::of(asker);
+        if !passes(&mut self.brake, self.turn.moment, &asked.caller.who) {
             return;
         }
-        let content = &self.datagram[..len];
-        let answer = self.engine.answer(Caller::of(who), content);
-        self.engine.tell_call();
-        match answer {
-            Answer::Reply => {
-                let kept = self.keeper.keep(host, &mut self.engine);
-                self.engine.reply(who, &calls.socket, kept);
-            }
-            Answer::Forwarded => {
-                if let Some(number) = self.engine.send_forward(&self.sockets.forwards) {
-                    self.sockets.calls.note_forwarded(number, i);
-                }
-            }
-            Answer::Nothing => {}
-        }
+        answer_call(
+            host,
+            &mut self.engine,
+            &mut self.keeper,
+            &mut self.sockets,
+            &mut self.ways_back,
+            asked,
+            &self.datagram[..len],
+        );
     }
 
     /// Takes what comes back for forwarded calls.
@@ -427,8 +440,10 @@ impl<H: Files> Serving<H> {
         };
         let sender = Sender::of(peer);
         let content = &self.datagram[..len];
-        let calls = &mut self.sockets.calls;
-        if let Some(id) = self.engine.take_forward_reply(sender, content, calls) {
+        let ready = self
+            .engine
+            .take_forward_reply(sender, content, &mut self.sockets, &mut self.ways_back);
+        if let Some(id) = ready {
             self.places.wake(id);
         }
     }
@@ -453,7 +468,7 @@ impl<H: Files> Serving<H> {
         }
         self.close_stuck();
         for _ in 0..=self.most_due {
-            match self.engine.expire(&mut self.sockets.calls) {
+            match self.engine.expire(&mut self.sockets, &mut self.ways_back) {
                 Due::Nothing => return,
                 Due::Done => {}
                 Due::Ready(id) => self.places.wake(id),
@@ -604,13 +619,14 @@ impl<H: Files> Serving<H> {
     // DOOR-7: The connection that is given up is closed for the core before the one that takes its
     // place is opened.
     /// Gives a connection a free place, or that of one that is given up for it, and opens it. If the kernel's tables
-    /// must show whose it is, it is nobody's known until a call needs more. One that may not ask is closed at once.
+    /// must show whose it is, it is nobody's known until a call needs more. One that may not ask is closed at once, and so is one
+    /// that the core does not take, or whose events can't be shown.
     fn open(&mut self, registry: &Registry, stream: Stream, from: Option<Visitor>) {
         let Some(visitor) = from else {
             return;
         };
         let origin = match &visitor {
-            Visitor::Known(who) => origin_of(who),
+            Visitor::Known(arrival) => origin_of(&arrival.who()),
             Visitor::Unknown(_) => Origin::New,
         };
         let key = match self.places.admit(&origin, self.turn) {
@@ -623,38 +639,18 @@ impl<H: Files> Serving<H> {
         };
         self.places.seat(key, stream, origin, self.turn.moment);
         if let Some(source) = self.sources.get_mut(key) {
-            *source = visitor.source();
+            *source = visitor.arrival().source();
         }
-        match visitor {
-            Visitor::Known(who) => self.open_at(registry, key, who),
-            Visitor::Unknown(ends) => {
-                self.open_at(registry, key, ends.who(Evidence::NotFound));
-                self.places.note_unknown(key, ends);
-            }
-        }
-    }
-
-    /// Opens the connection at a place. One that the core does not take, or whose events can't be shown, is closed.
-    fn open_at(&mut self, registry: &Registry, key: usize, who: Who) {
-        let Ok(id) = self.engine.open(Caller::of(who)) else {
-            self.close(key);
-            return;
-        };
-        if !self.places.open(registry, key, id) {
-            self.engine.closed(id);
+        if !open_at(&mut self.places, &mut self.engine, registry, key, visitor) {
             self.close(key);
         }
     }
 
-    /// The connection at a place, of which the core has no part of a record and owes nothing, goes on as one of this
-    /// caller.
-    fn open_again(&mut self, key: usize, who: Who) {
-        if let Some(id) = self.places.take_id(key) {
-            self.engine.closed(id);
-        }
-        match self.engine.open(Caller::of(who)) {
-            Ok(id) => self.places.renumber(key, id),
-            Err(_) => self.close(key),
+    /// The connection at a place, of which the core has no part of a record and owes nothing, goes on as one that
+    /// came in so.
+    fn open_again(&mut self, key: usize, arrival: Arrival) {
+        if !open_again(&mut self.places, &mut self.engine, key, arrival) {
+            self.close(key);
         }
     }
 
@@ -666,10 +662,9 @@ impl<H: Files> Serving<H> {
     /// else was to be done. A pass begins at once, unless one goes on, and is for all that wait then.
     pub(crate) fn look_in_tables(&mut self, rt: &H, is_idle: bool) {
         let now = self.turn.moment;
-        if self.walk.is_none() && !self.places.are_sought() || !self.share.may_read(now, is_idle) {
+        if self.walk.is_none() && !self.places.are_sought() || !self.share.reads(now, is_idle) {
             return;
         }
-        self.share.note_read(now);
         if self.walk.is_none() {
             self.places.begin_pass();
             self.begin_walk(rt);
@@ -745,8 +740,8 @@ impl<H: Files> Serving<H> {
     fn end_pass(&mut self) {
         self.walk = None;
         for key in 0..self.places.count() {
-            if let Some(who) = self.places.shown(key, self.turn.moment) {
-                self.open_again(key, who);
+            if let Some(arrival) = self.places.shown(key, self.turn.moment) {
+                self.open_again(key, arrival);
             }
         }
     }

@@ -4,6 +4,7 @@ ghost use Rattle.std.specs.Prelude.{◌≡◌, false};
 ghost use Rattle.rb_connections.specs.Slots.{Shows};
 ghost use Rattle.rb_core.specs.StandsFor.{StandsFor};
 ghost use Rattle.rb_links.specs.Holding.{must_wait};
+ghost use Rattle.rb_daemon.specs.Links.{HandsIn, TakesOver};
 ghost use Rattle.rb_daemon.specs.Served.{change_count};
 
 use crate::engine::Engine;
@@ -12,7 +13,7 @@ use crate::outbox::{exchange, write_into};
 use rb_core::Standing;
 use rb_links::{LONG_ROOM, Link, Outbox, READ_AHEAD, Turn};
 use rb_policy::{Next, SOCKET_CALLS};
-use rb_sockets::ForwardSockets;
+use rb_sockets::Datagrams;
 use std::fs::Files;
 
 /// The most calls of the core between two of the socket: each but the last takes or gives a byte at least, or sends the
@@ -33,18 +34,18 @@ pub(crate) enum Progress {
 /// Hands in, takes over, writes and reads until the socket would block or has used up its calls of this turn.
 /// `may_end` is whether its peer may have ended what it sends. It has the long outbox meanwhile, if that is free, and
 /// longer if bytes are left in it.
-pub(crate) fn serve<H: Files>(
+pub(crate) fn serve<H: Files, S: Datagrams>(
     host: &H,
     link: &mut Link,
     engine: &mut Engine,
     keeper: &mut Keeper<H>,
-    forwards: &ForwardSockets,
+    sockets: &mut S,
     long_outbox: &mut Outbox,
     turn: Turn,
     may_end: bool,
 ) -> Progress {
     link.begin(turn, long_outbox);
-    let progress = serve_calls(host, link, engine, keeper, forwards, may_end);
+    let progress = serve_calls(host, link, engine, keeper, sockets, may_end);
     link.end(turn, long_outbox);
     progress
 }
@@ -55,19 +56,19 @@ pub(crate) fn serve<H: Files>(
 /// Calls the core and the socket in turn, until the socket's calls are enough for a turn, or none is left to make: what
 /// changed is kept before what tells it is written. If they were enough and none moved a byte, each was interrupted:
 /// the connection would keep turns from waiting, and is over.
-fn serve_calls<H: Files>(
+fn serve_calls<H: Files, S: Datagrams>(
     host: &H,
     link: &mut Link,
     engine: &mut Engine,
     keeper: &mut Keeper<H>,
-    forwards: &ForwardSockets,
+    sockets: &mut S,
     may_end: bool,
 ) -> Progress {
     for calls in 0..=SOCKET_CALLS {
         if link.is_cut_off(calls) {
             break;
         }
-        let goes_on = !link.is_for_the_core() || make_exchanges(link, engine, keeper, forwards);
+        let goes_on = !link.is_for_the_core() || make_exchanges(link, engine, keeper, sockets);
         let kept = keeper.keep(host, engine);
         if !goes_on {
             write_last(link, engine, kept);
@@ -102,10 +103,15 @@ fn write_last(link: &mut Link, engine: &Engine, kept: Kept)
     let _ = link.write();
 }
 
+// LINK-1
 /// Hands in what was read, which must not be held back, and notes what it changed. Returns whether the core took it.
-fn hand_in<H: Files>(link: &mut Link, engine: &mut Engine, keeper: &mut Keeper<H>, id: u64) -> bool
+fn hand_in<H: Files>(link: &mut Link, engine: &mut Engine, keeper: &mut Keeper<H>) -> bool
     requires { must_wait link.old ≡ false }
+    ensures { HandsIn link.old link.new engine.old engine.new }
 {
+    let Some(id) = link.id() else {
+        return false;
+    };
     let done = exchange(engine, id, link.inbox.bytes(), &mut link.outbox);
     engine.tell_call();
     keeper.note(engine);
@@ -113,6 +119,21 @@ fn hand_in<H: Files>(link: &mut Link, engine: &mut Engine, keeper: &mut Keeper<H
         return false;
     };
     link.note_taken(done.taken.count, done.standing);
+    true
+}
+
+// LINK-1
+/// Takes over what is owed, as far as there is room. Returns whether the connection goes on.
+fn take_over(link: &mut Link, engine: &mut Engine) -> bool
+    ensures { TakesOver link.old link.new engine.old engine.new }
+{
+    let Some(id) = link.id() else {
+        return false;
+    };
+    let Ok(given) = write_into(engine, id, &mut link.outbox) else {
+        return false;
+    };
+    link.note_given(given.count, given.standing);
     true
 }
 
@@ -124,33 +145,29 @@ fn hand_in<H: Files>(link: &mut Link, engine: &mut Engine, keeper: &mut Keeper<H
 /// Does what the core says is next, until it wants bytes that are not there, holds back a call that needs an owner, waits
 /// for the end of a forwarded call, or owes more than the outbox has room for. A forwarded call is sent at once: no other
 /// one is unsent, since each was sent when it came. Returns whether the connection goes on.
-fn make_exchanges<H: Files>(
+fn make_exchanges<H: Files, S: Datagrams>(
     link: &mut Link,
     engine: &mut Engine,
     keeper: &mut Keeper<H>,
-    forwards: &ForwardSockets,
+    sockets: &mut S,
 ) -> bool {
-    let Some(id) = link.id() else {
-        return false;
-    };
     for _ in 0..EXCHANGES {
         match link.standing() {
             Standing::Idle | Standing::Reading if !link.inbox.is_empty() => {
                 if link.hold_back() {
                     return true;
                 }
-                if !hand_in(link, engine, keeper, id) {
+                if !hand_in(link, engine, keeper) {
                     return false;
                 }
             }
             Standing::Owing if link.outbox.has_room() => {
-                let Ok(given) = write_into(engine, id, &mut link.outbox) else {
+                if !take_over(link, engine) {
                     return false;
-                };
-                link.note_given(given.count, given.standing);
+                }
             }
             Standing::Sends => {
-                engine.send_forward(forwards);
+                engine.send_forward(sockets);
                 link.note_sent();
             }
             Standing::Lost => return false,

@@ -3,6 +3,7 @@
 #![tactic(auto)]
 
 ghost use Rattle.std.specs.Prelude.{◌≡◌, ◌↔◌, ◌≤◌, ◌+◌, pos, ◌≤ℤ◌, List, ℕ, ◌++◌, length, IsOk};
+ghost use Rattle.std.specs.Int.{w16, to_le_bytes};
 ghost use Rattle.std.specs.Net.SockAddr.{family_and_port, sockaddr_in, sockaddr_in6, sockaddr, sockaddr_len, in_storage};
 ghost use Rattle.libc.specs.Net.{Kind};
 
@@ -140,9 +141,16 @@ fn encode_v6(address: SocketAddrV6) -> [u8; 128]
 fn family_and_port(family: u16, port: u16) -> [u8; 128]
     ensures { result ≡ in_storage (family_and_port family port) }
 {
+    let mut raw = family_alone(family);
+    put(&mut raw, 2, &port.to_be_bytes());
+    raw
+}
+
+fn family_alone(family: u16) -> [u8; 128]
+    ensures { result ≡ in_storage (to_le_bytes w16 family) }
+{
     let mut raw = [0; 128];
     put(&mut raw, 0, &family.to_ne_bytes());
-    put(&mut raw, 2, &port.to_be_bytes());
     raw
 }
 

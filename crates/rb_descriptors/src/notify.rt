@@ -1,7 +1,10 @@
 //! What a service manager is told of this process (sd_notify(3)).
-ghost use Rattle.std.specs.Prelude.{◌≡◌, ◌≤◌, ◌+◌, length};
+ghost use Rattle.std.specs.Prelude.{◌≡◌, ◌≤◌, ◌+◌, ◌++◌, length};
+ghost use Rattle.std.specs.Int.{w16, to_le_bytes};
+ghost use Rattle.std.specs.Net.SockAddr.{in_storage};
+ghost use Rattle.rb_descriptors.specs.Notify.{unix_name};
 
-use crate::{owned, put};
+use crate::{family_alone, owned, put};
 use libc::net as c;
 use std::net::Net;
 use std::os::fd::{AsRawFd, OwnedFd};
@@ -50,13 +53,16 @@ impl Notifier {
 /// The address as C has it, and how many bytes that has: of a name a zero in the place of its `@`.
 fn encode(address: &[u8]) -> ([u8; 128], u32)
     requires { length address.now ≤ 107 }
-    ensures { result.1 ≡ 2 + length address.now }
+    ensures bytes { result.0 ≡ in_storage (to_le_bytes w16 1 ++ unix_name address.now) }
+    ensures len { result.1 ≡ 2 + length address.now }
 {
-    let mut raw = [0; 128];
-    put(&mut raw, 0, &(c::AF_UNIX as u16).to_ne_bytes());
-    put(&mut raw, 2, address);
-    if address.first() == Some(&b'@') {
-        raw[2] = 0;
+    let mut raw = family_alone(c::AF_UNIX as u16);
+    match address {
+        [first, name @ ..] if *first == b'@' => {
+            put(&mut raw, 2, &[0]);
+            put(&mut raw, 3, name);
+        }
+        path => put(&mut raw, 2, path),
     }
     (raw, 2 + address.len() as u32)
 }

@@ -1,11 +1,11 @@
 //! A file that is replaced as a whole, and to which text is added.
 ghost use Rattle.std.specs.Prelude.{◌≡◌, string_bytes, IfOk};
 
+use crate::identity::{Identity, identity_of, is_same_file};
 use crate::new::new_file;
 use std::alloc::{AllocError, Global};
 use std::fs::{Files, Metadata, OpenFile};
 use std::io::Write;
-use std::os::unix::fs::MetadataExt;
 use std::{fs, io};
 
 /// What the name of the file beside ends with.
@@ -24,8 +24,7 @@ pub enum AppendFault {
 #[derive(Drop)]
 struct Placed<H: Files> {
     file: H::File,
-    device: u64,
-    inode: u64,
+    identity: Identity,
 }
 
 /// A file that is replaced as a whole, and to which text is added: who opens it finds the old text or the new one, and
@@ -41,7 +40,8 @@ pub struct KeptFile<H: Files> {
 }
 
 impl<H: Files> KeptFile<H> {
-    ghost use Rattle.std.specs.Prelude.{◌≡◌, ◌+◌, ◌++◌, length, string_bytes, codes, IfOk, OnOk};
+    ghost use Rattle.std.specs.Prelude.{◌≡◌, ◌+◌, ◌++◌, length, string_bytes, codes, None, IfOk, OnOk, OnErr};
+    ghost use Rattle.std.specs.Option.{is_some};
 
     /// The file at the path, whose new text is written beside it, at the path with `.new` after it. It takes the
     /// memory for both paths, and looks at no file. An error if the allocation is refused.
@@ -68,8 +68,17 @@ impl<H: Files> KeptFile<H> {
     }
 
     /// Whether text may be added: a file was put in place, and nothing failed since.
-    pub fn is_placed(&self) -> bool {
+    pub fn is_placed(&self) -> bool
+        ensures { result ≡ is_some self.now.placed }
+    {
         self.placed.is_some()
+    }
+
+    /// Nothing is added from here on, until a file is put in place.
+    pub fn leave(&mut self)
+        ensures { self.new.placed ≡ None }
+    {
+        self.placed = None;
     }
 
     // FILE-4: A file of kept rows is replaced as a whole: the new text is written beside it, under its
@@ -80,6 +89,7 @@ impl<H: Files> KeptFile<H> {
     /// system refuses a step, its error: what is at the path stays, and the file beside goes.
     pub fn replace(&mut self, rt: &H, text: &[u8]) -> io::Result<()>
         ensures bytes { OnOk result (self.new.len ≡ length text.now) }
+        ensures failed { OnErr result (self.new.placed ≡ None) }
     {
         self.placed = None;
         let file = new_file(rt, &self.beside)?;
@@ -103,8 +113,7 @@ impl<H: Files> KeptFile<H> {
         fs::rename(rt, self.beside.as_str(), self.path.as_str())?;
         Ok(Placed {
             file,
-            device: found.dev(),
-            inode: found.ino(),
+            identity: identity_of(&found),
         })
     }
 
@@ -115,6 +124,7 @@ impl<H: Files> KeptFile<H> {
     /// the system refuses a step. After either nothing is added until a file is put in place.
     pub fn append(&mut self, rt: &H, text: &[u8]) -> Result<(), AppendFault>
         ensures bytes { OnOk result (self.new.len ≡ self.old.len + length text.now) }
+        ensures failed { OnErr result (self.new.placed ≡ None) }
     {
         let Some(mut placed) = self.placed.take() else {
             return Err(AppendFault::Another);
@@ -135,7 +145,7 @@ impl<H: Files> KeptFile<H> {
         let Ok(found) = fs::symlink_metadata(rt, self.path.as_str()) else {
             return Err(AppendFault::Another);
         };
-        if is_left(&found, placed.device, placed.inode, self.len) {
+        if is_left(&found, placed.identity, self.len) {
             Ok(())
         } else {
             Err(AppendFault::Another)
@@ -143,9 +153,9 @@ impl<H: Files> KeptFile<H> {
     }
 }
 
-/// Whether a file of this metadata is the one of this number, with as many bytes.
-fn is_left(found: &Metadata, device: u64, inode: u64, len: u64) -> bool {
-    found.dev() == device && found.ino() == inode && found.len() == len
+/// Whether a file of this metadata is the one that was put in place, with as many bytes.
+fn is_left(found: &Metadata, placed: Identity, len: u64) -> bool {
+    is_same_file(identity_of(found), placed) && found.len() == len
 }
 
 fn add_to<H: Files>(file: &mut H::File, text: &[u8]) -> io::Result<()> {

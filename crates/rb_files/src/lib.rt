@@ -2,6 +2,7 @@
 //! believed only if nobody else may have written it, and one that one process locks.
 #![tactic(auto)]
 
+mod identity;
 mod kept;
 mod lock;
 mod new;

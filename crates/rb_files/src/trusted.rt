@@ -3,6 +3,7 @@ ghost use Rattle.std.specs.Prelude.{◌≤◌, length, IfOk, IfSome};
 ghost use Rattle.std.specs.Fs.{file_type, metadata_mode};
 ghost use Rattle.rb_files.specs.Found.{IsKeepState};
 
+use crate::identity::{identity_of, is_same_file};
 use rb_policy::{Distrust, KeepAction, KeepState, Writers, is_nothing_there, keep_action};
 use std::alloc::Global;
 use std::fmt::{Display, Formatter};
@@ -67,7 +68,7 @@ fn read_seen<R: Files>(
     let file = fs::open(rt, path).map_err(KeptFileFault::Failed)?;
     let opened = file.metadata().map_err(KeptFileFault::Failed)?;
     believe(&opened)?;
-    if opened.dev() != seen.dev() || opened.ino() != seen.ino() {
+    if !is_same_file(identity_of(&opened), identity_of(seen)) {
         return Err(KeptFileFault::Exchanged);
     }
     let mut text = Vec::new(alloc);

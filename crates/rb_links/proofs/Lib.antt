@@ -1,1 +1,3 @@
 pub mod Outboxes
+pub mod Rests
+pub mod Readings

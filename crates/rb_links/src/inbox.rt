@@ -26,7 +26,8 @@ impl Model for Inbox {
 }
 
 impl Inbox {
-    ghost use Rattle.std.specs.Prelude.{◌≡◌, ◌≤◌, ◌==◌, ◌-◌, [], length, drop, IfOk, OnErr};
+    ghost use Rattle.std.specs.Prelude.{◌≡◌, ◌≤◌, ◌==◌, ◌-◌, [], length, drop, IfOk, OnOk, OnErr};
+    ghost use Rattle.std.specs.Io.KnownBytes.{Consumes, Keeps};
     ghost use Rattle.rb_evidence.specs.Walks.{IsReadBehind};
     ghost use Rattle.rb_links.specs.Outgoing.{read_ahead};
 
@@ -87,8 +88,12 @@ impl Inbox {
         READ_AHEAD - (self.end - self.start)
     }
 
+    // INBOX-2: What an inbox has is what was read, each byte once, in order.
     /// Reads once, behind what is left.
     pub(crate) fn read<R: Read>(&mut self, reader: &mut R) -> io::Result<usize>
+        ensures came { OnOk result (Consumes (R.remaining reader.old) (R.remaining reader.new)
+            (drop (length self.old) self.new)) }
+        ensures stays { OnErr result (Keeps (R.remaining reader.old) (R.remaining reader.new)) }
         ensures read { IfOk result (IsReadBehind self.old self.new) }
         ensures few { length self.new ≤ read_ahead }
         ensures none { OnErr result (self.new ≡ self.old) }

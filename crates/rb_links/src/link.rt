@@ -1,12 +1,16 @@
 //! The place of an accepted connection: what is known of it, and its socket calls.
-ghost use Rattle.std.specs.Prelude.{◌≡◌, ◌≤◌, length, IfOk, Some, None};
-ghost use Rattle.rb_links.specs.Holding.{is_between_records, must_wait};
+ghost use Rattle.std.specs.Prelude.{◌≡◌, ◌≤◌, [], true, not, ◌&&◌, ◌||◌, length, drop, IfOk, IfSome, Some, None};
+ghost use Rattle.rb_policy.specs.Origins.{origin_of};
+ghost use Rattle.rb_policy.specs.declared.asks.Held.TheVariants.{Nothing};
+ghost use Rattle.rb_sockets.specs.Arrivals.{who_of};
+ghost use Rattle.rb_links.specs.Holding.{BeginsAnew, is_between_records, must_wait, held_of, is_same_held};
+ghost use Rattle.rb_links.specs.Numbers.{HasItsBytes, IsRest};
 ghost use Rattle.rb_links.specs.Outgoing.{nothing_in, own_room};
 
 use crate::inbox::Inbox;
 use crate::outbox::{OWN_ROOM, Outbox};
 use mio::{Registry, Token};
-use rb_address::{Family, Who};
+use rb_address::Family;
 use rb_evidence::Sight;
 use rb_model::Standing;
 use rb_policy::{
@@ -14,7 +18,7 @@ use rb_policy::{
     is_cut_off, is_local, looks_in, may_change, origin_now, origin_of, outcome_of_count, reads_on,
     round_of, shown_after, sight_in, standing_outside, stuck_at,
 };
-use rb_sockets::{Ends, Stream};
+use rb_sockets::{Arrival, Ends, Stream};
 use std::alloc::{AllocError, Global};
 
 /// A turn of the daemon.
@@ -63,7 +67,8 @@ fn sought_from(sought: Option<Sought>, unknown: Option<Ends>) -> Option<Sought> 
 /// next.
 #[derive(Drop)]
 pub struct Link {
-    /// The core's number of the connection; none before it is opened. It gets another one when it is known whose it is.
+    /// The core's number of the connection, under which it was opened; none before. It gets another one when it is known
+    /// whose it is.
     id: Option<u64>,
     /// None if no connection has the place.
     stream: Option<Stream>,
@@ -105,7 +110,8 @@ pub struct Link {
 impl Link {
     /// A place that no connection has.
     pub(crate) fn new(alloc: Global) -> Result<Link, AllocError>
-        ensures { IfOk result (λ link. link.outbox ≡ nothing_in own_room) }
+        ensures outbox { IfOk result (λ link. link.outbox ≡ nothing_in own_room) }
+        ensures number { IfOk result (λ link. link.id ≡ None) }
     {
         Ok(Link {
             id: None,
@@ -130,7 +136,9 @@ impl Link {
     }
 
     /// The core's number of the connection that has the place, if that is opened.
-    pub fn id(&self) -> Option<u64> {
+    pub fn id(&self) -> Option<u64>
+        ensures { result ≡ self.now.id }
+    {
         self.id
     }
 
@@ -145,7 +153,14 @@ impl Link {
     }
 
     /// A connection gets the place at this moment, in milliseconds. It is not opened yet.
-    pub(crate) fn take(&mut self, stream: Stream, origin: Origin, moment: u64) {
+    pub(crate) fn take(&mut self, stream: Stream, origin: Origin, moment: u64)
+        ensures number { self.new.id ≡ None }
+        ensures inbox { self.new.inbox ≡ [] }
+        ensures outbox { self.new.outbox.bytes ≡ [] }
+        ensures begins { BeginsAnew self.new }
+        ensures origin { self.new.origin ≡ origin }
+        ensures since { self.new.since ≡ moment }
+    {
         self.id = None;
         self.stream = Some(stream);
         self.unknown = None;
@@ -165,7 +180,8 @@ impl Link {
 
     /// It is opened though it is not known whose it is: it has these ends.
     pub(crate) fn note_unknown(&mut self, ends: Ends)
-        ensures { self.new.unknown ≡ Some ends }
+        ensures unknown { self.new.unknown ≡ Some ends }
+        ensures number { self.new.id ≡ self.old.id }
     {
         self.unknown = Some(ends);
     }
@@ -180,7 +196,10 @@ impl Link {
 
     /// Holds back what was read, if it must not be handed in before it is known whose it is. Whether it is held back.
     pub fn hold_back(&mut self) -> bool
-        ensures { result ≡ must_wait self.new }
+        ensures waits { result ≡ must_wait self.new }
+        ensures held { self.new.held ≡ held_of self.new }
+        ensures progress { self.new.made_progress ≡ (self.old.made_progress
+            || (result && not (is_same_held self.new.held self.old.held))) }
     {
         if !self.must_wait() {
             self.held = Held::Nothing;
@@ -261,8 +280,14 @@ impl Link {
 
     // TABLES-5
     /// A pass has ended at this moment, in milliseconds. If it showed whose this is, that is where it counts from here on; and
-    /// if its call is held back, the answer is who it is. It may wait for one more pass.
-    pub(crate) fn shown(&mut self, moment: u64) -> Option<Who> {
+    /// if its call is held back, the answer is how it came in. It may wait for one more pass.
+    pub(crate) fn shown(&mut self, moment: u64) -> Option<Arrival>
+        ensures origin { IfSome result (λ arrival.
+            self.new.origin ≡ origin_of (who_of arrival).trust (who_of arrival).source) }
+        ensures since { IfSome result (λ arrival. self.new.since ≡ moment) }
+        ensures held { IfSome result (λ arrival. self.new.held ≡ Nothing) }
+        ensures known { IfSome result (λ arrival. self.new.unknown ≡ None) }
+    {
         let sought = self.sought?;
         if sought.passes == 0 {
             return None;
@@ -273,16 +298,16 @@ impl Link {
             self.is_connected(),
             self.has_ended,
         )?;
-        let who = sought.ends.who(evidence);
+        let arrival = sought.ends.arrival(evidence);
         self.sought = None;
-        self.origin = origin_of(&who);
+        self.origin = origin_of(&arrival.who());
         if !self.is_held() {
             return None;
         }
         self.held = Held::Nothing;
         self.unknown = None;
         self.since = moment;
-        Some(who)
+        Some(arrival)
     }
 
     /// Whether the system says that it is connected still.
@@ -294,19 +319,29 @@ impl Link {
     }
 
     /// Its number, which is its own no longer.
-    pub(crate) fn take_id(&mut self) -> Option<u64> {
+    pub(crate) fn take_id(&mut self) -> Option<u64>
+        ensures taken { result ≡ self.old.id }
+        ensures number { self.new.id ≡ None }
+        ensures bytes { HasItsBytes self.old self.new }
+    {
         self.id.take()
     }
 
     /// It goes on under this number of the core's, and must be served though no event shows it.
-    pub(crate) fn renumber(&mut self, id: u64) {
+    pub(crate) fn renumber(&mut self, id: u64)
+        ensures number { self.new.id ≡ Some id }
+        ensures bytes { HasItsBytes self.old self.new }
+    {
         self.id = Some(id);
         self.is_waiting = true;
     }
 
     /// The connection that has the place is opened under this number of the core's, and its events are shown under the
     /// token. Whether that was done.
-    pub(crate) fn open(&mut self, registry: &Registry, token: Token, id: u64) -> bool {
+    pub(crate) fn open(&mut self, registry: &Registry, token: Token, id: u64) -> bool
+        ensures number { result ≡ true → self.new.id ≡ Some id }
+        ensures bytes { HasItsBytes self.old self.new }
+    {
         let Some(stream) = &mut self.stream else {
             return false;
         };
@@ -319,7 +354,11 @@ impl Link {
 
     /// Closes the connection that has the place, and gives its number, if it is opened. The long outbox is for others
     /// from here on.
-    pub(crate) fn close(&mut self, long_outbox: &mut Outbox) -> Option<u64> {
+    pub(crate) fn close(&mut self, long_outbox: &mut Outbox) -> Option<u64>
+        ensures taken { result ≡ self.old.id }
+        ensures number { self.new.id ≡ None }
+        ensures outbox { self.new.outbox.bytes ≡ [] }
+    {
         self.stream = None;
         self.unknown = None;
         self.sought = None;
@@ -433,6 +472,9 @@ impl Link {
         requires { count ≤ length self.old.inbox }
         ensures between { self.new.is_between ≡ is_between_records standing }
         ensures unknown { self.new.unknown ≡ self.old.unknown }
+        ensures inbox { self.new.inbox ≡ drop count self.old.inbox }
+        ensures outbox { self.new.outbox ≡ self.old.outbox }
+        ensures number { self.new.id ≡ self.old.id }
     {
         self.inbox.take(count);
         self.is_between = is_between_records(standing);
@@ -441,7 +483,10 @@ impl Link {
     }
 
     /// The core gave this many bytes of the reply, which are in the outbox, and says where it stands then.
-    pub fn note_given(&mut self, count: usize, standing: Standing) {
+    pub fn note_given(&mut self, count: usize, standing: Standing)
+        ensures bytes { HasItsBytes self.old self.new }
+        ensures number { self.new.id ≡ self.old.id }
+    {
         self.standing = standing;
         self.made_progress |= count > 0;
     }
@@ -454,7 +499,10 @@ impl Link {
     /// Makes at most one socket call: a write if replies wait, else a read. If bytes are left that the core does
     /// not take while no reply is owed, it waits for the end of its forwarded call. A read that gets less than it has
     /// room for is the last of the turn, unless the peer may have ended what it sends: of that no other event comes.
-    pub fn call_socket(&mut self, may_end: bool) -> Next {
+    pub fn call_socket(&mut self, may_end: bool) -> Next
+        ensures rest { IsRest self.old.outbox.bytes self.new.outbox.bytes }
+        ensures number { self.new.id ≡ self.old.id }
+    {
         if !self.outbox.is_empty() {
             return self.write();
         }
@@ -471,8 +519,13 @@ impl Link {
         self.inbox.is_empty() || self.held == Held::Part && self.inbox.room() > 0
     }
 
+    // OUTBOX-1
     /// Writes what waits, once.
-    pub fn write(&mut self) -> Next {
+    pub fn write(&mut self) -> Next
+        ensures rest { IsRest self.old.outbox.bytes self.new.outbox.bytes }
+        ensures inbox { self.new.inbox ≡ self.old.inbox }
+        ensures number { self.new.id ≡ self.old.id }
+    {
         let Some(stream) = &mut self.stream else {
             return Next::Close;
         };
@@ -485,7 +538,10 @@ impl Link {
         after_write(outcome_of_count(&came))
     }
 
-    fn read(&mut self, may_end: bool) -> Next {
+    fn read(&mut self, may_end: bool) -> Next
+        ensures outbox { self.new.outbox ≡ self.old.outbox }
+        ensures number { self.new.id ≡ self.old.id }
+    {
         let Some(stream) = &mut self.stream else {
             return Next::Close;
         };

@@ -1,15 +1,16 @@
 //! All places of connections: which of them are left for later, and who gets one.
-ghost use Rattle.std.specs.Prelude.{◌≡◌, vec_len, IfOk};
+ghost use Rattle.std.specs.Prelude.{◌≡◌, true, vec_len, Some, IfOk, IfSome};
+ghost use Rattle.rb_links.specs.Numbers.{number_at};
 ghost use Rattle.rb_links.specs.Outgoing.{nothing_in, long_room};
 
 use crate::link::{Link, Turn};
 use crate::outbox::{LONG_ROOM, Outbox};
 use mio::{Registry, Token};
-use rb_address::{Family, Who};
+use rb_address::Family;
 use rb_evidence::Sight;
 use rb_forward::sooner;
 use rb_policy::{Admission, Holder, Origin, Round, accept_count, admit, is_unawaited};
-use rb_sockets::{Ends, Stream};
+use rb_sockets::{Arrival, Ends, Stream};
 use std::alloc::{AllocError, Global};
 
 /// The places of connections, by the keys that their events show.
@@ -79,12 +80,16 @@ impl Places {
     }
 
     /// How many places there are.
-    pub fn count(&self) -> usize {
+    pub fn count(&self) -> usize
+        ensures { result ≡ vec_len self.now.links }
+    {
         self.links.len()
     }
 
     /// How many of them have connections.
-    pub fn taken(&self) -> usize {
+    pub fn taken(&self) -> usize
+        ensures { result ≡ self.now.taken }
+    {
         self.taken
     }
 
@@ -191,7 +196,9 @@ impl Places {
     }
 
     /// Closes the connection at a place, if there is one, and gives its number, if it is opened.
-    pub fn close(&mut self, key: usize) -> Option<u64> {
+    pub fn close(&mut self, key: usize) -> Option<u64>
+        ensures { IfSome result (λ id. number_at self.old key ≡ Some id) }
+    {
         let link = self.links.get_mut(key)?;
         if link.is_free() {
             return None;
@@ -275,7 +282,9 @@ impl Places {
 
     /// The connection at a place is opened under this number of the core's, and its events are shown under the place's
     /// key. Whether that was done.
-    pub fn open(&mut self, registry: &Registry, key: usize, id: u64) -> bool {
+    pub fn open(&mut self, registry: &Registry, key: usize, id: u64) -> bool
+        ensures { result ≡ true → number_at self.new key ≡ Some id }
+    {
         match self.links.get_mut(key) {
             Some(link) => link.open(registry, Token(key), id),
             None => false,
@@ -283,7 +292,9 @@ impl Places {
     }
 
     /// The connection at a place, which has these ends, is opened though it is not known whose it is.
-    pub fn note_unknown(&mut self, key: usize, ends: Ends) {
+    pub fn note_unknown(&mut self, key: usize, ends: Ends)
+        ensures { number_at self.new key ≡ number_at self.old key }
+    {
         if let Some(link) = self.links.get_mut(key) {
             link.note_unknown(ends);
         }
@@ -330,25 +341,31 @@ impl Places {
         }
     }
 
-    /// A pass has ended at this moment, in milliseconds: who is at a place, if a call is held back there and need not wait for
+    /// A pass has ended at this moment, in milliseconds: how whoever is at a place came in, if a call is held back there and need not wait for
     /// one more.
-    pub fn shown(&mut self, key: usize, moment: u64) -> Option<Who> {
+    pub fn shown(&mut self, key: usize, moment: u64) -> Option<Arrival> {
         let link = self.links.get_mut(key)?;
-        let who = link.shown(moment);
+        let arrival = link.shown(moment);
         self.are_sought |= link.is_sought();
-        who
+        arrival
     }
 
     /// The number of the connection at a place, which is its own no longer.
-    pub fn take_id(&mut self, key: usize) -> Option<u64> {
+    pub fn take_id(&mut self, key: usize) -> Option<u64>
+        ensures { IfSome result (λ id. number_at self.old key ≡ Some id) }
+    {
         self.links.get_mut(key)?.take_id()
     }
 
-    /// The connection at a place goes on under this number.
-    pub fn renumber(&mut self, key: usize, id: u64) {
-        if let Some(link) = self.links.get_mut(key) {
-            link.renumber(id);
-            self.are_left = true;
-        }
+    /// The connection at a place goes on under this number. Whether there is such a place.
+    pub fn renumber(&mut self, key: usize, id: u64) -> bool
+        ensures { result ≡ true → number_at self.new key ≡ Some id }
+    {
+        let Some(link) = self.links.get_mut(key) else {
+            return false;
+        };
+        link.renumber(id);
+        self.are_left = true;
+        true
     }
 }

@@ -14,6 +14,11 @@ rests_until now None before = before
 abbrev pub may_read : ℕ → Bool → ℕ → Bool
 may_read now is_idle rests = is_idle || nat_le rests now
 
+-- when the last turn read a slice, if it did, by whether this one does
+abbrev pub read_at : ℕ → Bool → Option ℕ → Option ℕ
+read_at now true before = Some now
+read_at now false before = before
+
 -- From such a turn's begin to the next one, if other work waits, are at least four times as many milliseconds as it took.
 -- SHARE-1
 abbrev pub SlicesAreAQuarter : Type 0

@@ -1,5 +1,5 @@
 -- What is done in a turn, and what is left for the next.
-use Rattle.std.specs.Prelude.{ℕ, ◌-◌, ◌/◌, min, max, nat_lt, nat_le, Bool, true, false, ◌||◌, ◌==◌, if◌then◌else◌, Option, Some, None}
+use Rattle.std.specs.Prelude.{ℕ, ◌+◌, ◌-◌, ◌/◌, ◌^◌, min, max, nat_lt, nat_le, Bool, true, false, ◌||◌, ◌==◌, if◌then◌else◌, Option, Some, None}
 use Rattle.rb_forward.specs.Deadlines.{sooner_of}
 use Rattle.rb_model.specs.declared.types.Standing.{Standing}
 use Rattle.rb_model.specs.declared.types.Standing.TheVariants.{Owing}
@@ -52,6 +52,13 @@ accept_count free all = if free == 0 then min (max (all / 8) 1) socket_calls els
 -- all places are taken; there are no more places than that leaves, and at least one.
 abbrev pub place_count : ℕ → ℕ → ℕ → ℕ
 place_count asked descriptors others = max (min asked (descriptors - others - 1)) 1
+
+-- how many descriptors are others', of which the daemon's own sockets have this many: one is for the kernel's tables, one for
+-- a record, and three are for kept rows, their new file and their lock
+-- PLACES-1
+abbrev pub others_of : ℕ → Bool → Bool → ℕ
+others_of sockets records keeps =
+    min (sockets + (1 + (if records then 1 else 0) + (if keeps then 3 else 0))) (2 ^ 64 - 1)
 
 -- whether a connection is left for the next turn, after this many socket calls for it, and this many bytes written
 -- TURN-2: A connection is left for the next turn after 64 socket calls, or when 65,536 bytes were

@@ -62,7 +62,7 @@ pub use share::Share;
 pub use trust::{Beliefs, Entrance, lets_in_root_alone, trust_of};
 pub use turns::{
     Again, LAST_ROUND, RETRY, Round, SOCKET_CALLS, STEP, accept_count, after_all_calls, is_cut_off,
-    place_count, reads_on, round_of, serves_another, wait_of,
+    others_of, place_count, reads_on, round_of, serves_another, wait_of,
 };
 pub use user_namespace::unmapped_uid;
 pub use waits::{AfterWait, Waits};

@@ -1,6 +1,6 @@
 //! How much of the time the kernel's tables are read, while other work waits.
-ghost use Rattle.std.specs.Prelude.{◌≡◌, ◌||◌, nat_le};
-ghost use Rattle.rb_policy.specs.Shares.{rest_after, may_read};
+ghost use Rattle.std.specs.Prelude.{◌≡◌};
+ghost use Rattle.rb_policy.specs.Shares.{rest_after};
 
 /// For how many times as long as a turn took that read a slice of a table other work goes first.
 const REST: u64 = 3;
@@ -15,11 +15,14 @@ pub struct Share {
 }
 
 impl Share {
-    ghost use Rattle.std.specs.Prelude.{◌≡◌, Some, None};
-    ghost use Rattle.rb_policy.specs.Shares.{rests_until, may_read};
+    ghost use Rattle.std.specs.Prelude.{◌≡◌, None};
+    ghost use Rattle.rb_policy.specs.Shares.{rests_until, may_read, read_at};
 
     /// Before the first slice.
-    pub fn new() -> Share {
+    pub fn new() -> Share
+        ensures rest { result.rests_until ≡ 0 }
+        ensures read { result.read_at ≡ None }
+    {
         Share {
             read_at: None,
             rests_until: 0,
@@ -36,19 +39,17 @@ impl Share {
         }
     }
 
-    /// The turn of this moment reads a slice.
-    pub fn note_read(&mut self, now: u64)
-        ensures read { self.new.read_at ≡ Some now }
+    /// Whether the turn of this moment reads a slice: it does if nothing else waits, or if other work need not go first.
+    pub fn reads(&mut self, now: u64, is_idle: bool) -> bool
+        ensures reads { result ≡ may_read now is_idle self.old.rests_until }
+        ensures read { self.new.read_at ≡ read_at now result self.old.read_at }
         ensures rest { self.new.rests_until ≡ self.old.rests_until }
     {
-        self.read_at = Some(now);
-    }
-
-    /// Whether the turn of this moment may read a slice: it may if nothing else waits.
-    pub fn may_read(&self, now: u64, is_idle: bool) -> bool
-        ensures { result ≡ may_read now is_idle self.now.rests_until }
-    {
-        is_idle || self.rests_until <= now
+        let may_read = is_idle || self.rests_until <= now;
+        if may_read {
+            self.read_at = Some(now);
+        }
+        may_read
     }
 }
 

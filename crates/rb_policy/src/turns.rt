@@ -1,6 +1,6 @@
 //! What is done in a turn, and what is left for the next.
 ghost use Rattle.std.specs.Prelude.{◌≡◌, ◌||◌, ◌==◌};
-ghost use Rattle.rb_policy.specs.Turns.{after_all_calls, wait_of, accept_count, place_count, is_cut_off, round_of, serves_another};
+ghost use Rattle.rb_policy.specs.Turns.{after_all_calls, wait_of, accept_count, place_count, others_of, is_cut_off, round_of, serves_another};
 
 use rb_forward::sooner;
 use rb_model::Standing;
@@ -93,6 +93,16 @@ pub fn place_count(asked: usize, descriptors: u64, others: u64) -> usize
         Ok(left) => asked.min(left).max(1),
         Err(_) => asked.max(1),
     }
+}
+
+/// How many descriptors of the process are not for connections, if its own sockets and what it was started with have this
+/// many: one is for the kernel's tables, one for a record, and three are for kept rows, their new file and their lock.
+pub fn others_of(sockets: u64, records: bool, keeps: bool) -> u64
+    ensures { result ≡ others_of sockets records keeps }
+{
+    let record: u64 = if records { 1 } else { 0 };
+    let kept: u64 = if keeps { 3 } else { 0 };
+    sockets.saturating_add(1 + record + kept)
 }
 
 /// Whether a connection is left for the next turn, after this many socket calls for it in this one, and this many bytes

@@ -3,3 +3,7 @@ pub mod Events
 pub mod Faults
 pub mod Machine
 pub mod MachineExamples
+pub mod Dispatches
+pub mod Arrivals
+pub mod Handed
+pub mod Watching

@@ -1,14 +1,17 @@
 //! The sockets of datagrams: where calls come in, and where forwarded calls go out. They are two types, so that nothing goes
 //! out on the wrong one.
-ghost use Rattle.std.specs.Prelude.{IfOk, ◌≤◌, length};
+ghost use Rattle.std.specs.Prelude.{IfOk, IfSome, ◌≡◌, ◌≤◌, length};
+ghost use Rattle.rb_sockets.specs.Arrivals.{datagram_arrival, IsReceived};
+ghost use Rattle.rb_sockets.specs.Watching.{is_at_once, is_after_wait, holds_of, of_calls, of_forwards};
 
+use crate::arrival::Arrival;
 use crate::faults::{BindFault, Step};
 use crate::watched::Watched;
 use mio::net::UdpSocket;
 use mio::{Interest, Registry, Token};
-use rb_address::{Family, Host, Network, Peer, Source, Who};
+use rb_address::{Family, Host, Network, Peer};
 use rb_descriptors::{share, udp_socket};
-use rb_policy::{Beliefs, Entrance, WaysBack, address_of, asker, ip_of, sender, trust_of};
+use rb_policy::{Beliefs, Entrance, address_of, asker, ip_of, sender};
 use std::io;
 use std::io::ErrorKind;
 use std::net::{Net, SocketAddr};
@@ -76,36 +79,38 @@ impl CallSocket {
         self.socket.is_none()
     }
 
-    /// A datagram, how long it is, and from whom, if that caller may call when these networks are served.
-    pub fn receive(&self, networks: &[Network], room: &mut [u8]) -> io::Result<(usize, Option<Who>)>
+    /// A datagram, how long it is, and how its caller came in, if that may call when these networks are served.
+    fn receive(&self, networks: &[Network], room: &mut [u8]) -> io::Result<(usize, Option<Arrival>)>
         ensures { IfOk result (λ r. r.0 ≤ length room.new) }
     {
         let Some(socket) = &self.socket else {
             return Err(io::Error::from(ErrorKind::WouldBlock));
         };
         let (len, from) = socket.recv_from(room)?;
-        let who = match asker(networks, sender(from)) {
-            Some(peer) => Some(self.who(peer)),
+        let arrival = match asker(networks, sender(from)) {
+            Some(peer) => Some(self.arrival(peer)),
             None => None,
         };
-        Ok((len, who))
+        Ok((len, arrival))
     }
 
     // ASKED-1: A datagram asked the host to which its socket is bound; if that is 0.0.0.0 or `::`, it
     // is not known which.
-    /// Who sent a datagram.
-    fn who(&self, peer: Peer) -> Who {
-        Who {
-            source: Source::Inet(peer),
+    /// How the sender of a datagram came in.
+    fn arrival(&self, peer: Peer) -> Arrival
+        ensures { result ≡ datagram_arrival self.now peer }
+    {
+        Arrival {
+            beliefs: self.beliefs,
+            entrance: Entrance::Udp(self.bound, peer),
             asked: self.bound,
-            trust: trust_of(self.beliefs, Entrance::Udp(self.bound, peer)),
         }
     }
 
     /// Sends a reply. One that the socket does not take is lost.
-    pub fn reply(&self, reply: &[u8], to: Who) {
-        if let (Some(socket), Source::Inet(peer)) = (&self.socket, to.source) {
-            let _ = socket.send_to(reply, address_of(peer));
+    pub(crate) fn reply(&self, reply: &[u8], to: Peer) {
+        if let Some(socket) = &self.socket {
+            let _ = socket.send_to(reply, address_of(to));
         }
     }
 
@@ -124,35 +129,58 @@ impl CallSocket {
     }
 }
 
+/// Who asked by a datagram, and on the socket of which number.
+#[derive(Clone, Copy)]
+pub struct Asker {
+    arrival: Arrival,
+    socket: usize,
+}
+
+impl Asker {
+    ghost use Rattle.std.specs.Prelude.{◌≡◌};
+
+    /// How it came in.
+    pub fn arrival(self) -> Arrival
+        ensures { result ≡ self.arrival }
+    {
+        self.arrival
+    }
+
+    /// The number of the socket.
+    pub fn socket(self) -> usize
+        ensures { result ≡ self.socket }
+    {
+        self.socket
+    }
+}
+
 /// All sockets where calls come in as datagrams.
 #[derive(Drop)]
 pub struct CallSockets {
     /// One for each host, in their order.
     pub all: Vec<Watched<CallSocket>>,
-    /// On which of them the calls came that were forwarded.
-    pub(crate) ways_back: WaysBack,
 }
 
 impl CallSockets {
-    /// The forwarded call of this number came on the socket of this number.
-    pub fn note_forwarded(&mut self, number: u64, socket: usize) {
-        self.ways_back.note(number, socket);
-    }
+    ghost use Rattle.std.specs.Prelude.{IfSome};
+    ghost use Rattle.rb_sockets.specs.Arrivals.{IsReceived};
 
-    /// Sends the reply to the forwarded call of this number, on the socket on which that came. If none is noted,
-    /// nothing is sent.
-    pub fn reply_to_forwarded(&mut self, number: u64, reply: &[u8], to: Who) {
-        let Some(socket) = self.ways_back.take(number) else {
-            return;
-        };
-        if let Some(calls) = self.all.get(socket) {
-            calls.socket.reply(reply, to);
-        }
-    }
-
-    /// The forwarded call of this number has ended, and has no reply.
-    pub fn drop_forwarded(&mut self, number: u64) {
-        let _ = self.ways_back.take(number);
+    /// A datagram on the socket of this number, how long it is, and who asked by it, if that caller may call when these
+    /// networks are served. None if there is no such socket.
+    pub fn receive(
+        &self,
+        socket: usize,
+        networks: &[Network],
+        room: &mut [u8],
+    ) -> Option<io::Result<(usize, Option<Asker>)>>
+        ensures { IfSome result (IsReceived socket room.new) }
+    {
+        let calls = self.all.get(socket)?;
+        Some(match calls.socket.receive(networks, room) {
+            Ok((len, Some(arrival))) => Ok((len, Some(Asker { arrival, socket }))),
+            Ok((len, None)) => Ok((len, None)),
+            Err(error) => Err(error),
+        })
     }
 
     /// The place of one whose host is listened on no more, or the next one.
@@ -165,11 +193,15 @@ impl CallSockets {
         self.all.len()
     }
 
-    pub(crate) fn is_left(&self) -> bool {
+    pub(crate) fn is_left(&self) -> bool
+        ensures { result ≡ of_calls is_at_once self.now }
+    {
         self.all.iter().any(|calls| calls.is_left())
     }
 
-    pub(crate) fn is_tried_again(&self) -> bool {
+    pub(crate) fn is_tried_again(&self) -> bool
+        ensures { result ≡ of_calls is_after_wait self.now }
+    {
         self.all.iter().any(|calls| calls.is_tried_again())
     }
 }
@@ -197,7 +229,7 @@ impl ForwardSocket {
     }
 
     /// Sends a forwarded call. One that the socket does not take is lost.
-    fn call(&self, call: &[u8], target: Peer) {
+    pub(crate) fn call(&self, call: &[u8], target: Peer) {
         let _ = self.socket.send_to(call, address_of(target));
     }
 
@@ -207,6 +239,26 @@ impl ForwardSocket {
 
     pub(crate) fn register(&mut self, registry: &Registry, token: Token) -> io::Result<()> {
         registry.register(&mut self.socket, token, Interest::READABLE)
+    }
+}
+
+/// Whether the socket, if there is one, must be served at once.
+fn is_left(forwards: &Option<Watched<ForwardSocket>>) -> bool
+    ensures { result ≡ holds_of is_at_once forwards.now }
+{
+    match forwards {
+        Some(forwards) => forwards.is_left(),
+        None => false,
+    }
+}
+
+/// Whether it must be served after a wait.
+fn is_tried_again(forwards: &Option<Watched<ForwardSocket>>) -> bool
+    ensures { result ≡ holds_of is_after_wait forwards.now }
+{
+    match forwards {
+        Some(forwards) => forwards.is_tried_again(),
+        None => false,
     }
 }
 
@@ -220,13 +272,6 @@ pub struct ForwardSockets {
 }
 
 impl ForwardSockets {
-    /// Sends a forwarded call. One that no socket takes is lost.
-    pub fn call(&self, call: &[u8], target: Peer) {
-        if let Some(forwards) = self.of(target.family()) {
-            forwards.socket.call(call, target);
-        }
-    }
-
     /// The socket for targets of a family.
     pub fn of(&self, family: Family) -> Option<&Watched<ForwardSocket>> {
         match family {
@@ -243,14 +288,15 @@ impl ForwardSockets {
         }
     }
 
-    pub(crate) fn is_left(&self) -> bool {
-        let (inet, inet6) = (self.inet.as_ref(), self.inet6.as_ref());
-        inet.is_some_and(|inet| inet.is_left()) || inet6.is_some_and(|inet6| inet6.is_left())
+    pub(crate) fn is_left(&self) -> bool
+        ensures { result ≡ of_forwards is_at_once self.now }
+    {
+        is_left(&self.inet) || is_left(&self.inet6)
     }
 
-    pub(crate) fn is_tried_again(&self) -> bool {
-        let (inet, inet6) = (self.inet.as_ref(), self.inet6.as_ref());
-        inet.is_some_and(|inet| inet.is_tried_again())
-            || inet6.is_some_and(|inet6| inet6.is_tried_again())
+    pub(crate) fn is_tried_again(&self) -> bool
+        ensures { result ≡ of_forwards is_after_wait self.now }
+    {
+        is_tried_again(&self.inet) || is_tried_again(&self.inet6)
     }
 }

@@ -1,4 +1,9 @@
 //! Sockets that a service manager handed over, and what the daemon has each of them for.
+ghost use Rattle.std.specs.Prelude.{◌≡◌};
+ghost use Rattle.std.specs.List.{list_any};
+ghost use Rattle.rb_address.specs.Hosts.{is_same_host};
+ghost use Rattle.rb_sockets.specs.Handed.{has_all_of};
+
 use crate::few::{Few, MOST};
 use crate::settings::Settings;
 use mio::net::{TcpListener, UdpSocket, UnixListener};
@@ -197,8 +202,10 @@ impl Handed {
     }
 
     /// Whether there are a listener and a socket of datagrams of a host.
-    pub(crate) fn has_all_of(&self, host: Host) -> bool {
-        self.tcp.iter().any(|at| at.host == host) && self.udp.iter().any(|at| at.host == host)
+    pub(crate) fn has_all_of(&self, host: Host) -> bool
+        ensures { result ≡ has_all_of host self.now }
+    {
+        is_one_at(self.tcp.as_slice(), host) && is_one_at(self.udp.as_slice(), host)
     }
 
     /// The listener over TCP at a host, if it was handed over and not taken yet.
@@ -222,6 +229,13 @@ fn push<T: Drop>(all: &mut Vec<T>, value: T) -> Result<(), HandedFault> {
         Ok(()) => Ok(()),
         Err(error) => Err(HandedFault::Memory(AllocError::from(error))),
     }
+}
+
+/// Whether one of these is a socket of the host.
+fn is_one_at<S: Drop>(all: &[At<S>], host: Host) -> bool
+    ensures { result ≡ list_any (λ at. is_same_host at.host host) all.now }
+{
+    all.iter().any(|at| at.host == host)
 }
 
 fn take_at<S: Drop>(all: &mut Vec<At<S>>, host: Host) -> Option<S> {

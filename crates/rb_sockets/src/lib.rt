@@ -2,7 +2,9 @@
 //! ends. Nothing here knows the core.
 #![tactic(auto)]
 
+mod arrival;
 mod calls;
+mod datagrams;
 mod descriptors;
 mod environment;
 mod faults;
@@ -21,7 +23,9 @@ mod tables;
 mod user_namespace;
 mod watched;
 
-pub use calls::{CallSocket, CallSockets, ForwardSocket, ForwardSockets};
+pub use arrival::{Arrival, Ends};
+pub use calls::{Asker, CallSocket, CallSockets, ForwardSocket, ForwardSockets};
+pub use datagrams::{Datagrams, reply_to_forwarded};
 pub use descriptors::{Shortage, open_files};
 pub use environment::{own_notifier, own_watchdog_pause, take_handed};
 pub use faults::{BindFault, DaemonFault, SocketFault, Step};
@@ -30,7 +34,7 @@ pub use follow::{AddressNews, Follower};
 pub use handed::{Handed, HandedFault, HandedOver, HandedSocket};
 pub use hosts::{lacks_loopback6, missing_host};
 pub use laws::address_examples;
-pub use listener::{Ends, Listener, Visitor};
+pub use listener::{Listener, Visitor};
 pub use machine::{Listing, Search};
 pub use rb_policy::log_choice::Logged;
 pub use settings::{LocalSocket, Settings};

@@ -1,55 +1,39 @@
 //! Where connections come in, and who comes there.
+ghost use Rattle.std.specs.Prelude.{◌≡◌};
+ghost use Rattle.rb_sockets.specs.Arrivals.{visitor_of, first_arrival};
+
+use crate::arrival::{Arrival, Ends};
 use crate::faults::{BindFault, Step};
 use crate::local::LocalListener;
 use crate::stream::Stream;
 use mio::net::TcpListener;
 use mio::{Interest, Registry, Token};
-use rb_address::{Host, Network, Peer, Source, Who};
+use rb_address::{Host, Network, Peer};
 use rb_descriptors::tcp_listener;
-use rb_policy::{ANY, Beliefs, Entrance, Evidence, asker, ip_of, is_shown, sender, trust_of};
+use rb_policy::{Beliefs, Evidence, asker, ip_of, is_shown, sender};
 use std::fs::Files;
 use std::io;
 use std::io::ErrorKind;
 use std::net::{Net, SocketAddr};
 use std::os::fd::{AsRawFd, RawFd};
 
-/// The two ends of a connection over TCP.
-#[derive(Clone, Copy)]
-pub struct Ends {
-    /// Who is at the other end.
-    pub theirs: Peer,
-    /// Our own end: the host that was asked, and its port.
-    pub ours: Peer,
-    /// What is believed.
-    pub beliefs: Beliefs,
-}
-
-impl Ends {
-    /// Who that is, by what the kernel's tables show.
-    pub fn who(self, evidence: Evidence) -> Who {
-        Who {
-            source: Source::Inet(self.theirs),
-            asked: self.ours.host(),
-            trust: trust_of(self.beliefs, Entrance::Tcp(self.theirs, evidence)),
-        }
-    }
-}
-
 /// Whose a connection is, as far as its accept tells.
 #[derive(Clone, Copy)]
 pub enum Visitor {
     /// All is known of it.
-    Known(Who),
+    Known(Arrival),
     /// It is from this host over TCP: the kernel's tables show whose it is.
     Unknown(Ends),
 }
 
 impl Visitor {
-    /// Where it came from.
-    pub fn source(self) -> Source {
+    /// How it came in, before the kernel's tables show whose it is.
+    pub fn arrival(self) -> Arrival
+        ensures { result ≡ first_arrival self }
+    {
         match self {
-            Visitor::Known(who) => who.source,
-            Visitor::Unknown(ends) => Source::Inet(ends.theirs),
+            Visitor::Known(arrival) => arrival,
+            Visitor::Unknown(ends) => ends.arrival(Evidence::NotFound),
         }
     }
 }
@@ -84,8 +68,7 @@ impl Listener {
         }
     }
 
-    // ASKED-2: A connection over TCP asked the host of its own end, also if the listener has every
-    // host; one on the local socket asked none.
+    // ASKED-2
     /// A connection, and whose it is when these networks are served. One that is nobody's must be closed.
     pub fn accept<R: Files>(
         &mut self,
@@ -97,19 +80,18 @@ impl Listener {
                 let (stream, from) = listener.accept()?;
                 let stream = Stream::Tcp(stream);
                 let visitor = match asker(networks, sender(from)) {
-                    Some(theirs) => Some(visitor_at(&stream, theirs, *beliefs)),
+                    Some(theirs) => Some(visitor_of(Ends {
+                        theirs,
+                        ours: stream.own_end(),
+                        beliefs: *beliefs,
+                    })),
                     None => None,
                 };
                 Ok((stream, visitor))
             }
             Listener::Local(local) => {
-                let (stream, trust) = local.accept(rt)?;
-                let who = Who {
-                    source: Source::Local,
-                    asked: Host::V4(ANY),
-                    trust,
-                };
-                Ok((Stream::Local(stream), Some(Visitor::Known(who))))
+                let (stream, arrival) = local.accept(rt)?;
+                Ok((Stream::Local(stream), Some(Visitor::Known(arrival))))
             }
             Listener::Closed => Err(io::Error::from(ErrorKind::WouldBlock)),
         }
@@ -158,16 +140,13 @@ impl Listener {
     }
 }
 
-/// Whose a connection over TCP is that came from this peer.
-fn visitor_at(stream: &Stream, theirs: Peer, beliefs: Beliefs) -> Visitor {
-    let ends = Ends {
-        theirs,
-        ours: stream.own_end(),
-        beliefs,
-    };
-    if is_shown(beliefs.claims, theirs) {
+/// Whose a connection over TCP of these ends is.
+fn visitor_of(ends: Ends) -> Visitor
+    ensures { result ≡ visitor_of ends }
+{
+    if is_shown(ends.beliefs.claims, ends.theirs) {
         Visitor::Unknown(ends)
     } else {
-        Visitor::Known(ends.who(Evidence::NotFound))
+        Visitor::Known(ends.arrival(Evidence::NotFound))
     }
 }

@@ -2,13 +2,14 @@
 ghost use Rattle.std.specs.Prelude.{IfOk};
 ghost use Rattle.rb_policy.specs.LocalFile.{IsRootsByMode};
 
+use crate::arrival::Arrival;
 use crate::settings::LocalSocket;
 use mio::net::{UnixListener, UnixStream};
-use rb_address::Trust;
+use rb_address::Host;
 use rb_policy::handed::entrance_handed;
 use rb_policy::{
-    Beliefs, Entrance, FileAction, FileState, SeenFile, entrance_now, entrance_of, file_action,
-    is_nothing_there, next_try, obstacle_text, state_by_connect, trust_of,
+    ANY, Beliefs, Entrance, FileAction, FileState, SeenFile, entrance_now, entrance_of,
+    file_action, is_nothing_there, next_try, obstacle_text, state_by_connect,
 };
 use std::alloc::{AllocError, Global};
 use std::fs::{Files, Permissions};
@@ -60,12 +61,17 @@ impl LocalListener {
         }
     }
 
-    /// A connection, and how far its caller is trusted. The file is looked at after the accept: whoever came while it was
-    /// another one, or open to others, is not root.
-    pub(crate) fn accept<R: Files>(&mut self, rt: &R) -> io::Result<(UnixStream, Trust)> {
+    /// A connection, and how its caller came in. The file is looked at after the accept: whoever came while it was another
+    /// one, or open to others, is not root.
+    pub(crate) fn accept<R: Files>(&mut self, rt: &R) -> io::Result<(UnixStream, Arrival)> {
         let (stream, _) = self.listener.accept()?;
         self.look(rt);
-        Ok((stream, trust_of(self.beliefs, self.entrance)))
+        let arrival = Arrival {
+            beliefs: self.beliefs,
+            entrance: self.entrance,
+            asked: Host::V4(ANY),
+        };
+        Ok((stream, arrival))
     }
 
     /// Looks at the file, if the socket is root's by it.

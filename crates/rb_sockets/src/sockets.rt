@@ -1,8 +1,10 @@
 //! The daemon's own sockets. Each kind is a type of its own, so that nothing goes out on the wrong one.
-ghost use Rattle.std.specs.Prelude.{◌≡◌};
+ghost use Rattle.std.specs.Prelude.{◌≡◌, ⊤};
 ghost use Rattle.rb_sockets.specs.Events.{shown_by, family_at, MayBeShown};
+ghost use Rattle.rb_sockets.specs.Watching.{is_at_once, is_after_wait, of_datagrams, of_listeners, of_all};
 
 use crate::calls::{CallSocket, CallSockets, ForwardSocket, ForwardSockets};
+use crate::datagrams::Datagrams;
 use crate::faults::{BindFault, Step};
 use crate::few::MOST;
 use crate::follow::{AddressNews, Follower};
@@ -14,11 +16,11 @@ use crate::user_namespace::unmapped;
 use crate::watched::Watched;
 use mio::net::UnixListener;
 use mio::{Registry, Token};
-use rb_address::{Family, Host};
+use rb_address::{Family, Host, Peer, Source};
 use rb_descriptors::least_free;
 use rb_policy::machine::AddressChange;
 use rb_policy::{
-    ANY, Beliefs, LOOPBACK, LOOPBACK6, WaysBack, binds_every_inet, binds_loopback6, forwards_inet,
+    ANY, Beliefs, LOOPBACK, LOOPBACK6, binds_every_inet, binds_loopback6, forwards_inet,
     forwards_inet6, has_every_host, has_every_inet, ip_of, takes_abstract_name,
 };
 use std::alloc::{AllocError, Global};
@@ -82,7 +84,6 @@ impl Sockets {
         settings: &Settings<'_>,
         handed: Handed,
     ) -> Result<Sockets, BindFault> {
-        let ways_back = WaysBack::new(alloc, settings.limits.forwards)?;
         let mut inet = Inet::bind(alloc, rt, settings, handed)?;
         let forwards = bind_forwards(rt, settings)?;
         let abstract_name = inet.bind_local(alloc, rt, settings)?;
@@ -94,7 +95,7 @@ impl Sockets {
             ..
         } = inet;
         Ok(Sockets {
-            calls: CallSockets { all, ways_back },
+            calls: CallSockets { all },
             forwards,
             listeners,
             are_claims_believed: beliefs.claims,
@@ -316,21 +317,57 @@ impl Sockets {
     }
 
     /// Whether one of them on which datagrams come in must be served at once.
-    pub fn are_datagrams_left(&self) -> bool {
+    pub fn are_datagrams_left(&self) -> bool
+        ensures { result ≡ of_datagrams is_at_once self.now }
+    {
         self.forwards.is_left() || self.calls.is_left()
     }
 
     /// Whether one of them must be served at once.
-    pub fn is_something_left(&self) -> bool {
-        self.are_datagrams_left() || self.listeners.iter().any(|listener| listener.is_left())
+    pub fn is_something_left(&self) -> bool
+        ensures { result ≡ of_all is_at_once self.now }
+    {
+        self.are_datagrams_left() || self.are_listeners_left()
+    }
+
+    fn are_listeners_left(&self) -> bool
+        ensures { result ≡ of_listeners is_at_once self.now }
+    {
+        self.listeners.iter().any(|listener| listener.is_left())
     }
 
     /// Whether one of them must be served after a wait though no event shows it.
-    pub fn is_tried_again(&self) -> bool {
-        let mut listeners = self.listeners.iter();
+    pub fn is_tried_again(&self) -> bool
+        ensures { result ≡ of_all is_after_wait self.now }
+    {
         self.forwards.is_tried_again()
             || self.calls.is_tried_again()
-            || listeners.any(|listener| listener.is_tried_again())
+            || self.are_listeners_tried_again()
+    }
+
+    fn are_listeners_tried_again(&self) -> bool
+        ensures { result ≡ of_listeners is_after_wait self.now }
+    {
+        self.listeners
+            .iter()
+            .any(|listener| listener.is_tried_again())
+    }
+}
+
+// What is believed of the system: a socket that is handed a datagram sends these bytes there.
+impl Datagrams for Sockets {
+    ghost sends = { λ old datagram new. ⊤ };
+
+    fn reply(&mut self, socket: usize, to: Source, reply: &[u8]) {
+        if let (Some(calls), Source::Inet(peer)) = (self.calls.all.get(socket), to) {
+            calls.socket.reply(reply, peer);
+        }
+    }
+
+    fn call(&mut self, target: Peer, call: &[u8]) {
+        if let Some(forwards) = self.forwards.of(target.family()) {
+            forwards.socket.call(call, target);
+        }
     }
 }
 

@@ -1,4 +1,6 @@
 //! The kernel's tables of connections, read in slices.
+ghost use Rattle.std.specs.Prelude.{◌≡◌, []};
+
 use rb_address::Family;
 use rb_evidence::{Lines, SLICE, Sight};
 use rb_policy::is_nothing_there;
@@ -55,7 +57,10 @@ impl<H: Files> Table<H> {
     }
 
     /// Opens the table of a family. Whether there is one: a system without IPv6 has none of IPv6, and no such connection.
-    pub fn open(&mut self, rt: &H, family: Family) -> Result<bool, TableFault> {
+    pub fn open(&mut self, rt: &H, family: Family) -> Result<bool, TableFault>
+        ensures lines { self.new.lines ≡ [] }
+        ensures family { self.new.family ≡ family }
+    {
         self.lines.clear();
         self.family = family;
         self.file = None;

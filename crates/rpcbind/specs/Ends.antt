@@ -2,6 +2,8 @@
 use Rattle.std.specs.Prelude.{ℕ, List, ◌++◌, codes, decimal, Result, Ok, Err}
 use Rattle.rb_sockets.specs.declared.faults.DaemonFault.{DaemonFault}
 use Rattle.rb_sockets.specs.declared.faults.DaemonFault.TheVariants.{Memory, Limits as OfLimits, Socket}
+use Rattle.rb_sockets.specs.declared.handed.HandedFault.{HandedFault}
+use Rattle.rb_sockets.specs.declared.handed.HandedFault.TheVariants as handed
 use Rattle.rb_daemon.specs.declared.load.Load.{Load}
 use Rattle.rb_address.specs.Peers.{bare_host_text}
 use Rattle.rpcbind.specs.declared.ending.End.{End as Ending}
@@ -22,6 +24,13 @@ abbrev pub end_at_start : DaemonFault → Ending
 end_at_start (Memory error) = Failed
 end_at_start OfLimits = NotStarted
 end_at_start (Socket failed) = NotStarted
+
+-- by the fault of sockets that were handed over
+-- EXIT-1
+abbrev pub end_by_handed : HandedFault → Ending
+end_by_handed (handed.Memory error) = Failed
+end_by_handed handed.Count = NotStarted
+end_by_handed (handed.Socket socket) = NotStarted
 
 -- after the turns
 -- EXIT-1

@@ -2,3 +2,4 @@ pub mod Faults
 pub mod Starts
 pub mod Levels
 pub mod Ends
+pub mod Foreign

@@ -1,9 +1,11 @@
 -- What a start says.
-use Rattle.std.specs.Prelude.{ℕ, Bool, true, false, List, [], ◌++◌, codes, decimal, Option, Some, None}
+use Rattle.std.specs.Prelude.{ℕ, ◌==◌, Bool, true, false, ◌&&◌, if◌then◌else◌, List, [], ◌∷◌, ◌++◌, codes, decimal, Option, Some, None}
 use Rattle.std.specs.List.{flat_map}
 use Rattle.rb_address.specs.declared.host.Host.{Host}
+use Rattle.rb_address.specs.declared.host.Host.TheVariants.{V4, V6}
 use Rattle.rb_address.specs.Peers.{bare_host_text}
 use Rattle.rb_policy.specs.Addresses.{binds_loopback6}
+use Rattle.rb_proto.specs.declared.listener.Announced.{Announced}
 use Rattle.rb_sockets.specs.declared.settings.LocalSocket.{LocalSocket}
 use Rattle.rb_sockets.specs.declared.descriptors.Shortage.{Shortage}
 use Rattle.rb_sockets.specs.declared.settings.Settings.{Settings}
@@ -46,3 +48,26 @@ abbrev pub shortage_line : Shortage → List ℕ
 shortage_line short =
     codes "rpcbind: the limit of open files is " ++ decimal short.limit ++ codes ", --conns " ++ decimal short.asked
     ++ codes " needs " ++ decimal short.needed ++ codes ": " ++ decimal short.places ++ codes " connections at a time"
+
+-- at this port, of a machine that has no ::1 or has it
+-- START-4: If programs of this machine register here, so at port 111, and it makes sockets of IPv6 and has no ::1, a start says
+-- what that means for those that are linked with libtirpc.
+abbrev pub loopback6_text : ℕ → Bool → Option (List ℕ)
+loopback6_text port is_missing =
+    if port == 111 && is_missing
+    then Some (codes "rpcbind: ::1 is no address of this machine: users but root register only if /etc/netconfig has no tcp6")
+    else None
+
+-- ---- the hosts that are announced, of which programs of kept rows are of this machine
+
+abbrev pub inet_of : Option (List ℕ) → List Host
+inet_of None = []
+inet_of (Some octets) = V4 octets ∷ []
+
+abbrev pub inet6_of : Option (List ℕ) → List Host
+inet6_of None = []
+inet6_of (Some octets) = V6 octets ∷ []
+
+-- KEEPCHECK-1
+abbrev pub hosts_of : Announced → List Host
+hosts_of announced = inet_of announced.inet ++ inet6_of announced.inet6

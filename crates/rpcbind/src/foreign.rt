@@ -1,5 +1,6 @@
 //! Settings that were made for another rpcbind: options of Debian's, and the files of tcpd.
-ghost use Rattle.std.specs.Prelude.{◌≤◌, IfErr};
+ghost use Rattle.std.specs.Prelude.{◌≡◌, ◌≤◌, IfErr};
+ghost use Rattle.rpcbind.specs.Foreign.{is_service, is_between};
 
 use crate::files::text_of;
 use crate::leveled::{Level, Leveled};
@@ -261,7 +262,9 @@ fn add_text<E: Write>(
 }
 
 /// Whether a name in a line of these files is that of the service, at one host or at each.
-fn is_service(name: &[u8]) -> bool {
+fn is_service(name: &[u8]) -> bool
+    ensures { result ≡ is_service name.now }
+{
     let name = match cut(name, b'@') {
         Some((name, _)) => name,
         None => name,
@@ -269,7 +272,9 @@ fn is_service(name: &[u8]) -> bool {
     name == b"rpcbind".as_slice() || name == b"portmap".as_slice() || name == b"ALL".as_slice()
 }
 
-fn is_between(byte: u8) -> bool {
+fn is_between(byte: u8) -> bool
+    ensures { result ≡ is_between byte }
+{
     byte == b' ' || byte == b'\t' || byte == b','
 }
 

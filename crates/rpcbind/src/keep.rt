@@ -1,4 +1,7 @@
 //! What `serve` begins with of the rows that were kept, and what it says of them.
+ghost use Rattle.std.specs.Prelude.{◌≡◌};
+ghost use Rattle.rpcbind.specs.Starts.{hosts_of};
+
 use crate::ending::End;
 use crate::leveled::{Level, Leveled};
 use rb_address::Host;
@@ -8,9 +11,10 @@ use rb_daemon::KeepNews;
 use rb_files::{KeptFileFault, LockFault, lock_file, read_kept};
 use rb_keep::{KeepFault, read_rows, whole_part};
 use rb_lines::{Fault, explain, longest_input};
+use rb_policy::ANY;
 use rb_proto::Announced;
 use rb_registry::Row;
-use rb_sockets::Settings;
+use rb_sockets::{Few, Settings};
 use std::alloc::{AllocError, Global};
 use std::fmt;
 use std::fmt::{Display, Formatter};
@@ -158,23 +162,30 @@ fn without_silent<R: Net + Clock + AllocGlobal, E: Write>(
     Ok(answering)
 }
 
+/// The hosts that are announced.
+fn hosts_of(announced: Announced) -> Few<Host>
+    ensures { result ≡ hosts_of announced }
+{
+    let mut hosts = Few::new(Host::V4(ANY));
+    if let Some(octets) = announced.inet {
+        hosts.push(Host::V4(octets));
+    }
+    if let Some(octets) = announced.inet6 {
+        hosts.push(Host::V6(octets));
+    }
+    hosts
+}
+
 /// What is known of who answers at the address of each row.
 fn ask_rows<R: Net + Clock + AllocGlobal>(
     rt: &R,
     settings: &Settings<'_>,
     rows: &[Row],
 ) -> Result<Vec<Found>, AllocError> {
-    let Announced { inet, inet6 } = settings.announced();
-    let mut announced = Vec::new(rt.alloc());
-    if let Some(octets) = inet {
-        announced.push(Host::V4(octets))?;
-    }
-    if let Some(octets) = inet6 {
-        announced.push(Host::V6(octets))?;
-    }
+    let announced = hosts_of(settings.announced());
     let own = OwnHosts {
         bound: settings.bind.as_slice(),
-        announced: &announced,
+        announced: announced.as_slice(),
     };
     ask_all(rt, rt.alloc(), rows, own)
 }

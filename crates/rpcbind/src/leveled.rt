@@ -1,6 +1,8 @@
 //! Lines of standard error, with a priority in front where the journal reads them (sd-daemon(3)).
-ghost use Rattle.std.specs.Prelude.{◌≡◌, ◌≤◌, length};
-ghost use Rattle.rpcbind.specs.Levels.{mark_of};
+ghost use Rattle.std.specs.Prelude.{◌≡◌, ◌≤◌, ◌^◌, length};
+ghost use Rattle.rb_address.specs.Reading.{number_below};
+ghost use Rattle.rb_policy.specs.Handed.{is_number};
+ghost use Rattle.rpcbind.specs.Levels.{mark_of, names_file};
 
 use rb_address::{cut, number_below};
 use std::env::{self, Env};
@@ -113,17 +115,27 @@ impl<W: Write + Drop> Write for Leveled<W> {
     }
 }
 
-/// Whether the text of JOURNAL_STREAM names this device and inode.
-fn names_file(text: &str, device: u64, inode: u64) -> bool {
-    match cut(text.as_bytes(), b':') {
-        Some((named_device, named_inode)) => {
-            number_below(named_device) == Some(device) && number_below(named_inode) == Some(inode)
-        }
+/// Whether the text is this number.
+fn is_number(text: &[u8], number: u64) -> bool
+    ensures { result ≡ is_number number (number_below (2 ^ 64) text.now) }
+{
+    match number_below(text) {
+        Some(named) => number == named,
         None => false,
     }
 }
 
-// LEVEL-2: Lines of standard error have marks if JOURNAL_STREAM names its device and inode, and else none.
+/// Whether the text of JOURNAL_STREAM names this device and inode.
+fn names_file(text: &str, device: u64, inode: u64) -> bool
+    ensures { result ≡ names_file device inode text.now }
+{
+    match cut(text.as_bytes(), b':') {
+        Some((named, rest)) => is_number(named, device) && is_number(rest, inode),
+        None => false,
+    }
+}
+
+// LEVEL-2
 /// Whether standard error goes to the journal of systemd (systemd.exec(5), JOURNAL_STREAM).
 pub fn is_journal<R: Env + Files + AllocGlobal>(rt: &R) -> bool {
     let Ok(named) = env::var(rt, "JOURNAL_STREAM") else {

@@ -1,5 +1,8 @@
 //! What `serve` says of its start and of its end.
 ghost use Rattle.std.specs.Prelude.{◌≡◌, IfErr, OnOk};
+ghost use Rattle.std.specs.Option.{option_map};
+ghost use Rattle.rpcbind.specs.Ends.{end_by_handed};
+ghost use Rattle.rpcbind.specs.Starts.{loopback6_text};
 ghost use Rattle.rpcbind.specs.Faults.{WritesFront, HasWritten, fault_front, TellsFault};
 
 use crate::ending::End;
@@ -135,20 +138,30 @@ pub fn say_address<E: Write>(port: u16, news: AddressNews, faults: &mut E) {
 /// The port of the portmapper (RFC 1833 section 3.1).
 const PORTMAPPER: u16 = 111;
 
-// START-4: If programs of this machine register here, so at port 111, and it makes sockets of IPv6 and has no ::1, a start says
-// what that means for those that are linked with libtirpc.
+/// What is said at this port of a machine that has no ::1, if it has none.
+fn loopback6_text(port: u16, is_missing: bool) -> Option<&'static str>
+    ensures { option_map (λ text. text.now) result ≡ loopback6_text port is_missing }
+{
+    if port == PORTMAPPER && is_missing {
+        Some(
+            "rpcbind: ::1 is no address of this machine: users but root register only if /etc/netconfig has no tcp6",
+        )
+    } else {
+        None
+    }
+}
+
 /// Says that the machine has no ::1, if programs of it register here, of which those of other users than root need it.
 pub fn say_loopback6<E: Write>(settings: &Settings<'_>, is_missing: bool, faults: &mut E) {
-    if settings.port == PORTMAPPER && is_missing {
-        let _ = writeln!(
-            faults,
-            "rpcbind: ::1 is no address of this machine: users but root register only if /etc/netconfig has no tcp6"
-        );
+    if let Some(text) = loopback6_text(settings.port, is_missing) {
+        let _ = writeln!(faults, "{text}");
     }
 }
 
 /// Says why sockets that a service manager handed over are not taken.
-pub fn explain_handed<E: Write>(fault: &HandedFault, faults: &mut E) -> End {
+pub fn explain_handed<E: Write>(fault: &HandedFault, faults: &mut E) -> End
+    ensures { result ≡ end_by_handed fault.now }
+{
     let _ = writeln!(faults, "rpcbind: {fault}");
     match fault {
         HandedFault::Memory(_) => End::Failed,

@@ -1,5 +1,6 @@
 //! Users by their names in `--reserve` of `serve`: /etc/passwd has their uids (passwd(5)).
 ghost use Rattle.std.specs.Prelude.{◌≤◌, ◌≡◌, IfErr};
+ghost use Rattle.rpcbind.specs.Foreign.{uid_behind, uid_in};
 
 use crate::files::text_of;
 use rb_address::{cut, plain_number};
@@ -12,16 +13,25 @@ const PASSWD: &str = "/etc/passwd";
 
 const OPTION: &str = "--reserve";
 
-/// The uid of the user of this name, if the line is that user's.
-fn uid_in(line: &[u8], name: &[u8]) -> Option<u32> {
-    let (own, rest) = cut(line, b':')?;
-    if own != name {
-        return None;
-    }
+/// The same with a value behind it.
+const WITH_VALUE: &str = "--reserve=";
+
+/// The uid in a line, behind the name and a password.
+fn uid_behind(rest: &[u8]) -> Option<u32>
+    ensures { result ≡ uid_behind rest.now }
+{
     let (_, rest) = cut(rest, b':')?;
     let (uid, _) = cut(rest, b':')?;
     let uid = plain_number(uid, 1 << 32)?;
     Some(uid as u32)
+}
+
+/// The uid of the user of this name, if the line is that user's.
+fn uid_in(line: &[u8], name: &[u8]) -> Option<u32>
+    ensures { result ≡ uid_in name.now line.now }
+{
+    let (own, rest) = cut(line, b':')?;
+    if own == name { uid_behind(rest) } else { None }
 }
 
 /// The uid of the user of this name: that of the first such line.
@@ -35,9 +45,10 @@ fn uid_of(passwd: &[u8], name: &[u8]) -> Option<u32> {
     None
 }
 
-/// The programs and the user of a value of the option, if it names a user by something else than a number.
-fn user_named(value: &str) -> Option<(&str, &str)> {
-    let (programs, name) = value.split_once('=')?;
+/// What stands before the user in a value of the option or in the whole word, and the user, if it is named by something else
+/// than a number.
+fn user_named(word: &str) -> Option<(&str, &str)> {
+    let (programs, name) = word.rsplit_once('=')?;
     let first = name.as_bytes().first()?;
     if first.is_ascii_digit() {
         None
@@ -74,7 +85,7 @@ pub fn name_users<R: Files + AllocGlobal, E: Write>(
         if place == 1 && word.as_str() != "serve" {
             return Ok(());
         }
-        if is_value {
+        if is_value || word.starts_with(WITH_VALUE) {
             name_user(rt, word, faults)?;
         }
         is_value = word.as_str() == OPTION;
@@ -82,7 +93,7 @@ pub fn name_users<R: Files + AllocGlobal, E: Write>(
     Ok(())
 }
 
-/// Puts the uid in the place of a user's name in one value.
+/// Puts the uid in the place of a user's name in one value, or in a word that ends with it.
 fn name_user<R: Files + AllocGlobal, E: Write>(
     rt: &R,
     value: &mut String,

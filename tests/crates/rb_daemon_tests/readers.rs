@@ -180,7 +180,8 @@ fn slow_reader_stays(rt: HostRuntime) -> Result<(), Fail> {
     Ok(())
 }
 
-/// What the core has given waits in the daemon alone: no deadline of the core is as near. A turn waits until it is due.
+/// What the core has given waits in the daemon alone: no deadline of the core is as near. A turn waits until it is due,
+/// though the place behind it is free.
 fn gives_up_the_full(rt: &HostRuntime, host: &mut Host<'_>, clock: &Stopped) -> Option<bool> {
     let are_set = sets_other_rows(rt, host, clock)?;
     let reader = full_reader(rt, host)?;
@@ -198,7 +199,7 @@ fn gives_up_the_full(rt: &HostRuntime, host: &mut Host<'_>, clock: &Stopped) -> 
 #[test]
 fn full_socket_is_given_up(rt: HostRuntime) -> Result<(), Fail> {
     let clock = Stopped::new(&rt);
-    let mut host = new_host(&rt, &clock, 1)?;
+    let mut host = new_host(&rt, &clock, 2)?;
     assert_eq!(rt; gives_up_the_full(&rt, &mut host, &clock), Some(true));
     Ok(())
 }

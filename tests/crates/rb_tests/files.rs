@@ -108,10 +108,12 @@ fn one_has_the_lock_of_a_file(rt: HostRuntime) -> Result<(), Fail> {
     assert!(rt; matches!(lock_file(&rt, path), Err(LockFault::Held)));
     drop(first);
     assert!(rt; lock_file(&rt, path).is_ok());
-    fs::remove_file(&rt, path)?;
-    symlink(&rt, "nowhere", path)?;
+    let other = "rb_files_locked.other";
+    fs::rename(&rt, path, other)?;
+    symlink(&rt, other, path)?;
     assert!(rt; matches!(lock_file(&rt, path), Err(LockFault::Failed(_))));
     fs::remove_file(&rt, path)?;
+    fs::remove_file(&rt, other)?;
     Ok(())
 }
 

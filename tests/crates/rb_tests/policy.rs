@@ -237,11 +237,13 @@ fn changes_wait_and_look_ups_do_not(rt: HostRuntime) {
 #[test]
 fn slices_leave_time(rt: HostRuntime) {
     let mut share = Share::new();
-    assert!(rt; share.may_read(1000, false));
-    share.note_read(1000);
+    assert!(rt; share.reads(1000, false));
     share.begin_turn(1004);
-    assert!(rt; !share.may_read(1015, false) && share.may_read(1015, true));
-    assert!(rt; share.may_read(1016, false));
+    assert!(rt; !share.reads(1015, false));
+    share.begin_turn(1015);
+    assert!(rt; share.reads(1016, false));
+    share.begin_turn(1020);
+    assert!(rt; share.reads(1021, true));
 }
 
 // WAIT-2

@@ -1,14 +1,27 @@
 use Rattle.rb_daemon.proofs.Reached.{bytes_are, forward_records, forward_served, ignored_records, ignored_served}
+use Rattle.rb_daemon.proofs.Sendings.{ignored_sends, ignored_ways, told_sends, told_ways}
 use Rattle.rb_daemon.proofs.engine.Engine.take_forward_reply.Goals as goal
 
 pub invariant_of-self : goal.invariant_of-self
-invariant_of-self c = record { served = ignored_served _ c.forward_reply.new.self.core c.args.self.now.moment c.args.sender.peer _ _ _ c.in_default.ensures.acts c.«record».ensures c.args.self.now.fits c.args.sender.is_peer (bytes_are c.args.content.now (λ i. (c.type_inv.content i).fits)) c.args.self.now.served; fits = c.args.self.now.fits }
+invariant_of-self g c = record { served = ignored_served _ c.forward_reply.new.self.core c.args.self.now.moment c.args.sender.peer _ _ _ c.in_default.ensures.acts c.«record».ensures c.args.self.now.fits c.args.sender.is_peer (bytes_are c.args.content.now (λ i. (c.type_inv.content i).fits)) c.args.self.now.served; fits = c.args.self.now.fits }
 
 pub returns-in_default-clause-recorded : goal.returns-in_default-clause-recorded
-returns-in_default-clause-recorded c = ignored_records _ c.forward_reply.new.self.core c.args.self.now.moment c.args.sender.peer _ _ _ c.in_default.ensures.acts c.«record».ensures
+returns-in_default-clause-recorded g c = ignored_records _ c.forward_reply.new.self.core c.args.self.now.moment c.args.sender.peer _ _ _ c.in_default.ensures.acts c.«record».ensures
 
 pub invariant_of-self-2 : goal.invariant_of-self-2
-invariant_of-self-2 c = record { served = forward_served _ c.forward_reply.new.self.core _ _ c.args.self.now.moment c.args.sender.peer _ _ _ _ c.tell.ensures.core c.in-Some.ensures.acts c.tell.ensures.recorded c.args.self.now.fits c.args.sender.is_peer (bytes_are c.args.content.now (λ i. (c.type_inv.content i).fits)) c.args.self.now.served; fits = c.args.self.now.fits }
+invariant_of-self-2 g c = record { served = forward_served _ c.forward_reply.new.self.core _ _ c.args.self.now.moment c.args.sender.peer _ _ _ _ c.tell.ensures.core c.in-Some.ensures.acts c.tell.ensures.recorded c.args.self.now.fits c.args.sender.is_peer (bytes_are c.args.content.now (λ i. (c.type_inv.content i).fits)) c.args.self.now.served; fits = c.args.self.now.fits }
 
 pub returns-clause-recorded : goal.returns-clause-recorded
-returns-clause-recorded c = forward_records _ c.forward_reply.new.self.core c.args.self.now.moment c.args.sender.peer _ _ _ _ c.in-Some.ensures.acts c.tell.ensures.recorded
+returns-clause-recorded g c = forward_records _ c.forward_reply.new.self.core c.args.self.now.moment c.args.sender.peer _ _ _ _ c.in-Some.ensures.acts c.tell.ensures.recorded
+
+pub returns-in_default-clause-sent : goal.returns-in_default-clause-sent
+returns-in_default-clause-sent g c = λ s h. ignored_sends g.S.Datagrams.sends c.args.ways.now.all _ _ (c.in_default.ensures.acts.gives s h)
+
+pub returns-in_default-clause-ways : goal.returns-in_default-clause-ways
+returns-in_default-clause-ways g c = λ s h. ignored_ways _ _ (c.in_default.ensures.acts.gives s h)
+
+pub returns-clause-sent : goal.returns-clause-sent
+returns-clause-sent g c = λ s h. told_sends g.S.Datagrams.sends c.args.ways.now.all _ _ _ _ _ (c.in-Some.ensures.acts.gives s h) (c.in-Some.ensures.acts.stands s h).reply c.tell.ensures.sent
+
+pub returns-clause-ways : goal.returns-clause-ways
+returns-clause-ways g c = λ s h. told_ways _ _ _ _ (c.in-Some.ensures.acts.gives s h) c.tell.ensures.ways
