@@ -50,6 +50,7 @@ use Rattle.rb_promises.proofs.OneAnswer.{one_way, one_found_exactly}
 use Rattle.rb_promises.proofs.GivenResults.{bytes_of, results_of, IsOwn, HasBytes, results_are}
 use Rattle.rb_promises.proofs.ForwardedCalls.{goes_or_not, room_or_not, calls_are_forwarded_exactly}
 use Rattle.rb_promises.proofs.KeptWell.{rows_are_well_kept}
+use Rattle.rb_promises.proofs.Versions.{counted_so, one_count}
 
 -- ---- what is sent of results
 
@@ -331,9 +332,10 @@ module _ (context : Context) (l : Ledger) (hosts : HasHosts context) (keys : Hav
   answer_is (NoCall none e) = ap said ((no_calls bytes are).1 none) ∙ sym e
   answer_is (Refused xid status refused e) = ap said ((refused_messages bytes are xid status).1 refused) ∙ sym e
   answer_is (Unreadable head unreadable e) = ap said ((garbage_messages bytes are head).1 unreadable) ∙ sym e
-  answer_is (Asked call begins answered) =
+  answer_is (Asked call counted begins counts answered) =
       ap said ((asked_messages bytes are call).1 begins)
-      ∙ call_is context call (arguments_of bytes) (with_call_noted call.head l) hosts keys (has_bytes call.head.vers call.head.proc call.request _ begins.asks) given answered
+      ∙ call_is context call (arguments_of bytes) (with_call_noted call.head l) hosts keys (has_bytes call.head.vers call.head.proc call.request _ begins.asks) given
+      (subst (λ (k : Ledger). AnswersCall context call k given) (one_count call.head l counted counts) answered)
 
   by_message : (message : Message) → message_of bytes ≡ message → said message ≡ given → Answers context l bytes given
   unfolding outcome answer with_call_noted
@@ -342,7 +344,7 @@ module _ (context : Context) (l : Ledger) (hosts : HasHosts context) (keys : Hav
   by_message (says.Garbage head) is e = Unreadable head ((garbage_messages bytes are head).0 is) (sym e)
   by_message (says.Asked call) is e =
       let begins = (asked_messages bytes are call).0 is in
-      Asked call begins
+      Asked call (with_call_noted call.head l) begins (counted_so call.head l)
       (is_call context call (arguments_of bytes) (with_call_noted call.head l) hosts keys (has_bytes call.head.vers call.head.proc call.request _ begins.asks) given e)
 
   is_answer : answer_given context l bytes ≡ given → Answers context l bytes given
