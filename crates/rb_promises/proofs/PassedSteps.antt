@@ -376,6 +376,9 @@ module _ (s : State) (reached : IsReached s) (t : ℕ → Session) (h : (id : �
 
   -- ---- each event
 
+  none_noted : (event : Event) → (step s event).1.ledger.history ≡ s.ledger.history ++ [] → (step s event).1.ledger.history ≡ s.ledger.history
+  none_noted event is = is ∙ append-nil s.ledger.history
+
   look_is : (id : ℕ) → step s (Pending id) ≡ output_or IsPending (pending_on (live_connection id s.connections.all), s)
   unfolding step pending
   look_is id = refl
@@ -385,15 +388,15 @@ module _ (s : State) (reached : IsReached s) (t : ℕ → Session) (h : (id : �
   zeroed = refl
 
   pub happens : (event : Event) → Does event
-  happens (Open now who) = besides (Open now who) tt refl (notes_by s (Open now who), events_are_noted s (Open now who)) (λ id. refl) (λ id. refl) (λ id. refl)
+  happens (Open now who) = besides (Open now who) tt refl (none_noted (Open now who) (events_are_noted s (Open now who))) (λ id. refl) (λ id. refl) (λ id. refl)
   happens (Bytes now id piece) = by_arriving now id piece (bytes s now id piece) refl (arriving s now id piece)
   happens (Pending id) = a_look id (live_connection id s.connections.all) refl (look_is id)
   happens (Gave now id n) = a_gave now id n (live_connection id s.connections.all) refl
   happens (Closed id) = besides (Closed id) tt refl (notes_by s (Closed id), events_are_noted s (Closed id)) (λ k. refl) (λ k. refl) (λ k. refl)
-  happens NextLost = besides NextLost tt refl (notes_by s NextLost, events_are_noted s NextLost) (λ id. refl) (λ id. refl) (λ id. refl)
+  happens NextLost = besides NextLost tt refl (none_noted NextLost (events_are_noted s NextLost)) (λ id. refl) (λ id. refl) (λ id. refl)
   happens (Datagram now who content) = a_datagram now who content
-  happens Unsent = besides Unsent tt refl (notes_by s Unsent, events_are_noted s Unsent) (λ id. refl) (λ id. refl) (λ id. refl)
-  happens (Sent number) = besides (Sent number) tt refl (notes_by s (Sent number), events_are_noted s (Sent number)) (λ id. refl) (λ id. refl) (λ id. refl)
+  happens Unsent = besides Unsent tt refl (none_noted Unsent (events_are_noted s Unsent)) (λ id. refl) (λ id. refl) (λ id. refl)
+  happens (Sent number) = besides (Sent number) tt refl (none_noted (Sent number) (events_are_noted s (Sent number))) (λ id. refl) (λ id. refl) (λ id. refl)
   happens (Forward now from message) =
       by_ended (Forward now from message) tt refl refl (notes_by s (Forward now from message), events_are_noted s (Forward now from message)) (λ id. refl) (λ id. refl)
       message (target_replied s.setting.first_xid (max s.clock now) from message s.ledger).0 (λ id. refl)

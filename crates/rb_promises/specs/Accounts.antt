@@ -1,7 +1,7 @@
 -- A run on a page: what each event and its output make of what passed before (RFC 5531 sections 8 and 11, RFC 1833). Begin at
 -- `Passes`, and read upwards. There is no step and no state of the model in it: what was registered and what was counted follow from
--- the messages and their answers, and these from the page of answers. How forwarded calls end, when connections close and which
--- calls are to be sent is not said here, nor which bytes are refused.
+-- the messages and their answers, and these from the page of answers. Which calls are forwarded at a moment and how they end, when
+-- connections close and which bytes are refused is not said here.
 use Rattle.std.specs.Prelude.{◌≡◌, ◌⊎◌, ⊤, ℕ, max, Bool, true, false, if◌then◌else◌, List, [], ◌∷◌, ◌++◌, length, take, Contains}
 use Rattle.rb_xdr.specs.Xdr.{AreBytes}
 use Rattle.rb_address.specs.declared.who.Who.{Who}
@@ -25,7 +25,7 @@ use Rattle.rb_model.specs.Calls.Outcome.{NoCall, Reply, Forwarded, Silent}
 use Rattle.rb_model.specs.HistoryLaws.{notes_of}
 use Rattle.rb_model.specs.Sessions.{Session, replies_to, with_last_outcome, IsFinal, AwaitsLast, IsFront, AllGiven}
 use Rattle.rb_model.specs.Step.{Event, Output, Output as outputs, longest_to}
-use Rattle.rb_model.specs.Step.Event.{Open, Bytes, Pending, Gave, Datagram, Forward, Expire, ZeroStats}
+use Rattle.rb_model.specs.Step.Event.{Open, Bytes, Pending, Gave, Closed, Datagram, Forward, Expire, ZeroStats}
 use Rattle.rb_model.specs.Step.Output.{Opened, Refused, TooMuch, Took, TookAndLost, IsPending, Done}
 use Rattle.rb_promises.specs.Sets.{AsksToSet, IsAccepted, IsAddedTo, SetsARow}
 use Rattle.rb_promises.specs.Unsets.{IsRemovedFrom, RemovesARow}
@@ -151,10 +151,17 @@ IsBesides (Gave now id n) = ⊥
 IsBesides (Datagram now who content) = ⊥
 IsBesides other = ⊤
 
--- what statistics have after such an event: nothing, if they begin anew, and else a note more if a forwarded call ended
+-- what statistics have after such an event: nothing, if they begin anew, and what they had, with a note more of a forwarded call that
+-- ended
+abbrev pub AddsNotes : List Note → List Note → Type 0
+AddsNotes history new = (ends : List Note) × (new ≡ history ++ ends)
+
 abbrev pub AreNotedBesides : Event → List Note → List Note → Type 0
 AreNotedBesides ZeroStats history new = new ≡ []
-AreNotedBesides other history new = (ends : List Note) × (new ≡ history ++ ends)
+AreNotedBesides (Closed id) history new = AddsNotes history new
+AreNotedBesides (Forward now from message) history new = AddsNotes history new
+AreNotedBesides (Expire now) history new = AddsNotes history new
+AreNotedBesides other history new = new ≡ history
 
 -- ---- one event
 
