@@ -1,5 +1,5 @@
 -- A message that an event brings is answered as the page says, and leaves what the page of runs says.
-use Rattle.std.proofs.Common.{◌≡◌, Bool, true, false, inl, inr, ℕ, Option, Some, None, List, ◌++◌, refl, sym, ap, subst, ◌∙◌, append-nil}
+use Rattle.std.proofs.Common.{◌≡◌, Bool, false, inl, inr, ℕ, Option, Some, None, List, ◌++◌, refl, sym, ap, subst, ◌∙◌, append-nil}
 use Rattle.std.proofs.lemmas.Bool.{true≢false}
 use Rattle.rb_xdr.specs.Xdr.{AreBytes}
 use Rattle.rb_rpc.specs.declared.call.CallHead.{CallHead}

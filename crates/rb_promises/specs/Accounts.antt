@@ -1,6 +1,6 @@
 -- A run on a page: what each event and its output make of what passed before (RFC 5531 sections 8 and 11, RFC 1833). Begin at
--- `Passes`, and read upwards. There is no step and no state of the model in it: what was registered and what was counted follow from
--- the messages and their answers, and these from the page of answers. Which calls are forwarded at a moment and how they end, when
+-- `Passes`, and read upwards. There is no step and no state of the model in it: what was registered and what was counted follow
+-- from the messages and their answers, and these from the page of answers. Which calls are forwarded at a moment and how they end, when
 -- connections close and which bytes are refused is not said here.
 use Rattle.std.specs.Prelude.{◌≡◌, ◌⊎◌, ⊤, ℕ, max, Bool, true, false, if◌then◌else◌, List, [], ◌∷◌, ◌++◌, length, take, Contains}
 use Rattle.rb_xdr.specs.Xdr.{AreBytes}
@@ -32,8 +32,8 @@ use Rattle.rb_promises.specs.Unsets.{IsRemovedFrom, RemovesARow}
 use Rattle.rb_promises.specs.LookUps.{HasHosts}
 use Rattle.rb_promises.specs.Answers.{IsCounted, Answers}
 
--- What passed so far: the last moment, what the calls left, the number of each connection that was opened, with who is at its other
--- end, and for each number the bytes taken and given and the calls in them.
+-- What passed so far: the last moment, what the calls left, the number of each connection that was opened, with who is at its
+-- other end, and for each number the bytes taken and given and the calls in them.
 pub record Account : Type 0 where
   pub clock : ℕ
   pub ledger : Ledger
@@ -151,7 +151,7 @@ IsBesides (Gave now id n) = ⊥
 IsBesides (Datagram now who content) = ⊥
 IsBesides other = ⊤
 
--- what statistics have after such an event: nothing, if they begin anew, and what they had, with a note more of a forwarded call that
+-- what statistics have after such an event: nothing, if they begin anew; else what they had, with a note more if a forwarded call
 -- ended
 abbrev pub AddsNotes : List Note → List Note → Type 0
 AddsNotes history new = (ends : List Note) × (new ≡ history ++ ends)

@@ -188,8 +188,8 @@ pub record IsCounted (head : CallHead) (l new : Ledger) : Type 0 where
   pub left : new ≡ record l { history = l.history ++ Called version head.proc ∷ [] }
 
 -- A message is no call, and has no answer; or it is refused, whatever the daemon holds, by the first of these that is wrong: the
--- version of RPC, the credential (over 400 bytes, say: AUTH_ERROR) and the verifier, the program, its version (PROG_MISMATCH tells 2
--- to 4), the procedure; or its arguments can't be read; or it asks for a procedure.
+-- version of RPC, the credential (over 400 bytes, say: AUTH_ERROR) and the verifier, the program, its version (PROG_MISMATCH tells
+-- 2 to 4), the procedure; or its arguments can't be read; or it asks for a procedure.
 pub data Answers (context : Context) (l : Ledger) (bytes : List ℕ) (given : Outcome) : Type 0 where
   NoCall : IsNoCall bytes → given ≡ outcomes.NoCall → Answers context l bytes given
   Refused : (xid : ℕ) (status : ReplyStatus) → IsRefused xid status bytes

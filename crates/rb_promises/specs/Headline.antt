@@ -19,8 +19,8 @@ pub record IsServedWithin (limits : Limits) (start : State) (events : List Event
   pub changes : (after start events).ledger.changes ≡ changes_by start events
   -- statistics count the calls that reached their procedures and how forwarded calls ended, and nothing else;
   pub history : (after start events).ledger.history ≡ history_by start events
-  -- the outputs are those that the page of runs has: each call of a connection and each datagram is answered as the page of answers
-  -- says, of what the calls before it left; the calls of a connection are the records in its bytes, and the bytes given are their
+  -- the outputs are those that the page of runs has: each call of a connection and each datagram is answered as the page of
+  -- answers says, of what the calls before it left; the calls of a connection are the records in its bytes, and the bytes given are their
   -- replies, in order;
   pub passed : Passed limits start.setting.listener (new_account start) (happened start events) (account_after start events)
   -- what is held has not passed its bound;
