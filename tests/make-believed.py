@@ -18,9 +18,9 @@ AXIOMS = ROOT / "tests" / "axioms"  # by tests/list-axioms.sh
 PROMISERS = ("rb_promises", "rb_daemon")
 HEADLINE = "runs_are_served_within_bounds"
 PAGE = "rb_promises", "Answers.Answers"
-# What a reader of replies and sessions must believe: these, but not what the law of the page says of these others.
-SESSIONS = ("rb_promises", "AnsweredRuns.IsAnsweredIn"), ("rb_promises", "AnsweredRuns.IsDatagramAnswered"), ("rb_model", "Sessions.IsWholeSession")
-FACTS = ("rb_model", "Calls.outcome"), ("rb_model", "Calls.message_of"), ("rb_model", "Step.serve")
+# What a reader of replies and sessions must believe: this relation of events, outputs and what passed with them. It names no step of
+# the model and no function that answers, so nothing is left out of the count: what they are is what the law of runs says of them.
+RUNS = "rb_promises", "Accounts.Passed"
 
 # A definition begins at the margin, or in a block of definitions; a field of a record is `pub NAME :`.
 AT_MARGIN = re.compile(r"(?!pub mod|pub use|use |mod )(?:[a-z]+ )*(?:pub|abbrev|unfoldable) (?:record |data )?([^\s:({]+)")
@@ -136,8 +136,8 @@ class Sources:
                 return self.key_of(*self.again[key])
         return None
 
-    def reached(self, roots, facts=()):
-        """All that these names reach, through no fact, and the names that are the kit's, or of ours and stand nowhere."""
+    def reached(self, roots):
+        """All that these names reach, and the names that are the kit's, or of ours and stand nowhere."""
         found, others, waiting = set(), set(), list(roots)
         while waiting:
             crate, path = waiting.pop()
@@ -146,7 +146,7 @@ class Sources:
                 others.add((crate, path))
             elif key not in found:
                 found.add(key)
-                waiting += [] if key in facts else self.cites[key]
+                waiting += self.cites[key]
         return found, others
 
 
@@ -231,7 +231,7 @@ def text(book):
     items = [book.items[key] for key in found]
     page = book.reached([PAGE])[0]
     on_page = [book.items[key] for key in page]
-    sessions = [book.items[key] for key in book.reached(SESSIONS, FACTS)[0]]
+    runs = [book.items[key] for key in book.reached([RUNS])[0]]
     headline = [book.items[key] for key in book.reached(book.promises[HEADLINE])[0]]
     unsafe = list(places(r"\bunsafe\b", "src/**/*.rt"))
     externs = list(places(r"\bextern\b", "src/**/*.rt"))
@@ -255,8 +255,7 @@ def text(book):
     out.append(f"| cited by the {len(book.promises)} promises | {count(items)} |")
     out.append(f"| cited by `{HEADLINE}` alone | {count(headline)} |")
     out.append(f"| cited by `{PAGE[1]}` alone, the page of RFC 1833 | {count(on_page)} |")
-    out.append("| cited by calls, datagrams and sessions of that law, with `outcome`, `message_of` and `serve` as facts that the law "
-               f"of the page proves | {count(sessions)} |")
+    out.append(f"| cited by `{RUNS[1]}` alone, the page of runs: replies, rows, statistics and sessions | {count(runs)} |")
     out.append(f"| definitions of the toolchain's library and the kit | {sum(map(len, library.values()))} |")
     out.append(f"| axioms of the logic, in specs and proofs | {len(axioms)} |")
     out.append(f"| functions of C that the verdicts rest on | {sum(map(len, reached.values()))} |")
@@ -288,7 +287,7 @@ def text(book):
 def main():
     book = Sources()
     known = {*book.items, *((crate, HEADLINE) for crate in PROMISERS if HEADLINE in book.promises)}
-    for crate, name in ("rb_promises", HEADLINE), PAGE, *SESSIONS, *FACTS:
+    for crate, name in ("rb_promises", HEADLINE), PAGE, RUNS:
         if (crate, name) not in known:
             sys.exit(f"tests/make-believed.py: there is no {name} in {crate}, which it asks for by name")
     made, faults = text(book)

@@ -29,7 +29,7 @@ use Rattle.rb_arguments.specs.declared.request.Request.TheVariants as requests
 use Rattle.rb_proto.specs.declared.answers.Answer.{Answer}
 use Rattle.rb_proto.specs.declared.context.Context.{Context}
 use Rattle.rb_proto.specs.Callers.{who_of, is_superuser, share_by}
-use Rattle.rb_proto.specs.Ledger.{Ledger, rows_in}
+use Rattle.rb_proto.specs.Ledger.{Ledger, rows_in, version_of}
 use Rattle.rb_proto.specs.Answers.{owner_in, comes_from_here, can_be_set, has_share, accepts_row, row_of_mapping, row_of_rpcb, row_asked, set_row, answer_to, tell_done}
 use Rattle.rb_proto.specs.declared.answers.Answer.TheVariants as answers
 use Rattle.rb_proto.specs.declared.answers.Results.TheVariants as results
@@ -40,6 +40,7 @@ use Rattle.rb_promises.specs.Sets.{IsByProtocol, IsOfMapping, IsOfRpcb, AsksToSe
 use Rattle.rb_promises.proofs.LocalCallers.{local_exactly, owner_exactly}
 use Rattle.rb_promises.proofs.Addresses.{address_exactly}
 use Rattle.rb_promises.proofs.Keys.{no_key, is_no_key}
+use Rattle.rb_promises.proofs.Versions.{version_is}
 
 -- ---- which row is asked for
 
@@ -207,7 +208,7 @@ module _ (context : Context) (l : Ledger) (row : Row) where
 module _ (context : Context) (head : CallHead) (row : Row) (l : Ledger) where
   set_adds : accepts_row context l row ≡ true → IsAddedTo head row l (set_row context head (Some row) l).1
   unfolding set_row
-  set_adds e = rw e (record { live = set_appends l.own l.changes row; own = refl; changes = refl; history = refl; forwards = refl })
+  set_adds e = rw e (record { live = set_appends l.own l.changes row; own = refl; changes = refl; history = (version_of head.vers, version_is head.vers, refl); forwards = refl })
 
   set_keeps : accepts_row context l row ≡ false → (set_row context head (Some row) l).1 ≡ l
   unfolding set_row

@@ -25,7 +25,7 @@ use Rattle.rb_proto.specs.declared.answers.Value.TheVariants as values
 use Rattle.rb_proto.specs.declared.answers.Answer.{Answer}
 use Rattle.rb_proto.specs.declared.context.Context.{Context}
 use Rattle.rb_proto.specs.Callers.{who_of}
-use Rattle.rb_proto.specs.Ledger.{Ledger, rows_in}
+use Rattle.rb_proto.specs.Ledger.{Ledger, rows_in, version_of}
 use Rattle.rb_proto.specs.Netids.{which_of}
 use Rattle.rb_proto.specs.Answers.{owner_in, comes_from_here, accepts_removal, removal_of, unset_rows, answer_to, tell_done}
 use Rattle.rb_promises.specs.Addresses.{IsOverIpv4}
@@ -35,6 +35,7 @@ use Rattle.rb_promises.specs.Unsets.AreWithout.{Neither, Goes, Stays}
 use Rattle.rb_promises.proofs.LocalCallers.{local_exactly, owner_exactly}
 use Rattle.rb_promises.proofs.Keys.{some_passes, any_passes, netid_is, same_netid}
 use Rattle.rb_promises.proofs.AcceptedSets.{value_in}
+use Rattle.rb_promises.proofs.Versions.{version_is}
 
 -- ---- which netids are meant
 
@@ -204,7 +205,7 @@ module _ (context : Context) (head : CallHead) (request : Request) (arguments : 
           (without (λ row. covers row removal) (IsCovered context head request) (λ row. (covered_is row, is_covered row)) (rows_in l));
       own = refl;
       changes = (removal, refl);
-      history = refl;
+      history = (version_of head.vers, version_is head.vers, refl);
       forwards = refl;
     })
 

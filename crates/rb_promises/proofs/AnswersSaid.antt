@@ -1,25 +1,23 @@
 -- A message is answered as the page of answers says, and in no other way.
-use Rattle.std.proofs.Common.{◌≡◌, ◌≢◌, ◌↔◌, ℕ, ◌<◌, ◌≤◌, nat_lt, Bool, true, false, cond, ◌⊎◌, inl, inr, List, [], ◌++◌, length, Option, Some, None, refl, sym, ap, subst, ◌∙◌, arith}
-use Rattle.std.proofs.lemmas.Bool.{cases_lt, ltb-true, ltb-false, lt-ltb, le-ltb, true≢false}
+use Rattle.std.proofs.Common.{◌≡◌, ℕ, ◌<◌, ◌≤◌, Bool, true, false, cond, ◌⊎◌, inl, inr, List, ◌++◌, length, Option, Some, None, refl, sym, ap, subst, ◌∙◌}
+use Rattle.std.proofs.lemmas.Bool.{cases_lt, lt-ltb, le-ltb}
 use Rattle.rb_xdr.specs.Xdr.{AreBytes}
 use Rattle.rb_rpc.specs.declared.call.CallHead.{CallHead}
 use Rattle.rb_rpc.specs.declared.caller.Caller.{Caller}
 use Rattle.rb_rpc.specs.declared.caller.Caller.TheVariants as callers
 use Rattle.rb_rpc.specs.declared.caller.Kind.{Kind}
-use Rattle.rb_rpc.specs.declared.caller.Kind.TheVariants.{Indirect}
 use Rattle.rb_rpc.specs.declared.reply.ReplyStatus.{ReplyStatus}
 use Rattle.rb_rpc.specs.declared.reply.ReplyStatus.TheVariants as replies
 use Rattle.rb_rpc.specs.Replies.{reply_head}
 use Rattle.rb_feed.specs.Feeds.{arguments_of}
 use Rattle.rb_registry.specs.declared.row.Row.{Row}
-use Rattle.rb_arguments.specs.declared.netbuf.Netbuf.{Netbuf}
 use Rattle.rb_arguments.specs.declared.remote.RemoteCall.{RemoteCall}
 use Rattle.rb_arguments.specs.declared.procedure.MappingProcedure.TheVariants as mappings
 use Rattle.rb_arguments.specs.declared.procedure.RpcbProcedure.TheVariants as rpcbs
 use Rattle.rb_arguments.specs.declared.procedure.VoidProcedure.TheVariants as voids
 use Rattle.rb_arguments.specs.declared.request.Request.{Request}
 use Rattle.rb_arguments.specs.declared.request.Request.TheVariants as requests
-use Rattle.rb_arguments.specs.Grammar.{Asks, SpellsRequest}
+use Rattle.rb_arguments.specs.Grammar.{Asks}
 use Rattle.rb_proto.specs.declared.answers.Answer.{Answer}
 use Rattle.rb_proto.specs.declared.answers.Answer.TheVariants as answers
 use Rattle.rb_proto.specs.declared.answers.Results.{Results}
@@ -32,15 +30,14 @@ use Rattle.rb_proto.specs.Answers.{answer, answer_to}
 use Rattle.rb_proto.specs.Results.{shown_of, result_bytes}
 use Rattle.rb_model.specs.declared.message.Message.{Message}
 use Rattle.rb_model.specs.declared.message.Message.TheVariants as says
-use Rattle.rb_model.specs.Calls.{Outcome, Outcome as outcomes, outcome, message_of, refusal, longest_for, fitting_reply, success, results_outcome, answer_outcome, reply_with}
+use Rattle.rb_model.specs.Calls.{Outcome, Outcome as outcomes, outcome, message_of, longest_for, fitting_reply, success, results_outcome, answer_outcome, reply_with}
 use Rattle.rb_model.specs.Step.{context_in, serve}
-use Rattle.rb_model.specs.Grammar.{BeginsWithRequest, HasUnreadableArguments}
 use Rattle.rb_laws.proofs.Grammar.{asked_messages, refused_messages, garbage_messages, no_calls}
 use Rattle.rb_promises.specs.LookUps.{HasHosts, IsFoundExactly}
 use Rattle.rb_promises.specs.Forwards as forwards
 use Rattle.rb_promises.specs.Forwards.{GoesTo, HasRoom, AnswersForward}
 use Rattle.rb_promises.specs.ReachedRows.{HaveKeysOfTheirOwn}
-use Rattle.rb_promises.specs.Answers.{Gives, IsOverTcp, IsListRequest, IsStreamed, Replies, IsSought, IsToldWhy, Forwards, AnswersCall, Answers, answer_given, MessagesAreAnsweredAsSaid, CallersAreServedAsSaid}
+use Rattle.rb_promises.specs.Answers.{Gives, IsStreamed, Replies, IsSought, IsToldWhy, Forwards, AnswersCall, Answers, answer_given, MessagesAreAnsweredAsSaid, CallersAreServedAsSaid}
 use Rattle.rb_promises.specs.Answers.Replies.{AList, Short, TooLong}
 use Rattle.rb_promises.specs.Answers.IsToldWhy.{Told, Silent}
 use Rattle.rb_promises.specs.Answers.Forwards.{Goes, GoesNowhere, HasNoRoom}
@@ -50,6 +47,7 @@ use Rattle.rb_promises.proofs.OneAnswer.{one_way, one_found_exactly}
 use Rattle.rb_promises.proofs.GivenResults.{bytes_of, results_of, IsOwn, HasBytes, results_are}
 use Rattle.rb_promises.proofs.ForwardedCalls.{goes_or_not, room_or_not, calls_are_forwarded_exactly}
 use Rattle.rb_promises.proofs.KeptWell.{rows_are_well_kept}
+use Rattle.rb_promises.proofs.Versions.{counted_so, one_count}
 
 -- ---- what is sent of results
 
@@ -331,9 +329,10 @@ module _ (context : Context) (l : Ledger) (hosts : HasHosts context) (keys : Hav
   answer_is (NoCall none e) = ap said ((no_calls bytes are).1 none) ∙ sym e
   answer_is (Refused xid status refused e) = ap said ((refused_messages bytes are xid status).1 refused) ∙ sym e
   answer_is (Unreadable head unreadable e) = ap said ((garbage_messages bytes are head).1 unreadable) ∙ sym e
-  answer_is (Asked call begins answered) =
+  answer_is (Asked call counted begins counts answered) =
       ap said ((asked_messages bytes are call).1 begins)
-      ∙ call_is context call (arguments_of bytes) (with_call_noted call.head l) hosts keys (has_bytes call.head.vers call.head.proc call.request _ begins.asks) given answered
+      ∙ call_is context call (arguments_of bytes) (with_call_noted call.head l) hosts keys (has_bytes call.head.vers call.head.proc call.request _ begins.asks) given
+      (subst (λ (k : Ledger). AnswersCall context call k given) (one_count call.head l counted counts) answered)
 
   by_message : (message : Message) → message_of bytes ≡ message → said message ≡ given → Answers context l bytes given
   unfolding outcome answer with_call_noted
@@ -342,7 +341,7 @@ module _ (context : Context) (l : Ledger) (hosts : HasHosts context) (keys : Hav
   by_message (says.Garbage head) is e = Unreadable head ((garbage_messages bytes are head).0 is) (sym e)
   by_message (says.Asked call) is e =
       let begins = (asked_messages bytes are call).0 is in
-      Asked call begins
+      Asked call (with_call_noted call.head l) begins (counted_so call.head l)
       (is_call context call (arguments_of bytes) (with_call_noted call.head l) hosts keys (has_bytes call.head.vers call.head.proc call.request _ begins.asks) given e)
 
   is_answer : answer_given context l bytes ≡ given → Answers context l bytes given

@@ -1,6 +1,7 @@
 pub mod LocalCallers
 pub mod Addresses
 pub mod Keys
+pub mod Versions
 pub mod Owned
 pub mod AcceptedSets
 pub mod AcceptedUnsets
@@ -40,5 +41,8 @@ pub mod ShownMembers
 pub mod OneAnswer
 pub mod GivenResults
 pub mod AnswersSaid
-pub mod AnsweredRuns
+pub mod LeftRows
+pub mod PassedClocks
+pub mod PassedSteps
+pub mod PassedRuns
 pub mod Headline

@@ -1,9 +1,9 @@
 -- RFC 1833 on a page: what a message is answered with (RFC 5531 sections 8 and 9, RFC 1833 sections 2.2 and 3.2). Begin at
--- `Answers`, and read upwards. In which order the replies on a connection go out is in Headline.antt (`sessions`).
-use Rattle.std.specs.Prelude.{◌≡◌, ◌≢◌, ◌⊎◌, ◌↔◌, ⊤, ℕ, ◌<◌, ◌≤◌, true, false, List, [], ◌++◌, length, Option, Some, None}
+-- `Answers`, and read upwards. Which messages are in the bytes of a connection, in which order their replies go out and what each
+-- leaves is on the page of runs, Accounts.antt; what the caller of a forwarded call is told at its end, in rb_model's Ending.antt.
+use Rattle.std.specs.Prelude.{◌≡◌, ◌≢◌, ◌↔◌, ⊤, ℕ, ◌<◌, ◌≤◌, true, false, List, [], ◌∷◌, ◌++◌, length, Option, Some, None}
 use Rattle.rb_xdr.specs.Xdr.{AreBytes, boolean, number, opaque, linked_list}
 use Rattle.rb_address.specs.declared.netid.Netid.{Netid}
-use Rattle.rb_address.specs.declared.who.Who.{Who}
 use Rattle.rb_rpc.specs.declared.call.CallHead.{CallHead}
 use Rattle.rb_rpc.specs.declared.caller.Caller.{Caller}
 use Rattle.rb_rpc.specs.declared.caller.Caller.TheVariants as callers
@@ -15,7 +15,9 @@ use Rattle.rb_rpc.specs.Replies.{reply_head}
 use Rattle.rb_rpc.specs.Grammar.{IsNoCall}
 use Rattle.rb_feed.specs.Feeds.{arguments_of}
 use Rattle.rb_registry.specs.declared.row.Row.{Row}
+use Rattle.rb_stats.specs.declared.key.Version.{Version}
 use Rattle.rb_stats.specs.Statistics.{statistics}
+use Rattle.rb_stats.specs.Statistics.Note.{Called}
 use Rattle.rb_arguments.specs.declared.mapping.Mapping.{Mapping}
 use Rattle.rb_arguments.specs.declared.netbuf.Netbuf.{Netbuf}
 use Rattle.rb_arguments.specs.declared.remote.RemoteCall.{RemoteCall}
@@ -28,13 +30,13 @@ use Rattle.rb_arguments.specs.Types.{mapping_spelling, rpcb_spelling, netbuf_spe
 use Rattle.rb_proto.specs.declared.call.Call.{Call}
 use Rattle.rb_proto.specs.declared.context.Context.{Context}
 use Rattle.rb_proto.specs.Callers.{who_of}
-use Rattle.rb_proto.specs.Ledger.{Ledger, rows_in, with_call_noted}
+use Rattle.rb_proto.specs.Ledger.{Ledger, rows_in}
 use Rattle.rb_model.specs.Calls.{Outcome, Outcome as outcomes, outcome, message_of, longest_for}
 use Rattle.rb_model.specs.Grammar.{BeginsWithRequest, HasUnreadableArguments, IsRefused}
 use Rattle.rb_model.specs.State.{State}
 use Rattle.rb_model.specs.Step.{IsReached, context_in, serve}
 use Rattle.rb_promises.specs.Addresses.{IsOverIpv4}
-use Rattle.rb_promises.specs.Sets.{IsByProtocol, SetsARow}
+use Rattle.rb_promises.specs.Sets.{IsByProtocol, SetsARow, IsVersion}
 use Rattle.rb_promises.specs.Unsets.{RemovesARow}
 use Rattle.rb_promises.specs.LookUps.{IsFound, IsFoundExactly, CameBy, TellsText, TellsPort, HasHosts}
 use Rattle.rb_promises.specs.ListedRows.{AreItems, IsMappingOf, IsRpcbOf, IsAny, IsEntryOf, IsOfVersion}
@@ -44,12 +46,13 @@ use Rattle.rb_promises.specs.ReachedRows.{HaveKeysOfTheirOwn}
 
 -- ---- the results of each procedure
 
--- SET and UNSET: TRUE if this is so, else FALSE
+-- SET and UNSET: TRUE if this is so, else FALSE. A SET on a netid that there is not asks for no row, so none is accepted; an UNSET
+-- covers the rows of its caller's owner alone, unless that is the superuser.
 pub data IsWhether (IsSo : Type 0) (results : List ℕ) : Type 0 where
   Yes : IsSo → results ≡ boolean true → IsWhether IsSo results
   No : ¬ IsSo → results ≡ boolean false → IsWhether IsSo results
 
--- GETPORT: the port of the row that is found on the netid of the protocol
+-- GETPORT: the port of the row that is found on the netid of the protocol, 0 if none is
 pub record IsPortFound (m : Mapping) (rows : List Row) (results : List ℕ) : Type 0 where
   pub netid : Netid
   pub by : IsByProtocol m.prot netid
@@ -64,7 +67,8 @@ pub data GivesPort (m : Mapping) (rows : List Row) (results : List ℕ) : Type 0
   ByProtocol : IsPortFound m rows results → GivesPort m rows results
   ByNone : ((netid : Netid) → ¬ (IsByProtocol m.prot netid)) → results ≡ number 0 → GivesPort m rows results
 
--- GETADDR and GETVERSADDR: the address of the row that is found on the netid by which the call came; r_netid counts for nothing
+-- GETADDR and GETVERSADDR: the address of the row that is found on the netid by which the call came, the empty text if none is;
+-- GETVERSADDR finds just that version. r_netid counts for nothing.
 pub record GivesAddress (context : Context) (Finds : Netid → Option Row → Type 0) (results : List ℕ) : Type 0 where
   pub netid : Netid
   pub came : CameBy context.caller netid
@@ -87,14 +91,14 @@ pub record GivesTime (milliseconds : ℕ) (results : List ℕ) : Type 0 where
   pub are : AreSeconds milliseconds seconds
   pub spelled : results ≡ number seconds
 
--- UADDR2TADDR
+-- UADDR2TADDR: no bytes, if the text spells no address, as one whose IPv6 host ends in an IPv4 address
 pub record GivesForm (text results : List ℕ) : Type 0 where
   pub netbuf : Netbuf
   pub turned : TurnsText text netbuf.buf
   pub maxlen : netbuf.maxlen ≡ length netbuf.buf
   pub spelled : results ≡ netbuf_spelling netbuf
 
--- TADDR2UADDR
+-- TADDR2UADDR: an IPv6 host is printed in groups, also one that stands for an IPv4 host
 pub record GivesText (form results : List ℕ) : Type 0 where
   pub text : List ℕ
   pub turned : TurnsBytes form text
@@ -177,17 +181,22 @@ pub data AnswersCall (context : Context) (call : Call) (l : Ledger) (given : Out
   ByForwarding : (kind : Kind) (remote : RemoteCall) → call.request ≡ requests.Forward kind remote
       → Forwards context call.head.xid kind remote l given → AnswersCall context call l given
 
+-- A call of a procedure is counted by its version, after those before it; what GETSTAT gives shows that.
+pub record IsCounted (head : CallHead) (l new : Ledger) : Type 0 where
+  pub version : Version
+  pub is : IsVersion head.vers version
+  pub left : new ≡ record l { history = l.history ++ Called version head.proc ∷ [] }
+
 -- A message is no call, and has no answer; or it is refused, whatever the daemon holds, by the first of these that is wrong: the
--- version of RPC, the credential and the verifier, the program, its version, the procedure; or its arguments can't be read; or it
--- asks for a procedure. A call of a procedure counts in the statistics first, also if its arguments can't be read; what GETSTAT
--- gives shows that.
+-- version of RPC, the credential (over 400 bytes, say: AUTH_ERROR) and the verifier, the program, its version (PROG_MISMATCH tells
+-- 2 to 4), the procedure; or its arguments can't be read; or it asks for a procedure.
 pub data Answers (context : Context) (l : Ledger) (bytes : List ℕ) (given : Outcome) : Type 0 where
   NoCall : IsNoCall bytes → given ≡ outcomes.NoCall → Answers context l bytes given
   Refused : (xid : ℕ) (status : ReplyStatus) → IsRefused xid status bytes
       → given ≡ outcomes.Reply (reply_head xid status) None → Answers context l bytes given
   Unreadable : (head : CallHead) → HasUnreadableArguments head bytes
       → given ≡ outcomes.Reply (reply_head head.xid replies.GarbageArgs) None → Answers context l bytes given
-  Asked : (call : Call) → BeginsWithRequest call bytes → AnswersCall context call (with_call_noted call.head l) given
+  Asked : (call : Call) (counted : Ledger) → BeginsWithRequest call bytes → IsCounted call.head l counted → AnswersCall context call counted given
       → Answers context l bytes given
 
 -- ---- the law

@@ -1,19 +1,17 @@
 -- What is promised of every run, in one law.
-use Rattle.std.specs.Prelude.{◌≡◌, ◌≤◌, ℕ, true, List, ◌∷◌, ◌++◌, Contains}
-use Rattle.rb_address.specs.declared.who.Who.{Who}
+use Rattle.std.specs.Prelude.{◌≡◌, ◌≤◌, ℕ, true, List}
 use Rattle.rb_proto.specs.declared.listener.Listener.{Listener}
 use Rattle.rb_model.specs.declared.types.Limits.{Limits}
 use Rattle.rb_model.specs.State.{State, are_good, opening}
 use Rattle.rb_model.specs.Step.{Event, Output, step, after}
-use Rattle.rb_model.specs.Step.Event.{Datagram}
 use Rattle.rb_model.specs.ChangeLaws.{changes_by}
 use Rattle.rb_model.specs.HistoryLaws.{history_by}
-use Rattle.rb_model.specs.Sessions.{Exchange, session, IsWholeSession}
 use Rattle.rb_model.specs.Costs.{event_cost}
 use Rattle.rb_model.specs.Bounds.{bytes_bound, bytes_in, bytes_out, steps_bound}
 use Rattle.rb_core.specs.StandsFor.{CoreView, StandsFor}
 use Rattle.rb_core.specs.HeldBytes.{held, IsListener}
-use Rattle.rb_promises.specs.AnsweredRuns.{IsAnsweredIn, IsDatagramAnswered}
+use Rattle.rb_promises.specs.Accounts.{Passed}
+use Rattle.rb_promises.specs.PassedRuns.{new_account, happened, account_after}
 
 -- After these events, at these limits:
 pub record IsServedWithin (limits : Limits) (start : State) (events : List Event) : Type 0 where
@@ -21,12 +19,10 @@ pub record IsServedWithin (limits : Limits) (start : State) (events : List Event
   pub changes : (after start events).ledger.changes ≡ changes_by start events
   -- statistics count the calls that reached their procedures and how forwarded calls ended, and nothing else;
   pub history : (after start events).ledger.history ≡ history_by start events
-  -- each call of a connection was answered as the page of answers says, of what these left when it came, and each datagram;
-  pub calls : (id : ℕ) (call : Exchange) → Contains (session start id events).calls call → IsAnsweredIn id start events call
-  pub datagrams : (before later : List Event) (now : ℕ) (who : Who) (content : List ℕ) → events ≡ before ++ Datagram now who content ∷ later
-      → IsDatagramAnswered (after start before) now who content
-  -- the calls of a connection are the records in its bytes, and the bytes given are their replies, in order;
-  pub sessions : (id : ℕ) → IsWholeSession id (after start events) (session start id events)
+  -- the outputs are those that the page of runs has: each call of a connection and each datagram is answered as the page of
+  -- answers says, of what the calls before it left; the calls of a connection are the records in its bytes, and the bytes given are their
+  -- replies, in order;
+  pub passed : Passed limits start.setting.listener (new_account start) (happened start events) (account_after start events)
   -- what is held has not passed its bound;
   pub bytes : (core : CoreView) → StandsFor core (after start events) → held core ≤ bytes_bound limits
   -- and whatever event is next, its steps stay within theirs.

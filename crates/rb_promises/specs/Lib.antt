@@ -14,7 +14,8 @@ pub mod Connections
 pub mod Entries
 pub mod Contents
 pub mod Answers
-pub mod AnsweredRuns
+pub mod Accounts
+pub mod PassedRuns
 pub mod Headline
 pub mod RowLists
 pub mod Pieces

@@ -11,6 +11,8 @@ use Rattle.rb_address.specs.Netids.{netid_text}
 use Rattle.rb_rpc.specs.declared.call.CallHead.{CallHead}
 use Rattle.rb_registry.specs.declared.row.Row.{Row}
 use Rattle.rb_registry.specs.Rows.Change.{Added}
+use Rattle.rb_stats.specs.declared.key.Version.{Version}
+use Rattle.rb_stats.specs.declared.key.Version.TheVariants.{Two, Three, Four}
 use Rattle.rb_stats.specs.Statistics.Note.{WasSet}
 use Rattle.rb_arguments.specs.declared.mapping.Mapping.{Mapping}
 use Rattle.rb_arguments.specs.declared.rpcb.Rpcb.{Rpcb}
@@ -25,7 +27,7 @@ use Rattle.rb_proto.specs.declared.answers.Answer.{Answer}
 use Rattle.rb_proto.specs.declared.context.Context.{Context}
 use Rattle.rb_proto.specs.declared.reserved.Reservation.{Reservation}
 use Rattle.rb_proto.specs.Callers.{who_of}
-use Rattle.rb_proto.specs.Ledger.{Ledger, rows_in, version_of}
+use Rattle.rb_proto.specs.Ledger.{Ledger, rows_in}
 use Rattle.rb_proto.specs.Answers.{answer_to}
 use Rattle.rb_promises.specs.LocalCallers.{IsLocal, CallsAs}
 use Rattle.rb_promises.specs.Addresses.{IsAddressOn}
@@ -104,12 +106,18 @@ pub record IsAccepted (context : Context) (l : Ledger) (row : Row) : Type 0 wher
 
 -- ---- what it leaves
 
+-- the version in which a call of this version's number is counted: of the three that are served, 4 is the one that is left
+pub data IsVersion (vers : ℕ) : Version → Type 0 where
+  Second : vers ≡ 2 → IsVersion vers Two
+  Third : vers ≡ 3 → IsVersion vers Three
+  Fourth : vers ≢ 2 → vers ≢ 3 → IsVersion vers Four
+
 -- The row is live after those that were, the SET is noted, and nothing else is changed.
 pub record IsAddedTo (head : CallHead) (row : Row) (l new : Ledger) : Type 0 where
   pub live : rows_in new ≡ rows_in l ++ row ∷ []
   pub own : new.own ≡ l.own
   pub changes : new.changes ≡ l.changes ++ Added row ∷ []
-  pub history : new.history ≡ l.history ++ WasSet (version_of head.vers) ∷ []
+  pub history : (version : Version) × IsVersion head.vers version × (new.history ≡ l.history ++ WasSet version ∷ [])
   pub forwards : new.forwards ≡ l.forwards
 
 -- ---- the law

@@ -7,6 +7,7 @@ use Rattle.rb_address.specs.Netids.{netid_text}
 use Rattle.rb_rpc.specs.declared.call.CallHead.{CallHead}
 use Rattle.rb_registry.specs.declared.row.Row.{Row}
 use Rattle.rb_registry.specs.Rows.{Change}
+use Rattle.rb_stats.specs.declared.key.Version.{Version}
 use Rattle.rb_stats.specs.Statistics.Note.{WasUnset}
 use Rattle.rb_arguments.specs.declared.procedure.MappingProcedure.TheVariants as mappings
 use Rattle.rb_arguments.specs.declared.procedure.RpcbProcedure.TheVariants as rpcbs
@@ -15,11 +16,11 @@ use Rattle.rb_arguments.specs.declared.request.Request.TheVariants as requests
 use Rattle.rb_proto.specs.declared.answers.Answer.{Answer}
 use Rattle.rb_proto.specs.declared.context.Context.{Context}
 use Rattle.rb_proto.specs.Callers.{who_of}
-use Rattle.rb_proto.specs.Ledger.{Ledger, rows_in, version_of}
+use Rattle.rb_proto.specs.Ledger.{Ledger, rows_in}
 use Rattle.rb_proto.specs.Answers.{answer_to}
 use Rattle.rb_promises.specs.LocalCallers.{IsLocal, CallsAs}
 use Rattle.rb_promises.specs.Addresses.{IsOverIpv4}
-use Rattle.rb_promises.specs.Sets.{told}
+use Rattle.rb_promises.specs.Sets.{IsVersion, told}
 
 -- ---- which rows are covered
 
@@ -65,7 +66,7 @@ pub record IsRemovedFrom (context : Context) (head : CallHead) (request : Reques
   pub live : AreWithout (IsCovered context head request) (rows_in l) (rows_in new)
   pub own : new.own ≡ l.own
   pub changes : (change : Change) × (new.changes ≡ l.changes ++ change ∷ [])
-  pub history : new.history ≡ l.history ++ WasUnset (version_of head.vers) ∷ []
+  pub history : (version : Version) × IsVersion head.vers version × (new.history ≡ l.history ++ WasUnset version ∷ [])
   pub forwards : new.forwards ≡ l.forwards
 
 -- ---- the law

@@ -1,5 +1,6 @@
 //! What a message is answered with, on one page.
 ghost use Rattle.rb_promises.specs.Answers.{MessagesAreAnsweredAsSaid, CallersAreServedAsSaid};
+ghost use Rattle.rb_promises.specs.PassedRuns.{RunsPassAsSaid};
 ghost use Rattle.rb_promises.specs.Headline.{RunsAreServedWithinBounds};
 
 /// A message is answered with something if and only if the page of answers says so; so the page gives each message one answer.
@@ -8,6 +9,14 @@ ghost use Rattle.rb_promises.specs.Headline.{RunsAreServedWithinBounds};
 pub fn messages_are_answered_as_said()
     ensures said { MessagesAreAnsweredAsSaid }
     ensures served { CallersAreServedAsSaid }
+{}
+
+/// For every list of events from every opening, each event has an output that the page of runs has, after those before it. A datagram,
+/// and the data of each record that ends in the bytes taken on a connection, is answered as the page of answers says, of the rows that
+/// the SETs and UNSETs before it left. Bytes are taken only once all replies were given; what is pending and what is given comes next
+/// in the marked replies of the connection's calls.
+pub fn runs_pass_as_said()
+    ensures { RunsPassAsSaid }
 {}
 
 /// For every list of events from an opening at good limits, with a listener on a port of 16 bits, whose local socket has a path of
