@@ -1,10 +1,10 @@
 #!/usr/bin/env python3
 """Connections from this machine to the built daemon in its default mode, beside Debian's rpcbind: bench-debian.py PROGRAM.
 
-Both listen at once, on IPv4 and IPv6, in namespaces of their own: `run-bench.sh` makes them. A line has the connections a
-second, as a ratio to Debian's, and those of both: one after another with one NULL or GETPORT each, and 64 at once. Then come
-the medians of a SET over a new TCP connection of another user than root, and of `rpcinfo -p`, beside a daemon that believes
-claims. At most a minute. Needs a C compiler, root and Debian's package rpcbind.
+Both listen at once, on IPv4 and IPv6, in namespaces of their own: `run-bench.sh` makes them. First come the medians of a
+SET over a new TCP connection of another user than root, and of `rpcinfo -p`, beside a daemon that believes claims. Then a
+line has the connections a second and their processor time, as ratios to Debian's: one after another with one NULL or GETPORT
+each, and 64 at once. What counts on a busy machine is the processor time. At most two minutes. Needs a C compiler, root and Debian's package rpcbind.
 """
 import os
 import shutil
@@ -134,14 +134,15 @@ def main():
         compile_in(folder)
         servers = [daemon(program, PORT), Debians(), daemon(program, BELIEVING_PORT, "--believe-claims")]
         try:
+            # before there are thousands of connections that have ended, each of which is a line of the kernel's table
+            say_sets(PORT)
+            say_lists(rpcinfo, (PORT, BELIEVING_PORT))
             for host in (HOST, "::1"):
                 for load in LOADS:
                     ratio = compare(folder, servers[0], servers[1], load, host)
                     ours, debians = ratio.calls
                     told = f"{ratio.of_calls:.2f} of Debian's ({ours:,.0f} to {debians:,.0f} a second)"
-                    print(f"connections to {host}, {load.name}: {told}", flush=True)
-            say_sets(PORT)
-            say_lists(rpcinfo, (PORT, BELIEVING_PORT))
+                    print(f"connections to {host}, {load.name}: {told}, {ratio.times:.2f} times its processor time", flush=True)
         finally:
             for server in servers:
                 server.end()
