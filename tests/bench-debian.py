@@ -4,7 +4,8 @@
 Both listen at once, on IPv4 and IPv6, in namespaces of their own: `run-bench.sh` makes them. First come the medians of a
 SET over a new TCP connection of another user than root, and of `rpcinfo -p`, beside a daemon that believes claims. Then a
 line has the connections a second and their processor time, as ratios to Debian's: one after another with one NULL or GETPORT
-each, and 64 at once. What counts on a busy machine is the processor time. At most two minutes. Needs a C compiler, root and Debian's package rpcbind.
+each, and 64 at once. On a busy machine the processor time is the steady one. At most two minutes. Needs a C compiler, root
+and Debian's package rpcbind.
 """
 import os
 import shutil
@@ -19,6 +20,7 @@ import time
 from ask import as_record, read_all
 from loads import COMPILER, HOST, Load, Server, compare, compile_in, encoded, pace, say_pace
 
+THEIRS = "/usr/sbin/rpcbind"
 DEBIANS, PORT, BELIEVING_PORT = 111, 20117, 20118
 AT_ONCE = 64
 USER = 65534
@@ -38,7 +40,7 @@ def why_skipped():
         return "there is no C compiler"
     if os.getuid() != 0:
         return "that wants root"
-    if subprocess.run(["dpkg-query", "-W", "rpcbind"], capture_output=True).returncode or not os.path.exists("/usr/sbin/rpcbind"):
+    if subprocess.run(["dpkg-query", "-W", "rpcbind"], capture_output=True).returncode or not os.path.exists(THEIRS):
         return "Debian's package rpcbind is not installed"
     return None
 
@@ -48,7 +50,7 @@ class Debians(Server):
 
     def __init__(self):
         self.port = DEBIANS
-        self.process = subprocess.Popen(["/usr/sbin/rpcbind", "-f"], stdout=subprocess.PIPE, stderr=subprocess.DEVNULL)
+        self.process = subprocess.Popen([THEIRS, "-f"], stdout=subprocess.PIPE, stderr=subprocess.DEVNULL)
         for host in (HOST, "::1"):
             self.await_listening(host)
 
@@ -103,7 +105,8 @@ def sets_of_user(port):
 def say_sets(port):
     found = sets_of_user(port)
     if found:
-        print(f"SETs and UNSETs of user {USER}, a connection for each: median {statistics.median(found):.2f} ms, at worst {max(found):.1f}")
+        told = f"median {statistics.median(found):.2f} ms, at worst {max(found):.1f}"
+        print(f"SETs and UNSETs of user {USER}, a connection for each: {told}")
     else:
         print(f"failed: a SET of user {USER} is not answered with TRUE")
 
