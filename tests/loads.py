@@ -14,8 +14,9 @@ from row import Encoder
 
 COMPILER = os.environ.get("CC", "cc")
 HOST = "127.0.0.1"
-SLICES = 40
+SLICES, LEAST_SLICES = 40, 10
 MILLISECONDS = 40
+LONGEST = 8.0  # seconds for a load, after its least slices
 DEEP = 16
 AT_ONCE = 100
 
@@ -118,12 +119,16 @@ def compare(folder, ours, other, load, host=HOST):
     lengths = [len(server.reply(load, host)) for server in (ours, other)]
     slices = ([], [])
     turns = list(zip(slices, (ours, other), lengths))
-    for _ in range(SLICES):
+    end = time.monotonic() + LONGEST
+    for i in range(SLICES):
+        if i >= LEAST_SLICES and time.monotonic() > end:
+            break
         turns.reverse()
         for found, server, length in turns:
             found.append(slice_of(folder, server, load, length, host))
-    calls = [sorted(it[0] for it in found)[-SLICES // 10] for found in slices]
-    taken = [sorted(it[1] for it in found)[SLICES // 10] for found in slices]
+    few = len(slices[0]) // 10
+    calls = [sorted(it[0] for it in found)[-1 - few] for found in slices]
+    taken = [sorted(it[1] for it in found)[few] for found in slices]
     return Beside(calls, taken)
 
 
