@@ -1,6 +1,7 @@
 -- RFC 1833 on a page: what a message is answered with (RFC 5531 sections 8 and 9, RFC 1833 sections 2.2 and 3.2). Begin at
 -- `Answers`, and read upwards. Which messages are in the bytes of a connection, in which order their replies go out and what each
 -- leaves is on the page of runs, Accounts.antt; what the caller of a forwarded call is told at its end, in rb_model's Ending.antt.
+-- As whom a caller counts is in LocalCallers.antt. A module under `declared` is a type of the sources.
 use Rattle.std.specs.Prelude.{◌≡◌, ◌≢◌, ◌↔◌, ⊤, ℕ, ◌<◌, ◌≤◌, true, false, List, [], ◌∷◌, ◌++◌, length, Option, Some, None}
 use Rattle.rb_xdr.specs.Xdr.{AreBytes, boolean, number, opaque, linked_list}
 use Rattle.rb_address.specs.declared.netid.Netid.{Netid}
@@ -46,8 +47,9 @@ use Rattle.rb_promises.specs.ReachedRows.{HaveKeysOfTheirOwn}
 
 -- ---- the results of each procedure
 
--- SET and UNSET: TRUE if this is so, else FALSE. A SET on a netid that there is not asks for no row, so none is accepted; an UNSET
--- covers the rows of its caller's owner alone, unless that is the superuser.
+-- SET and UNSET: TRUE if this is so, else FALSE. A SET on another netid than tcp, udp, tcp6, udp6 and local asks for no row, so none
+-- is accepted. An UNSET takes the rows that its caller's user registered (the superuser: any), of version 2 those on tcp and udp, of
+-- 3 and 4 those on r_netid, on each netid if that is empty.
 pub data IsWhether (IsSo : Type 0) (results : List ℕ) : Type 0 where
   Yes : IsSo → results ≡ boolean true → IsWhether IsSo results
   No : ¬ IsSo → results ≡ boolean false → IsWhether IsSo results
@@ -67,8 +69,9 @@ pub data GivesPort (m : Mapping) (rows : List Row) (results : List ℕ) : Type 0
   ByProtocol : IsPortFound m rows results → GivesPort m rows results
   ByNone : ((netid : Netid) → ¬ (IsByProtocol m.prot netid)) → results ≡ number 0 → GivesPort m rows results
 
--- GETADDR and GETVERSADDR: the address of the row that is found on the netid by which the call came, the empty text if none is;
--- GETVERSADDR finds just that version. r_netid counts for nothing.
+-- GETADDR and GETVERSADDR: the address of the row that is found on the netid by which the call came, with the host that was asked,
+-- or else the announced one, in place of every host; the empty text if none is found. GETVERSADDR finds just that version. r_netid
+-- counts for nothing.
 pub record GivesAddress (context : Context) (Finds : Netid → Option Row → Type 0) (results : List ℕ) : Type 0 where
   pub netid : Netid
   pub came : CameBy context.caller netid
@@ -140,8 +143,9 @@ IsListRequest _ = ⊥
 abbrev pub IsStreamed : Caller → Request → Type 0
 IsStreamed caller request = IsOverTcp caller × IsListRequest request
 
--- A list on a connection may have any length, and is of the rows as of its call, after this many changes. Other results become
--- SYSTEM_ERR if their reply is too long for the caller.
+-- A list on a connection may have any length, and is of the rows as of its call, which is after this many changes: what is set or
+-- removed while it is sent is not in it. Other results become SYSTEM_ERR if their reply is too long: over 9,000 bytes, or for a
+-- stranger over UDP over twice its datagram.
 pub data Replies (caller : Caller) (xid : ℕ) (request : Request) (changes : ℕ) (results : List ℕ) (given : Outcome) : Type 0 where
   AList : IsStreamed caller request → given ≡ outcomes.Reply (reply_head xid replies.Success ++ results) (Some changes)
       → Replies caller xid request changes results given
@@ -181,15 +185,16 @@ pub data AnswersCall (context : Context) (call : Call) (l : Ledger) (given : Out
   ByForwarding : (kind : Kind) (remote : RemoteCall) → call.request ≡ requests.Forward kind remote
       → Forwards context call.head.xid kind remote l given → AnswersCall context call l given
 
--- A call of a procedure is counted by its version, after those before it; what GETSTAT gives shows that.
+-- A call of a procedure is counted in info by its version and procedure, whatever it is answered, GETSTAT itself too; setinfo and
+-- unsetinfo count TRUE alone.
 pub record IsCounted (head : CallHead) (l new : Ledger) : Type 0 where
   pub version : Version
   pub is : IsVersion head.vers version
   pub left : new ≡ record l { history = l.history ++ Called version head.proc ∷ [] }
 
 -- A message is no call, and has no answer; or it is refused, whatever the daemon holds, by the first of these that is wrong: the
--- version of RPC, the credential (over 400 bytes, say: AUTH_ERROR) and the verifier, the program, its version (PROG_MISMATCH tells
--- 2 to 4), the procedure; or its arguments can't be read; or it asks for a procedure.
+-- version of RPC, the credential (over 400 bytes: AUTH_ERROR, AUTH_BADCRED), the verifier (over 400: AUTH_BADVERF), the program, its
+-- version (PROG_MISMATCH tells 2 to 4), the procedure; or its arguments can't be read; or it asks for a procedure.
 pub data Answers (context : Context) (l : Ledger) (bytes : List ℕ) (given : Outcome) : Type 0 where
   NoCall : IsNoCall bytes → given ≡ outcomes.NoCall → Answers context l bytes given
   Refused : (xid : ℕ) (status : ReplyStatus) → IsRefused xid status bytes

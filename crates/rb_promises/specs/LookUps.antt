@@ -87,7 +87,8 @@ abbrev pub AsksForNone : (List ℕ → Host) → List ℕ → Host → Type 0
 AsksForNone of every asked = (host : List ℕ) → asked ≡ of host → host ≡ every
 
 -- The host of a family that a caller is told in place of every host: the one that it asked, if that is one of the
--- family and does not stand for every host; else the announced one; and every host if none is announced.
+-- family and does not stand for every host; else the announced one; and every host if none is announced. Over UDP the
+-- host that it asked is that of the socket, and a socket of all addresses stands for every host.
 pub data StandsIn (of : List ℕ → Host) (every : List ℕ) (announced : Option (List ℕ)) (asked : Host) (host : List ℕ)
     : Type 0 where
   TheAsked : asked ≡ of host → host ≢ every → StandsIn of every announced asked host
