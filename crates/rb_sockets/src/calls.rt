@@ -11,7 +11,7 @@ use mio::net::UdpSocket;
 use mio::{Interest, Registry, Token};
 use rb_address::{Family, Host, Network, Peer};
 use rb_descriptors::{share, udp_socket};
-use rb_policy::{Beliefs, Entrance, address_of, asker, ip_of, sender};
+use rb_policy::{Beliefs, Entrance, address_of, asker, has_host, ip_of, sender};
 use std::io;
 use std::io::ErrorKind;
 use std::net::{Net, SocketAddr};
@@ -183,10 +183,10 @@ impl CallSockets {
         })
     }
 
-    /// The place of one whose host is listened on no more, or the next one.
-    pub(crate) fn free_place(&self) -> usize {
+    /// The place of one whose host is listened on no more, and is none of these, or the next one.
+    pub(crate) fn free_place(&self, others: &[Host]) -> usize {
         for (i, calls) in self.all.iter().enumerate() {
-            if calls.socket.is_closed() {
+            if calls.socket.is_closed() && !has_host(others, calls.socket.bound()) {
                 return i;
             }
         }
@@ -226,6 +226,14 @@ impl ForwardSocket {
     {
         let (len, from) = self.socket.recv_from(room)?;
         Ok((len, sender(from)))
+    }
+
+    /// Whether it is bound to this host.
+    pub(crate) fn is_at(&self, host: Host) -> bool {
+        match self.socket.local_addr() {
+            Ok(address) => sender(address).is_some_and(|ours| ours.host() == host),
+            Err(_) => false,
+        }
     }
 
     /// Sends a forwarded call. One that the socket does not take is lost.

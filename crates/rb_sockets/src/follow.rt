@@ -47,6 +47,8 @@ pub struct Follower {
     given: Few<Host>,
     bound: Few<Host>,
     found: Few<Host>,
+    /// Those that were left after the last reading.
+    left: Few<Host>,
     /// Room for the longest list.
     text: Vec<u8>,
     /// The moment of the last reading, in milliseconds; 0 if that was at the start.
@@ -146,6 +148,7 @@ impl Follower {
             bound: without(given, None),
             found: without(given, None),
             given: without(given, None),
+            left: Few::new(Host::V4(ANY)),
             text,
             last_read: 0,
             silent: None,
@@ -252,6 +255,7 @@ impl Follower {
     pub(crate) fn next_change<R: Files>(&mut self, rt: &R, now: u64) -> Option<AddressChange> {
         if self.next_look() <= now {
             self.last_read = now;
+            self.left = Few::new(Host::V4(ANY));
             self.look(rt);
         }
         next_change(self.bound.as_slice(), self.found.as_slice())
@@ -260,6 +264,12 @@ impl Follower {
     /// It is listened on no more.
     pub(crate) fn note_gone(&mut self, host: Host) {
         self.bound = without(self.bound.as_slice(), Some(host));
+        put(&mut self.left, host);
+    }
+
+    /// Those that were left after the last reading, so that calls which came there and were forwarded may still wait.
+    pub(crate) fn left(&self) -> &[Host] {
+        self.left.as_slice()
     }
 
     /// It was tried to listen on it. What is to be told: that it is listened on, or the first fault. One that the machine does

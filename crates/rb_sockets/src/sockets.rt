@@ -154,7 +154,7 @@ impl Sockets {
 
     /// Addresses are followed from here on, for which places are taken. An error if an allocation is refused.
     pub fn follow_by(&mut self, follower: Follower) -> Result<(), AllocError> {
-        self.calls.all.reserve(MOST)?;
+        self.calls.all.reserve(2 * MOST)?;
         self.listeners.reserve(MOST)?;
         self.follower = Some(follower);
         Ok(())
@@ -197,7 +197,7 @@ impl Sockets {
     ) -> Option<AddressNews> {
         match change {
             Some(AddressChange::Leave(host)) => {
-                self.leave(host);
+                self.leave(rt, registry, host);
                 self.follower.as_mut()?.note_gone(host);
                 Some(AddressNews::Gone(host))
             }
@@ -210,7 +210,7 @@ impl Sockets {
     }
 
     /// Closes the sockets of a host.
-    fn leave(&mut self, host: Host) {
+    fn leave<R: Net>(&mut self, rt: &R, registry: &Registry, host: Host) {
         for calls in &mut self.calls.all {
             if calls.socket.bound() == host {
                 calls.socket.close();
@@ -221,18 +221,41 @@ impl Sockets {
                 listener.socket = Listener::Closed;
             }
         }
+        self.leave_forwards(rt, registry, host);
+    }
+
+    // FOLLOW-3: Calls that were forwarded from an address that is gone go out from the loopback of its family.
+    /// If calls are forwarded from a host, they are from the loopback from here on. Those that wait for an answer get none.
+    fn leave_forwards<R: Net>(&mut self, rt: &R, registry: &Registry, host: Host) {
+        let family = host.family();
+        if let Some(forwards) = self.forwards.of_mut(family) {
+            if forwards.socket.is_at(host) {
+                if let Ok(socket) = forwards_from_loopback(rt, registry, family) {
+                    *forwards = Watched::new(socket);
+                }
+            }
+        }
     }
 
     /// Listens on a host too, in the place of one that is listened on no more, if there is one.
     fn listen<R: Net>(&mut self, rt: &R, registry: &Registry, host: Host) -> Result<(), BindFault> {
         let mut listener = Listener::bind_tcp(rt, None, host, self.port, self.beliefs)?;
         let mut calls = CallSocket::bind(rt, None, host, self.port, false, self.beliefs)?;
-        let place = self.calls.free_place();
+        let place = self.free_place();
         let door = free_door(&self.listeners);
         check_shown(calls.register(registry, token_of(Shown::Calls(place))))?;
         check_shown(listener.register(registry, token_of(Shown::Listener(door))))?;
         put_at(&mut self.calls.all, place, calls)?;
         put_at(&mut self.listeners, door, listener)
+    }
+
+    /// The place of a socket whose host was left before the last reading, or the next one: by that time no call that came on it
+    /// and was forwarded waits any more, whose reply would go out on the new one.
+    fn free_place(&self) -> usize {
+        match &self.follower {
+            Some(follower) => self.calls.free_place(follower.left()),
+            None => self.calls.all.len(),
+        }
     }
 
     /// Whether it was found since the last question that the local socket is root's no longer.
@@ -545,6 +568,21 @@ fn forwards_from<R: Net>(
         Some(host) => Ok(Some(Watched::new(ForwardSocket::bind(rt, host)?))),
         None => Ok(None),
     }
+}
+
+/// A socket for calls that are forwarded from the loopback of a family, whose events are shown.
+fn forwards_from_loopback<R: Net>(
+    rt: &R,
+    registry: &Registry,
+    family: Family,
+) -> Result<ForwardSocket, BindFault> {
+    let loopback = match family {
+        Family::Inet => Host::V4(LOOPBACK),
+        Family::Inet6 => Host::V6(LOOPBACK6),
+    };
+    let mut socket = ForwardSocket::bind(rt, loopback)?;
+    check_shown(socket.register(registry, token_of(Shown::Forwards(family))))?;
+    Ok(socket)
 }
 
 fn bind_local<R: Files + Net>(
