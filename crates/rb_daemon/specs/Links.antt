@@ -1,5 +1,5 @@
 -- What goes between the place of a connection and the core, which knows the connection by its number.
-use Rattle.std.specs.Prelude.{◌≡◌, ℕ, true, drop, Option, Some, Result, Ok}
+use Rattle.std.specs.Prelude.{◌≡◌, ℕ, drop, Some, Result, Ok}
 use Rattle.rb_model.specs.declared.types.CoreFault.{CoreFault}
 use Rattle.rb_model.specs.declared.types.Exchanged.{Exchanged}
 use Rattle.rb_model.specs.declared.types.Given.{Given}

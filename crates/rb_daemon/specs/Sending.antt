@@ -1,5 +1,5 @@
 -- What is sent as datagrams, and on which sockets the calls came that are forwarded.
-use Rattle.std.specs.Prelude.{◌≡◌, ℕ, List, Option, Some, None}
+use Rattle.std.specs.Prelude.{ℕ, List, Option, Some, None}
 use Rattle.std.specs.Option.{option_map}
 use Rattle.rb_address.specs.declared.who.Source.{Source}
 use Rattle.rb_forward.specs.Forwards.{Unsent}

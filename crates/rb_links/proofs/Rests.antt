@@ -1,6 +1,6 @@
 -- What a write leaves of an outbox is a rest of what that held.
 use Rattle.std.specs.Prelude.{IfOk, OnErr}
-use Rattle.std.proofs.Common.{◌≡◌, ℕ, List, drop, Result, Ok, Err, ap}
+use Rattle.std.proofs.Common.{◌≡◌, ℕ, drop, Result, Ok, Err, ap}
 use Rattle.rb_links.specs.Outgoing.{Outgoing}
 use Rattle.rb_links.specs.Numbers.{IsRest}
 
