@@ -1,10 +1,11 @@
 #!/usr/bin/env python3
 """Connections from this machine to the built daemon in its default mode, beside Debian's rpcbind: bench-debian.py PROGRAM.
 
-Both listen at once, on IPv4 and IPv6, in namespaces of their own: `run-bench.sh` makes them. A line has the connections a
-second, as a ratio to Debian's, and those of both: one after another with one NULL or GETPORT each, and 64 at once. Then come
-the medians of a SET over a new TCP connection of another user than root, and of `rpcinfo -p`, beside a daemon that believes
-claims. At most a minute. Needs a C compiler, root and Debian's package rpcbind.
+Both listen at once, on IPv4 and IPv6, in namespaces of their own: `run-bench.sh` makes them. First come the medians of a
+SET over a new TCP connection of another user than root, and of `rpcinfo -p`, beside a daemon that believes claims. Then a
+line has the connections a second and their processor time, as ratios to Debian's: one after another with one NULL or GETPORT
+each, and 64 at once. On a busy machine the processor time is the steady one. At most two minutes. Needs a C compiler, root
+and Debian's package rpcbind.
 """
 import os
 import shutil
@@ -19,6 +20,7 @@ import time
 from ask import as_record, read_all
 from loads import COMPILER, HOST, Load, Server, compare, compile_in, encoded, pace, say_pace
 
+THEIRS = "/usr/sbin/rpcbind"
 DEBIANS, PORT, BELIEVING_PORT = 111, 20117, 20118
 AT_ONCE = 64
 USER = 65534
@@ -38,7 +40,7 @@ def why_skipped():
         return "there is no C compiler"
     if os.getuid() != 0:
         return "that wants root"
-    if subprocess.run(["dpkg-query", "-W", "rpcbind"], capture_output=True).returncode or not os.path.exists("/usr/sbin/rpcbind"):
+    if subprocess.run(["dpkg-query", "-W", "rpcbind"], capture_output=True).returncode or not os.path.exists(THEIRS):
         return "Debian's package rpcbind is not installed"
     return None
 
@@ -48,7 +50,7 @@ class Debians(Server):
 
     def __init__(self):
         self.port = DEBIANS
-        self.process = subprocess.Popen(["/usr/sbin/rpcbind", "-f"], stdout=subprocess.PIPE, stderr=subprocess.DEVNULL)
+        self.process = subprocess.Popen([THEIRS, "-f"], stdout=subprocess.PIPE, stderr=subprocess.DEVNULL)
         for host in (HOST, "::1"):
             self.await_listening(host)
 
@@ -103,7 +105,8 @@ def sets_of_user(port):
 def say_sets(port):
     found = sets_of_user(port)
     if found:
-        print(f"SETs and UNSETs of user {USER}, a connection for each: median {statistics.median(found):.2f} ms, at worst {max(found):.1f}")
+        told = f"median {statistics.median(found):.2f} ms, at worst {max(found):.1f}"
+        print(f"SETs and UNSETs of user {USER}, a connection for each: {told}")
     else:
         print(f"failed: a SET of user {USER} is not answered with TRUE")
 
@@ -134,14 +137,15 @@ def main():
         compile_in(folder)
         servers = [daemon(program, PORT), Debians(), daemon(program, BELIEVING_PORT, "--believe-claims")]
         try:
+            # before there are thousands of connections that have ended, each of which is a line of the kernel's table
+            say_sets(PORT)
+            say_lists(rpcinfo, (PORT, BELIEVING_PORT))
             for host in (HOST, "::1"):
                 for load in LOADS:
                     ratio = compare(folder, servers[0], servers[1], load, host)
                     ours, debians = ratio.calls
                     told = f"{ratio.of_calls:.2f} of Debian's ({ours:,.0f} to {debians:,.0f} a second)"
-                    print(f"connections to {host}, {load.name}: {told}", flush=True)
-            say_sets(PORT)
-            say_lists(rpcinfo, (PORT, BELIEVING_PORT))
+                    print(f"connections to {host}, {load.name}: {told}, {ratio.times:.2f} times its processor time", flush=True)
         finally:
             for server in servers:
                 server.end()
