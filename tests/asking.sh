@@ -70,6 +70,45 @@ with socket.create_server(("127.0.0.1", 0)) as listener:
     wait "$slow" 2> /dev/null
 }
 
+# SHOW-10
+# A row is printed as it comes: the portmapper gives the second one of its reply once the first one stands in the output.
+run_rpcinfo_of_rows_as_they_come() {
+    local slow asked
+    python3 -c '
+import os, socket, struct, sys, time
+
+def text(content):
+    return struct.pack(">I", len(content)) + content + bytes(-len(content) % 4)
+
+def row(program):
+    return struct.pack(">3I", 1, program, 1) + text(b"tcp") + text(b"127.0.0.1.8.1") + text(b"superuser")
+
+with socket.create_server(("127.0.0.1", 0)) as server:
+    print(server.getsockname()[1], flush=True)
+    with server.accept()[0] as client:
+        head = client.recv(4096)[4:8] + struct.pack(">5I", 1, 0, 0, 0, 0)
+        client.sendall(struct.pack(">I", len(head + row(200001))) + head + row(200001))
+        while not os.path.exists(sys.argv[1]):
+            time.sleep(0.1)
+        client.sendall(struct.pack(">I", 1 << 31 | len(row(200002)) + 4) + row(200002) + bytes(4))' "$work/shown" > "$work/port" &
+    slow=$!
+    for _ in $(seq 300); do [ ! -s "$work/port" ] || break; sleep 0.1; done
+    printf '%s\n' '200001 1 tcp 127.0.0.1.8.1 superuser' > "$work/wanted-first"
+    printf '%s\n' '20000'{1,2}' 1 tcp 127.0.0.1.8.1 superuser' > "$work/wanted"
+    "$rpcinfo" --port "$(cat "$work/port")" 127.0.0.1 > "$work/stdout" 2> "$work/stderr" &
+    asked=$!
+    for _ in $(seq 200); do ! cmp -s "$work/wanted-first" "$work/stdout" || break; sleep 0.1; done
+    same "$work/wanted-first" "$work/stdout" "what stands before the second row came"
+    judge $? "rpcinfo of a slow reply: its first row"
+    touch "$work/shown"
+    wait "$asked"
+    got=$?
+    as_wanted "$work/wanted" /dev/null 0
+    judge $? "rpcinfo of a slow reply: all of it"
+    kill "$slow" 2> /dev/null
+    wait "$slow" 2> /dev/null
+}
+
 # ADDRESS-1
 # A host is there, and has no address of the netid's family.
 run_rpcinfo_of_other_family() {
@@ -261,5 +300,5 @@ run_asking() {
 }
 
 checks+=(run_asking)
-portless+=(run_rpcinfo_of_silence run_rpcinfo_of_slow_reply)
-waiting+=" run_rpcinfo_of_silence run_rpcinfo_of_slow_reply"
+portless+=(run_rpcinfo_of_silence run_rpcinfo_of_slow_reply run_rpcinfo_of_rows_as_they_come)
+waiting+=" run_rpcinfo_of_silence run_rpcinfo_of_slow_reply run_rpcinfo_of_rows_as_they_come"

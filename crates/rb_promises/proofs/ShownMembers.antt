@@ -18,10 +18,7 @@ use Rattle.rb_show.specs.JsonGrammar.IsObject.{Members}
 use Rattle.rb_show.specs.JsonGrammar.AreMembers.{OneMember, MoreMembers}
 use Rattle.rb_show.specs.JsonGrammar.IsMember.{Member}
 use Rattle.rb_show.specs.Objects.{row_object, mapping_object, entry_object, info_items, numbers_object, look_ups_object, forwards_object}
-use Rattle.rb_show.specs.declared.stat.VersionStat.{VersionStat}
-use Rattle.rb_show.specs.declared.stat.AddrStat.{AddrStat}
-use Rattle.rb_show.specs.declared.stat.CallStat.{CallStat}
-use Rattle.rb_show.specs.Statistics.{IsInt, IsVersionStat, IsAddrStat, IsCallStat}
+use Rattle.rb_show.specs.Statistics.{VersionStat, AddrStat, CallStat, IsInt, IsVersionStat, IsAddrStat, IsCallStat}
 use Rattle.rb_show.proofs.JsonGrammar.{signed_number, array}
 use Rattle.rb_promises.specs.JsonMembers.{member_names, row_names, mapping_names, entry_names, numbers_names, look_ups_names, forwards_names, HasMembers, IsLineOf, EachHasItsMembers, AreDistinct, NoNameIsTwice}
 use Rattle.rb_promises.specs.JsonMembers.AreNamesOf.{OfRow, OfOldRow, OfMapping, OfEntry, OfNumbers, OfLookUps, OfForwards}

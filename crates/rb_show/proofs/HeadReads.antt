@@ -1,428 +1,414 @@
--- The head of a reply, as it is taken field by field and as it is read of all the data.
-use Rattle.std.proofs.Common.{◌≡◌, ◌⊎◌, ◌<◌, ◌≤◌, ◌+◌, ◌-◌, ℕ, Bool, true, false, not, cond, eqb, ltb, ◌||◌, List, [], length, take, drop, Option, Some, None, Ok, Err, refl, sym, ap, ◌∙◌, subst, arith, inl, inr}
-use Rattle.std.specs.Prelude.{slice_range}
-use Rattle.std.proofs.lemmas.List.{drop-drop, length-drop}
-use Rattle.std.proofs.lemmas.Bool.{cases_lt, lt-ltb, le-ltb}
-use Rattle.rb_xdr.specs.Xdr.{Reading, Reader, behind, read_on, ◌>>=◌ as ◌>>>◌, give as yield, refuse, number_at, word, residue, are_zero, read_number, read_content, read_opaque}
-use Rattle.rb_xdr.specs.XdrTypes.{read_pair}
-use Rattle.rb_xdr.specs.declared.fault.XdrFault.TheVariants.{Short, TooLong, BadBool, BadPadding}
-use Rattle.rb_xdr.proofs.Words.{number_at-drop}
-use Rattle.rb_rpc.specs.Messages.{max_auth_body, auth_stat_of}
+-- Heads of replies, and fronts of them.
+use Rattle.std.proofs.Common.{◌≡◌, ◌<◌, ◌≤◌, ◌+◌, ◌-◌, ◌*◌, ◌/◌, ℕ, zero, suc, Bool, true, false, not, cond, eqb, ltb, ◌||◌, ◌&&◌, List, [], ◌∷◌, ◌++◌, length, take, drop, Option, Some, None, refl, sym, ap, ◌∙◌, subst, append_assoc, arith, inl, inr, length-append}
+use Rattle.std.specs.Prelude.{slice_range, replicate, is_some, min}
+use Rattle.std.specs.Int.{w32, from_be_bytes}
+use Rattle.std.proofs.lemmas.Bool.{cases_lt, lt-ltb, le-ltb, ltb-false, not-false, cond-false, cond-true}
+use Rattle.std.proofs.lemmas.List.{drop-append-le, take-append-le, take-append-drop, length-take, length-drop, drop-replicate, length-replicate}
+use Rattle.std.proofs.Math.Seq.{drop-append-add, take-append-add}
+use Rattle.rb_xdr.specs.Xdr.{number_at, word, residue, are_zero}
+use Rattle.rb_xdr.proofs.Words.{number_at-append}
+use Rattle.rb_rpc.specs.Messages.{auth_stat_of}
 use Rattle.rb_rpc.specs.declared.auth.AuthStat.{AuthStat}
 use Rattle.rb_rpc.specs.declared.reply.ReplyStatus.{ReplyStatus}
-use Rattle.rb_rpc.specs.declared.reply.ReplyStatus.TheVariants.{ProgMismatch, RpcMismatch, AuthError}
+use Rattle.rb_rpc.specs.declared.reply.ReplyStatus.TheVariants.{Success, ProgUnavail, ProgMismatch, ProcUnavail, GarbageArgs, SystemErr, RpcMismatch, AuthError}
 use Rattle.rb_rpc.specs.declared.reply.ReplyHead.{ReplyHead}
-use Rattle.rb_rpc.specs.ReadReplies.{Read, says, by_accept_stat, refused_by, read_prog_mismatch, read_accept_stat, read_accepted, read_rpc_mismatch, read_denied, read_reply}
-use Rattle.rb_rpc.specs.Verdict.{body_length, auth_end, is_over_long, is_broken}
+use Rattle.rb_rpc.specs.ReadReplies.{Read, says, refused_by, by_accept_stat, read_prog_mismatch, read_accept_stat, read_accepted, read_rpc_mismatch, read_denied, read_reply}
+use Rattle.rb_rpc.specs.Verdict.{auth_end, body_length, is_over_long, is_broken}
 use Rattle.rb_show.specs.declared.fault.InfoFault.{InfoFault}
 use Rattle.rb_show.specs.declared.fault.InfoFault.TheVariants.{Unreadable}
-use Rattle.rb_show.specs.Telling.{Told, Teller, ◌>>=◌, give, stop, take_one, add_lines, tell_on, told_by}
+use Rattle.rb_show.specs.declared.take.Pause.TheVariants.{More, Fault}
+use Rattle.rb_show.specs.Telling.{Told}
 use Rattle.rb_show.specs.Telling.Told.{Done, Stop}
-use Rattle.rb_show.specs.Heads.{two_numbers, read_verifier_and_stat, head_with_status, accept_stat, auth_error, reject_stat, reply_stat, reply_words, take_accepted, take_denied, take_head}
-use Rattle.rb_show.specs.HeadLaws.{IsHead, HeadsAreRead}
+use Rattle.rb_show.specs.Fronts.{Breaks, Pauses, Takes}
+use Rattle.rb_show.specs.Heads.{words_there, filled, may_begin, by_reading, take_head}
+use Rattle.rb_show.specs.HeadLaws.{IsHead, HeadsAreRead, HeadsStay, NoHeadComes}
 
--- what is told of data whose end is told as `Unreadable`
-abbrev Front : Type 0 → Type 0
-Front A = List ℕ → Told A
+-- ---- numbers
 
--- the head that was read, with the data after it
-abbrev told_head : Read → List ℕ → Told ReplyHead
-told_head (Some read) content = Done [] read.0 (drop read.1 content)
-told_head None content = Stop [] Unreadable
+number_at-front : (p : ℕ) (front rest : List ℕ) → p + 4 ≤ length front → number_at p (front ++ rest) ≡ number_at p front
+unfolding number_at
+number_at-front p front rest within =
+    ap (λ (xs : List ℕ). from_be_bytes w32 (take 4 xs)) (drop-append-le p front rest (omega (arith, within)))
+    ∙ ap (from_be_bytes w32) (take-append-le 4 (drop p front) rest (omega (arith, within, length-drop p front)))
 
--- after no lines
-no_lines : {A : Type 0} (told : Told A) → add_lines [] told ≡ told
-no_lines (Done more x left) = refl
-no_lines (Stop more fault) = refl
+slice-front : (i j : ℕ) (front rest : List ℕ) → i ≤ length front → j ≤ length front → slice_range (front ++ rest) i j ≡ slice_range front i j
+slice-front i j front rest before within =
+    ap (take (j - i)) (drop-append-le i front rest before)
+    ∙ take-append-le (j - i) (drop i front) rest (omega (arith, before, within, length-drop i front))
 
--- ---- values of a length that does not depend on the bytes
+four_zeros : (n : ℕ) → take {A = ℕ} 4 (replicate (suc (suc (suc (suc n)))) 0) ≡ 0 ∷ 0 ∷ 0 ∷ 0 ∷ []
+four_zeros n = refl
 
-abbrev Reads : {A : Type 0} → Reader A → ℕ → (List ℕ → A) → Type 0
-Reads {A} reads n value = (bytes : List ℕ) → reads bytes ≡ cond (ltb (length bytes) n) (Err Short) (Ok (value bytes, n))
+number_at-zeros : (p m : ℕ) (front : List ℕ) → length front ≤ p → p + 4 ≤ length front + m → number_at p (front ++ replicate m 0) ≡ 0
+unfolding number_at
+number_at-zeros p m front after within =
+    let j : ℕ = p - length front in
+    ap (λ (n : ℕ). number_at n (front ++ replicate m 0)) {y = length front + j} (omega (arith, after))
+    ∙ number_at-append front (replicate m 0) (length front) j refl
+    ∙ ap (λ (xs : List ℕ). from_be_bytes w32 (take 4 xs)) (drop-replicate j m 0)
+    ∙ ap (λ (n : ℕ). from_be_bytes w32 (take 4 (replicate n 0))) {y = suc (suc (suc (suc (m - j - 4))))} (omega (arith, after, within))
+    ∙ ap (from_be_bytes w32) (four_zeros (m - j - 4))
 
-number_reads : Reads read_number 4 (λ bytes. number_at 0 bytes)
-unfolding read_number
-number_reads bytes = refl
+zeros_are : (j n : ℕ) → are_zero (take j (replicate n 0)) ≡ true
+zeros_are zero n = refl
+zeros_are (suc j) zero = refl
+zeros_are (suc j) (suc n) = zeros_are j n
 
-pair_reads : {A B : Type 0} (first : Reader A) (second : Reader B) (n m : ℕ) (x : List ℕ → A) (y : List ℕ → B) → Reads first n x → Reads second m y
-    → Reads (read_pair first second) (n + m) (λ bytes. (x bytes, y (drop n bytes)))
-unfolding read_pair
-pair_reads first second n m x y e f bytes =
-    let left : length (drop n bytes) ≡ length bytes - n = length-drop n bytes in
-    elim (cases_lt (length bytes) n) [
-      | inl short ↦ rw (e bytes, lt-ltb (length bytes) n short, lt-ltb (length bytes) (n + m) (omega (arith, short))) refl
-      | inr long ↦ elim (cases_lt (length (drop n bytes)) m) [
-        | inl short ↦ rw (e bytes, le-ltb (length bytes) n long, f (drop n bytes), lt-ltb (length (drop n bytes)) m short, lt-ltb (length bytes) (n + m) (omega (arith, short, left, long))) refl
-        | inr enough ↦ rw (e bytes, le-ltb (length bytes) n long, f (drop n bytes), le-ltb (length (drop n bytes)) m enough, le-ltb (length bytes) (n + m) (omega (arith, enough, left, long))) (ap (λ (k : ℕ). Ok ((x bytes, y (drop n bytes)), k)) (omega arith))
+slice-zeros : (i j m : ℕ) (front : List ℕ) → length front ≤ i → are_zero (slice_range (front ++ replicate m 0) i j) ≡ true
+slice-zeros i j m front after =
+    let k : ℕ = i - length front in
+    ap (λ (n : ℕ). are_zero (take (j - i) (drop n (front ++ replicate m 0)))) {y = length front + k} (omega (arith, after))
+    ∙ ap (λ (xs : List ℕ). are_zero (take (j - i) xs)) (drop-append-add front (replicate m 0) k ∙ drop-replicate k m 0)
+    ∙ zeros_are (j - i) (m - k)
+
+-- content and its residual bytes are whole words
+words_in : (c : ℕ) → c + residue c ≡ 4 * ((c + 3) / 4)
+words_in c = omega arith
+
+-- ---- tests
+
+passed : (b : Bool) (x : Read) (r : ReplyHead × ℕ) → cond b None x ≡ Some r → (b ≡ false) × (x ≡ Some r)
+passed true x r e = absurd cc
+passed false x r e = (refl, e)
+
+either : (a b : Bool) → (a || b) ≡ false → (a ≡ false) × (b ≡ false)
+either true b e = absurd cc
+either false b e = (refl, e)
+
+neither : (a b : Bool) → a ≡ false → b ≡ false → (a || b) ≡ false
+neither a b e f = rw (e, f) refl
+
+-- what reject_stat and reply_stat decide
+abbrev by_reject_stat : List ℕ → Read
+by_reject_stat xs = cond (eqb (word 3 xs) 0) (read_rpc_mismatch xs) (cond (eqb (word 3 xs) 1) (refused_by (auth_stat_of (word 4 xs)) (word 0 xs)) None)
+
+abbrev by_reply_stat : List ℕ → Read
+by_reply_stat xs = cond (eqb (word 2 xs) 0) (read_accepted xs) (cond (eqb (word 2 xs) 1) (read_denied xs) None)
+
+-- what is so of a head that is read is so of another, in the same case of a test
+module _ (Is : Read → Type 0) (r : ReplyHead × ℕ) where
+  by_test : (b : Bool) (u v u' v' : Read) → cond b u v ≡ Some r → (u ≡ Some r → Is u') → (v ≡ Some r → Is v') → Is (cond b u' v')
+  by_test true u v u' v' e f g = f e
+  by_test false u v u' v' e f g = g e
+
+  module _ (x x' : List ℕ) (same : word 0 x' ≡ word 0 x) (said : (status : ReplyStatus) (place : ℕ) → says (word 0 x) status (place + 4) ≡ Some r → Is (says (word 0 x) status (place + 4))) where
+    says_it : (status : ReplyStatus) (place : ℕ) → says (word 0 x) status (place + 4) ≡ Some r → Is (says (word 0 x') status (place + 4))
+    says_it status place was = subst (λ (xid : ℕ). Is (says xid status (place + 4))) (sym same) (said status place was)
+
+    stat_is : (stat place : ℕ) → (read_prog_mismatch place x ≡ Some r → Is (read_prog_mismatch place x')) → by_accept_stat stat place x ≡ Some r → Is (by_accept_stat stat place x')
+    stat_is stat place mismatch was =
+        by_test (eqb stat 0) _ _ _ _ was (says_it Success place)
+        (λ a. by_test (eqb stat 1) _ _ _ _ a (says_it ProgUnavail place)
+        (λ b. by_test (eqb stat 2) _ _ _ _ b mismatch
+        (λ c. by_test (eqb stat 3) _ _ _ _ c (says_it ProcUnavail place)
+        (λ d. by_test (eqb stat 4) _ _ _ _ d (says_it GarbageArgs place)
+        (λ f. by_test (eqb stat 5) _ _ _ _ f (says_it SystemErr place) (λ g. absurd cc))))))
+
+-- ---- an accepted head
+
+-- what is read with a count of c bytes of the verifier
+record Accepted (xs : List ℕ) (c : ℕ) (r : ReplyHead × ℕ) : Type 0 where
+  few : c ≤ 400
+  long : 20 + c + residue c + 4 ≤ length xs
+  zeros : are_zero (slice_range xs (20 + c) (20 + c + residue c)) ≡ true
+  stat : by_accept_stat (number_at (20 + c + residue c) xs) (20 + c + residue c) xs ≡ Some r
+
+accepted_by : (xs : List ℕ) (c : ℕ) → number_at 16 xs ≡ c
+    → read_accepted xs ≡ cond ((not (ltb (length xs) 20) && ltb 400 c) || (ltb (length xs) (20 + c + residue c) || not (are_zero (slice_range xs (20 + c) (20 + c + residue c))))) None
+    (cond (ltb (length xs) (20 + c + residue c + 4)) None (by_accept_stat (number_at (20 + c + residue c) xs) (20 + c + residue c) xs))
+unfolding read_accepted read_accept_stat is_over_long is_broken auth_end body_length
+accepted_by xs c e = rw e refl
+
+few_are : (n c : ℕ) → 20 + c + residue c ≤ n → (not (ltb n 20) && ltb 400 c) ≡ false → c ≤ 400
+few_are n c long e = ltb-false 400 c (ap (λ (b : Bool). not b && ltb 400 c) (sym (le-ltb n 20 (omega (arith, long)))) ∙ e)
+
+was_accepted : (xs : List ℕ) (c : ℕ) (r : ReplyHead × ℕ) → number_at 16 xs ≡ c → read_accepted xs ≡ Some r → Accepted xs c r
+was_accepted xs c r is e =
+    let a = passed _ _ r (sym (accepted_by xs c is) ∙ e) in
+    let parts = either _ _ a.0 in
+    let broken = either _ _ parts.1 in
+    let b = passed _ _ r a.1 in
+    record {
+      few = few_are (length xs) c (ltb-false _ _ broken.0) parts.0;
+      long = ltb-false _ _ b.0;
+      zeros = not-false _ broken.1;
+      stat = b.1;
+    }
+
+is_accepted : (xs : List ℕ) (c : ℕ) → number_at 16 xs ≡ c → c ≤ 400 → 20 + c + residue c + 4 ≤ length xs → are_zero (slice_range xs (20 + c) (20 + c + residue c)) ≡ true
+    → read_accepted xs ≡ by_accept_stat (number_at (20 + c + residue c) xs) (20 + c + residue c) xs
+is_accepted xs c is few long zeros =
+    accepted_by xs c is
+    ∙ rw (le-ltb (length xs) 20 (omega (arith, long)), le-ltb 400 c few, le-ltb (length xs) (20 + c + residue c) (omega (arith, long)), zeros, le-ltb (length xs) (20 + c + residue c + 4) long) refl
+
+-- ---- a head that is there stays
+
+module _ (bytes more : List ℕ) (r : ReplyHead × ℕ) where
+  longer : length bytes ≤ length (bytes ++ more)
+  longer = omega (arith, length-append bytes more)
+
+  at : (p : ℕ) → p + 4 ≤ length bytes → number_at p (bytes ++ more) ≡ number_at p bytes
+  at p within = number_at-front p bytes more within
+
+  abbrev Stays : Read → Type 0
+  Stays read = read ≡ Some r
+
+  said_again : (xid : ℕ) (status : ReplyStatus) (place : ℕ) → says xid status (place + 4) ≡ Some r → Stays (says xid status (place + 4))
+  said_again xid status place was = was
+
+  mismatch_stays : (place : ℕ) → 4 ≤ length bytes → read_prog_mismatch place bytes ≡ Some r → Stays (read_prog_mismatch place (bytes ++ more))
+  unfolding read_prog_mismatch
+  mismatch_stays place some was =
+      let a = passed _ _ r was in
+      let long : place + 12 ≤ length bytes = ltb-false _ _ a.0 in
+      rw (le-ltb (length (bytes ++ more)) (place + 12) (omega (arith, long, longer)), at 0 some, at (place + 4) (omega (arith, long)), at (place + 8) (omega (arith, long))) a.1
+
+  accepted_stays : 4 ≤ length bytes → read_accepted bytes ≡ Some r → Stays (read_accepted (bytes ++ more))
+  accepted_stays some was =
+      let c : ℕ = number_at 16 bytes in
+      let a = was_accepted bytes c r refl was in
+      let e : ℕ = 20 + c + residue c in
+      is_accepted (bytes ++ more) c (at 16 (omega (arith, a.long))) a.few (omega (arith, a.long, longer))
+      (ap are_zero (slice-front (20 + c) e bytes more (omega (arith, a.long)) (omega (arith, a.long))) ∙ a.zeros)
+      ∙ ap (λ (stat : ℕ). by_accept_stat stat e (bytes ++ more)) (at e a.long)
+      ∙ stat_is Stays r bytes (bytes ++ more) (at 0 some) (said_again (word 0 bytes)) (number_at e bytes) e (mismatch_stays e some) a.stat
+
+  denied_stays : read_denied bytes ≡ Some r → Stays (read_denied (bytes ++ more))
+  unfolding read_denied read_rpc_mismatch
+  denied_stays was =
+      let a = passed _ _ r was in
+      let long : 20 ≤ length bytes = ltb-false _ _ a.0 in
+      rw (le-ltb (length (bytes ++ more)) 20 (omega (arith, long, longer)), at 0 (omega (arith, long)), at 12 (omega (arith, long)), at 16 (omega (arith, long)))
+      (by_test Stays r (eqb (number_at 12 bytes) 0) _ _ _ _ a.1
+      (λ b.
+      let c = passed _ _ r b in
+      let longer_still : 24 ≤ length bytes = ltb-false _ _ c.0 in
+      rw (le-ltb (length (bytes ++ more)) 24 (omega (arith, longer_still, longer)), at 20 (omega (arith, longer_still))) c.1)
+      (λ b. b))
+
+  pub head_stays : read_reply bytes ≡ Some r → read_reply (bytes ++ more) ≡ Some r
+  unfolding read_reply
+  head_stays was =
+      let a = passed _ _ r was in
+      let tests = either _ _ a.0 in
+      let long : 12 ≤ length bytes = ltb-false _ _ tests.0 in
+      rw (le-ltb (length (bytes ++ more)) 12 (omega (arith, long, longer)), at 4 (omega (arith, long)), at 8 (omega (arith, long)), tests.1)
+      (by_test Stays r (eqb (number_at 8 bytes) 0) _ _ _ _ a.1 (accepted_stays (omega (arith, long)))
+      (λ b. by_test Stays r (eqb (number_at 8 bytes) 1) _ _ _ _ b denied_stays (λ c. absurd cc)))
+
+-- ---- with zeros for what is missing
+
+module _ (w : ℕ) (front rest : List ℕ) (size : length front ≡ 4 * w) (begun : 3 ≤ w) (few : w ≤ 108) (r : ReplyHead × ℕ) where
+  abbrev filled_up : List ℕ
+  filled_up = front ++ replicate (432 - 4 * w) 0
+
+  length-filled : length filled_up ≡ 432
+  length-filled = omega (arith, size, few, length-append front (replicate (432 - 4 * w) 0), length-replicate {A = ℕ} (432 - 4 * w) 0)
+
+  abbrev IsSome : Read → Type 0
+  IsSome read = is_some read ≡ true
+
+  kept : (p : ℕ) → p + 4 ≤ 4 * w → number_at p filled_up ≡ number_at p (front ++ rest)
+  kept p within =
+      number_at-front p front (replicate (432 - 4 * w) 0) (omega (arith, size, within)) ∙ sym (number_at-front p front rest (omega (arith, size, within)))
+
+  zero_at : (p : ℕ) → 4 * w ≤ p → p + 4 ≤ 432 → number_at p filled_up ≡ 0
+  zero_at p after within = number_at-zeros p (432 - 4 * w) front (omega (arith, size, after)) (omega (arith, size, few, within))
+
+  mismatch_filled : (place : ℕ) → place + 12 ≤ 432 → IsSome (read_prog_mismatch place filled_up)
+  unfolding read_prog_mismatch
+  mismatch_filled place within = rw (length-filled, le-ltb 432 (place + 12) within) refl
+
+  success_filled : (place : ℕ) → 4 * w ≤ place → place + 4 ≤ 432 → IsSome (by_accept_stat (number_at place filled_up) place filled_up)
+  success_filled place after within = rw (zero_at place after within) refl
+
+  stat_filled : (v : ℕ) → v ≤ 105 → by_accept_stat (number_at (4 * v) (front ++ rest)) (4 * v) (front ++ rest) ≡ Some r → IsSome (by_accept_stat (number_at (4 * v) filled_up) (4 * v) filled_up)
+  stat_filled v near was = elim (cases_lt v w) [
+    | inl there ↦
+        ap (λ (stat : ℕ). is_some (by_accept_stat stat (4 * v) filled_up)) (kept (4 * v) (omega (arith, there)))
+        ∙ stat_is IsSome r (front ++ rest) filled_up (kept 0 (omega (arith, begun))) (λ status place said. refl) (number_at (4 * v) (front ++ rest)) (4 * v) (λ said. mismatch_filled (4 * v) (omega (arith, near))) was
+    | inr missing ↦ success_filled (4 * v) (omega (arith, missing)) (omega (arith, near))
+  ]
+
+  accepted_filled : read_accepted (front ++ rest) ≡ Some r → IsSome (read_accepted filled_up)
+  accepted_filled was = elim (cases_lt w 5) [
+    | inl early ↦
+        ap is_some (is_accepted filled_up 0 (zero_at 16 (omega (arith, early)) (omega arith)) (omega arith) (omega (arith, length-filled)) refl)
+        ∙ success_filled 20 (omega (arith, early)) (omega arith)
+    | inr late ↦ by_count (number_at 16 (front ++ rest)) refl late
+  ]
+    where
+      zeros_kept : (c e : ℕ) → e ≡ 4 * (5 + (c + 3) / 4) → e ≤ 20 + c + 3 → are_zero (slice_range (front ++ rest) (20 + c) e) ≡ true → 20 + c ≤ e → are_zero (slice_range filled_up (20 + c) e) ≡ true
+      zeros_kept c e is near zeros before = elim (cases_lt (4 * w) e) [
+        | inl missing ↦ slice-zeros (20 + c) e (432 - 4 * w) front (omega (arith, size, missing, is, near))
+        | inr there ↦
+            ap are_zero (slice-front (20 + c) e front (replicate (432 - 4 * w) 0) (omega (arith, size, there, before)) (omega (arith, size, there)))
+            ∙ ap are_zero (sym (slice-front (20 + c) e front rest (omega (arith, size, there, before)) (omega (arith, size, there)))) ∙ zeros
       ]
-    ]
 
--- what is told of one at a place
-reads_told : {A B : Type 0} (reads : Reader A) (n : ℕ) (value : List ℕ → A) (next : A → Front B) (p : ℕ) (content : List ℕ) → 0 < n → Reads reads n value
-    → tell_on (told_by Unreadable (reads (drop p content)) (drop p content)) next ≡ cond (ltb (length content) (p + n)) (Stop [] Unreadable) (next (value (drop p content)) (drop (p + n) content))
-reads_told reads n value next p content some e =
-    let d : List ℕ = drop p content in
-    let left : length d ≡ length content - p = length-drop p content in
-    elim (cases_lt (length d) n) [
-      | inl short ↦ rw (e d, lt-ltb (length d) n short, lt-ltb (length content) (p + n) (omega (arith, short, left))) refl
-      | inr long ↦ rw (e d, le-ltb (length d) n long, le-ltb (length content) (p + n) (omega (arith, long, left, some)), drop-drop n p content) (no_lines _)
-    ]
+      by_count : (c : ℕ) → number_at 16 (front ++ rest) ≡ c → 5 ≤ w → IsSome (read_accepted filled_up)
+      by_count c is late =
+          let a = was_accepted (front ++ rest) c r is was in
+          let e : ℕ = 20 + c + residue c in
+          let v : ℕ = 5 + (c + 3) / 4 in
+          let e_is : e ≡ 4 * v = omega (arith, words_in c) in
+          let near : v ≤ 105 = omega (arith, a.few) in
+          ap is_some (is_accepted filled_up c (kept 16 (omega (arith, late)) ∙ is) a.few (omega (arith, length-filled, e_is, near)) (zeros_kept c e e_is (omega arith) a.zeros (omega arith)))
+          ∙ subst (λ (p : ℕ). by_accept_stat (number_at p (front ++ rest)) p (front ++ rest) ≡ Some r → IsSome (by_accept_stat (number_at p filled_up) p filled_up)) (sym e_is) (stat_filled v near) a.stat
 
--- the first of a pair, and then the second
-pair_told : {A B C : Type 0} (first : Reader A) (second : Reader B) (next : A × B → Front C) (content : List ℕ)
-    → tell_on (told_by Unreadable (read_pair first second content) content) next
-    ≡ tell_on (told_by Unreadable (first content) content) (λ (x : A) (d : List ℕ). tell_on (told_by Unreadable (second d) d) (λ (y : B). next (x, y)))
-unfolding read_pair
-pair_told {A} {B} {C} first second next content = by_first (first content)
-  where
-    by_second : (x : A) (n : ℕ) (r : Reading B)
-        → tell_on (told_by Unreadable (behind n (read_on r (λ (y : B). yield (x, y)) (drop n content))) content) next ≡ add_lines [] (tell_on (told_by Unreadable r (drop n content)) (λ (y : B). next (x, y)))
-    by_second x n (Ok y) = ap (λ (d : List ℕ). add_lines [] (next (x, y.0) d)) (ap (λ (k : ℕ). drop k content) (omega arith) ∙ sym (drop-drop y.1 n content)) ∙ sym (no_lines _)
-    by_second x n (Err Short) = refl
-    by_second x n (Err TooLong) = refl
-    by_second x n (Err BadBool) = refl
-    by_second x n (Err BadPadding) = refl
+  refused_is : (o : Option AuthStat) (xid xid' : ℕ) → refused_by o xid ≡ Some r → IsSome (refused_by o xid')
+  refused_is (Some stat) xid xid' was = refl
+  refused_is None xid xid' was = absurd cc
 
-    by_first : (r : Reading A)
-        → tell_on (told_by Unreadable (read_on r (λ (x : A). second >>> (λ (y : B). yield (x, y))) content) content) next ≡ tell_on (told_by Unreadable r content) (λ (x : A) (d : List ℕ). tell_on (told_by Unreadable (second d) d) (λ (y : B). next (x, y)))
-    by_first (Ok x) = by_second x.0 x.1 (second (drop x.1 content))
-    by_first (Err Short) = refl
-    by_first (Err TooLong) = refl
-    by_first (Err BadBool) = refl
-    by_first (Err BadPadding) = refl
+  refused_filled : refused_by (auth_stat_of (number_at 16 (front ++ rest))) (word 0 (front ++ rest)) ≡ Some r → IsSome (refused_by (auth_stat_of (number_at 16 filled_up)) (word 0 filled_up))
+  unfolding auth_stat_of
+  refused_filled was = elim (cases_lt w 5) [
+    | inl early ↦ rw (zero_at 16 (omega (arith, early)) (omega arith)) refl
+    | inr late ↦ rw (kept 16 (omega (arith, late))) (refused_is (auth_stat_of (number_at 16 (front ++ rest))) (word 0 (front ++ rest)) (word 0 filled_up) was)
+  ]
 
--- one, and then another that depends on it
-bind_told : {A B C : Type 0} (first : Reader A) (second : A → Reader B) (next : B → Front C) (content : List ℕ)
-    → tell_on (told_by Unreadable ((first >>> second) content) content) next ≡ tell_on (told_by Unreadable (first content) content) (λ (x : A) (d : List ℕ). tell_on (told_by Unreadable (second x d) d) next)
-bind_told {A} {B} {C} first second next content = by_first (first content)
-  where
-    by_second : (n : ℕ) (r : Reading B) → tell_on (told_by Unreadable (behind n r) content) next ≡ add_lines [] (tell_on (told_by Unreadable r (drop n content)) next)
-    by_second n (Ok y) = ap (λ (d : List ℕ). add_lines [] (next y.0 d)) (sym (drop-drop y.1 n content)) ∙ sym (no_lines _)
-    by_second n (Err Short) = refl
-    by_second n (Err TooLong) = refl
-    by_second n (Err BadBool) = refl
-    by_second n (Err BadPadding) = refl
+  denied_filled : read_denied (front ++ rest) ≡ Some r → IsSome (read_denied filled_up)
+  unfolding read_denied read_rpc_mismatch
+  denied_filled was = elim (cases_lt w 4) [
+    | inl early ↦ rw (length-filled, zero_at 12 (omega (arith, early)) (omega arith)) refl
+    | inr late ↦
+        let a = passed (ltb (length (front ++ rest)) 20) (by_reject_stat (front ++ rest)) r was in
+        rw (length-filled, kept 12 (omega (arith, late))) (by_test IsSome r (eqb (word 3 (front ++ rest)) 0) _ _ _ _ a.1 (λ b. refl)
+        (λ b. by_test IsSome r (eqb (word 3 (front ++ rest)) 1) _ _ _ _ b refused_filled (λ c. absurd cc)))
+  ]
 
-    by_first : (r : Reading A) → tell_on (told_by Unreadable (read_on r second content) content) next ≡ tell_on (told_by Unreadable r content) (λ (x : A) (d : List ℕ). tell_on (told_by Unreadable (second x d) d) next)
-    by_first (Ok x) = by_second x.1 (second x.0 (drop x.1 content))
-    by_first (Err Short) = refl
-    by_first (Err TooLong) = refl
-    by_first (Err BadBool) = refl
-    by_first (Err BadPadding) = refl
+  pub head_filled : read_reply (front ++ rest) ≡ Some r → IsSome (read_reply filled_up)
+  unfolding read_reply
+  head_filled was =
+      let a = passed _ (by_reply_stat (front ++ rest)) r was in
+      let tests = either (ltb (length (front ++ rest)) 12) (not (eqb (word 1 (front ++ rest)) 1)) a.0 in
+      rw (length-filled, kept 4 (omega (arith, begun)), kept 8 (omega (arith, begun)), tests.1) (by_test IsSome r (eqb (number_at 8 (front ++ rest)) 0) _ _ _ _ a.1 accepted_filled
+      (λ b. by_test IsSome r (eqb (number_at 8 (front ++ rest)) 1) _ _ _ _ b denied_filled (λ c. absurd cc)))
 
--- the number that stands in front of what is left
-at_front : (p : ℕ) (bytes : List ℕ) → number_at 0 (drop p bytes) ≡ number_at p bytes
-at_front p bytes = number_at-drop p 0 bytes ∙ ap (λ (k : ℕ). number_at k bytes) (omega arith)
+-- ---- a head has bytes
 
--- ---- a credential or a verifier, of which nothing is used
+module _ (bytes : List ℕ) (r : ReplyHead × ℕ) where
+  abbrev used_of : Read → ℕ
+  used_of (Some read) = read.1
+  used_of None = 0
 
--- this much content at a place, and its residual bytes
-content_told : {A : Type 0} (rest : Front A) (c p : ℕ) (bytes : List ℕ) → p ≤ length bytes
-    → tell_on (told_by Unreadable (read_content c (drop p bytes)) (drop p bytes)) (λ _. rest)
-    ≡ cond (ltb (length bytes) (p + c + residue c) || not (are_zero (slice_range bytes (p + c) (p + c + residue c)))) (Stop [] Unreadable) (rest (drop (p + c + residue c) bytes))
-unfolding read_content
-content_told {A} rest c p bytes there =
-    let d : List ℕ = drop p bytes in
-    let left : length d ≡ length bytes - p = length-drop p bytes in
-    let size : c + residue c - c ≡ p + c + residue c - (p + c) = omega arith in
-    let part : slice_range d c (c + residue c) ≡ slice_range bytes (p + c) (p + c + residue c) =
-    ap (λ (k : ℕ). take k (drop c d)) size ∙ ap (λ (xs : List ℕ). take (p + c + residue c - (p + c)) xs) (drop-drop c p bytes) in
-    elim (cases_lt (length bytes) (p + c + residue c)) [
-      | inl short ↦ rw (lt-ltb (length bytes) (p + c + residue c) short, lt-ltb (length d) (c + residue c) (omega (arith, short, left, there))) refl
-      | inr long ↦ rw (le-ltb (length bytes) (p + c + residue c) long, le-ltb (length d) (c + residue c) (omega (arith, long, left)), part) (by_zeros (are_zero (slice_range bytes (p + c) (p + c + residue c))))
-    ]
-  where
-    by_zeros : (b : Bool) → tell_on (told_by Unreadable (cond b (Ok (take c (drop p bytes), c + residue c)) (Err BadPadding)) (drop p bytes)) (λ _. rest)
-        ≡ cond (false || not b) (Stop [] Unreadable) (rest (drop (p + c + residue c) bytes))
-    by_zeros true = no_lines _ ∙ ap rest (drop-drop (c + residue c) p bytes ∙ ap (λ (k : ℕ). drop k bytes) (omega arith))
-    by_zeros false = refl
+  abbrev Uses : Read → Type 0
+  Uses read = 0 < r.1
 
-abbrev limited : ℕ → Reader (List ℕ)
-limited count = cond (ltb max_auth_body count) (refuse TooLong) (read_content count)
+  used_is : (xid : ℕ) (status : ReplyStatus) (place : ℕ) → says xid status (place + 4) ≡ Some r → 0 < r.1
+  used_is xid status place was = let is : place + 4 ≡ r.1 = ap used_of was in omega (arith, is)
 
--- a body of opaque data at a place
-body_told : {A : Type 0} (rest : Front A) (p : ℕ) (bytes : List ℕ)
-    → tell_on (told_by Unreadable (read_opaque max_auth_body (drop p bytes)) (drop p bytes)) (λ _. rest)
-    ≡ cond (ltb (length bytes) (p + 4)) (Stop [] Unreadable)
-    (tell_on (told_by Unreadable (limited (number_at 0 (drop p bytes)) (drop (p + 4) bytes)) (drop (p + 4) bytes)) (λ _. rest))
-unfolding read_opaque
-body_told rest p bytes =
-    bind_told read_number limited (λ _. rest) (drop p bytes)
-    ∙ reads_told read_number 4 (λ d. number_at 0 d) (λ (c : ℕ) (d : List ℕ). tell_on (told_by Unreadable (limited c d) d) (λ _. rest)) p bytes (omega arith) number_reads
+  mismatch_uses : (place : ℕ) → read_prog_mismatch place bytes ≡ Some r → 0 < r.1
+  unfolding read_prog_mismatch
+  mismatch_uses place was = let is : place + 12 ≡ r.1 = ap used_of (passed (ltb (length bytes) (place + 12)) (says (word 0 bytes) (ProgMismatch (number_at (place + 4) bytes) (number_at (place + 8) bytes)) (place + 12)) r was).1 in omega (arith, is)
 
--- the flavor, and then the body
-flavor_told : {A : Type 0} (rest : Front A) (p : ℕ) (bytes : List ℕ)
-    → tell_on (told_by Unreadable (read_pair read_number (read_opaque max_auth_body) (drop p bytes)) (drop p bytes)) (λ _. rest)
-    ≡ cond (ltb (length bytes) (p + 4)) (Stop [] Unreadable) (tell_on (told_by Unreadable (read_opaque max_auth_body (drop (p + 4) bytes)) (drop (p + 4) bytes)) (λ _. rest))
-flavor_told rest p bytes =
-    pair_told read_number (read_opaque max_auth_body) (λ _. rest) (drop p bytes)
-    ∙ reads_told read_number 4 (λ d. number_at 0 d) (λ (c : ℕ) (d : List ℕ). tell_on (told_by Unreadable (read_opaque max_auth_body d) d) (λ _. rest)) p bytes (omega arith) number_reads
+  accepted_uses : read_accepted bytes ≡ Some r → 0 < r.1
+  accepted_uses was =
+      let c : ℕ = number_at 16 bytes in
+      let a = was_accepted bytes c r refl was in
+      stat_is Uses r bytes bytes refl (used_is (word 0 bytes)) (number_at (20 + c + residue c) bytes) (20 + c + residue c) (mismatch_uses (20 + c + residue c)) a.stat
 
--- after the flavor and the count
-tail_told : {A : Type 0} (rest : Front A) (p q c : ℕ) (bytes : List ℕ) → q ≡ p + 8 → c ≡ number_at (p + 4) bytes
-    → cond (ltb (length bytes) q) (Stop [] Unreadable) (tell_on (told_by Unreadable (limited c (drop q bytes)) (drop q bytes)) (λ _. rest))
-    ≡ cond (is_over_long p bytes || is_broken p bytes) (Stop [] Unreadable) (rest (drop (auth_end p bytes) bytes))
-unfolding is_over_long is_broken auth_end body_length
-tail_told rest p q c bytes e f =
-    let n : ℕ = number_at (p + 4) bytes in
-    rw (e, f) (elim (cases_lt (length bytes) (p + 8)) [
-      | inl short ↦ rw (lt-ltb (length bytes) (p + 8) short, lt-ltb (length bytes) (p + 8 + n + residue n) (omega (arith, short))) refl
-      | inr long ↦ elim (cases_lt max_auth_body n) [
-        | inl over ↦ rw (le-ltb (length bytes) (p + 8) long, lt-ltb max_auth_body n over) refl
-        | inr fits ↦ rw (le-ltb (length bytes) (p + 8) long, le-ltb max_auth_body n fits) (content_told rest n (p + 8) bytes long)
-      ]
-    ])
+  refused_uses : (o : Option AuthStat) (xid : ℕ) → refused_by o xid ≡ Some r → 0 < r.1
+  refused_uses (Some stat) xid was = let is : 20 ≡ r.1 = ap used_of was in omega (arith, is)
+  refused_uses None xid was = absurd cc
 
--- of which nothing is used
-auth_told : {A : Type 0} (rest : Front A) (p : ℕ) (bytes : List ℕ)
-    → tell_on (told_by Unreadable (read_pair read_number (read_opaque max_auth_body) (drop p bytes)) (drop p bytes)) (λ _. rest)
-    ≡ cond (is_over_long p bytes || is_broken p bytes) (Stop [] Unreadable) (rest (drop (auth_end p bytes) bytes))
-unfolding is_over_long is_broken auth_end body_length
-auth_told {A} rest p bytes = flavor_told rest p bytes ∙ elim (cases_lt (length bytes) (p + 4)) [
-  | inl short ↦ rw (lt-ltb (length bytes) (p + 4) short) (sym (rw (lt-ltb (length bytes) (p + 8) (omega (arith, short)), lt-ltb (length bytes) (p + 8 + number_at (p + 4) bytes + residue (number_at (p + 4) bytes)) (omega (arith, short))) refl))
-  | inr long ↦ rw (le-ltb (length bytes) (p + 4) long) (body_told rest (p + 4) bytes ∙ tail_told rest p (p + 4 + 4) (number_at 0 (drop (p + 4) bytes)) bytes (omega arith) (at_front (p + 4) bytes))
-]
+  denied_uses : read_denied bytes ≡ Some r → 0 < r.1
+  unfolding read_denied read_rpc_mismatch
+  denied_uses was =
+      by_test Uses r (eqb (word 3 bytes) 0) (read_rpc_mismatch bytes) (cond (eqb (word 3 bytes) 1) (refused_by (auth_stat_of (word 4 bytes)) (word 0 bytes)) None) None None (passed (ltb (length bytes) 20) (by_reject_stat bytes) r was).1
+      (λ b. let is : 24 ≡ r.1 = ap used_of (passed (ltb (length bytes) 24) (says (word 0 bytes) (RpcMismatch (word 4 bytes) (word 5 bytes)) 24) r b).1 in omega (arith, is))
+      (λ b. by_test Uses r (eqb (word 3 bytes) 1) (refused_by (auth_stat_of (word 4 bytes)) (word 0 bytes)) None None None b (refused_uses (auth_stat_of (word 4 bytes)) (word 0 bytes)) (λ c. absurd cc))
 
--- ---- the head
+  pub head_uses : read_reply bytes ≡ Some r → 0 < r.1
+  unfolding read_reply
+  head_uses was =
+      by_test Uses r (eqb (word 2 bytes) 0) (read_accepted bytes) (cond (eqb (word 2 bytes) 1) (read_denied bytes) None) None None (passed _ (by_reply_stat bytes) r was).1 accepted_uses
+      (λ b. by_test Uses r (eqb (word 2 bytes) 1) (read_denied bytes) None None None b denied_uses (λ c. absurd cc))
 
--- with the xid
-abbrev headed : ℕ → ReplyStatus → Front ReplyHead
-headed xid status = give (record { xid = xid; status = status }) Unreadable
+-- ---- no head, however it goes on
 
--- one choice in both
-branch : (b : Bool) (t u : Teller ReplyStatus) (x y : Read) (xid : ℕ) (d bytes : List ℕ)
-    → tell_on (t Unreadable d) (headed xid) ≡ told_head x bytes → tell_on (u Unreadable d) (headed xid) ≡ told_head y bytes → tell_on ((cond b t u) Unreadable d) (headed xid) ≡ told_head (cond b x y) bytes
-branch true t u x y xid d bytes e f = e
-branch false t u x y xid d bytes e f = f
+module _ (bytes more : List ℕ) (long : 12 ≤ length bytes) (no : is_some (read_reply (filled bytes)) ≡ false) where
+  abbrev w : ℕ
+  w = min (length bytes / 4) 108
 
-two_reads : Reads two_numbers 8 (λ bytes. (number_at 0 bytes, number_at 0 (drop 4 bytes)))
-two_reads = pair_reads read_number read_number 4 4 (λ bytes. number_at 0 bytes) (λ bytes. number_at 0 bytes) number_reads number_reads
+  abbrev front : List ℕ
+  front = take (4 * w) bytes
 
--- two versions at a place
-versions_told : (make : ℕ → ℕ → ReplyStatus) (xid p : ℕ) (bytes : List ℕ)
-    → tell_on (tell_on (told_by Unreadable (two_numbers (drop p bytes)) (drop p bytes)) (λ (v : ℕ × ℕ). give (make v.0 v.1) Unreadable)) (headed xid)
-    ≡ told_head (cond (ltb (length bytes) (p + 8)) None (says xid (make (number_at p bytes) (number_at (p + 4) bytes)) (p + 8))) bytes
-versions_told make xid p bytes =
-    ap (λ (told : Told ReplyStatus). tell_on told (headed xid)) (reads_told two_numbers 8 (λ d. (number_at 0 d, number_at 0 (drop 4 d))) (λ (v : ℕ × ℕ). give (make v.0 v.1) Unreadable) p bytes (omega arith) two_reads)
-    ∙ rw (drop-drop 4 p bytes, at_front p bytes, at_front (p + 4) bytes) (by_length (ltb (length bytes) (p + 8)))
-  where
-    by_length : (b : Bool) → tell_on (cond b (Stop [] Unreadable) (give (make (number_at p bytes) (number_at (p + 4) bytes)) Unreadable (drop (p + 8) bytes))) (headed xid)
-        ≡ told_head (cond b None (says xid (make (number_at p bytes) (number_at (p + 4) bytes)) (p + 8))) bytes
-    by_length true = refl
-    by_length false = refl
+  front_size : length front ≡ 4 * w
+  front_size = omega (arith, length-take (4 * w) bytes)
 
-mismatch_told : (p : ℕ) (bytes : List ℕ) → tell_on ((take_one two_numbers >>= (λ (v : ℕ × ℕ). give (ProgMismatch v.0 v.1))) Unreadable (drop (p + 4) bytes)) (headed (word 0 bytes)) ≡ told_head (read_prog_mismatch p bytes) bytes
-unfolding ◌>>=◌ take_one read_prog_mismatch
-mismatch_told p bytes =
-    let eight : p + 4 + 4 ≡ p + 8 = omega arith in
-    let twelve : p + 4 + 8 ≡ p + 12 = omega arith in
-    let told = versions_told ProgMismatch (word 0 bytes) (p + 4) bytes in
-    rw (eight, twelve) at told
+  no_head : (rest : List ℕ) → read_reply (front ++ rest) ≡ None
+  no_head rest = by_reading (read_reply (front ++ rest)) refl
+    where
+      by_reading : (read : Read) → read_reply (front ++ rest) ≡ read → read ≡ None
+      by_reading None e = refl
+      by_reading (Some r) e = absurd (let never = sym no ∙ head_filled w front rest front_size (omega (arith, long)) (omega arith) r e in cc)
 
-stat_told : (s p : ℕ) (bytes : List ℕ) → tell_on (accept_stat s Unreadable (drop (p + 4) bytes)) (headed (word 0 bytes)) ≡ told_head (by_accept_stat s p bytes) bytes
-stat_told s p bytes =
-    let d : List ℕ = drop (p + 4) bytes in
-    let xid : ℕ = word 0 bytes in
-    branch (eqb s 0) _ _ _ _ xid d bytes refl (
-    branch (eqb s 1) _ _ _ _ xid d bytes refl (
-    branch (eqb s 2) _ _ _ _ xid d bytes (mismatch_told p bytes) (
-    branch (eqb s 3) _ _ _ _ xid d bytes refl (branch (eqb s 4) _ _ _ _ xid d bytes refl (branch (eqb s 5) _ _ _ _ xid d bytes refl refl)))))
+  goes_on : bytes ++ more ≡ front ++ (drop (4 * w) bytes ++ more)
+  goes_on = ap (λ (xs : List ℕ). xs ++ more) (sym (take-append-drop (4 * w) bytes)) ∙ append_assoc front (drop (4 * w) bytes) more
 
-accept_told : (p : ℕ) (bytes : List ℕ) → tell_on (tell_on (told_by Unreadable (read_number (drop p bytes)) (drop p bytes)) (λ (n : ℕ). accept_stat n Unreadable)) (headed (word 0 bytes)) ≡ told_head (read_accept_stat p bytes) bytes
-unfolding read_accept_stat
-accept_told p bytes =
-    ap (λ (told : Told ReplyStatus). tell_on told (headed (word 0 bytes))) (reads_told read_number 4 (λ d. number_at 0 d) (λ (n : ℕ). accept_stat n Unreadable) p bytes (omega arith) number_reads)
-    ∙ rw (at_front p bytes) (by_length (ltb (length bytes) (p + 4)))
-  where
-    by_length : (b : Bool) → tell_on (cond b (Stop [] Unreadable) (accept_stat (number_at p bytes) Unreadable (drop (p + 4) bytes))) (headed (word 0 bytes))
-        ≡ told_head (cond b None (by_accept_stat (number_at p bytes) p bytes)) bytes
-    by_length true = refl
-    by_length false = stat_told (number_at p bytes) p bytes
+  pub none_read : read_reply (bytes ++ more) ≡ None
+  none_read = ap read_reply goes_on ∙ no_head (drop (4 * w) bytes ++ more)
 
-accepted_told : (bytes : List ℕ) → tell_on (take_accepted Unreadable (drop 12 bytes)) (headed (word 0 bytes)) ≡ told_head (read_accepted bytes) bytes
-unfolding ◌>>=◌ take_one take_accepted read_accepted
-accepted_told bytes =
-    let behind_verifier : Front ReplyStatus = λ (d : List ℕ). tell_on (told_by Unreadable (read_number d) d) (λ (n : ℕ). accept_stat n Unreadable) in
-    ap (λ (told : Told ReplyStatus). tell_on told (headed (word 0 bytes)))
-    (pair_told (read_pair read_number (read_opaque max_auth_body)) read_number (λ (v : (ℕ × List ℕ) × ℕ). accept_stat v.1 Unreadable) (drop 12 bytes) ∙ auth_told behind_verifier 12 bytes)
-    ∙ by_verifier (is_over_long 12 bytes || is_broken 12 bytes)
-  where
-    by_verifier : (b : Bool) → tell_on (cond b (Stop [] Unreadable) (tell_on (told_by Unreadable (read_number (drop (auth_end 12 bytes) bytes)) (drop (auth_end 12 bytes) bytes)) (λ (n : ℕ). accept_stat n Unreadable))) (headed (word 0 bytes))
-        ≡ told_head (cond b None (read_accept_stat (auth_end 12 bytes) bytes)) bytes
-    by_verifier true = refl
-    by_verifier false = accept_told (auth_end 12 bytes) bytes
+  pub none_filled : read_reply (filled (bytes ++ more)) ≡ None
+  none_filled =
+      let k : ℕ = words_there (length (bytes ++ more)) in
+      let rest : List ℕ = drop (4 * w) bytes ++ more in
+      let z : List ℕ = replicate (432 - k) 0 in
+      let size : k ≡ length front + (k - 4 * w) = omega (arith, front_size, length-append bytes more) in
+      let taken : take k (bytes ++ more) ≡ front ++ take (k - 4 * w) rest =
+      ap (take k) goes_on ∙ ap (λ (n : ℕ). take n (front ++ rest)) size ∙ take-append-add front rest (k - 4 * w) in
+      ap (λ (xs : List ℕ). read_reply (xs ++ z)) taken ∙ ap read_reply (append_assoc front (take (k - 4 * w) rest) z) ∙ no_head (take (k - 4 * w) rest ++ z)
 
-known_told : (stat : Option AuthStat) (xid : ℕ) (bytes : List ℕ) → tell_on (auth_error stat Unreadable (drop 20 bytes)) (headed xid) ≡ told_head (refused_by stat xid) bytes
-known_told (Some stat) xid bytes = refl
-known_told None xid bytes = refl
+-- ---- what is taken
 
-refused_told : (bytes : List ℕ) → tell_on (tell_on (told_by Unreadable (read_number (drop 16 bytes)) (drop 16 bytes)) (λ (stat : ℕ). auth_error (auth_stat_of stat) Unreadable)) (headed (word 0 bytes))
-    ≡ told_head (cond (ltb (length bytes) 20) None (refused_by (auth_stat_of (word 4 bytes)) (word 0 bytes))) bytes
-refused_told bytes =
-    ap (λ (told : Told ReplyStatus). tell_on told (headed (word 0 bytes))) (reads_told read_number 4 (λ d. number_at 0 d) (λ (stat : ℕ). auth_error (auth_stat_of stat) Unreadable) 16 bytes (omega arith) number_reads)
-    ∙ rw (at_front 16 bytes) (by_length (ltb (length bytes) 20))
-  where
-    by_length : (b : Bool) → tell_on (cond b (Stop [] Unreadable) (auth_error (auth_stat_of (number_at 16 bytes)) Unreadable (drop 20 bytes))) (headed (word 0 bytes))
-        ≡ told_head (cond b None (refused_by (auth_stat_of (word 4 bytes)) (word 0 bytes))) bytes
-    by_length true = refl
-    by_length false = known_told (auth_stat_of (word 4 bytes)) (word 0 bytes) bytes
+-- the words that are there, copied over zeros
+pub filled_is : (bytes part : List ℕ) (count : ℕ) → count ≡ words_there (length bytes) → part ≡ take count bytes → part ++ drop count (replicate 432 0) ≡ filled bytes
+filled_is bytes part count count_is part_is = rw (part_is, drop-replicate {X = ℕ} count 432 0, count_is) refl
 
--- a reply that refuses, if all its words but the versions are there
-denied_long : (bytes : List ℕ) → 20 ≤ length bytes → tell_on (reject_stat (word 3 bytes) Unreadable (drop 16 bytes)) (headed (word 0 bytes)) ≡ told_head (read_denied bytes) bytes
-unfolding ◌>>=◌ take_one read_denied read_rpc_mismatch
-denied_long bytes long =
-    let xid : ℕ = word 0 bytes in
-    let d : List ℕ = drop 16 bytes in
-    rw (le-ltb (length bytes) 20 long) (
-    branch (eqb (word 3 bytes) 0) _ _ _ _ xid d bytes (versions_told RpcMismatch xid 16 bytes) (
-    branch (eqb (word 3 bytes) 1) _ _ _ _ xid d bytes (refused_told bytes ∙ rw (le-ltb (length bytes) 20 long) refl) refl))
+pub may_begin_is : (bytes : List ℕ) → 12 ≤ length bytes → may_begin bytes ≡ is_some (read_reply (filled bytes))
+unfolding may_begin
+may_begin_is bytes long = rw (le-ltb (length bytes) 12 long) refl
 
--- and if they are not
-denied_short : (bytes : List ℕ) → length bytes < 20 → tell_on (reject_stat (word 3 bytes) Unreadable (drop 16 bytes)) (headed (word 0 bytes)) ≡ told_head (read_denied bytes) bytes
-unfolding ◌>>=◌ take_one read_denied
-denied_short bytes short =
-    let xid : ℕ = word 0 bytes in
-    let d : List ℕ = drop 16 bytes in
-    rw (lt-ltb (length bytes) 20 short) (
-    branch (eqb (word 3 bytes) 0) _ _ None _ xid d bytes (versions_told RpcMismatch xid 16 bytes ∙ rw (lt-ltb (length bytes) 24 (omega (arith, short))) refl) (
-    branch (eqb (word 3 bytes) 1) _ _ None None xid d bytes (refused_told bytes ∙ rw (lt-ltb (length bytes) 20 short) refl) refl)
-    ∙ both (eqb (word 3 bytes) 0) (eqb (word 3 bytes) 1))
-  where
-    both : (a b : Bool) → told_head (cond a None (cond b None None)) bytes ≡ Stop [] Unreadable
-    both true b = refl
-    both false true = refl
-    both false false = refl
+unreadable_is : (bytes : List ℕ) → may_begin bytes ≡ false → (12 ≤ length bytes) × (is_some (read_reply (filled bytes)) ≡ false)
+unfolding may_begin
+unreadable_is bytes e = let tests = either (ltb (length bytes) 12) (is_some (read_reply (filled bytes))) e in (ltb-false (length bytes) 12 tests.0, tests.1)
 
-denied_told : (bytes : List ℕ) → tell_on (take_denied Unreadable (drop 12 bytes)) (headed (word 0 bytes)) ≡ told_head (read_denied bytes) bytes
-unfolding ◌>>=◌ take_one take_denied read_denied
-denied_told bytes =
-    ap (λ (told : Told ReplyStatus). tell_on told (headed (word 0 bytes))) (reads_told read_number 4 (λ d. number_at 0 d) (λ (n : ℕ). reject_stat n Unreadable) 12 bytes (omega arith) number_reads)
-    ∙ rw (at_front 12 bytes) (elim (cases_lt (length bytes) 16) [
-      | inl short ↦ rw (lt-ltb (length bytes) 16 short, lt-ltb (length bytes) 20 (omega (arith, short))) refl
-      | inr enough ↦ rw (le-ltb (length bytes) 16 enough) (elim (cases_lt (length bytes) 20) [
-        | inl short ↦ denied_short bytes short
-        | inr long ↦ denied_long bytes long
-      ])
-    ])
+pub no_head_comes : NoHeadComes
+no_head_comes bytes more e = let it = unreadable_is bytes e in none_read bytes more it.0 it.1
 
--- ---- whatever is told of the data's end
+-- and none may begin still
+still_none : (bytes more : List ℕ) → may_begin bytes ≡ false → may_begin (bytes ++ more) ≡ false
+unfolding may_begin
+still_none bytes more e =
+    let it = unreadable_is bytes e in
+    rw (le-ltb (length (bytes ++ more)) 12 (omega (arith, it.0, length-append bytes more)), none_filled bytes more it.0 it.1) refl
 
--- The first is told if the end is `Unreadable`, the second if it is another fault.
-abbrev Alike : {A : Type 0} → InfoFault → Told A → Told A → Type 0
-Alike end (Done lines x left) told = told ≡ Done lines x left
-Alike end (Stop lines fault) told = (told ≡ Stop lines fault) ⊎ ((fault ≡ Unreadable) × (told ≡ Stop lines end))
-
-record EndsAlike {A : Type 0} (teller : Teller A) : Type 0 where
-  alike : (end : InfoFault) (content : List ℕ) → Alike end (teller Unreadable content) (teller end content)
-
-give_alike : {A : Type 0} (x : A) → EndsAlike (give x)
-give_alike x = record { alike = λ end content. refl }
-
-stop_alike : {A : Type 0} (fault : InfoFault) → EndsAlike {A = A} (stop fault)
-stop_alike fault = record { alike = λ end content. inl refl }
-
-cond_alike : {A : Type 0} (b : Bool) (t u : Teller A) → EndsAlike t → EndsAlike u → EndsAlike (cond b t u)
-cond_alike true t u p q = p
-cond_alike false t u p q = q
-
-told_alike : {A : Type 0} (end : InfoFault) (r : Reading A) (content : List ℕ) → Alike end (told_by Unreadable r content) (told_by end r content)
-told_alike end (Ok read) content = refl
-told_alike end (Err Short) content = inr (refl, refl)
-told_alike end (Err TooLong) content = inl refl
-told_alike end (Err BadBool) content = inl refl
-told_alike end (Err BadPadding) content = inl refl
-
-take_alike : {A : Type 0} (reads : Reader A) → EndsAlike (take_one reads)
-unfolding take_one
-take_alike reads = record { alike = λ end content. told_alike end (reads content) content }
-
-lines_alike : {A : Type 0} (end : InfoFault) (lines : List (List ℕ)) (told told' : Told A) → Alike end told told' → Alike end (add_lines lines told) (add_lines lines told')
-lines_alike end lines (Done more x left) told' e = ap (add_lines lines) e
-lines_alike end lines (Stop more fault) told' (inl e) = inl (ap (add_lines lines) e)
-lines_alike end lines (Stop more fault) told' (inr e) = inr (e.0, ap (add_lines lines) e.1)
-
-bind_alike : {A B : Type 0} (first : Teller A) (next : A → Teller B) → EndsAlike first → ((x : A) → EndsAlike (next x)) → EndsAlike (first >>= next)
-unfolding ◌>>=◌
-bind_alike {A} {B} first next p q = record { alike = λ end content. by_told end (first Unreadable content) (first end content) (p.alike end content) }
-  where
-    by_told : (end : InfoFault) (told told' : Told A) → Alike end told told' → Alike end (tell_on told (λ (x : A). next x Unreadable)) (tell_on told' (λ (x : A). next x end))
-    by_told end (Done lines x left) told' e = rw e (lines_alike end lines (next x Unreadable left) (next x end left) ((q x).alike end left))
-    by_told end (Stop lines fault) told' (inl e) = inl (ap (λ (t : Told A). tell_on t (λ (x : A). next x end)) e)
-    by_told end (Stop lines fault) told' (inr e) = inr (e.0, ap (λ (t : Told A). tell_on t (λ (x : A). next x end)) e.1)
-
-accept_alike : (n : ℕ) → EndsAlike (accept_stat n)
-accept_alike n =
-    cond_alike (eqb n 0) _ _ (give_alike _) (
-    cond_alike (eqb n 1) _ _ (give_alike _) (
-    cond_alike (eqb n 2) _ _ (bind_alike _ _ (take_alike two_numbers) (λ v. give_alike _)) (
-    cond_alike (eqb n 3) _ _ (give_alike _) (cond_alike (eqb n 4) _ _ (give_alike _) (cond_alike (eqb n 5) _ _ (give_alike _) (stop_alike Unreadable))))))
-
-accepted_alike : EndsAlike take_accepted
-unfolding take_accepted
-accepted_alike = bind_alike _ _ (take_alike read_verifier_and_stat) (λ (v : (ℕ × List ℕ) × ℕ). accept_alike v.1)
-
-error_alike : (stat : Option AuthStat) → EndsAlike (auth_error stat)
-error_alike (Some stat) = give_alike (AuthError stat)
-error_alike None = stop_alike Unreadable
-
-reject_alike : (n : ℕ) → EndsAlike (reject_stat n)
-reject_alike n =
-    cond_alike (eqb n 0) _ _ (bind_alike _ _ (take_alike two_numbers) (λ v. give_alike _)) (
-    cond_alike (eqb n 1) _ _ (bind_alike _ _ (take_alike read_number) (λ stat. error_alike (auth_stat_of stat))) (stop_alike Unreadable))
-
-denied_alike : EndsAlike take_denied
-unfolding take_denied
-denied_alike = bind_alike _ _ (take_alike read_number) reject_alike
-
-status_alike : (xid n : ℕ) → EndsAlike (head_with_status xid n)
-status_alike xid n =
-    bind_alike _ _ (cond_alike (eqb n 0) _ _ accepted_alike (cond_alike (eqb n 1) _ _ denied_alike (stop_alike Unreadable))) (λ status. give_alike _)
-
-head_alike : EndsAlike take_head
+pub takes_read : (bytes : List ℕ) (read : ReplyHead × ℕ) → read_reply bytes ≡ Some read → read.1 ≤ length bytes → Takes take_head bytes read.0 read.1
 unfolding take_head
-head_alike =
-    bind_alike _ _ (take_alike (read_pair read_number two_numbers)) (λ (w : ℕ × (ℕ × ℕ)). cond_alike (eqb w.1.0 1) _ _ (status_alike w.0 w.1.1) (stop_alike Unreadable))
+takes_read bytes read e within = record {
+  within = within;
+  goes_on = λ end more.
+      ap (λ (r : Read). by_reading r (may_begin (bytes ++ more)) end (bytes ++ more)) (head_stays bytes more read e)
+      ∙ ap (λ (left : List ℕ). Done [] read.0 left) (drop-append-le read.1 bytes more within);
+}
 
--- ---- the law
+pub lacks_words : (bytes : List ℕ) → read_reply bytes ≡ None → may_begin bytes ≡ true → Pauses take_head bytes More
+unfolding take_head
+lacks_words bytes e may end = rw (e, may) refl
 
-abbrev head_words : List ℕ → ℕ × (ℕ × ℕ)
-head_words bytes = (number_at 0 bytes, (number_at 0 (drop 4 bytes), number_at 0 (drop 4 (drop 4 bytes))))
-
-words_read : Reads (read_pair read_number two_numbers) 12 head_words
-words_read = pair_reads read_number two_numbers 4 8 (λ bytes. number_at 0 bytes) (λ bytes. (number_at 0 bytes, number_at 0 (drop 4 bytes))) number_reads two_reads
-
-by_words : (bytes : List ℕ) → 12 ≤ length bytes → reply_words (word 0 bytes) (word 1 bytes, word 2 bytes) Unreadable (drop 12 bytes) ≡ told_head (read_reply bytes) bytes
-unfolding ◌>>=◌ read_reply
-by_words bytes long = rw (le-ltb (length bytes) 12 long) (by_type (eqb (word 1 bytes) 1))
-  where
-    by_stat : (a b : Bool) → tell_on ((cond a take_accepted (cond b take_denied (stop Unreadable))) Unreadable (drop 12 bytes)) (headed (word 0 bytes))
-        ≡ told_head (cond a (read_accepted bytes) (cond b (read_denied bytes) None)) bytes
-    by_stat true b = accepted_told bytes
-    by_stat false true = denied_told bytes
-    by_stat false false = refl
-
-    by_type : (b : Bool) → (cond b (λ (end : InfoFault) (d : List ℕ). tell_on (reply_stat (word 2 bytes) end d) (λ (status : ReplyStatus). give (record { xid = word 0 bytes; status = status }) end)) (stop Unreadable)) Unreadable (drop 12 bytes)
-        ≡ told_head (cond (false || not b) None (cond (eqb (word 2 bytes) 0) (read_accepted bytes) (cond (eqb (word 2 bytes) 1) (read_denied bytes) None))) bytes
-    by_type true = by_stat (eqb (word 2 bytes) 0) (eqb (word 2 bytes) 1)
-    by_type false = refl
-
--- fewer than three words are no reply
-too_few : (bytes : List ℕ) → length bytes < 12 → Stop [] Unreadable ≡ told_head (read_reply bytes) bytes
-unfolding read_reply
-too_few bytes short = rw (lt-ltb (length bytes) 12 short) refl
-
-at_unreadable : (bytes : List ℕ) → take_head Unreadable bytes ≡ told_head (read_reply bytes) bytes
-unfolding ◌>>=◌ take_one take_head
-at_unreadable bytes =
-    reads_told (read_pair read_number two_numbers) 12 head_words (λ (w : ℕ × (ℕ × ℕ)). reply_words w.0 w.1 Unreadable) 0 bytes (omega arith) words_read
-    ∙ elim (cases_lt (length bytes) 12) [
-      | inl short ↦ rw (lt-ltb (length bytes) 12 short) (too_few bytes short)
-      | inr long ↦ rw (le-ltb (length bytes) 12 long, drop-drop 4 4 bytes, at_front 4 bytes, at_front 8 bytes) (by_words bytes long)
-    ]
-
-is_head : (read : Read) (end : InfoFault) (content : List ℕ) (told told' : Told ReplyHead) → told ≡ told_head read content → Alike end told told' → IsHead read end content told'
-is_head (Some read) end content told told' e alike = subst (λ (t : Told ReplyHead). Alike end t told') e alike
-is_head None end content told told' e alike = elim (subst (λ (t : Told ReplyHead). Alike end t told') e alike) [ inl same ↦ inl same | inr ends ↦ inr ends.1 ]
+pub is_no_head : (bytes : List ℕ) → may_begin bytes ≡ false → Pauses take_head bytes (Fault Unreadable)
+unfolding take_head
+is_no_head bytes e = inr (λ end more. rw (no_head_comes bytes more e, still_none bytes more e) refl)
 
 pub heads_read : HeadsAreRead
-heads_read end content = is_head (read_reply content) end content (take_head Unreadable content) (take_head end content) (at_unreadable content) (head_alike.alike end content)
+unfolding take_head
+heads_read end content = by_read (read_reply content) (may_begin content)
+  where
+    by_read : (read : Read) (may : Bool) → IsHead read end content (by_reading read may end content)
+    by_read (Some read) may = refl
+    by_read None true = inr refl
+    by_read None false = inl refl
+
+pub heads_stay : HeadsStay
+heads_stay bytes more read e = head_stays bytes more read e

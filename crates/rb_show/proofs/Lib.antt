@@ -11,7 +11,6 @@ pub mod WorkedTexts
 pub mod SummaryRows
 pub mod RowTexts
 pub mod StatReadings
-pub mod IntWriting
 pub mod Settles
 pub mod HeadReads
 pub mod ShownLists

@@ -21,9 +21,7 @@ use Rattle.rb_arguments.proofs.Readings.{mapping_sound, rpcb_sound, entry_sound}
 use Rattle.rb_show.specs.declared.fault.InfoFault.{InfoFault}
 use Rattle.rb_show.specs.declared.fault.InfoFault.TheVariants.{Unreadable, Refused, TooMany}
 use Rattle.rb_show.specs.Data.{longest_record, front_of, end_of}
-use Rattle.rb_show.proofs.HeadReads.{heads_read}
-use Rattle.rb_show.specs.HeadLaws.{IsHead}
-use Rattle.rb_show.specs.Heads.{take_head}
+use Rattle.rb_show.specs.Heads.{may_begin, by_reading, take_head}
 use Rattle.rb_show.specs.Lists.{tell_end, tell_item, tell_items, greatest_list}
 use Rattle.rb_show.specs.Telling.{Told, Teller, add_lines, tell_on, ◌>>=◌, give, stop, tell, told_by, take_one, told_lines}
 use Rattle.rb_show.specs.Telling.Told.{Done, Stop}
@@ -34,17 +32,14 @@ use Rattle.rb_show.specs.declared.form.Form.TheVariants.{Json}
 use Rattle.rb_show.specs.declared.show.Shown.{Shown}
 use Rattle.rb_show.specs.declared.show.Shown.TheVariants as shown
 use Rattle.rb_show.specs.Counts.{total, addr_line, call_line, tell_lists, tell_version, tell_statistics}
-use Rattle.rb_show.specs.declared.stat.VersionStat.{VersionStat}
-use Rattle.rb_show.specs.declared.stat.AddrStat.{AddrStat}
-use Rattle.rb_show.specs.declared.stat.CallStat.{CallStat}
-use Rattle.rb_show.specs.Statistics.{IsVersionStat, read_version, IsAddrStat, read_addr, IsCallStat, read_call}
+use Rattle.rb_show.specs.Statistics.{VersionStat, IsVersionStat, read_version, version_stat, AddrStat, IsAddrStat, read_addr, addr_stat, CallStat, IsCallStat, read_call, call_stat}
 use Rattle.rb_show.specs.Lines.{row_line, mapping_line, entry_line}
 use Rattle.rb_show.specs.Objects.{row_object, mapping_object, entry_object, numbers_object, look_ups_object, forwards_object}
 use Rattle.rb_show.specs.ObjectLaws.{has_objects}
 use Rattle.rb_show.specs.Rows.{mapping_row}
 use Rattle.rb_show.specs.Replies.{tell_list, tell_results, is_success, by_status, by_head, tell_reply, tell_bytes}
 use Rattle.rb_show.proofs.RowTexts.{mapping_row_fits}
-use Rattle.rb_show.proofs.StatReadings.{version_sound, addr_sound, call_sound}
+use Rattle.rb_show.proofs.StatReadings.{AreVersionFields, version_spelling, version_sound, is_version, AreAddrFields, addr_spelling, addr_sound, is_addr, AreCallFields, call_spelling, call_sound, is_call}
 
 -- ---- the data of a reply
 
@@ -159,16 +154,16 @@ module _ (IsLine : List ℕ → Type 0) where
   unfolding tell_lists
   tells_lists lines vers small =
       onward anything anything (tell_items read_addr (addr_line Json vers) greatest_list 0) _
-      (tells_items IsAddrStat _ read_addr (addr_line Json vers) addr_sound (λ l is. lines.look_ups vers l small is) greatest_list 0)
+      (tells_items AreAddrFields addr_spelling read_addr (addr_line Json vers) addr_sound (λ l are. lines.look_ups vers (addr_stat l) small (is_addr l are)) greatest_list 0)
       (λ found _. onward anything anything (tell_items read_call (call_line Json vers) greatest_list 0) _
-      (tells_items IsCallStat _ read_call (call_line Json vers) call_sound (λ f is. lines.forwards vers f small is) greatest_list 0)
+      (tells_items AreCallFields call_spelling read_call (call_line Json vers) call_sound (λ f are. lines.forwards vers (call_stat f) small (is_call f are)) greatest_list 0)
       (λ called _. gives {A = ℕ × ℕ} anything (found, called) tt))
 
   tells_version : StatisticsLines → (vers : ℕ) → IsNumber vers → IsGood anything (tell_version Json vers)
   unfolding tell_version
   tells_version lines vers small =
-      onward IsVersionStat anything (take_one read_version) _ (takes IsVersionStat _ read_version version_sound)
-      (λ n is. onward anything anything (tell (numbers_object vers n ∷ [])) _ (tells_line (numbers_object vers n) (lines.numbers vers n small is)) (λ _ _. tells_lists lines vers small))
+      onward AreVersionFields anything (take_one read_version) _ (takes AreVersionFields version_spelling read_version version_sound)
+      (λ v are. onward anything anything (tell (numbers_object vers (version_stat v) ∷ [])) _ (tells_line (numbers_object vers (version_stat v)) (lines.numbers vers (version_stat v) small (is_version v are))) (λ _ _. tells_lists lines vers small))
 
   tells_statistics : StatisticsLines → IsGood anything (tell_statistics Json)
   unfolding tell_statistics
@@ -179,13 +174,14 @@ module _ (IsLine : List ℕ → Type 0) where
 
   -- ---- replies
 
-  head_good : (end : InfoFault) (content : List ℕ) (read : Read) (told : Told ReplyHead) → AreBytes content → IsHead read end content told → Good anything told
-  head_good end content (Some read) told are e = subst (Good anything) (sym e) (tt, tt, AreBytes-drop read.1 content are)
-  head_good end content None told are (inl e) = subst (Good anything) (sym e) tt
-  head_good end content None told are (inr e) = subst (Good anything) (sym e) tt
+  head_good : (end : InfoFault) (content : List ℕ) (read : Read) (may : Bool) → AreBytes content → Good anything (by_reading read may end content)
+  head_good end content (Some read) may are = (tt, tt, AreBytes-drop read.1 content are)
+  head_good end content None true are = tt
+  head_good end content None false are = tt
 
   takes_head : IsGood anything take_head
-  takes_head end content are = head_good end content (read_reply content) (take_head end content) are (heads_read end content)
+  unfolding take_head
+  takes_head end content are = head_good end content (read_reply content) (may_begin content) are
 
   tells_by_status : (question : Question) (head : ReplyHead) → IsGood anything (tell_results Json question) → IsGood anything (by_status Json question head)
   tells_by_status question head results =

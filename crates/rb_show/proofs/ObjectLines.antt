@@ -12,10 +12,7 @@ use Rattle.rb_show.specs.Json.{json_text}
 use Rattle.rb_show.specs.JsonGrammar.{IsValue, AreValues, AreMembers}
 use Rattle.rb_show.specs.Objects.{program_members, place_members, row_members, row_object, mapping_object, family_members, entry_object, info_items, numbers_object, found_members, look_ups_object, procedure_members, outcomes_members, forwards_object}
 use Rattle.rb_show.specs.ObjectLaws.{IsObjectLine}
-use Rattle.rb_show.specs.declared.stat.VersionStat.{VersionStat}
-use Rattle.rb_show.specs.declared.stat.AddrStat.{AddrStat}
-use Rattle.rb_show.specs.declared.stat.CallStat.{CallStat}
-use Rattle.rb_show.specs.Statistics.{IsInt, AreInts, IsVersionStat, IsAddrStat, IsCallStat}
+use Rattle.rb_show.specs.Statistics.{VersionStat, AddrStat, CallStat, IsInt, AreInts, IsVersionStat, IsAddrStat, IsCallStat}
 use Rattle.rb_show.specs.Texts.{joined}
 use Rattle.rb_show.proofs.JsonGrammar.{Printed, number, signed_number, string, member, members_joined, one_value, values_joined, array, object_line}
 

@@ -30,10 +30,9 @@ use Rattle.rb_show.specs.Tellings.{rest_of, UpTo, TellsAll, TellsAllOr}
 use Rattle.rb_show.specs.Replies.{tell_reply, tell_bytes, tell_datagram}
 use Rattle.rb_show.specs.Showings.{unfinished, StandsAfter, ComesTo, ShowsFurther, Keeps, BeginsWithRecord, EndsRecord, Unmarks, IsWritten, lack_of, after_piece, as_whole, Feeds}
 use Rattle.std.proofs.Math.Seq.{take-nil}
-use Rattle.rb_xdr.specs.Xdr.{read_number}
-use Rattle.rb_xdr.specs.XdrTypes.{read_pair}
-use Rattle.rb_show.specs.Heads.{take_head}
-use Rattle.rb_show.specs.Telling.{take_one, ◌>>=◌}
+use Rattle.rb_rpc.specs.ReadReplies.{read_reply}
+use Rattle.rb_show.specs.Heads.{may_begin, take_head}
+use Rattle.rb_show.specs.Telling.{◌>>=◌}
 use Rattle.rb_show.proofs.Fronts.{add_add, no_lines}
 
 -- ---- records
@@ -272,7 +271,7 @@ module _ (ask : Ask) (form : Form) (xid : ℕ) (old new : Showing) (before bytes
 
 pub nothing_came : (ask : Ask) (form : Form) (xid : ℕ) (s : Showing) → StandsForStream s.marks [] no_data → rest_of s.telling ≡ tell_reply ask form xid → s.held.items ≡ [] → s.allowed ≡ longest_record
     → StandsAfter ask form xid s [] []
-unfolding data_of front_of tell_reply take_head take_one read_pair read_number ◌>>=◌
+unfolding data_of front_of tell_reply take_head may_begin read_reply ◌>>=◌
 nothing_came ask form xid s stream rest none all = record {
   so_far = ap (λ (e : InfoFault). tell_reply ask form xid e (data_of (front_of []))) (short_ends [] (omega arith)) ∙ ap (λ (xs : List ℕ). tell_reply ask form xid CutOff (data_of xs)) (take-nil {A = ℕ} longest_record);
   fed = stream;

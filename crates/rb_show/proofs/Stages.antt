@@ -16,8 +16,7 @@ use Rattle.rb_show.specs.declared.stage.List.TheVariants as lists
 use Rattle.rb_show.specs.declared.stage.Counted.{Counted}
 use Rattle.rb_show.specs.declared.stage.Counted.TheVariants.{Nothing, Two, Three}
 use Rattle.rb_show.specs.declared.stage.Stage.TheVariants.{Item, Row, Mapping as Mapped, Numbers, LookUp, Forward}
-use Rattle.rb_show.specs.declared.stat.VersionStat.{VersionStat}
-use Rattle.rb_show.specs.Statistics.{read_version, read_addr, read_call}
+use Rattle.rb_show.specs.Statistics.{VersionFields, version_stat, read_version, read_addr, read_call}
 use Rattle.rb_show.specs.Counts.{addr_line, call_line, count_lines, tell_lists, tell_version, tell_statistics}
 use Rattle.rb_show.specs.Telling.{Teller, ◌>>=◌, give, tell, take_one, add_lines, lines_text}
 use Rattle.rb_show.specs.declared.take.Pause.{Pause}
@@ -91,19 +90,19 @@ module _ (form : Form) (rows : List Rpcb) (mappings : List Mapping) (bytes : Lis
       tells_on _ _ _ _ bytes used old new t (gives_then (lines_from form list count) (λ n. give (shown.Rows n)) bytes t.lines used count goes)
 
   -- the numbers of a version
-  pub numbers_next : (counted : Counted) (n : VersionStat) → 0 < used → Takes (take_one read_version) bytes n used → new ≡ old ++ lines_text (count_lines form (version_of counted) n)
+  pub numbers_next : (counted : Counted) (v : VersionFields) → 0 < used → Takes (take_one read_version) bytes v used → new ≡ old ++ lines_text (count_lines form (version_of counted) (version_stat v))
       → Tells (rest_at form rows mappings (Numbers counted)) bytes used (rest_at form rows mappings (LookUp counted 0)) old new
   unfolding tell_version tell_lists ◌>>=◌
-  numbers_next counted n some t text =
+  numbers_next counted v some t text =
       let vers : ℕ = version_of counted in
-      let next : VersionStat → Teller (ℕ × ℕ) = λ m. tell (count_lines form vers m) >>= λ _. tell_lists form vers in
+      let next : VersionFields → Teller (ℕ × ℕ) = λ m. tell (count_lines form vers (version_stat m)) >>= λ _. tell_lists form vers in
       record {
-        lines = count_lines form vers n;
+        lines = count_lines form vers (version_stat v);
         some = some;
         within = t.within;
         text = text;
-        goes_on = goes_then (tell_version form vers) (after_version form counted) bytes (count_lines form vers n) used (tell_lists form vers)
-            (goes_at_once (tell_version form vers) bytes [] used (next n) (count_lines form vers n) (tell_lists form vers) (gives_then (take_one read_version) next bytes [] used n t.goes_on) (λ end content. refl));
+        goes_on = goes_then (tell_version form vers) (after_version form counted) bytes (count_lines form vers (version_stat v)) used (tell_lists form vers)
+            (goes_at_once (tell_version form vers) bytes [] used (next v) (count_lines form vers (version_stat v)) (tell_lists form vers) (gives_then (take_one read_version) next bytes [] used v t.goes_on) (λ end content. refl));
       }
 
   pub look_up_next : (counted : Counted) (count : ℕ) (next : Option ℕ)

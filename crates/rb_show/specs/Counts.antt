@@ -8,10 +8,7 @@ use Rattle.rb_show.specs.declared.show.Shown.TheVariants.{Statistics}
 use Rattle.rb_show.specs.declared.form.Form.{Form}
 use Rattle.rb_show.specs.Texts.{shown_text, joined}
 use Rattle.rb_show.specs.Lines.{is_json}
-use Rattle.rb_show.specs.declared.stat.VersionStat.{VersionStat}
-use Rattle.rb_show.specs.declared.stat.AddrStat.{AddrStat}
-use Rattle.rb_show.specs.declared.stat.CallStat.{CallStat}
-use Rattle.rb_show.specs.Statistics.{read_version, read_addr, read_call}
+use Rattle.rb_show.specs.Statistics.{VersionStat, VersionFields, read_version, version_stat, AddrStat, AddrFields, read_addr, addr_stat, CallStat, CallFields, read_call, call_stat}
 use Rattle.rb_show.specs.Objects.{numbers_object, look_ups_object, forwards_object}
 
 -- ---- lines
@@ -30,8 +27,8 @@ addr_columns s = codes "addr " ++ (decimal s.prog ++ (codes " " ++ (decimal s.ve
     ++ (codes " " ++ (signed_decimal s.success ++ (codes " " ++ (signed_decimal s.failure ++ codes "\n")))))))))
 
 -- look-ups that a version of rpcbind answered
-abbrev pub addr_line : Form → ℕ → AddrStat → List ℕ
-addr_line form rpcbind s = if is_json form then look_ups_object rpcbind s else addr_columns s
+abbrev pub addr_line : Form → ℕ → AddrFields → List ℕ
+addr_line form rpcbind a = if is_json form then look_ups_object rpcbind (addr_stat a) else addr_columns (addr_stat a)
 
 -- program, version and procedure
 abbrev pub procedure_text : CallStat → List ℕ
@@ -44,8 +41,8 @@ abbrev pub call_columns : CallStat → List ℕ
 call_columns s = codes "call " ++ (procedure_text s ++ (codes " " ++ (shown_text s.netid ++ (codes " " ++ (outcomes_text s ++ codes "\n")))))
 
 -- calls that a version of rpcbind forwarded
-abbrev pub call_line : Form → ℕ → CallStat → List ℕ
-call_line form rpcbind s = if is_json form then forwards_object rpcbind s else call_columns s
+abbrev pub call_line : Form → ℕ → CallFields → List ℕ
+call_line form rpcbind c = if is_json form then forwards_object rpcbind (call_stat c) else call_columns (call_stat c)
 
 -- ---- all of it
 
@@ -59,7 +56,7 @@ abbrev pub count_lines : Form → ℕ → VersionStat → List (List ℕ)
 count_lines form vers n = if is_json form then numbers_object vers n ∷ [] else version_line vers ∷ info_line n ∷ sets_line n ∷ []
 
 unfoldable pub tell_version : Form → ℕ → Teller (ℕ × ℕ)
-tell_version form vers = take_one read_version >>= λ n. tell (count_lines form vers n) >>= λ _. tell_lists form vers
+tell_version form vers = take_one read_version >>= λ (v : VersionFields). tell (count_lines form vers (version_stat v)) >>= λ _. tell_lists form vers
 
 abbrev pub total : ℕ × ℕ → ℕ × ℕ → ℕ × ℕ → ℕ
 total a b c = a.0 + a.1 + b.0 + b.1 + c.0 + c.1

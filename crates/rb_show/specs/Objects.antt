@@ -4,9 +4,7 @@ use Rattle.std.specs.Fmt.{decimal, signed_decimal}
 use Rattle.rb_arguments.specs.declared.mapping.Mapping.{Mapping}
 use Rattle.rb_arguments.specs.declared.rpcb.Rpcb.{Rpcb}
 use Rattle.rb_arguments.specs.declared.entry.Entry.{Entry}
-use Rattle.rb_show.specs.declared.stat.VersionStat.{VersionStat}
-use Rattle.rb_show.specs.declared.stat.AddrStat.{AddrStat}
-use Rattle.rb_show.specs.declared.stat.CallStat.{CallStat}
+use Rattle.rb_show.specs.Statistics.{VersionStat, AddrStat, CallStat}
 use Rattle.rb_show.specs.Json.{json_text}
 use Rattle.rb_show.specs.Texts.{joined}
 

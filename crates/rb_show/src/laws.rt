@@ -1,6 +1,6 @@
 //! What the calls have to do with rb_arguments' side of them and the replies with rb_rpc's, and what texts and objects of
 //! JSON are.
-ghost use Rattle.rb_show.specs.HeadLaws.{HeadsAreRead};
+ghost use Rattle.rb_show.specs.HeadLaws.{HeadsAreRead, HeadsStay, NoHeadComes};
 ghost use Rattle.rb_show.specs.FaultLaws.{FaultsStay, UnreadableStays};
 ghost use Rattle.rb_show.specs.ListLaws.{ListsAreShown, LongerListsStop, ListsAreTaken};
 ghost use Rattle.rb_show.specs.AskLaws.{QuestionsAreRequests};
@@ -30,9 +30,12 @@ pub fn objects_are_of_the_grammar()
 {}
 
 /// What `take_head` takes from the front of a reply's data is the head that `read_reply` says of all the data, and the
-/// data after it is left; if `read_reply` says none, it is `Unreadable`.
+/// data after it is left; if `read_reply` says none, it is `Unreadable`, or ends too early. A head stays one whatever
+/// follows it; and where no head may begin, none comes.
 pub fn heads_are_read()
-    ensures { HeadsAreRead }
+    ensures read { HeadsAreRead }
+    ensures stay { HeadsStay }
+    ensures none { NoHeadComes }
 {}
 
 /// Bytes that begin with no value, for another reason than that there are too few of them, begin with none whatever

@@ -2,10 +2,11 @@
 ghost use Rattle.std.specs.Prelude.{◌≡◌, IfOk};
 ghost use Rattle.std.specs.String.{string_bytes};
 ghost use Rattle.rb_show.specs.Texts.{HasBytes};
+ghost use Rattle.rb_show.specs.Statistics.{version_stat, addr_stat, call_stat};
 ghost use Rattle.rb_show.specs.Objects.{program_members, place_members, row_members, row_object, mapping_object, family_members, entry_object, numbers_object, found_members, look_ups_object, procedure_members, outcomes_members, forwards_object};
 
 use crate::json::json_text;
-use crate::stat::{AddrStat, CallStat, VersionStat};
+use crate::stat::{AddrStat, CallStat, VersionStat, info_in};
 use crate::texts::joined_ints;
 use rb_arguments::{Entry, Mapping, Rpcb};
 use std::alloc::{AllocError, Global};
@@ -81,19 +82,19 @@ pub(crate) fn numbers_object(
     rpcbind: u32,
     item: &VersionStat,
 ) -> Result<String, AllocError>
-    ensures { IfOk result (HasBytes (numbers_object rpcbind item.now)) }
+    ensures { IfOk result (HasBytes (numbers_object rpcbind (version_stat item.now))) }
 {
-    let info = joined_ints(alloc, &item.info, ",")?;
-    let (set, unset) = (item.setinfo, item.unsetinfo);
+    let (info, (set, unset)) = *item;
+    let info = joined_ints(alloc, &info_in(info), ",")?;
     format!(in alloc;
         "{{\"rpcbind\":{rpcbind},\"info\":[{info}],\"set\":{set},\"unset\":{unset}}}\n"
     )
 }
 
 fn found_members(alloc: Global, item: &AddrStat) -> Result<String, AllocError>
-    ensures { IfOk result (HasBytes (found_members item.now)) }
+    ensures { IfOk result (HasBytes (found_members (addr_stat item.now))) }
 {
-    let (success, failure) = (item.success, item.failure);
+    let (_, (_, (success, (failure, _)))) = item;
     format!(in alloc; "\"success\":{success},\"failure\":{failure}")
 }
 
@@ -103,26 +104,27 @@ pub(crate) fn look_ups_object(
     rpcbind: u32,
     item: &AddrStat,
 ) -> Result<String, AllocError>
-    ensures { IfOk result (HasBytes (look_ups_object rpcbind item.now)) }
+    ensures { IfOk result (HasBytes (look_ups_object rpcbind (addr_stat item.now))) }
 {
-    let program = program_members(alloc, item.prog, item.vers)?;
-    let netid = json_text(alloc, item.netid.as_slice())?;
+    let (prog, (vers, (_, (_, netid)))) = item;
+    let program = program_members(alloc, *prog, *vers)?;
+    let netid = json_text(alloc, netid.as_slice())?;
     let found = found_members(alloc, item)?;
     format!(in alloc; "{{\"rpcbind\":{rpcbind},{program},\"netid\":{netid},{found}}}\n")
 }
 
 fn procedure_members(alloc: Global, item: &CallStat) -> Result<String, AllocError>
-    ensures { IfOk result (HasBytes (procedure_members item.now)) }
+    ensures { IfOk result (HasBytes (procedure_members (call_stat item.now))) }
 {
-    let program = program_members(alloc, item.prog, item.vers)?;
-    let proc = item.proc;
+    let (prog, (vers, (proc, _))) = item;
+    let program = program_members(alloc, *prog, *vers)?;
     format!(in alloc; "{program},\"procedure\":{proc}")
 }
 
 fn outcomes_members(alloc: Global, item: &CallStat) -> Result<String, AllocError>
-    ensures { IfOk result (HasBytes (outcomes_members item.now)) }
+    ensures { IfOk result (HasBytes (outcomes_members (call_stat item.now))) }
 {
-    let (success, failure, indirect) = (item.success, item.failure, item.indirect);
+    let (_, (_, (_, (success, (failure, (indirect, _)))))) = item;
     format!(in alloc; "\"success\":{success},\"failure\":{failure},\"indirect\":{indirect}")
 }
 
@@ -132,10 +134,11 @@ pub(crate) fn forwards_object(
     rpcbind: u32,
     item: &CallStat,
 ) -> Result<String, AllocError>
-    ensures { IfOk result (HasBytes (forwards_object rpcbind item.now)) }
+    ensures { IfOk result (HasBytes (forwards_object rpcbind (call_stat item.now))) }
 {
     let procedure = procedure_members(alloc, item)?;
-    let netid = json_text(alloc, item.netid.as_slice())?;
+    let (_, (_, (_, (_, (_, (_, netid)))))) = item;
+    let netid = json_text(alloc, netid.as_slice())?;
     let outcomes = outcomes_members(alloc, item)?;
     format!(in alloc; "{{\"rpcbind\":{rpcbind},{procedure},\"netid\":{netid},{outcomes}}}\n")
 }

@@ -3,6 +3,7 @@ ghost use Rattle.std.specs.Prelude.{IfOk};
 ghost use Rattle.rb_show.specs.Telling.{lines_text};
 ghost use Rattle.rb_show.specs.declared.stage.Stage.TheVariants.{Numbers, LookUp, Forward};
 ghost use Rattle.rb_show.specs.Texts.{HasBytes};
+ghost use Rattle.rb_show.specs.Statistics.{version_stat, addr_stat, call_stat};
 ghost use Rattle.rb_show.specs.Counts.{addr_columns, addr_line, procedure_text, outcomes_text, call_columns, call_line, count_lines};
 ghost use Rattle.rb_show.specs.Stages.{NextIs};
 
@@ -10,7 +11,7 @@ use crate::form::Form;
 use crate::list::{MEMORY, Style, add_lines, next_item};
 use crate::objects::{forwards_object, look_ups_object, numbers_object};
 use crate::stage::{Counted, Stage, stage_after_called, stage_after_found, version_of};
-use crate::stat::{AddrStat, CallStat, VersionStat};
+use crate::stat::{AddrStat, CallStat, VersionStat, info_in};
 use crate::take::{Pause, take};
 use crate::texts::{joined_ints, shown_text};
 use std::alloc::{AllocError, Global};
@@ -22,13 +23,13 @@ fn count_lines(
     vers: u32,
     numbers: &VersionStat,
 ) -> Result<String, AllocError>
-    ensures { IfOk result (HasBytes (lines_text (count_lines form.entry vers numbers.now))) }
+    ensures { IfOk result (HasBytes (lines_text (count_lines form.entry vers (version_stat numbers.now)))) }
 {
     if form.is_json() {
         return numbers_object(alloc, vers, numbers);
     }
-    let counts = joined_ints(alloc, &numbers.info, " ")?;
-    let (set, unset) = (numbers.setinfo, numbers.unsetinfo);
+    let (info, (set, unset)) = *numbers;
+    let counts = joined_ints(alloc, &info_in(info), " ")?;
     let heading = format!(in alloc; "version {vers}\n")?;
     let info = format!(in alloc; "info {counts}\n")?;
     let sets = format!(in alloc; "set {set} unset {unset}\n")?;
@@ -36,11 +37,10 @@ fn count_lines(
 }
 
 fn addr_columns(alloc: Global, item: &AddrStat) -> Result<String, AllocError>
-    ensures { IfOk result (HasBytes (addr_columns item.now)) }
+    ensures { IfOk result (HasBytes (addr_columns (addr_stat item.now))) }
 {
-    let netid = shown_text(alloc, item.netid.as_slice())?;
-    let (prog, vers) = (item.prog, item.vers);
-    let (success, failure) = (item.success, item.failure);
+    let (prog, (vers, (success, (failure, netid)))) = item;
+    let netid = shown_text(alloc, netid.as_slice())?;
     format!(in alloc; "addr {prog} {vers} {netid} {success} {failure}\n")
 }
 
@@ -64,24 +64,25 @@ impl Style<AddrStat> for AddrLines<'_> {
 }
 
 fn procedure_text(alloc: Global, item: &CallStat) -> Result<String, AllocError>
-    ensures { IfOk result (HasBytes (procedure_text item.now)) }
+    ensures { IfOk result (HasBytes (procedure_text (call_stat item.now))) }
 {
-    let (prog, vers, proc) = (item.prog, item.vers, item.proc);
+    let (prog, (vers, (proc, _))) = item;
     format!(in alloc; "{prog} {vers} {proc}")
 }
 
 fn outcomes_text(alloc: Global, item: &CallStat) -> Result<String, AllocError>
-    ensures { IfOk result (HasBytes (outcomes_text item.now)) }
+    ensures { IfOk result (HasBytes (outcomes_text (call_stat item.now))) }
 {
-    let (success, failure, indirect) = (item.success, item.failure, item.indirect);
+    let (_, (_, (_, (success, (failure, (indirect, _)))))) = item;
     format!(in alloc; "{success} {failure} {indirect}")
 }
 
 fn call_columns(alloc: Global, item: &CallStat) -> Result<String, AllocError>
-    ensures { IfOk result (HasBytes (call_columns item.now)) }
+    ensures { IfOk result (HasBytes (call_columns (call_stat item.now))) }
 {
     let procedure = procedure_text(alloc, item)?;
-    let netid = shown_text(alloc, item.netid.as_slice())?;
+    let (_, (_, (_, (_, (_, (_, netid)))))) = item;
+    let netid = shown_text(alloc, netid.as_slice())?;
     let outcomes = outcomes_text(alloc, item)?;
     format!(in alloc; "call {procedure} {netid} {outcomes}\n")
 }

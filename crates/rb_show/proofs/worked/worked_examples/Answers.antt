@@ -8,7 +8,9 @@ use Rattle.rb_address.specs.Netids.{transport_of_protocol}
 use Rattle.rb_arguments.specs.Numbers.{is_void, is_procedure, number_of}
 use Rattle.rb_arguments.specs.Types.{read_mapping, read_rpcb}
 use Rattle.rb_show.specs.Telling.{◌>>=◌, take_one}
-use Rattle.rb_show.specs.Heads.{take_accepted, take_head}
+use Rattle.rb_rpc.specs.ReadReplies.{read_accept_stat, read_accepted, read_reply}
+use Rattle.rb_rpc.specs.Verdict.{auth_end, body_length, is_over_long, is_broken}
+use Rattle.rb_show.specs.Heads.{may_begin, take_head}
 use Rattle.rb_show.specs.Lists.{tell_items}
 use Rattle.rb_show.specs.Asks.{call_of}
 use Rattle.rb_show.specs.Replies.{tell_list, by_head, tell_reply}
@@ -20,31 +22,31 @@ unfolding number opaque fragment_header call_bytes is_void is_procedure number_o
 returns-clause-call c = refl
 
 pub returns-clause-row : goal.returns-clause-row
-unfolding number number_at opaque read_number read_bool read_content read_opaque read_pair read_optional read_rpcb ◌>>=◌ take_one take_accepted take_head tell_items tell_list by_head tell_reply digits
+unfolding number number_at opaque read_number read_bool read_content read_opaque read_pair read_optional read_rpcb ◌>>=◌ take_one read_accept_stat read_accepted read_reply auth_end body_length is_over_long is_broken may_begin take_head tell_items tell_list by_head tell_reply digits
 returns-clause-row c = refl
 
 pub returns-clause-mapping : goal.returns-clause-mapping
-unfolding number number_at read_number read_bool read_content read_opaque read_pair read_optional read_mapping transport_of_protocol ◌>>=◌ take_one take_accepted take_head tell_items tell_list by_head tell_reply digits
+unfolding number number_at read_number read_bool read_content read_opaque read_pair read_optional read_mapping transport_of_protocol ◌>>=◌ take_one read_accept_stat read_accepted read_reply auth_end body_length is_over_long is_broken may_begin take_head tell_items tell_list by_head tell_reply digits
 returns-clause-mapping c = refl
 
 pub returns-clause-refusal : goal.returns-clause-refusal
-unfolding number number_at read_number read_content read_opaque read_pair ◌>>=◌ take_one take_accepted take_head by_head tell_reply
+unfolding number number_at ◌>>=◌ read_accept_stat read_accepted read_reply auth_end body_length is_over_long is_broken may_begin take_head by_head tell_reply
 returns-clause-refusal c = refl
 
 pub returns-clause-cut_head : goal.returns-clause-cut_head
-unfolding number number_at read_number read_content read_opaque read_pair ◌>>=◌ take_one take_accepted take_head by_head tell_reply
+unfolding number number_at ◌>>=◌ read_accept_stat read_accepted read_reply auth_end body_length is_over_long is_broken may_begin take_head by_head tell_reply
 returns-clause-cut_head c = refl
 
 pub returns-clause-other_xid : goal.returns-clause-other_xid
-unfolding number number_at read_number read_content read_opaque read_pair ◌>>=◌ take_one take_accepted take_head by_head tell_reply
+unfolding number number_at ◌>>=◌ read_accept_stat read_accepted read_reply auth_end body_length is_over_long is_broken may_begin take_head by_head tell_reply
 returns-clause-other_xid c = refl
 
 pub returns-clause-cut_list : goal.returns-clause-cut_list
-unfolding number number_at opaque read_number read_bool read_content read_opaque read_pair read_optional read_rpcb ◌>>=◌ take_one take_accepted take_head tell_items tell_list by_head tell_reply digits
+unfolding number number_at opaque read_number read_bool read_content read_opaque read_pair read_optional read_rpcb ◌>>=◌ take_one read_accept_stat read_accepted read_reply auth_end body_length is_over_long is_broken may_begin take_head tell_items tell_list by_head tell_reply digits
 returns-clause-cut_list c = refl
 
 pub returns-clause-objects : goal.returns-clause-objects
-unfolding number number_at opaque read_number read_bool read_content read_opaque read_pair read_optional read_rpcb ◌>>=◌ take_one take_accepted take_head tell_items tell_list by_head tell_reply digits
+unfolding number number_at opaque read_number read_bool read_content read_opaque read_pair read_optional read_rpcb ◌>>=◌ take_one read_accept_stat read_accepted read_reply auth_end body_length is_over_long is_broken may_begin take_head tell_items tell_list by_head tell_reply digits
 returns-clause-objects c = refl
 
 pub returns-clause-spaced : goal.returns-clause-spaced
