@@ -1,9 +1,7 @@
 -- Parts of a list, made row by row.
 use Rattle.std.proofs.Common.{◌≡◌, ℕ, suc, ◌≤◌, ◌<◌, ◌+◌, ◌*◌, true, false, cond, List, [], ◌∷◌, ◌++◌, length, take, drop, Option, Some, None, refl, sym, ap, ◌∙◌, append_assoc, length-append, add-one, arith}
-use Rattle.std.specs.Prelude.{◌==◌, slice_get}
-use Rattle.std.specs.List.{flat_map}
-use Rattle.std.proofs.Math.Seq.{drop-cons, drop-length, take-length, take-append_seam, drop-append_seam}
-use Rattle.std.proofs.lemmas.Option.{slice_get_within, get_or_from_slice_get}
+use Rattle.std.specs.Prelude.{◌==◌}
+use Rattle.std.proofs.Math.Seq.{take-length, take-append_seam, drop-append_seam}
 use Rattle.std.proofs.lemmas.Map.Entries.{length-values_of}
 use Rattle.rb_xdr.specs.Xdr.{boolean}
 use Rattle.rb_xdr.proofs.Types.{length-boolean}
@@ -20,25 +18,17 @@ use Rattle.rb_proto.specs.declared.list_reply.ListReply.{ListReply}
 use Rattle.rb_proto.specs.Results.{row_bytes, rows_bytes}
 use Rattle.rb_proto.specs.ListReplies.{longest_row, head_unless, rows_behind, bytes_behind}
 use Rattle.rb_proto.specs.ListParts.{Fills, IsShort}
-use Rattle.rb_proto.proofs.Lists.{Passes, left}
-
--- ---- the rows after a cursor
-
-module _ (list : Listing) where
-  first_row : (rows : List Row) (p : ℕ) (row : Row) → slice_get rows p ≡ Some row → rows_bytes (drop p rows) list ≡ row_bytes list row ++ rows_bytes (drop (p + 1) rows) list
-  first_row rows p row here =
-      let first : drop p rows ≡ row ∷ drop (p + 1) rows = rw (add-one p) (drop-cons rows p row (slice_get_within rows p row here) ∙ ap (λ (r : Row). r ∷ drop (suc p) rows) (get_or_from_slice_get rows p row row here)) in
-      ap (λ (rs : List Row). rows_bytes rs list) first ∙ append_assoc (row_bytes list row) (flat_map (row_bytes list) (drop (p + 1) rows)) (boolean false)
-
-  no_row : (rows : List Row) (p : ℕ) → p ≡ length rows → rows_bytes (drop p rows) list ≡ boolean false
-  no_row rows p end = rw (end, drop-length rows) refl
+use Rattle.rb_proto.specs.Searching.{IsSought, rows_left, steps_left, PassesRow}
+use Rattle.rb_proto.proofs.Lists.{left}
+use Rattle.rb_proto.proofs.Searching.{bytes_left, row_adds, none_adds, few_steps}
 
 -- ---- filling
 
 -- The buffer has what stands before the cursor, and it is paid for.
-pub record Filling (kept : Registry) (old now : ListReply) (most base : ℕ) (began out : Kept) (first meter : Meter) : Type 0 where
+pub record Filling (sought : Option (ℕ × ℕ)) (kept : Registry) (old now : ListReply) (most base : ℕ) (began out : Kept) (first meter : Meter) : Type 0 where
   pub moved : now ≡ record old { cursor = now.cursor }
   pub place : StandsIn kept now.stamp now.cursor
+  pub is : IsSought now.list kept now.stamp sought
   pub shows : out.bytes ++ rows_bytes (rows_behind kept now.stamp now.cursor) now.list ≡ bytes_behind kept old
   pub base_is : base ≡ length out.bytes
   pub before : base ≤ most
@@ -46,7 +36,7 @@ pub record Filling (kept : Registry) (old now : ListReply) (most base : ℕ) (be
   pub out_tie : out.tie ≡ began.tie
   pub tie : meter.tie ≡ first.tie
   pub rises : first.steps ≤ meter.steps
-  pub steps : meter.steps + 2 * slots_left kept now.cursor + left kept now.stamp now.cursor ≤ first.steps + 3 * length (slots_of kept) + length out.bytes + 3
+  pub steps : meter.steps + steps_left sought kept now.cursor + left kept now.stamp now.cursor ≤ first.steps + 3 * length (slots_of kept) + length out.bytes + 4
 
 -- ---- how many slots and rows are still to come
 
@@ -76,12 +66,13 @@ rows_left_fit kept stamp cursor = omega (arith, table_fits stamp kept.entries, l
 -- ---- its begin, its steps and its ends
 
 -- the head stands before the first row, and nothing before a later one
-pub filling_begins : (kept : Registry) (r : ListReply) (most base : ℕ) (began out : Kept) (first meter : Meter) → StandsIn kept r.stamp r.cursor
-    → out.bytes ≡ head_unless r.begun r.xid → out.cap ≡ began.cap → out.tie ≡ began.tie → base ≡ length out.bytes → base ≤ most → PaysAtMost first meter (length out.bytes + 3)
-    → Filling kept r r most base began out first meter
-filling_begins kept r most base began out first meter place head cap out_tie base_is before cost = record {
+pub filling_begins : (sought : Option (ℕ × ℕ)) (kept : Registry) (r : ListReply) (most base : ℕ) (began out : Kept) (first meter : Meter) → StandsIn kept r.stamp r.cursor → IsSought r.list kept r.stamp sought
+    → out.bytes ≡ head_unless r.begun r.xid → out.cap ≡ began.cap → out.tie ≡ began.tie → base ≡ length out.bytes → base ≤ most → PaysAtMost first meter (length out.bytes + 4)
+    → Filling sought kept r r most base began out first meter
+filling_begins sought kept r most base began out first meter place is head cap out_tie base_is before cost = record {
   moved = refl;
   place = place;
+  is = is;
   shows = rw head refl;
   base_is = base_is;
   before = before;
@@ -89,37 +80,37 @@ filling_begins kept r most base began out first meter place head cap out_tie bas
   out_tie = out_tie;
   tie = cost.tie;
   rises = cost.rises;
-  steps = omega (arith, cost.steps, slots_left_fit kept r.cursor, rows_left_fit kept r.stamp r.cursor);
+  steps = omega (arith, cost.steps, few_steps r.list kept r.stamp sought is r.cursor (slots_left_fit kept r.cursor), rows_left_fit kept r.stamp r.cursor);
 }
 
-module _ (kept : Registry) (old now : ListReply) (most base : ℕ) (began out : Kept) (first meter : Meter) (f : Filling kept old now most base began out first meter) where
+module _ (sought : Option (ℕ × ℕ)) (kept : Registry) (old now : ListReply) (most base : ℕ) (began out : Kept) (first meter : Meter) (f : Filling sought kept old now most base began out first meter) where
   -- what stands at the cursor is after what is shown
   at_cursor : drop base (bytes_behind kept old) ≡ rows_bytes (rows_behind kept now.stamp now.cursor) now.list
   at_cursor =
       rw (f.base_is, ← f.shows) (drop-append_seam out.bytes (rows_bytes (rows_behind kept now.stamp now.cursor) now.list))
 
-  module _ (row : Row) (next : Option ℕ) (passes : Passes kept now.stamp now.cursor row next) (more : Kept) (added : more ≡ record out { bytes = out.bytes ++ row_bytes now.list row }) where
+  module _ (row : Row) (next : Option ℕ) (passes : PassesRow sought kept now.stamp now.cursor row next) (more : Kept) (added : more ≡ record out { bytes = out.bytes ++ row_bytes now.list row }) where
     -- what is shown with the row, and what stands after it
     shows_row : more.bytes ++ rows_bytes (rows_behind kept now.stamp next) now.list ≡ bytes_behind kept old
     shows_row =
-        let row_first = first_row now.list (rows_at kept now.stamp) (rows_passed kept now.stamp now.cursor) row passes.here in
-        let later : rows_behind kept now.stamp next ≡ drop (rows_passed kept now.stamp now.cursor + 1) (rows_at kept now.stamp) = ap (λ (n : ℕ). drop n (rows_at kept now.stamp)) passes.passed in
-        rw (ap (λ (k : Kept). k.bytes) added, later)
-        (append_assoc out.bytes (row_bytes now.list row) (rows_bytes (drop (rows_passed kept now.stamp now.cursor + 1) (rows_at kept now.stamp)) now.list)
-        ∙ ap (λ (bytes : List ℕ). out.bytes ++ bytes) (sym row_first) ∙ f.shows)
+        let adds = row_adds now.list kept now.stamp sought f.is now.cursor row next passes in
+        rw (ap (λ (k : Kept). k.bytes) added)
+        (append_assoc out.bytes (row_bytes now.list row) (bytes_left now.list kept now.stamp next ++ boolean false)
+        ∙ ap (λ (bytes : List ℕ). out.bytes ++ bytes) (sym (append_assoc (row_bytes now.list row) (bytes_left now.list kept now.stamp next) (boolean false)) ∙ ap (λ (bytes : List ℕ). bytes ++ boolean false) (sym adds))
+        ∙ f.shows)
 
     longer : length more.bytes ≡ length out.bytes + length (row_bytes now.list row)
     longer = ap (λ (k : Kept). length k.bytes) added ∙ length-append out.bytes (row_bytes now.list row)
 
     -- the row is within this many bytes, and the cursor goes on
-    pub row_passed : (asked wrote paid : Meter) (len cost : ℕ) → PaysAtMost meter asked cost → asked.steps + 2 * slots_left kept next ≤ meter.steps + 2 * slots_left kept now.cursor → PaysAtMost asked wrote (length (row_bytes now.list row))
-        → len ≡ length more.bytes → len ≤ most → paid ≡ record wrote { steps = wrote.steps + 1 } → Filling kept old (record now { cursor = next }) most len began more first paid
+    pub row_passed : (asked wrote paid : Meter) (len cost : ℕ) → PaysAtMost meter asked cost → asked.steps + steps_left sought kept next ≤ meter.steps + steps_left sought kept now.cursor → PaysAtMost asked wrote (length (row_bytes now.list row))
+        → len ≡ length more.bytes → len ≤ most → paid ≡ record wrote { steps = wrote.steps + 1 } → Filling sought kept old (record now { cursor = next }) most len began more first paid
     row_passed asked wrote paid len cost looked passed writes len_is within pays =
-        let within_rows = slice_get_within (rows_at kept now.stamp) (rows_passed kept now.stamp now.cursor) row passes.here in
         let one_paid : paid.steps ≡ wrote.steps + 1 = ap (λ (m : Meter). m.steps) pays in
         record {
           moved = ap (λ (r : ListReply). record r { cursor = next }) f.moved;
           place = passes.place;
+          is = f.is;
           shows = shows_row;
           base_is = len_is;
           before = within;
@@ -127,7 +118,7 @@ module _ (kept : Registry) (old now : ListReply) (most base : ℕ) (began out : 
           out_tie = ap (λ (k : Kept). k.tie) added ∙ f.out_tie;
           tie = ap (λ (m : Meter). m.tie) pays ∙ writes.tie ∙ looked.tie ∙ f.tie;
           rises = omega (arith, f.rises, looked.rises, writes.rises, one_paid);
-          steps = omega (arith, f.steps, passed, writes.steps, one_paid, longer, passes.passed, within_rows);
+          steps = omega (arith, f.steps, passed, writes.steps, one_paid, longer, passes.passed, passes.within);
         }
 
     -- the row goes past this many bytes
@@ -148,11 +139,11 @@ module _ (kept : Registry) (old now : ListReply) (most base : ℕ) (began out : 
   end_fits room = omega (arith, f.base_is, f.before, f.cap, room, length-boolean false)
 
   -- there is no row after the cursor
-  module _ (more : Kept) (end : rows_passed kept now.stamp now.cursor ≡ length (rows_at kept now.stamp)) (added : more ≡ record out { bytes = out.bytes ++ boolean false }) where
+  module _ (more : Kept) (end : rows_left sought kept now.stamp now.cursor ≡ []) (added : more ≡ record out { bytes = out.bytes ++ boolean false }) where
     shows_end : more.bytes ≡ bytes_behind kept old
     shows_end =
         ap (λ (k : Kept). k.bytes) added
-        ∙ ap (λ (bytes : List ℕ). out.bytes ++ bytes) (sym (no_row now.list (rows_at kept now.stamp) (rows_passed kept now.stamp now.cursor) end)) ∙ f.shows
+        ∙ ap (λ (bytes : List ℕ). out.bytes ++ bytes) (sym (ap (λ (xs : List ℕ). xs ++ boolean false) (none_adds now.list kept now.stamp sought f.is now.cursor end))) ∙ f.shows
 
     longer_by_end : length more.bytes ≡ length out.bytes + length (boolean false)
     longer_by_end = ap (λ (k : Kept). length k.bytes) added ∙ length-append out.bytes (boolean false)

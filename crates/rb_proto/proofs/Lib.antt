@@ -2,6 +2,7 @@ pub mod Addresses
 pub mod Fronts
 pub mod RowChanges
 pub mod Lists
+pub mod Searching
 pub mod ListReplies
 pub mod Filling
 pub mod Parts

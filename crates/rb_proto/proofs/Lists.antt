@@ -58,11 +58,6 @@ module _ (f : Row → List ℕ) (rows : List Row) (n : ℕ) (row : Row) (here : 
       ∙ flat_map-append f (take n rows) (row ∷ [])
       ∙ ap (λ (xs : List ℕ). flat_map f (take n rows) ++ xs) (append-nil (f row))
 
-  pub not_all : length (flat_map f (take n rows)) + length (f row) ≤ length (flat_map f rows)
-  not_all =
-      let more = length-flat_map-take f rows n row (slice_get_within rows n row here) in
-      rw (get_or_from_slice_get rows n row row here) at more
-
 -- ---- the walks
 
 -- the number of rows that are yet to be looked at
@@ -80,9 +75,6 @@ abbrev pub passed_bytes : (Row → List ℕ) → Registry → ℕ → Option ℕ
 passed_bytes f kept stamp cursor = flat_map f (take (rows_passed kept stamp cursor) (rows_at kept stamp))
 
 module _ (f : Row → List ℕ) (kept : Registry) (stamp : ℕ) where
-  abbrev all_bytes : List ℕ
-  all_bytes = flat_map f (rows_at kept stamp)
-
   pub none_passed : (cursor : Option ℕ) → rows_passed kept stamp cursor ≡ 0 → passed_bytes f kept stamp cursor ≡ []
   none_passed cursor none = ap (λ (n : ℕ). flat_map f (take n (rows_at kept stamp))) none
 
@@ -90,93 +82,3 @@ module _ (f : Row → List ℕ) (kept : Registry) (stamp : ℕ) where
     pub one_passed : passed_bytes f kept stamp next ≡ passed_bytes f kept stamp cursor ++ f row
     one_passed =
         ap (λ (n : ℕ). flat_map f (take n (rows_at kept stamp))) passes.passed ∙ one_more f (rows_at kept stamp) (rows_passed kept stamp cursor) row passes.here
-
-    pub one_longer : length (passed_bytes f kept stamp next) ≡ length (passed_bytes f kept stamp cursor) + length (f row)
-    one_longer = ap length one_passed ∙ length-append (passed_bytes f kept stamp cursor) (f row)
-
-    pub no_longer : length (passed_bytes f kept stamp cursor) + length (f row) ≤ length all_bytes
-    no_longer = not_all f (rows_at kept stamp) (rows_passed kept stamp cursor) row passes.here
-
--- ---- the walk for the room
-
--- the rows that the cursor has passed fit, with this much room left after them, and are paid for
-pub record Measuring (f : Row → List ℕ) (kept : Registry) (stamp : ℕ) (cursor : Option ℕ) (room behind : ℕ) (first meter : Meter) : Type 0 where
-  pub place : StandsIn kept stamp cursor
-  pub fits : behind + length (passed_bytes f kept stamp cursor) ≡ room
-  pub tie : meter.tie ≡ first.tie
-  pub rises : first.steps ≤ meter.steps
-  pub steps : meter.steps + 2 * slots_left kept cursor ≤ first.steps + 2 * length (slots_of kept)
-
-pub nothing_measured : (f : Row → List ℕ) (kept : Registry) (stamp : ℕ) (cursor : Option ℕ) (room : ℕ) (first : Meter)
-    → StandsIn kept stamp cursor → rows_passed kept stamp cursor ≡ 0 → slots_left kept cursor ≡ length (slots_of kept) → Measuring f kept stamp cursor room room first first
-nothing_measured f kept stamp cursor room first place none all = record {
-  place = place;
-  fits = omega (arith, ap length (none_passed f kept stamp cursor none));
-  tie = refl;
-  rises = omega arith;
-  steps = omega (arith, all);
-}
-
-module _ (f : Row → List ℕ) (kept : Registry) (stamp : ℕ) (cursor : Option ℕ) (room behind : ℕ) (first meter : Meter) (m : Measuring f kept stamp cursor room behind first meter) where
-  pub row_measured : (row : Row) (next : Option ℕ) → Passes kept stamp cursor row next → (more : ℕ) (paid : Meter)
-      → more + length (f row) ≡ behind → (most : ℕ) → PaysAtMost meter paid most → paid.steps + 2 * slots_left kept next ≤ meter.steps + 2 * slots_left kept cursor → Measuring f kept stamp next room more first paid
-  row_measured row next passes more paid fits most cost passed = record {
-    place = passes.place;
-    fits = omega (arith, fits, m.fits, one_longer f kept stamp cursor row next passes);
-    tie = cost.tie ∙ m.tie;
-    rises = omega (arith, m.rises, cost.rises);
-    steps = omega (arith, m.steps, passed);
-  }
-
-  -- no room for the row is none for the list
-  pub no_room : (row : Row) (next : Option ℕ) → Passes kept stamp cursor row next → (end : List ℕ)
-      → behind < length (f row) → room < length (flat_map f (rows_at kept stamp) ++ end)
-  no_room row next passes end full = omega (arith, full, m.fits, no_longer f kept stamp cursor row next passes, length-append (flat_map f (rows_at kept stamp)) end)
-
--- ---- the walk that writes
-
--- the rows that the cursor has passed are written and paid for
-pub record Writing (f : Row → List ℕ) (kept : Registry) (stamp : ℕ) (cursor : Option ℕ) (began out : Kept) (first meter : Meter) : Type 0 where
-  pub place : StandsIn kept stamp cursor
-  pub written : out ≡ record began { bytes = began.bytes ++ passed_bytes f kept stamp cursor }
-  pub tie : meter.tie ≡ first.tie
-  pub rises : first.steps ≤ meter.steps
-  pub steps : meter.steps + 2 * slots_left kept cursor ≤ first.steps + 2 * length (slots_of kept) + length (passed_bytes f kept stamp cursor)
-
-pub nothing_written : (f : Row → List ℕ) (kept : Registry) (stamp : ℕ) (cursor : Option ℕ) (began : Kept) (first : Meter)
-    → StandsIn kept stamp cursor → rows_passed kept stamp cursor ≡ 0 → slots_left kept cursor ≡ length (slots_of kept) → Writing f kept stamp cursor began began first first
-nothing_written f kept stamp cursor began first place none all = record {
-  place = place;
-  written =
-      ap (λ (xs : List ℕ). record began { bytes = xs }) (sym (append-nil began.bytes) ∙ ap (λ (xs : List ℕ). began.bytes ++ xs) (sym (none_passed f kept stamp cursor none)));
-  tie = refl;
-  rises = omega arith;
-  steps = omega (arith, all);
-}
-
-module _ (f : Row → List ℕ) (kept : Registry) (stamp : ℕ) (cursor : Option ℕ) (began out : Kept) (first meter : Meter) (w : Writing f kept stamp cursor began out first meter) where
-  size : length out.bytes ≡ length began.bytes + length (passed_bytes f kept stamp cursor)
-  size = ap (λ (k : Kept). length k.bytes) w.written ∙ length-append began.bytes (passed_bytes f kept stamp cursor)
-
-  -- what is written now stands after all that was written before
-  behind : (xs : List ℕ) → record out { bytes = out.bytes ++ xs } ≡ record began { bytes = began.bytes ++ (passed_bytes f kept stamp cursor ++ xs) }
-  behind xs =
-      ap (λ (k : Kept). record k { bytes = k.bytes ++ xs }) w.written
-      ∙ ap (λ (bytes : List ℕ). record began { bytes = bytes }) (append_assoc began.bytes (passed_bytes f kept stamp cursor) xs)
-
-  module _ (row : Row) (next : Option ℕ) (passes : Passes kept stamp cursor row next) where
-    pub row_written : (more : Kept) (asked paid : Meter) → more ≡ record out { bytes = out.bytes ++ f row } → (most : ℕ) → PaysAtMost meter asked most → asked.steps + 2 * slots_left kept next ≤ meter.steps + 2 * slots_left kept cursor → PaysAtMost asked paid (length (f row))
-        → Writing f kept stamp next began more first paid
-    row_written more asked paid added most looked passed cost = record {
-      place = passes.place;
-      written = added ∙ behind (f row) ∙ ap (λ (xs : List ℕ). record began { bytes = began.bytes ++ xs }) (sym (one_passed f kept stamp cursor row next passes));
-      tie = cost.tie ∙ looked.tie ∙ w.tie;
-      rises = omega (arith, w.rises, looked.rises, cost.rises);
-      steps = omega (arith, w.steps, passed, cost.steps, one_longer f kept stamp cursor row next passes);
-    }
-
-    -- room for the list is room for the row
-    pub row_fits : (end : List ℕ) → length began.bytes + length (flat_map f (rows_at kept stamp) ++ end) ≤ began.cap → length out.bytes + length (f row) ≤ out.cap
-    row_fits end room =
-        let cap : out.cap ≡ began.cap = ap (λ (k : Kept). k.cap) w.written in
-        omega (arith, room, cap, size, no_longer f kept stamp cursor row next passes, length-append (flat_map f (rows_at kept stamp)) end)

@@ -11,6 +11,7 @@ pub mod Answers
 pub mod Results
 pub mod ListReplies
 pub mod ListParts
+pub mod Searching
 pub mod Costs
 pub mod Puts
 pub mod Worked

@@ -15,7 +15,7 @@ ghost use Rattle.rb_proto.specs.Results.{value_bytes, results_at, rows_bytes, sh
 use crate::answers::{Listing, Results, Value};
 use crate::books::Books;
 use crate::forwarding::uaddr_at;
-use crate::rows::{room_after_rows, write_rows};
+use crate::rows::{room_after_rows, version_sought, write_rows};
 use rb_forward::{Forward, LONGEST_RESULTS};
 use rb_registry::Registry;
 use rb_rpc::Kind;
@@ -80,10 +80,11 @@ fn put_rows(
         return Err(Full { value: () });
     };
     let stamp = registry.stamp();
-    if room_after_rows(list, registry, stamp, room, meter).is_none() {
+    let sought = version_sought(list, registry, stamp, meter);
+    if room_after_rows(list, sought, registry, stamp, room, meter).is_none() {
         return Err(Full { value: () });
     }
-    write_rows(list, registry, stamp, out, meter);
+    write_rows(list, sought, registry, stamp, out, meter);
     Ok(())
 }
 

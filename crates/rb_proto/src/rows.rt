@@ -1,10 +1,12 @@
 //! Rows as a list shows them: the room that they need, and their bytes.
-ghost use Rattle.std.specs.Prelude.{◌≡◌, ◌+◌, ◌*◌, ◌≤◌, length};
+ghost use Rattle.std.specs.Prelude.{◌≡◌, ◌+◌, ◌*◌, ◌≤◌, [], length, IfSome, IfNone};
 ghost use Rattle.rb_xdr.specs.Xdr.{IsContent};
 ghost use Rattle.rb_xdr.specs.Meter.{Pays, PaysAtMost};
 ghost use Rattle.rb_registry.specs.Registry.{Reaches, rows_at, slots_of};
+ghost use Rattle.rb_registry.specs.Cursors.{StandsIn};
 ghost use Rattle.rb_xdr.specs.Puts.{Appends, HasRoom, Leaves};
 ghost use Rattle.rb_proto.specs.ListParts.{IsShort, FitsIfShort};
+ghost use Rattle.rb_proto.specs.Searching.{IsSought, rows_left, steps_left, PassesRow};
 ghost use Rattle.rb_proto.specs.Puts.{write_cost};
 ghost use Rattle.rb_proto.specs.Callers.{owner_text};
 ghost use Rattle.rb_arguments.specs.Types.{IsRpcb};
@@ -188,23 +190,73 @@ pub(crate) fn write_row(list: Listing, row: &Row, out: &mut Kept, meter: &mut Me
     }
 }
 
+// LOOKUP-4
+/// The program and version whose rows are searched for, if the list shows those alone, nothing changed since this many
+/// changes, and they are among many.
+pub(crate) fn version_sought(
+    list: Listing,
+    registry: &Registry,
+    stamp: u64,
+    meter: &mut Meter,
+) -> Option<(u32, u32)>
+    requires tie { meter.old.tie ≡ registry.now.tie }
+    ensures sought { IsSought list registry.now stamp result }
+    ensures cost { PaysAtMost meter.old meter.new 1 }
+{
+    match list {
+        Listing::Mappings | Listing::Rpcbs => None,
+        Listing::Entries(prog, vers, _) => {
+            if stamp == registry.stamp() && registry.is_long(meter) {
+                Some((prog, vers))
+            } else {
+                None
+            }
+        }
+    }
+}
+
+/// The next row after the cursor, or the next of the version that is searched for, and the cursor after it.
+pub(crate) fn next_row<'a>(
+    sought: Option<(u32, u32)>,
+    registry: &'a Registry,
+    stamp: u64,
+    cursor: Cursor,
+    meter: &mut Meter,
+) -> Option<(Cursor, &'a Row)>
+    requires tie { meter.old.tie ≡ registry.now.tie }
+    requires now { IfSome sought (λ version. stamp ≡ registry.now.stamp) }
+    requires place { StandsIn registry.now stamp cursor }
+    ensures row { IfSome result (λ n. PassesRow sought registry.now stamp cursor n.1.now n.0) }
+    ensures end { IfNone result (rows_left sought registry.now stamp cursor ≡ []) }
+    ensures cost { PaysAtMost meter.old meter.new (steps_left sought registry.now cursor + 1) }
+    ensures cost_row { IfSome result (λ n. meter.new.steps + steps_left sought registry.now n.0
+        ≤ meter.old.steps + steps_left sought registry.now cursor) }
+{
+    match sought {
+        Some((prog, vers)) => registry.next_of(prog, vers, cursor, meter),
+        None => registry.next_row(stamp, cursor, meter),
+    }
+}
+
 /// The room that is left of this much after all rows that a list shows, as they were after this many changes, and its
 /// end, if they fit.
 pub(crate) fn room_after_rows(
     list: Listing,
+    sought: Option<(u32, u32)>,
     registry: &Registry,
     stamp: u64,
     room: usize,
     meter: &mut Meter,
 ) -> Option<usize>
     requires registry { meter.old.tie ≡ registry.now.tie }
+    requires sought { IsSought list registry.now stamp sought }
     requires stamp { Reaches registry.now stamp }
     ensures room { Leaves (rows_bytes (rows_at registry.now stamp) list) room result }
-    ensures cost { PaysAtMost meter.old meter.new (2 * length (slots_of registry.now) + 2) }
+    ensures cost { PaysAtMost meter.old meter.new (2 * length (slots_of registry.now) + 1) }
 {
     let mut cursor = Cursor::start();
     let mut left = room;
-    'rows: while let Some(found) = registry.next_row(stamp, cursor, meter) {
+    'rows: while let Some(found) = next_row(sought, registry, stamp, cursor, meter) {
         let (next, row) = found;
         left = room_after_row(list, row, left)?;
         cursor = next;
@@ -215,12 +267,14 @@ pub(crate) fn room_after_rows(
 /// Writes the rows that a list shows, as they were after this many changes, and its end.
 pub(crate) fn write_rows(
     list: Listing,
+    sought: Option<(u32, u32)>,
     registry: &Registry,
     stamp: u64,
     out: &mut Kept,
     meter: &mut Meter,
 )
     requires registry { meter.old.tie ≡ registry.now.tie }
+    requires sought { IsSought list registry.now stamp sought }
     requires tie { meter.old.tie ≡ out.old.tie }
     requires stamp { Reaches registry.now stamp }
     requires room { HasRoom (rows_bytes (rows_at registry.now stamp) list) out.old }
@@ -228,7 +282,7 @@ pub(crate) fn write_rows(
     ensures cost { PaysAtMost meter.old meter.new (write_cost registry.now out.old out.new) }
 {
     let mut cursor = Cursor::start();
-    'rows: while let Some(found) = registry.next_row(stamp, cursor, meter) {
+    'rows: while let Some(found) = next_row(sought, registry, stamp, cursor, meter) {
         let (next, row) = found;
         write_row(list, row, out, meter);
         cursor = next;

@@ -27,7 +27,7 @@ module _ {T : Type 0} where
       by_test true h further = let e : 1 ≡ n = cc in e
       by_test false h further = counted (count_to rest key) h further
 
-  length-passed : (entries : List (ℕ × T)) (place : Option ℕ) (n : ℕ) → count_passed entries place ≡ Some n → length (passed entries place) ≡ n
+  pub length-passed : (entries : List (ℕ × T)) (place : Option ℕ) (n : ℕ) → count_passed entries place ≡ Some n → length (passed entries place) ≡ n
   length-passed entries None n h = let e : 0 ≡ n = cc in e
   length-passed entries (Some key) n h = length-up_to entries key n h
 
@@ -58,7 +58,7 @@ module _ {T : Type 0} where
 
 -- ---- the rows that a cursor passes
 
-counted : (o : Option ℕ) → IsSome o → o ≡ Some (unwrap_or o 0)
+pub counted : (o : Option ℕ) → IsSome o → o ≡ Some (unwrap_or o 0)
 counted None h = absurd cc
 counted (Some n) h = refl
 

@@ -16,4 +16,7 @@ pub mod FoundLaws
 pub mod SetAgain
 pub mod Ranks
 pub mod Marks
+pub mod InOrder
+pub mod NextOf
+pub mod VersionsLeft
 pub mod OnLiterals

@@ -134,7 +134,7 @@ AreRanked-with (e ∷ rest) key slot ranked small =
 -- the key under a rank, of the first entry or of another one
 module _ (number key : ℕ) (e : ℕ × Slot) (rest : List (ℕ × Slot)) (missing : value_at rest e.0 ≡ None) where
   -- another entry's key is another key
-  behind_first : value_at (ranks rest) number ≡ Some key → eqb e.0 key ≡ false
+  pub behind_first : value_at (ranks rest) number ≡ Some key → eqb e.0 key ≡ false
   behind_first is = by_test (eqb e.0 key) refl
     where
       by_test : (b : Bool) → eqb e.0 key ≡ b → b ≡ false

@@ -1,9 +1,11 @@
 pub mod Rows
 pub mod Slots
 pub mod Index
+pub mod Order
 pub mod Registry
 pub mod Table
 pub mod Cursors
+pub mod Versions
 pub mod Walks
 pub mod Removals
 pub mod Costs

@@ -12,6 +12,7 @@ use Rattle.rb_registry.specs.Registry.{table_at, live_at, removals, Registry, ro
 use Rattle.rb_registry.specs.Slots.{is_live_at, removed_by, is_dropped, held_in}
 use Rattle.rb_registry.specs.Rows.{Change, covers, has_place}
 use Rattle.rb_registry.specs.Index.{IsIndexed}
+use Rattle.rb_registry.specs.Order.{AreInOrder, count_own}
 
 -- ---- what a registry counts
 
@@ -45,6 +46,8 @@ pub record IsTable (stamp floor limit held retained : ℕ) (entries : List (ℕ 
   pub indexed : IsIndexed entries index.entries
   pub index_cap : index.cap ≡ limit
   pub index_tie : index.tie ≡ tie
+  pub ordered : AreInOrder 0 entries
+  pub few_own : count_own entries ≤ 12
 
 -- Among the live ones of these rows, this is what is found, whichever stamp they have.
 abbrev pub IsFoundAmong : List (ℕ × Slot) → (List Row → Option Row) → Option Row → Type 0

@@ -8,6 +8,7 @@ mod registry;
 mod removal;
 mod row;
 mod slot;
+mod versions;
 mod walk;
 mod worked;
 

@@ -7,6 +7,7 @@ use crate::fault::RegistryFault;
 use crate::removal::Removal;
 use crate::row::{Row, Which};
 use crate::slot::Slot;
+use crate::versions::next_of;
 use crate::walk::{
     drop_retained, find_exact, find_row, has_key, least_removal, live_after, mark_covered,
 };
@@ -18,6 +19,9 @@ use std::marker::Model;
 
 /// The most own rows that a registry has.
 pub const MOST_OWN_ROWS: usize = 12;
+
+// From this many live rows on the index leads to the rows of a version in fewer steps than a walk.
+const LONG: usize = 256;
 
 // A table of this many rows would take more than 2^63 bytes.
 const TOO_MANY: usize = 1 << 56;
@@ -82,7 +86,7 @@ fn is_change_left(changes: u64) -> bool
 }
 
 impl Registry {
-    ghost use Rattle.std.specs.Prelude.{◌≡◌, ◌≤◌, ◌<◌, ◌+◌, ◌*◌, [], length, Some, None, Ok, Err, IfOk, OnOk, OnErr, IfSome, IfNone, IsErrOf, ◌↔◌, option_copied, if◌then◌else◌};
+    ghost use Rattle.std.specs.Prelude.{◌≡◌, ◌≤◌, ◌<◌, ◌+◌, ◌*◌, ◌∷◌, [], length, IsTrue, Some, None, Ok, Err, IfOk, OnOk, OnErr, IfSome, IfNone, IsErrOf, ◌↔◌, option_copied, if◌then◌else◌};
     ghost use Rattle.std.specs.Bool.{OnFalse};
     ghost use Rattle.rb_xdr.specs.Meter.{PaysAtMost};
     ghost use Rattle.rb_xdr.specs.Ordered.{looks};
@@ -93,6 +97,7 @@ impl Registry {
     ghost use Rattle.rb_registry.specs.Table.{takes, floor_raised, StandsForMore, StandsForSame, later_than, IsLeast, PaysFor};
     ghost use Rattle.rb_registry.specs.Removals.{takes_removal};
     ghost use Rattle.rb_registry.specs.Costs.{set_cost, unset_cost};
+    ghost use Rattle.rb_registry.specs.Versions.{versions_left, version_cost, PassesMore, VersionsAreFew};
     ghost use Rattle.rb_registry.specs.Cursors.{RowsAreLive, StandsIn, PassesOne, IsWithin, IsAtEnd, row_behind, slots_left, GoesOn};
     ghost use Rattle.rb_registry.specs.Slots.{held_in};
 
@@ -363,5 +368,49 @@ impl Registry {
             Some((key, row)) => Some((Cursor::behind(key), row)),
             None => None,
         }
+    }
+
+    // LOOKUP-4
+    /// The next live row of the version after the cursor, and the cursor after it: own rows first, and then those that
+    /// were set, in the order of the changes that added them.
+    ///
+    /// A version has five rows at most, one for each netid. From a cursor among the rows as they are now it costs a
+    /// search for each netid, a walk over the own rows, and 9.
+    pub fn next_of(
+        &self,
+        prog: u32,
+        vers: u32,
+        cursor: Cursor,
+        meter: &mut Meter,
+    ) -> Option<(Cursor, &Row)>
+        requires tie { meter.old.tie ≡ self.now.tie }
+        requires place { StandsIn self.now self.now.stamp cursor }
+        ensures row { IfSome result (λ next. versions_left prog vers self.now cursor
+            ≡ next.1.now ∷ versions_left prog vers self.now next.0) }
+        ensures place { IfSome result (λ next. StandsIn self.now self.now.stamp next.0) }
+        ensures passed { IfSome result (λ next. PassesMore self.now cursor next.0) }
+        ensures within { IfSome result (λ next. IsWithin self.now self.now.stamp next.0) }
+        ensures end { IfNone result (versions_left prog vers self.now cursor ≡ []) }
+        ensures cost { PaysAtMost meter.old meter.new (version_cost self.now) }
+    {
+        match next_of(&self.slots, &self.index, prog, vers, cursor.key(), meter) {
+            Some((key, row)) => Some((Cursor::behind(key), row)),
+            None => None,
+        }
+    }
+
+    // LOOKUP-4
+    /// Whether so many rows are live that the rows of one version are found in fewer steps by the index than by a walk
+    /// over all of them. It costs 1 step at most.
+    pub fn is_long(&self, meter: &mut Meter) -> bool
+        requires { meter.old.tie ≡ self.now.tie }
+        ensures searched { IsTrue result
+            → 6 * version_cost self.now ≤ 2 * length (slots_of self.now) + 1 }
+        ensures few { VersionsAreFew self.now }
+        ensures cost { PaysAtMost meter.old meter.new 1 }
+    {
+        // The search needs what the table is between two calls.
+        let _ = &self.slots;
+        self.len(meter) >= LONG
     }
 }

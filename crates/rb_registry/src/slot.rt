@@ -1,6 +1,7 @@
 //! A row with the changes that added and removed it.
 ghost use Rattle.std.specs.Prelude.{◌≡◌};
 ghost use Rattle.rb_registry.specs.Slots.{is_live_at, is_dropped};
+ghost use Rattle.rb_registry.specs.Versions.{is_version_now};
 
 use crate::row::Row;
 
@@ -46,6 +47,13 @@ impl Slot {
                 None => true,
                 Some(removed) => stamp < removed,
             }
+    }
+
+    /// Whether the row is live now and of this version.
+    pub(crate) fn is_version_now(&self, prog: u32, vers: u32) -> bool
+        ensures { result ≡ is_version_now prog vers self.now }
+    {
+        self.removed.is_none() && self.row.prog == prog && self.row.vers == vers
     }
 
     /// Whether `trim` drops the row: it was removed by the change of number `oldest` or an earlier one, or by any

@@ -124,7 +124,7 @@ pub(crate) fn mark_covered(
     removed
 }
 
-const NETIDS: [Netid; 5] = [
+pub(crate) const NETIDS: [Netid; 5] = [
     Netid::Tcp,
     Netid::Udp,
     Netid::Tcp6,

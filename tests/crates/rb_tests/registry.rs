@@ -97,3 +97,50 @@ fn rows_are_removed(rt: HostRuntime) -> Result<(), Fail> {
     assert_eq!(rt; registry.len(&mut meter), 6);
     Ok(())
 }
+
+// A digit for each row of the version, in the order in which the index leads to them: 1 of tcp, 2 of udp, 3 of tcp6, 4
+// of udp6 and 5 of local.
+fn netids_of(registry: &Registry, prog: u32, vers: u32, meter: &mut Meter) -> u64 {
+    let mut digits: u64 = 0;
+    let mut cursor = Cursor::start();
+    'rows: while let Some((next, row)) = registry.next_of(prog, vers, cursor, meter) {
+        let digit = match row.netid {
+            Netid::Tcp => 1,
+            Netid::Udp => 2,
+            Netid::Tcp6 => 3,
+            Netid::Udp6 => 4,
+            Netid::Local => 5,
+        };
+        digits = digits.wrapping_mul(10).wrapping_add(digit);
+        cursor = next;
+    }
+    digits
+}
+
+// LOOKUP-4: The rows of one version come in the order in which they were set, whatever was set between, and a row that
+// was removed and set again comes last.
+#[test]
+fn versions_come_in_the_order_of_their_sets(rt: HostRuntime) -> Result<(), Fail> {
+    let mut meter = Meter::new();
+    let mut registry = Registry::new(rt.alloc(), 400, own_rows(), &mut meter)?;
+    let uid = Owner::Uid(500);
+    assert!(rt; registry.set(row(200_001, 1, Netid::Udp6, uid), &mut meter));
+    assert!(rt; registry.set(row(200_001, 1, Netid::Tcp, uid), &mut meter));
+    assert!(rt; registry.set(row(200_001, 2, Netid::Local, uid), &mut meter));
+    'others: for prog in 300_000..300_247 {
+        assert!(rt; registry.set(row(prog, 1, Netid::Tcp, uid), &mut meter));
+    }
+    assert!(rt; registry.set(row(200_001, 1, Netid::Local, uid), &mut meter));
+    assert!(rt; registry.set(row(200_001, 1, Netid::Udp, uid), &mut meter));
+    assert_eq!(rt; netids_of(&registry, 200_001, 1, &mut meter), 4152);
+    assert_eq!(rt; netids_of(&registry, 200_001, 2, &mut meter), 5);
+    assert_eq!(rt; netids_of(&registry, 200_001, 3, &mut meter), 0);
+    assert_eq!(rt; netids_of(&registry, 100_000, 3, &mut meter), 12);
+    assert!(rt; registry.unset(200_001, 1, Which::One(Netid::Udp6), uid, &mut meter));
+    registry.trim(None, &mut meter);
+    assert!(rt; registry.set(row(200_001, 1, Netid::Udp6, uid), &mut meter));
+    assert_eq!(rt; netids_of(&registry, 200_001, 1, &mut meter), 1524);
+    assert_eq!(rt; registry.len(&mut meter), 258);
+    assert!(rt; registry.is_long(&mut meter));
+    Ok(())
+}

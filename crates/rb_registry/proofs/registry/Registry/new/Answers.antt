@@ -16,6 +16,7 @@ use Rattle.rb_registry.proofs.Tables.{own_now, AreStamped-own, live_and_retained
 use Rattle.rb_xdr.specs.Ordered.{looks, moves}
 use Rattle.rb_registry.proofs.Ranks.{IsIndexed-none, IsIndexed-push, own_missing}
 use Rattle.rb_registry.proofs.Marks.{ranks_and_retained, own_cost}
+use Rattle.rb_registry.proofs.InOrder.{own_in_order, own_within}
 use Rattle.rb_registry.proofs.registry.Registry.new.Goals as goal
 
 pub own-init : goal.own-init
@@ -27,6 +28,8 @@ own-init c = record {
     distinct = rw c.in_ok-slots.ensures.empty tt;
     stamped = rw c.in_ok-slots.ensures.empty tt;
     made = omega arith;
+    ordered = rw c.in_ok-slots.ensures.empty tt;
+    few_own = rw c.in_ok-slots.ensures.empty (omega arith);
     few = search rules;
     within = rw c.in_ok-slots.ensures.empty (omega arith);
     is_held = rw c.in_ok-slots.ensures.empty refl;
@@ -83,6 +86,8 @@ own-preserved c =
         distinct = distinct-push c.own.slots.entries c.in-Ok.key (slot_of 0 c.in-Some.row) c.own.invariant.table.distinct c.in-Ok.ensures.fresh;
         stamped = AreStamped-own c.in-Ok.key c.in-Some.row c.own.slots.entries c.charge-held.ensures.addr c.own.invariant.table.stamped;
         made = c.own.invariant.table.made;
+        ordered = own_in_order _ (AreStamped-own c.in-Ok.key c.in-Some.row c.own.slots.entries c.charge-held.ensures.addr c.own.invariant.table.stamped);
+        few_own = omega (arith, own_within (c.own.slots.entries ++ (c.in-Ok.key, slot_of 0 c.in-Some.row) ∷ []), more, few);
         few = c.own.invariant.table.few;
         within = room;
         is_held = omega (arith, c.charge-held.ensures.charge, c.own.invariant.table.is_held, held-push c.in-Ok.key 0 c.in-Some.row c.own.slots.entries);

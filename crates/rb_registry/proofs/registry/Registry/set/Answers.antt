@@ -11,6 +11,7 @@ use Rattle.rb_registry.proofs.Stands.{after_set}
 use Rattle.rb_registry.proofs.Tables.{AreStamped-push, removals-push}
 use Rattle.rb_registry.proofs.Ranks.{any_indexed, none_found_there, IsIndexed-push}
 use Rattle.rb_registry.proofs.Marks.{looks_within, as_many, ranks_and_retained}
+use Rattle.rb_registry.proofs.InOrder.{in_order_push, own_push}
 use Rattle.rb_xdr.proofs.Walks.{distinct-push}
 use Rattle.rb_registry.proofs.registry.Registry.set.Goals as goal
 use Rattle.rb_registry.proofs.registry.Registry.set.Goals.{then-not-is_change_left-via-then-not-is_change_left, then-not-is_change_left-via-else-not-is_change_left+then-has_key}
@@ -67,6 +68,8 @@ invariant_of-self c =
       indexed = pushed;
       index_cap = c.self.invariant.index_cap;
       index_tie = c.self.invariant.index_tie;
+      ordered = in_order_push 0 c.self.inside.changes c.in-Ok.key c.args.row c.self.inside.slots.entries (omega arith) c.self.invariant.stamped c.self.invariant.ordered;
+      few_own = omega (arith, own_push c.self.inside.changes c.in-Ok.key c.args.row c.self.inside.slots.entries, c.self.invariant.few_own);
     })
 
 pub returns-in-Ok-insert-clause-taken : goal.returns-in-Ok-insert-clause-taken

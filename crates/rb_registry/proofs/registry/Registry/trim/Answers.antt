@@ -1,4 +1,4 @@
-use Rattle.std.proofs.Common.{sym, subst, arith}
+use Rattle.std.proofs.Common.{sym, subst, not, arith}
 use Rattle.std.proofs.lemmas.Map.Entries.{length-values_of}
 use Rattle.rb_registry.specs.Table.{entries_left}
 use Rattle.rb_registry.specs.Registry.{Registry, StandsForChanges}
@@ -8,6 +8,8 @@ use Rattle.rb_registry.proofs.Stands.{after_trim, fewer_left}
 use Rattle.rb_registry.proofs.Tables.{AreStamped-filter, trimmed_removals}
 use Rattle.rb_registry.proofs.Holding.{held_fits}
 use Rattle.rb_registry.proofs.Ranks.{IsIndexed-left}
+use Rattle.rb_registry.proofs.InOrder.{in_order_filter, own_filter}
+use Rattle.rb_registry.specs.Slots.{is_dropped}
 use Rattle.rb_registry.proofs.registry.Registry.trim.Goals as goal
 
 pub drop_retained-dropped-requires-clause-held : goal.drop_retained-dropped-requires-clause-held
@@ -24,6 +26,8 @@ invariant_of-self c = record {
   indexed = rw c.drop_retained-dropped.ensures.left (IsIndexed-left c.args.oldest c.self.inside.slots.entries c.self.inside.index.entries c.self.invariant.indexed);
   index_cap = rw c.drop_retained-dropped.ensures.left c.self.invariant.index_cap;
   index_tie = rw c.drop_retained-dropped.ensures.left c.self.invariant.index_tie;
+  ordered = rw c.drop_retained-dropped.ensures.left (in_order_filter _ 0 c.self.inside.slots.entries c.self.invariant.ordered);
+  few_own = rw c.drop_retained-dropped.ensures.left (omega (arith, own_filter (λ e. not (is_dropped c.args.oldest e.1)) c.self.inside.slots.entries, c.self.invariant.few_own));
   are_retained = let dropped = c.drop_retained-dropped.ensures.rows in let dead = c.self.invariant.are_retained in omega (arith, dropped, dead);
 }
 

@@ -14,6 +14,7 @@ use Rattle.rb_registry.proofs.Registries.{goes_on-unset, goes_on_same, removal_m
 use Rattle.rb_registry.proofs.Stands.{after_unset}
 use Rattle.rb_registry.proofs.Tables.{AreStamped-marked, distinct-marked, as_many_marked, removals_within}
 use Rattle.rb_registry.proofs.Marks.{looks_within, as_many, named_less}
+use Rattle.rb_registry.proofs.InOrder.{in_order_marked, own_marked}
 use Rattle.rb_registry.proofs.registry.Registry.unset.Goals as goal
 use Rattle.rb_registry.proofs.registry.Registry.unset.Goals.{Then-removed-eq0}
 
@@ -44,6 +45,8 @@ invariant_of-self c =
       few = rw same c.self.invariant.few;
       within = rw same c.self.invariant.within;
       is_held = rw same c.self.invariant.is_held;
+      ordered = rw same c.self.invariant.ordered;
+      few_own = rw same c.self.invariant.few_own;
       are_retained = rw same c.self.invariant.are_retained;
       indexed = c.mark_covered-removed.ensures.indexed;
       index_cap = c.mark_covered-removed.ensures.index.cap ∙ c.self.invariant.index_cap ∙ sym (ap (λ (p : Pool Slot). p.cap) same);
@@ -63,6 +66,8 @@ invariant_of-self-2 c =
       stamped = AreStamped-marked c.self.inside.changes change c.self.inside.slots.entries c.self.invariant.stamped;
       made = let made = c.self.invariant.made in omega (arith, made);
       few = c.self.invariant.few;
+      ordered = in_order_marked 0 c.self.inside.changes change c.self.inside.slots.entries c.self.invariant.ordered;
+      few_own = omega (arith, own_marked c.self.inside.changes change c.self.inside.slots.entries, c.self.invariant.few_own);
       within = let as_long = length-map {B = ℕ × Slot} c.self.inside.slots.entries (λ (e : ℕ × Slot). (e.0, with_mark c.self.inside.changes change e.1)) in let within = c.self.invariant.within in omega (arith, as_long, within);
       is_held = c.self.invariant.is_held ∙ sym (held-marked c.self.inside.changes change c.self.inside.slots.entries);
       are_retained = let more = removals-marked c.self.inside.changes change c.self.inside.slots.entries c.self.invariant.stamped in let dead = c.self.invariant.are_retained in omega (arith, more, dead, c.mark_covered-removed.ensures.removed);

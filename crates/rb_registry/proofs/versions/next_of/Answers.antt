@@ -1,0 +1,30 @@
+use Rattle.std.proofs.Common.{◌≡◌, Some, None, refl, sym, ap, ◌∙◌}
+use Rattle.std.specs.Prelude.{option_map, Option}
+use Rattle.rb_registry.specs.declared.slot.Slot.{Slot}
+use Rattle.rb_registry.specs.declared.row.Row.{Row}
+use Rattle.rb_registry.specs.Versions.{versions_in}
+use Rattle.rb_registry.proofs.NextOf.{nothing_next, none_next, next_is}
+use Rattle.rb_registry.proofs.versions.next_of.Goals as goal
+
+pub returns-in_err-after-clause-next : goal.returns-in_err-after-clause-next
+returns-in_err-after-clause-next c =
+    rw c.from_residual.ensures (nothing_next c.args.prog c.args.vers c.args.slots.now.entries c.requires.distinct c.args.start c.in_err-after.ensures.added)
+
+pub returns-in_err-key-clause-next : goal.returns-in_err-key-clause-next
+returns-in_err-key-clause-next c =
+    rw c.from_residual-in_err-key.ensures
+    (none_next c.args.prog c.args.vers c.args.slots.now.entries c.requires.distinct c.args.start c.in_ok-after.after c.requires.ordered c.in_ok-after.ensures.added (rw c.in_default.is at c.own_after.ensures.none)
+    c.in_err-key.ensures.key)
+
+pub returns-in_err-slot-clause-next : goal.returns-in_err-slot-clause-next
+returns-in_err-slot-clause-next c =
+    let next = next_is c.args.prog c.args.vers c.args.slots.now.entries c.requires.distinct c.args.start c.in_ok-after.after c.requires.ordered c.in_ok-after.ensures.added (rw c.in_default.is at c.own_after.ensures.none) c.in_ok-key.key c.in_ok-key.ensures.key in
+    let clash : None ≡ Some next.slot = c.in_err-slot.ensures.value ∙ next.there in
+    absurd (cc)
+
+pub returns-clause-next : goal.returns-clause-next
+returns-clause-next c =
+    let next = next_is c.args.prog c.args.vers c.args.slots.now.entries c.requires.distinct c.args.start c.in_ok-after.after c.requires.ordered c.in_ok-after.ensures.added (rw c.in_default.is at c.own_after.ensures.none) c.in_ok-key.key c.in_ok-key.ensures.key in
+    let same : Some c.in_ok-slot.slot.now ≡ Some next.slot = c.in_ok-slot.ensures.value ∙ next.there in
+    let slot : c.in_ok-slot.slot.now ≡ next.slot = cc in
+    rw slot next.next

@@ -1,0 +1,20 @@
+use Rattle.std.proofs.Common.{Some, refl, sym, ◌∙◌, arith}
+use Rattle.rb_xdr.specs.Places.{to_come}
+use Rattle.rb_registry.proofs.InOrder.{in_order_to_come, own_to_come}
+use Rattle.rb_registry.proofs.NextOf.{no_own_left}
+use Rattle.rb_registry.proofs.versions.own_after.Goals as goal
+
+pub rows-init : goal.rows-init
+rows-init c = record {
+  rest = refl;
+  own = refl;
+  ordered = in_order_to_come c.args.start c.args.slots.now.entries c.requires.ordered;
+  tie = refl;
+  rises = omega arith;
+  steps = omega (arith, own_to_come c.args.start c.args.slots.now.entries);
+}
+
+pub returns-then-slot-gt0-clause-none : goal.returns-then-slot-gt0-clause-none
+returns-then-slot-gt0-clause-none c =
+    sym c.rows.invariant.own
+    ∙ no_own_left c.args.prog c.args.vers (to_come c.args.slots.now.entries c.rows.place) (c.in-Some.key, c.in-Some.slot.now) (to_come c.args.slots.now.entries (Some c.in-Some.key)) c.rows.invariant.ordered c.in-Some.ensures.next c.if-slot-gt0.true
