@@ -32,7 +32,7 @@ walked kept stamp cursor row next here place passed within =
     let rows = rows_at kept stamp in
     let n = rows_passed kept stamp cursor in
     let first : drop (rows_passed kept stamp cursor) (rows_at kept stamp) ≡ row ∷ drop (rows_passed kept stamp cursor + 1) (rows_at kept stamp) =
-        rw (add-one n) (drop-cons rows n row (slice_get_within rows n row here) ∙ ap (λ (r : Row). r ∷ drop (suc n) rows) (get_or_from_slice_get rows n row row here)) in
+    rw (add-one n) (drop-cons rows n row (slice_get_within rows n row here) ∙ ap (λ (r : Row). r ∷ drop (suc n) rows) (get_or_from_slice_get rows n row row here)) in
     record {
       place = place;
       first = first ∙ ap (λ (k : ℕ). row ∷ drop k (rows_at kept stamp)) (sym passed);
@@ -251,7 +251,7 @@ module _ (list : Listing) (sought : Option (ℕ × ℕ)) (kept : Registry) (stam
         → more ≡ record began { bytes = began.bytes ++ (flat_map (row_bytes list) (rows_at kept stamp) ++ end) }
     all_written end more last added =
         let whole : out.bytes ≡ began.bytes ++ flat_map (row_bytes list) (rows_at kept stamp) =
-            sym (append-nil out.bytes) ∙ ap (λ (xs : List ℕ). out.bytes ++ xs) (sym (none_adds list kept stamp sought is cursor last)) ∙ w.written in
+        sym (append-nil out.bytes) ∙ ap (λ (xs : List ℕ). out.bytes ++ xs) (sym (none_adds list kept stamp sought is cursor last)) ∙ w.written in
         added ∙ ap (λ (k : Kept). record k { bytes = out.bytes ++ end }) w.same
         ∙ ap (λ (xs : List ℕ). record began { bytes = xs ++ end }) whole
         ∙ ap (λ (xs : List ℕ). record began { bytes = xs }) (append_assoc began.bytes (flat_map (row_bytes list) (rows_at kept stamp)) end)

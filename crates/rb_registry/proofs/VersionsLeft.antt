@@ -95,7 +95,7 @@ module _ (kept : Registry) (d : HasDistinctKeys kept.entries) (cursor : Option �
   rows_behind_it : drop (rows_passed kept kept.stamp cursor) (rows_of kept) ≡ values_of (to_come (table_of kept kept.stamp) cursor)
   rows_behind_it =
       let there : drop (length (passed (table_of kept kept.stamp) cursor)) (values_of (table_of kept kept.stamp)) ≡ values_of (to_come (table_of kept kept.stamp) cursor) =
-          rw split at (drop_values (passed (table_of kept kept.stamp) cursor) (to_come (table_of kept kept.stamp) cursor)) in
+      rw split at (drop_values (passed (table_of kept kept.stamp) cursor) (to_come (table_of kept kept.stamp) cursor)) in
       rw (← as_many) there
 
   whole_length : rows_passed kept kept.stamp cursor + length (to_come (table_of kept kept.stamp) cursor) ≡ length (rows_of kept)
@@ -115,8 +115,8 @@ module _ (kept inside : Registry) (cursor place : Option ℕ) (same : inside ≡
   come : versions_in prog vers (to_come inside.entries place) ≡ filter (λ e. is_of_version prog vers e.1) (to_come (table_of kept kept.stamp) cursor)
   come =
       let there : versions_in prog vers (to_come kept.entries cursor) ≡ filter (λ e. is_of_version prog vers e.1) (to_come (table_of kept kept.stamp) cursor) =
-          versions_table kept.stamp prog vers (to_come kept.entries cursor) (stamped_to_come kept.stamp kept.entries cursor stamped)
-          ∙ ap (filter (λ e. is_of_version prog vers e.1)) (to_come_at kept.stamp cursor kept.entries d h.place) in
+      versions_table kept.stamp prog vers (to_come kept.entries cursor) (stamped_to_come kept.stamp kept.entries cursor stamped)
+      ∙ ap (filter (λ e. is_of_version prog vers e.1)) (to_come_at kept.stamp cursor kept.entries d h.place) in
       rw (same, at) there
 
   left_is : versions_left prog vers kept cursor ≡ values_of (versions_in prog vers (to_come inside.entries place))
@@ -243,7 +243,7 @@ versions_are_few kept inside index same stamped indexed prog vers cursor small =
     let table = versions_table inside.stamp prog vers inside.entries stamped in
     let five = five_in prog vers small inside.entries indexed.ranked indexed.distinct in
     let rows : values_of (versions_in prog vers inside.entries) ≡ filter (is_of_version prog vers) (rows_of inside) =
-        ap (λ (es : List (ℕ × Row)). values_of es) table ∙ values_of-filter (is_of_version prog vers) (table_at inside.stamp inside.entries) in
+    ap (λ (es : List (ℕ × Row)). values_of es) table ∙ values_of-filter (is_of_version prog vers) (table_at inside.stamp inside.entries) in
     let as_long : length (values_of (versions_in prog vers inside.entries)) ≡ length (filter (is_of_version prog vers) (rows_of inside)) = ap (λ (rs : List Row). length rs) rows in
     let whole : length (filter (is_of_version prog vers) (rows_of inside)) ≤ 5 = omega (arith, as_long, five, length-values_of (versions_in prog vers inside.entries)) in
     let all : length (filter (is_of_version prog vers) (rows_of kept)) ≤ 5 = rw same at whole in
@@ -258,10 +258,10 @@ long_enough count slots many few within =
     elim (cases_lt 256 count) [
       | inr upto ↦ let looked = looks_few count 8 (omega (arith, upto)) in omega (arith, looked, many, within)
       | inl more ↦ elim (cases_lt 512 count) [
-          | inr upto ↦ let looked = looks_few count 9 (omega (arith, upto)) in omega (arith, looked, more, within)
-          | inl past ↦ elim (cases_lt 4096 count) [
-              | inr upto ↦ let looked = looks_few count 12 (omega (arith, upto)) in omega (arith, looked, past, within)
-              | inl far ↦ let looked = looks_few count 56 (omega (arith, few)) in omega (arith, looked, far, within)
-            ]
+        | inr upto ↦ let looked = looks_few count 9 (omega (arith, upto)) in omega (arith, looked, more, within)
+        | inl past ↦ elim (cases_lt 4096 count) [
+          | inr upto ↦ let looked = looks_few count 12 (omega (arith, upto)) in omega (arith, looked, past, within)
+          | inl far ↦ let looked = looks_few count 56 (omega (arith, few)) in omega (arith, looked, far, within)
         ]
+      ]
     ]

@@ -104,7 +104,10 @@ fn earliest_after(
 {
     let mut best = None;
     'netids: for netid in NETIDS {
-        best = earlier(best, later_on(slots, index, prog, vers, netid, after, meter));
+        best = earlier(
+            best,
+            later_on(slots, index, prog, vers, netid, after, meter),
+        );
     }
     match best {
         Some((_, key)) => Some(key),
@@ -143,12 +146,6 @@ fn earlier(best: Option<(u64, usize)>, other: Option<(u64, usize)>) -> Option<(u
     match (best, other) {
         (None, _) => other,
         (Some(_), None) => best,
-        (Some(first), Some(second)) => {
-            if second.0 < first.0 {
-                other
-            } else {
-                best
-            }
-        }
+        (Some(first), Some(second)) => { if second.0 < first.0 { other } else { best } }
     }
 }
