@@ -2,7 +2,7 @@
 use Rattle.std.proofs.Common.{◌≡◌, ◌<◌, ◌≤◌, ◌+◌, ◌-◌, ◌*◌, ◌/◌, ℕ, zero, suc, Bool, true, false, not, cond, eqb, ltb, ◌||◌, ◌&&◌, List, [], ◌∷◌, ◌++◌, length, take, drop, Option, Some, None, refl, sym, ap, ◌∙◌, subst, append_assoc, arith, inl, inr, length-append}
 use Rattle.std.specs.Prelude.{slice_range, replicate, is_some, min}
 use Rattle.std.specs.Int.{w32, from_be_bytes}
-use Rattle.std.proofs.lemmas.Bool.{cases_lt, lt-ltb, le-ltb, ltb-false, not-false, cond-false, cond-true}
+use Rattle.std.proofs.lemmas.Bool.{cases_lt, le-ltb, ltb-false, not-false}
 use Rattle.std.proofs.lemmas.List.{drop-append-le, take-append-le, take-append-drop, length-take, length-drop, drop-replicate, length-replicate}
 use Rattle.std.proofs.Math.Seq.{drop-append-add, take-append-add}
 use Rattle.rb_xdr.specs.Xdr.{number_at, word, residue, are_zero}
@@ -14,12 +14,10 @@ use Rattle.rb_rpc.specs.declared.reply.ReplyStatus.TheVariants.{Success, ProgUna
 use Rattle.rb_rpc.specs.declared.reply.ReplyHead.{ReplyHead}
 use Rattle.rb_rpc.specs.ReadReplies.{Read, says, refused_by, by_accept_stat, read_prog_mismatch, read_accept_stat, read_accepted, read_rpc_mismatch, read_denied, read_reply}
 use Rattle.rb_rpc.specs.Verdict.{auth_end, body_length, is_over_long, is_broken}
-use Rattle.rb_show.specs.declared.fault.InfoFault.{InfoFault}
 use Rattle.rb_show.specs.declared.fault.InfoFault.TheVariants.{Unreadable}
 use Rattle.rb_show.specs.declared.take.Pause.TheVariants.{More, Fault}
-use Rattle.rb_show.specs.Telling.{Told}
-use Rattle.rb_show.specs.Telling.Told.{Done, Stop}
-use Rattle.rb_show.specs.Fronts.{Breaks, Pauses, Takes}
+use Rattle.rb_show.specs.Telling.Told.{Done}
+use Rattle.rb_show.specs.Fronts.{Pauses, Takes}
 use Rattle.rb_show.specs.Heads.{words_there, filled, may_begin, by_reading, take_head}
 use Rattle.rb_show.specs.HeadLaws.{IsHead, HeadsAreRead, HeadsStay, NoHeadComes}
 
@@ -91,18 +89,18 @@ module _ (Is : Read → Type 0) (r : ReplyHead × ℕ) where
   by_test true u v u' v' e f g = f e
   by_test false u v u' v' e f g = g e
 
-  module _ (x x' : List ℕ) (same : word 0 x' ≡ word 0 x) (said : (status : ReplyStatus) (place : ℕ) → says (word 0 x) status (place + 4) ≡ Some r → Is (says (word 0 x) status (place + 4))) where
-    says_it : (status : ReplyStatus) (place : ℕ) → says (word 0 x) status (place + 4) ≡ Some r → Is (says (word 0 x') status (place + 4))
-    says_it status place was = subst (λ (xid : ℕ). Is (says xid status (place + 4))) (sym same) (said status place was)
+  module _ (x x' : List ℕ) (same : word 0 x' ≡ word 0 x) (place : ℕ) (said : (status : ReplyStatus) → says (word 0 x) status (place + 4) ≡ Some r → Is (says (word 0 x) status (place + 4))) where
+    says_it : (status : ReplyStatus) → says (word 0 x) status (place + 4) ≡ Some r → Is (says (word 0 x') status (place + 4))
+    says_it status was = subst (λ (xid : ℕ). Is (says xid status (place + 4))) (sym same) (said status was)
 
-    stat_is : (stat place : ℕ) → (read_prog_mismatch place x ≡ Some r → Is (read_prog_mismatch place x')) → by_accept_stat stat place x ≡ Some r → Is (by_accept_stat stat place x')
-    stat_is stat place mismatch was =
-        by_test (eqb stat 0) _ _ _ _ was (says_it Success place)
-        (λ a. by_test (eqb stat 1) _ _ _ _ a (says_it ProgUnavail place)
+    stat_is : (stat : ℕ) → (read_prog_mismatch place x ≡ Some r → Is (read_prog_mismatch place x')) → by_accept_stat stat place x ≡ Some r → Is (by_accept_stat stat place x')
+    stat_is stat mismatch was =
+        by_test (eqb stat 0) _ _ _ _ was (says_it Success)
+        (λ a. by_test (eqb stat 1) _ _ _ _ a (says_it ProgUnavail)
         (λ b. by_test (eqb stat 2) _ _ _ _ b mismatch
-        (λ c. by_test (eqb stat 3) _ _ _ _ c (says_it ProcUnavail place)
-        (λ d. by_test (eqb stat 4) _ _ _ _ d (says_it GarbageArgs place)
-        (λ f. by_test (eqb stat 5) _ _ _ _ f (says_it SystemErr place) (λ g. absurd cc))))))
+        (λ c. by_test (eqb stat 3) _ _ _ _ c (says_it ProcUnavail)
+        (λ d. by_test (eqb stat 4) _ _ _ _ d (says_it GarbageArgs)
+        (λ f. by_test (eqb stat 5) _ _ _ _ f (says_it SystemErr) (λ g. absurd cc))))))
 
 -- ---- an accepted head
 
@@ -153,9 +151,6 @@ module _ (bytes more : List ℕ) (r : ReplyHead × ℕ) where
   abbrev Stays : Read → Type 0
   Stays read = read ≡ Some r
 
-  said_again : (xid : ℕ) (status : ReplyStatus) (place : ℕ) → says xid status (place + 4) ≡ Some r → Stays (says xid status (place + 4))
-  said_again xid status place was = was
-
   mismatch_stays : (place : ℕ) → 4 ≤ length bytes → read_prog_mismatch place bytes ≡ Some r → Stays (read_prog_mismatch place (bytes ++ more))
   unfolding read_prog_mismatch
   mismatch_stays place some was =
@@ -171,7 +166,7 @@ module _ (bytes more : List ℕ) (r : ReplyHead × ℕ) where
       is_accepted (bytes ++ more) c (at 16 (omega (arith, a.long))) a.few (omega (arith, a.long, longer))
       (ap are_zero (slice-front (20 + c) e bytes more (omega (arith, a.long)) (omega (arith, a.long))) ∙ a.zeros)
       ∙ ap (λ (stat : ℕ). by_accept_stat stat e (bytes ++ more)) (at e a.long)
-      ∙ stat_is Stays r bytes (bytes ++ more) (at 0 some) (said_again (word 0 bytes)) (number_at e bytes) e (mismatch_stays e some) a.stat
+      ∙ stat_is Stays r bytes (bytes ++ more) (at 0 some) e (λ status said. said) (number_at e bytes) (mismatch_stays e some) a.stat
 
   denied_stays : read_denied bytes ≡ Some r → Stays (read_denied (bytes ++ more))
   unfolding read_denied read_rpc_mismatch
@@ -226,7 +221,7 @@ module _ (w : ℕ) (front rest : List ℕ) (size : length front ≡ 4 * w) (begu
   stat_filled v near was = elim (cases_lt v w) [
     | inl there ↦
         ap (λ (stat : ℕ). is_some (by_accept_stat stat (4 * v) filled_up)) (kept (4 * v) (omega (arith, there)))
-        ∙ stat_is IsSome r (front ++ rest) filled_up (kept 0 (omega (arith, begun))) (λ status place said. refl) (number_at (4 * v) (front ++ rest)) (4 * v) (λ said. mismatch_filled (4 * v) (omega (arith, near))) was
+        ∙ stat_is IsSome r (front ++ rest) filled_up (kept 0 (omega (arith, begun))) (4 * v) (λ status said. refl) (number_at (4 * v) (front ++ rest)) (λ said. mismatch_filled (4 * v) (omega (arith, near))) was
     | inr missing ↦ success_filled (4 * v) (omega (arith, missing)) (omega (arith, near))
   ]
 
@@ -285,45 +280,51 @@ module _ (w : ℕ) (front rest : List ℕ) (size : length front ≡ 4 * w) (begu
       rw (length-filled, kept 4 (omega (arith, begun)), kept 8 (omega (arith, begun)), tests.1) (by_test IsSome r (eqb (number_at 8 (front ++ rest)) 0) _ _ _ _ a.1 accepted_filled
       (λ b. by_test IsSome r (eqb (number_at 8 (front ++ rest)) 1) _ _ _ _ b denied_filled (λ c. absurd cc)))
 
--- ---- a head has bytes
+-- ---- a head has bytes, and ends within those that were read
 
 module _ (bytes : List ℕ) (r : ReplyHead × ℕ) where
   abbrev used_of : Read → ℕ
   used_of (Some read) = read.1
   used_of None = 0
 
-  abbrev Uses : Read → Type 0
-  Uses read = 0 < r.1
+  abbrev Ends : Read → Type 0
+  Ends read = (0 < r.1) × (r.1 ≤ length bytes)
 
-  used_is : (xid : ℕ) (status : ReplyStatus) (place : ℕ) → says xid status (place + 4) ≡ Some r → 0 < r.1
-  used_is xid status place was = let is : place + 4 ≡ r.1 = ap used_of was in omega (arith, is)
+  ends_at : (xid : ℕ) (status : ReplyStatus) (place : ℕ) → 0 < place → place ≤ length bytes → says xid status place ≡ Some r → Ends None
+  ends_at xid status place some within was = let is : place ≡ r.1 = ap used_of was in (omega (arith, is, some), omega (arith, is, within))
 
-  mismatch_uses : (place : ℕ) → read_prog_mismatch place bytes ≡ Some r → 0 < r.1
+  mismatch_ends : (place : ℕ) → read_prog_mismatch place bytes ≡ Some r → Ends None
   unfolding read_prog_mismatch
-  mismatch_uses place was = let is : place + 12 ≡ r.1 = ap used_of (passed (ltb (length bytes) (place + 12)) (says (word 0 bytes) (ProgMismatch (number_at (place + 4) bytes) (number_at (place + 8) bytes)) (place + 12)) r was).1 in omega (arith, is)
+  mismatch_ends place was =
+      let a = passed (ltb (length bytes) (place + 12)) (says (word 0 bytes) (ProgMismatch (number_at (place + 4) bytes) (number_at (place + 8) bytes)) (place + 12)) r was in
+      ends_at (word 0 bytes) (ProgMismatch (number_at (place + 4) bytes) (number_at (place + 8) bytes)) (place + 12) (omega arith) (ltb-false _ _ a.0) a.1
 
-  accepted_uses : read_accepted bytes ≡ Some r → 0 < r.1
-  accepted_uses was =
+  accepted_ends : read_accepted bytes ≡ Some r → Ends None
+  accepted_ends was =
       let c : ℕ = number_at 16 bytes in
+      let e : ℕ = 20 + c + residue c in
       let a = was_accepted bytes c r refl was in
-      stat_is Uses r bytes bytes refl (used_is (word 0 bytes)) (number_at (20 + c + residue c) bytes) (20 + c + residue c) (mismatch_uses (20 + c + residue c)) a.stat
+      stat_is Ends r bytes bytes refl e (λ status said. ends_at (word 0 bytes) status (e + 4) (omega arith) a.long said) (number_at e bytes) (mismatch_ends e) a.stat
 
-  refused_uses : (o : Option AuthStat) (xid : ℕ) → refused_by o xid ≡ Some r → 0 < r.1
-  refused_uses (Some stat) xid was = let is : 20 ≡ r.1 = ap used_of was in omega (arith, is)
-  refused_uses None xid was = absurd cc
+  refused_ends : (o : Option AuthStat) (xid : ℕ) → 20 ≤ length bytes → refused_by o xid ≡ Some r → Ends None
+  refused_ends (Some stat) xid long was = ends_at xid (AuthError stat) 20 (omega arith) long was
+  refused_ends None xid long was = absurd cc
 
-  denied_uses : read_denied bytes ≡ Some r → 0 < r.1
+  denied_ends : read_denied bytes ≡ Some r → Ends None
   unfolding read_denied read_rpc_mismatch
-  denied_uses was =
-      by_test Uses r (eqb (word 3 bytes) 0) (read_rpc_mismatch bytes) (cond (eqb (word 3 bytes) 1) (refused_by (auth_stat_of (word 4 bytes)) (word 0 bytes)) None) None None (passed (ltb (length bytes) 20) (by_reject_stat bytes) r was).1
-      (λ b. let is : 24 ≡ r.1 = ap used_of (passed (ltb (length bytes) 24) (says (word 0 bytes) (RpcMismatch (word 4 bytes) (word 5 bytes)) 24) r b).1 in omega (arith, is))
-      (λ b. by_test Uses r (eqb (word 3 bytes) 1) (refused_by (auth_stat_of (word 4 bytes)) (word 0 bytes)) None None None b (refused_uses (auth_stat_of (word 4 bytes)) (word 0 bytes)) (λ c. absurd cc))
+  denied_ends was =
+      let a = passed (ltb (length bytes) 20) (by_reject_stat bytes) r was in
+      by_test Ends r (eqb (word 3 bytes) 0) (read_rpc_mismatch bytes) (cond (eqb (word 3 bytes) 1) (refused_by (auth_stat_of (word 4 bytes)) (word 0 bytes)) None) None None a.1
+      (λ b.
+      let d = passed (ltb (length bytes) 24) (says (word 0 bytes) (RpcMismatch (word 4 bytes) (word 5 bytes)) 24) r b in
+      ends_at (word 0 bytes) (RpcMismatch (word 4 bytes) (word 5 bytes)) 24 (omega arith) (ltb-false _ _ d.0) d.1)
+      (λ b. by_test Ends r (eqb (word 3 bytes) 1) (refused_by (auth_stat_of (word 4 bytes)) (word 0 bytes)) None None None b (refused_ends (auth_stat_of (word 4 bytes)) (word 0 bytes) (ltb-false _ _ a.0)) (λ d. absurd cc))
 
-  pub head_uses : read_reply bytes ≡ Some r → 0 < r.1
+  pub head_ends : read_reply bytes ≡ Some r → (0 < r.1) × (r.1 ≤ length bytes)
   unfolding read_reply
-  head_uses was =
-      by_test Uses r (eqb (word 2 bytes) 0) (read_accepted bytes) (cond (eqb (word 2 bytes) 1) (read_denied bytes) None) None None (passed _ (by_reply_stat bytes) r was).1 accepted_uses
-      (λ b. by_test Uses r (eqb (word 2 bytes) 1) (read_denied bytes) None None None b denied_uses (λ c. absurd cc))
+  head_ends was =
+      by_test Ends r (eqb (word 2 bytes) 0) (read_accepted bytes) (cond (eqb (word 2 bytes) 1) (read_denied bytes) None) None None (passed _ (by_reply_stat bytes) r was).1 accepted_ends
+      (λ b. by_test Ends r (eqb (word 2 bytes) 1) (read_denied bytes) None None None b denied_ends (λ c. absurd cc))
 
 -- ---- no head, however it goes on
 

@@ -13,6 +13,7 @@ pub mod RowTexts
 pub mod StatReadings
 pub mod Settles
 pub mod HeadReads
+pub mod GrowingLines
 pub mod ShownLists
 pub mod LastingFaults
 pub mod Uses

@@ -14,7 +14,7 @@ pub record Settles {A : Type 0} (reads : Reader A) : Type 0 where
   pub keeps : (bytes more : List ℕ) (r : Reading A) → reads bytes ≡ r → (r ≡ Err Short → ⊥) → reads (bytes ++ more) ≡ r
   pub ends : (bytes : List ℕ) (x : A) (used : ℕ) → reads bytes ≡ Ok (x, used) → used ≤ length bytes
 
-give_settles : {A : Type 0} (x : A) → Settles (give x)
+pub give_settles : {A : Type 0} (x : A) → Settles (give x)
 give_settles x = record {
   keeps = λ bytes more r e other. e;
   ends = λ bytes y used e. let none : 0 ≡ used = ap (λ (p : _ × ℕ). p.1) (ok_is (x, 0) (y, used) e) in omega (arith, none);
@@ -30,7 +30,7 @@ cond_settles : {A : Type 0} (b : Bool) (first second : Reader A) → Settles fir
 cond_settles true first second p q = p
 cond_settles false first second p q = q
 
-bind_settles : {A B : Type 0} (first : Reader A) (next : A → Reader B) → Settles first → ((x : A) → Settles (next x)) → Settles (first >>= next)
+pub bind_settles : {A B : Type 0} (first : Reader A) (next : A → Reader B) → Settles first → ((x : A) → Settles (next x)) → Settles (first >>= next)
 bind_settles {A} {B} first next settles then_settles = record {
   keeps = λ bytes more r e other. by_value bytes more r other (first bytes) refl e;
   ends = λ bytes y used e.
@@ -58,7 +58,7 @@ refused : {A : Type 0} (b : Bool) (d : XdrFault) (r : Result A XdrFault) (y : A)
 refused true d r y e = absurd cc
 refused false d r y e = (refl, e)
 
-number_settles : Settles read_number
+pub number_settles : Settles read_number
 unfolding read_number number_at
 number_settles = record {
   keeps = λ bytes more r e other.
@@ -74,7 +74,7 @@ number_settles = record {
       omega (arith, used_is, ltb-false (length bytes) 4 r.0);
 }
 
-bool_settles : Settles read_bool
+pub bool_settles : Settles read_bool
 unfolding read_bool
 bool_settles =
     bind_settles read_number (λ n. cond (eqb n 0) (give false) (cond (eqb n 1) (give true) (refuse BadBool))) number_settles
@@ -108,7 +108,7 @@ content_settles count = record {
         let front : take count (bytes ++ more) ≡ take count bytes = take-append-le count bytes more (omega (arith, long)) in
         rw (le-ltb (length (bytes ++ more)) (count + residue count) longer, padding, front) (sym (rw (le-ltb (length bytes) (count + residue count) long) refl) ∙ e)
 
-opaque_settles : (limit : ℕ) → Settles (read_opaque limit)
+pub opaque_settles : (limit : ℕ) → Settles (read_opaque limit)
 unfolding read_opaque
 opaque_settles limit =
     bind_settles read_number (λ count. cond (ltb limit count) (refuse TooLong) (read_content count)) number_settles

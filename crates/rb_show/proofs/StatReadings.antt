@@ -6,7 +6,7 @@ use Rattle.rb_xdr.specs.XdrTypes.{signed, read_signed, read_pair}
 use Rattle.rb_xdr.specs.XdrLaws.{IsSound, both, pair}
 use Rattle.rb_xdr.proofs.Readers.{number_sound, opaque_sound}
 use Rattle.rb_xdr.proofs.Types.{signed_sound, pair_sound}
-use Rattle.rb_show.specs.Statistics.{IsInt, Four, InfoFields, VersionFields, AddrFields, CallFields, IsVersionStat, IsAddrStat, IsCallStat, read_two, read_four, read_version, read_addr, read_call, version_stat, addr_stat, call_stat}
+use Rattle.rb_show.specs.Statistics.{IsInt, Four, VersionFields, AddrFields, CallFields, IsVersionStat, IsAddrStat, IsCallStat, read_two, read_four, read_version, read_addr, read_call, version_stat, addr_stat, call_stat}
 
 -- ---- rpcb_stat
 

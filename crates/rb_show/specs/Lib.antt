@@ -21,6 +21,7 @@ pub mod Lists
 pub mod ListLaws
 pub mod WholeLists
 pub mod FaultLaws
+pub mod FrontLaws
 pub mod Fronts
 pub mod Stages
 pub mod Tellings

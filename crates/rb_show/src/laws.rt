@@ -1,6 +1,7 @@
 //! What the calls have to do with rb_arguments' side of them and the replies with rb_rpc's, and what texts and objects of
 //! JSON are.
 ghost use Rattle.rb_show.specs.HeadLaws.{HeadsAreRead, HeadsStay, NoHeadComes};
+ghost use Rattle.rb_show.specs.FrontLaws.{LinesStay};
 ghost use Rattle.rb_show.specs.FaultLaws.{FaultsStay, UnreadableStays};
 ghost use Rattle.rb_show.specs.ListLaws.{ListsAreShown, LongerListsStop, ListsAreTaken};
 ghost use Rattle.rb_show.specs.AskLaws.{QuestionsAreRequests};
@@ -36,6 +37,11 @@ pub fn heads_are_read()
     ensures read { HeadsAreRead }
     ensures stay { HeadsStay }
     ensures none { NoHeadComes }
+{}
+
+/// The lines that a front of a reply's data tells are a front of those that all of it tells, however it ends.
+pub fn lines_stay()
+    ensures { LinesStay }
 {}
 
 /// Bytes that begin with no value, for another reason than that there are too few of them, begin with none whatever

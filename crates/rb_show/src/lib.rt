@@ -26,7 +26,7 @@ pub use ask::{Ask, Question, write_call, write_marked_call};
 pub use fault::InfoFault;
 pub use form::Form;
 pub use laws::{
-    faults_stay, heads_are_read, json_texts_are_of_the_grammar, lists_are_shown,
+    faults_stay, heads_are_read, json_texts_are_of_the_grammar, lines_stay, lists_are_shown,
     objects_are_of_the_grammar, questions_are_requests,
 };
 pub use show::{Shown, show_datagram, show_reply};
