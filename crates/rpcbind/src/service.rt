@@ -109,12 +109,12 @@ where
     if interfaces.is_empty() {
         return Ok(None);
     }
-    let given: &[Host] = if are_hosts {
-        settings.bind.as_slice()
+    let made = if are_hosts {
+        Follower::new(rt.alloc(), interfaces, settings.bind.as_slice())
     } else {
-        &[]
+        Follower::new(rt.alloc(), interfaces, &[])
     };
-    let Ok(mut follower) = Follower::new(rt.alloc(), interfaces, given) else {
+    let Ok(mut follower) = made else {
         return Err(no_memory(faults));
     };
     settings.bind = follower.begin(rt);
