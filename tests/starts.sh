@@ -239,20 +239,20 @@ run_options_of_debian() {
     while IFS='|' read -r words taken; do
         {
             echo "rpcbind: taken as: serve $taken"
-            echo "error: invalid value 'nowhere' for '--bind': an address as 192.0.2.1 or 2001:db8::1 is wanted"
+            echo "error: invalid value '192.0.2.300' for '--bind': an address as 192.0.2.1 or 2001:db8::1 is wanted"
         } | sed "s/~/$(grep -q '^0\{31\}1 ' /proc/net/if_inet6 2> /dev/null && echo ' --loopback6')/" > "$work/wanted"
         run /dev/null $words
         as_wanted /dev/null "$work/wanted" 2
         judge $? "rpcbind $words"
     done << 'END'
--h nowhere|--bind nowhere --bind 127.0.0.1~
--fhnowhere|--bind nowhere --bind 127.0.0.1~
--h nowhere -h 127.0.0.1 -h nowhere|--bind nowhere --bind 127.0.0.1~
--h nowhere -h 0.0.0.0|--bind nowhere --bind 0.0.0.0~
--h :: -h nowhere|--bind :: --bind nowhere
--wf -h nowhere|--keep /run/rpcbind-proved/rows --bind nowhere --bind 127.0.0.1~
--w -w -r -h nowhere|--keep /run/rpcbind-proved/rows --forwards 16 --forward-for all --bind nowhere --bind 127.0.0.1~
--ld -h nowhere|--log all --bind nowhere --bind 127.0.0.1~
+-h 192.0.2.300|--bind 192.0.2.300 --bind 127.0.0.1~
+-fh192.0.2.300|--bind 192.0.2.300 --bind 127.0.0.1~
+-h 192.0.2.300 -h 127.0.0.1 -h 192.0.2.300|--bind 192.0.2.300 --bind 127.0.0.1~
+-h 192.0.2.300 -h 0.0.0.0|--bind 192.0.2.300 --bind 0.0.0.0~
+-h :: -h 192.0.2.300|--bind :: --bind 192.0.2.300
+-wf -h 192.0.2.300|--keep /run/rpcbind-proved/rows --bind 192.0.2.300 --bind 127.0.0.1~
+-w -w -r -h 192.0.2.300|--keep /run/rpcbind-proved/rows --forwards 16 --forward-for all --bind 192.0.2.300 --bind 127.0.0.1~
+-ld -h 192.0.2.300|--log all --bind 192.0.2.300 --bind 127.0.0.1~
 END
     while IFS='|' read -r words left; do
         echo "rpcbind: $left" > "$work/wanted"
