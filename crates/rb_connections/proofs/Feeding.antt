@@ -12,7 +12,7 @@ use Rattle.rb_rpc.specs.Records.{first_record, data_of}
 use Rattle.rb_rpc.specs.Verdict.{verdict}
 use Rattle.rb_rpc.proofs.RecordCuts.{stays}
 use Rattle.rb_rpc.proofs.Feeding.{none_ended}
-use Rattle.rb_feed.specs.Feeds.{StandsForCall}
+use Rattle.rb_rpc.specs.Feeds.{StandsForCall}
 use Rattle.rb_model.specs.Calls.{kept_of}
 use Rattle.rb_connections.specs.Reading.{Fed, Intake, Reader, HasData, IsInside, HasMore, fed_until, StandsBehind}
 use Rattle.rb_connections.specs.StandsFor.{IsReading}

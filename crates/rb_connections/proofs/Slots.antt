@@ -15,7 +15,7 @@ use Rattle.rb_rpc.specs.Marks.{StandsForFed}
 use Rattle.rb_rpc.specs.Records.{data_of}
 use Rattle.rb_rpc.specs.Verdict.{verdict}
 use Rattle.rb_address.specs.declared.who.Who.{Who}
-use Rattle.rb_feed.specs.Feeds.{StandsForCall, arguments_of}
+use Rattle.rb_rpc.specs.Feeds.{StandsForCall, arguments_of}
 use Rattle.rb_model.specs.declared.types.CoreFault.TheVariants.{Full, Spent, Gone}
 use Rattle.rb_model.specs.Calls.{longest_kept, kept_of}
 use Rattle.rb_model.specs.State.{Phase, Connection, Connections, greatest_number}

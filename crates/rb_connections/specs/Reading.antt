@@ -5,7 +5,7 @@ use Rattle.rb_rpc.specs.declared.marks.Marks.{Marks}
 use Rattle.rb_rpc.specs.Records.{first_record, data_of}
 use Rattle.rb_rpc.specs.Verdict.{verdict}
 use Rattle.rb_rpc.specs.Marks.{StandsForFed}
-use Rattle.rb_feed.specs.Feeds.{StandsForCall, arguments_of}
+use Rattle.rb_rpc.specs.Feeds.{StandsForCall, arguments_of}
 use Rattle.rb_model.specs.Calls.{longest_kept, kept_of}
 use Rattle.rb_connections.specs.StandsFor.{buffer_size, IsReading}
 pub use Rattle.rb_connections.specs.declared.reading.Fed.{Fed}

@@ -3,11 +3,11 @@ ghost use Rattle.std.specs.Prelude.{◌≡◌, ℕ, ◌+◌, ◌-◌, ◌<◌, �
 ghost use Rattle.rb_xdr.specs.Meter.{Pays, PaysAtMost};
 ghost use Rattle.rb_rpc.specs.Marks.{StandsForFed};
 ghost use Rattle.rb_rpc.specs.Streams.{RecordEnds, ArePart, StandsForMore};
-ghost use Rattle.rb_feed.specs.Feeds.{StandsForCall};
+ghost use Rattle.rb_rpc.specs.Feeds.{StandsForCall};
 ghost use Rattle.rb_connections.specs.StandsFor.{IsHeld};
 ghost use Rattle.rb_connections.specs.Reading.{HasData, HasMore, KeepsMore, TakesData, CountsPiece, ReadsPiece};
 
-use rb_feed::CallFeed;
+use rb_rpc::CallFeed;
 use rb_model::LONGEST_KEPT;
 use rb_rpc::{Marks, Part, Verdict};
 use rb_xdr::{Kept, Meter};

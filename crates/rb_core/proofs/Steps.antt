@@ -9,7 +9,7 @@ use Rattle.rb_rpc.specs.declared.caller.Caller.{Caller}
 use Rattle.rb_rpc.specs.declared.caller.Caller.TheVariants.{Tcp, Udp}
 use Rattle.rb_rpc.specs.declared.call.Verdict.{Verdict}
 use Rattle.rb_rpc.specs.Verdict.{verdict}
-use Rattle.rb_feed.specs.Feeds.{arguments_of}
+use Rattle.rb_rpc.specs.Feeds.{arguments_of}
 use Rattle.rb_registry.specs.Registry.{Registry}
 use Rattle.rb_forward.specs.declared.types.Ended.{Ended}
 use Rattle.rb_forward.specs.Forwards.{Unsent as UnsentCall, unsent, can_be_sent}

@@ -9,7 +9,7 @@ use Rattle.rb_rpc.specs.Records.{first_record, data_of}
 use Rattle.rb_rpc.specs.declared.caller.Caller.{Caller}
 use Rattle.rb_rpc.specs.declared.caller.Caller.TheVariants.{Tcp}
 use Rattle.rb_address.specs.declared.who.Who.{Who}
-use Rattle.rb_feed.specs.Feeds.{arguments_of}
+use Rattle.rb_rpc.specs.Feeds.{arguments_of}
 use Rattle.rb_forward.specs.declared.types.ForwardEnd.TheVariants.{Failed}
 use Rattle.rb_forward.specs.Forwards.{Entry, Forwards, is_due as entry_is_due, ended_by, without_first}
 use Rattle.rb_forward.specs.Ends.{NoneIs, EndsFirst}

@@ -16,7 +16,7 @@ use Rattle.rb_rpc.specs.Records.{is_last, data_in, data_of}
 use Rattle.rb_rpc.specs.Verdict.{body_length, auth_end, is_over_long, is_broken, credential_end, verifier_end, credential_body, sys_uid, head_of, verdict}
 use Rattle.rb_rpc.specs.declared.call.Verdict.TheVariants.{NoCall, RpcMismatch, AuthError, Call}
 use Rattle.rb_rpc.proofs.Auths.{or_parts, or_no}
-use Rattle.rb_feed.specs.Feeds.{behind_head, arguments_of}
+use Rattle.rb_rpc.specs.Feeds.{behind_head, arguments_of}
 use Rattle.rb_model.specs.Calls.{longest_kept, kept_of}
 
 -- ---- what is read at a place in front is the same if more follows

@@ -1,6 +1,6 @@
 -- What each event leaves of the ledger.
 use Rattle.std.proofs.Common.{◌≡◌, ℕ, max, Bool, true, false, cond, Option, Some, None, Result, Ok, Err, List, [], refl, ◌∙◌, arith}
-use Rattle.rb_feed.specs.Feeds.{arguments_of}
+use Rattle.rb_rpc.specs.Feeds.{arguments_of}
 use Rattle.rb_forward.specs.declared.types.Ended.{Ended as EntryEnd}
 use Rattle.rb_forward.specs.Forwards.{can_be_sent}
 use Rattle.rb_proto.specs.Ledger.{Ledger}

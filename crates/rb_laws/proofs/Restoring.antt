@@ -13,7 +13,7 @@ use Rattle.rb_rpc.specs.declared.caller.Caller.TheVariants.{Udp}
 use Rattle.rb_rpc.specs.CallBytes.{call_bytes}
 use Rattle.rb_rpc.specs.Grammar.{IsHead}
 use Rattle.rb_rpc.proofs.Calls.{written_again}
-use Rattle.rb_feed.specs.Feeds.{arguments_of}
+use Rattle.rb_rpc.specs.Feeds.{arguments_of}
 use Rattle.rb_address.specs.declared.netid.Netid.{Netid}
 use Rattle.rb_address.specs.declared.netid.Netid.TheVariants.{Tcp, Udp as UdpNetid, Tcp6, Udp6, Local}
 use Rattle.rb_address.specs.declared.who.Owner.{Owner}

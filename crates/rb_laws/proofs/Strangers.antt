@@ -11,7 +11,7 @@ use Rattle.rb_address.specs.declared.netid.Transport.{Transport}
 use Rattle.rb_address.specs.declared.who.Trust.TheVariants.{Stranger}
 use Rattle.rb_address.specs.Netids.{is_netid, netid_of, transport_of_protocol}
 use Rattle.rb_rpc.specs.declared.call.CallHead.{CallHead}
-use Rattle.rb_feed.specs.Feeds.{arguments_of}
+use Rattle.rb_rpc.specs.Feeds.{arguments_of}
 use Rattle.rb_registry.specs.declared.row.Row.{Row}
 use Rattle.rb_registry.specs.declared.row.Which.TheVariants.{Inet}
 use Rattle.rb_registry.specs.Rows.{is_on, is_row, find_exact, find_row}

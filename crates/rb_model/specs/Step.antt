@@ -4,7 +4,7 @@ use Rattle.rb_rpc.specs.declared.caller.Caller.{Caller}
 use Rattle.rb_address.specs.declared.peer.Peer.{Peer}
 use Rattle.rb_address.specs.declared.who.Who.{Who}
 use Rattle.rb_rpc.specs.declared.caller.Caller.TheVariants.{Tcp, Udp}
-use Rattle.rb_feed.specs.Feeds.{arguments_of}
+use Rattle.rb_rpc.specs.Feeds.{arguments_of}
 use Rattle.rb_forward.specs.Forwards.{Unsent as UnsentCall, unsent, can_be_sent}
 use Rattle.rb_proto.specs.declared.context.Context.{Context}
 use Rattle.rb_proto.specs.declared.listener.Listener.{Listener}

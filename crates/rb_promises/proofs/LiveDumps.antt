@@ -19,7 +19,7 @@ use Rattle.rb_rpc.specs.Grammar.{IsHead, IsCaller, WrittenRepliesAreRead}
 use Rattle.rb_rpc.proofs.Calls.{written_again}
 use Rattle.rb_rpc.specs.declared.reply.ReplyStatus.TheVariants.{Success}
 use Rattle.rb_rpc.specs.Replies.{reply_head}
-use Rattle.rb_feed.specs.Feeds.{arguments_of}
+use Rattle.rb_rpc.specs.Feeds.{arguments_of}
 use Rattle.rb_address.specs.declared.netid.Netid.{Netid}
 use Rattle.rb_address.specs.declared.netid.Netid.TheVariants as netids
 use Rattle.rb_uaddr.specs.declared.address.Uaddr.{Uaddr}

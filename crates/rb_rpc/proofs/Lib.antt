@@ -8,4 +8,11 @@ pub mod SysBodies
 pub mod Feeding
 pub mod RecordCuts
 pub mod Streams
+mod ContentWalks
+mod SysWalks
+mod AuthWalks
+mod WordVerdicts
+mod CallsStay
+mod CallFeeds
+mod WholeHeads
 pub mod OnLiterals

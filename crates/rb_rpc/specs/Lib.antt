@@ -10,3 +10,8 @@ pub mod Worked
 pub mod Forwarded
 pub mod Marks
 pub mod Streams
+pub mod SysFields
+pub mod Stages
+pub mod Feeds
+pub mod FeedLaws
+pub mod Saved

@@ -1,6 +1,7 @@
 //! What holds of every message, and of records in a stream.
 ghost use Rattle.rb_rpc.specs.RecordLaws.{FirstRecordIsLeast, NoneWhereNoFrontIsOne, RecordsStay, RecordsEndLater, RecordsAreFirstOnes, RecordsEnd, RecordsAreUnique, DataIsJoined, NoRecordBeginsAnother, RepliesAreMarked};
 ghost use Rattle.rb_rpc.specs.Streams.{NoRecordEnded};
+ghost use Rattle.rb_rpc.specs.FeedLaws.{CallsStay, HeadsEndAtThePlace};
 ghost use Rattle.rb_rpc.specs.Grammar.{VerdictIsOfTheGrammar, MismatchesAreOfTheGrammar, AuthErrorsAreOfTheGrammar, TheRestIsNoCall, RepliesAreOfTheGrammar, WrittenRepliesAreRead, WrittenCallsAreRead};
 
 /// The first record of bytes is their shortest prefix that is a marked record; there is none if no prefix is one.
@@ -45,6 +46,13 @@ pub fn replies_are_marked()
 /// The verdict is a call exactly if the bytes begin with one.
 pub fn verdict_is_of_the_grammar()
     ensures { VerdictIsOfTheGrammar }
+{}
+
+/// A call stays the same call whatever follows it. Its head has at most 840 bytes, and with fewer
+/// bytes than its head it is no call yet.
+pub fn calls_stay_calls()
+    ensures stay { CallsStay }
+    ensures end { HeadsEndAtThePlace }
 {}
 
 /// A message is refused exactly if it begins with what the refusal says: another version of RPC;

@@ -3,7 +3,7 @@ use Rattle.std.specs.Prelude.{◌≡◌, ⊤, ℕ, List, Option, Some, None}
 use Rattle.rb_rpc.specs.declared.call.CallHead.{CallHead}
 use Rattle.rb_rpc.specs.declared.call.Verdict.{Verdict}
 use Rattle.rb_rpc.specs.Verdict.{verdict}
-use Rattle.rb_feed.specs.Feeds.{arguments_of}
+use Rattle.rb_rpc.specs.Feeds.{arguments_of}
 use Rattle.rb_proto.specs.declared.context.Context.{Context}
 use Rattle.rb_arguments.specs.declared.procedure.Procedure.{Procedure}
 use Rattle.rb_arguments.specs.declared.procedure.VoidProcedure.TheVariants as voids

@@ -1,7 +1,7 @@
 //! What the data of a record, or a datagram, says: the order of refusals.
 ghost use Rattle.std.specs.Prelude.{◌≡◌, ◌≤◌, length, IfOk, IfErr};
 ghost use Rattle.rb_rpc.specs.Verdict.{verdict as verdict_of, EndsWithin};
-ghost use Rattle.rb_feed.specs.Feeds.{arguments_of};
+ghost use Rattle.rb_rpc.specs.Feeds.{arguments_of};
 ghost use Rattle.rb_model.specs.Calls.{is_served, kept_of};
 ghost use Rattle.rb_serving.specs.Messages.{AsksNothing, IsCalledBy, IsMessageOf};
 
@@ -86,7 +86,7 @@ pub fn procedure_of(verdict: &Verdict) -> Result<Called<'_>, Message<'static>>
 }
 
 /// The bytes after the head of a call; `verdict` is that on `bytes`, and if it is not `Call` there are none.
-#[tactic(auto, unfolding(rb_feed::specs::Feeds::arguments_of))]
+#[tactic(auto, unfolding(rb_rpc::specs::Feeds::arguments_of))]
 pub fn arguments_behind(verdict: Verdict, bytes: &[u8]) -> &[u8]
     requires verdict { verdict ≡ verdict_of bytes.now }
     requires within { EndsWithin verdict (length bytes.now) }

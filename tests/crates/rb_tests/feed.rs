@@ -1,5 +1,4 @@
-use rb_feed::CallFeed;
-use rb_rpc::{CallHead, Credential, Verdict, read_call};
+use rb_rpc::{CallFeed, CallHead, Credential, Verdict, read_call};
 use std::mem::size_of;
 use std::test::Fail;
 

@@ -1,6 +1,6 @@
 use Rattle.std.proofs.Common.{arith, ◌≤◌, length, ap}
 use Rattle.std.proofs.lemmas.List.{length-take}
-use Rattle.rb_feed.specs.Feeds.{arguments_of}
+use Rattle.rb_rpc.specs.Feeds.{arguments_of}
 use Rattle.rb_model.specs.Calls.{longest_kept}
 use Rattle.rb_connections.proofs.reading.Intake.begin.Goals as goal
 

@@ -1,5 +1,5 @@
 use Rattle.std.proofs.Common.{ℕ, List, ◌++◌, sym, ap, subst, ◌∙◌}
-use Rattle.rb_feed.specs.Feeds.{arguments_of}
+use Rattle.rb_rpc.specs.Feeds.{arguments_of}
 use Rattle.rb_connections.specs.Reading.{AreKept}
 use Rattle.rb_connections.proofs.Feeding.{rest_is}
 use Rattle.rb_connections.proofs.reading.Intake.feed_data.Goals as goal

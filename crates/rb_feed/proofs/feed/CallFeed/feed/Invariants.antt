@@ -1,9 +1,0 @@
-use Rattle.std.proofs.Common.{◌≤◌, ◌-◌, length, take}
-use Rattle.rb_feed.proofs.CallFeeds.{HasFed}
-use Rattle.rb_feed.proofs.feed.CallFeed.feed.Given as goal
-
-abbrev pub invariant-head : goal.invariant-head
-invariant-head l = record { within : l.count ≤ length l.bytes; fed : HasFed l.fn.self l.self (take l.count l.bytes) }
-
-abbrev pub decreases-head : goal.decreases-head
-decreases-head l = length l.bytes - l.count

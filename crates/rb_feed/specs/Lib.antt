@@ -1,5 +1,0 @@
-pub mod SysFields
-pub mod Stages
-pub mod Saved
-pub mod Feeds
-pub mod Laws
