@@ -14,8 +14,8 @@ use Rattle.rb_model.specs.Step.Event.{Bytes, Pending, Gave}
 use Rattle.rb_model.specs.Step.Output.{IsPending, Done}
 use Rattle.rb_model.specs.Laws.{is_owing}
 use Rattle.rb_model.specs.Sessions.{pending_bytes}
-use Rattle.rb_record.specs.Entries.{entry_text, run_entries}
-use Rattle.rb_record.specs.Tapes.{Tape, Records}
+use Rattle.rb_lines.specs.Entries.{entry_text, run_entries}
+use Rattle.rb_lines.specs.Tapes.{Tape, Records}
 use Rattle.rb_connections.specs.Slots.{Acts, Shows}
 use Rattle.rb_model.specs.Exchanges.{count_now, without_front, exchange, fits_at_once, at_once_in, at_once_on, at_once}
 use Rattle.rb_core.specs.StandsFor.{CoreView, StandsFor}

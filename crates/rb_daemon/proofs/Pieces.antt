@@ -18,9 +18,9 @@ use Rattle.rb_model.proofs.Gives.{count_pending}
 use Rattle.rb_model.specs.Step.Event.{Pending, Gave}
 use Rattle.rb_model.specs.Step.Output.{IsPending, Done}
 use Rattle.rb_laws.proofs.Gives.{gives_are_steps}
-use Rattle.rb_record.specs.Entries.{entry_text, run_entries}
-use Rattle.rb_record.specs.Tapes.{Tape, Records}
-use Rattle.rb_record.proofs.Tapes.{records_more}
+use Rattle.rb_lines.specs.Entries.{entry_text, run_entries}
+use Rattle.rb_lines.specs.Tapes.{Tape, Records}
+use Rattle.rb_lines.proofs.Tapes.{records_more}
 use Rattle.rb_connections.specs.Slots.{Acts, Shows}
 use Rattle.rb_core.specs.StandsFor.{CoreView, StandsFor}
 use Rattle.rb_lines.specs.RecordLaws.{Fits, HasLine}

@@ -25,10 +25,10 @@ use Rattle.rb_model.specs.Step.Event.{Open, Pending, Gave, Closed, NextLost, Dat
 use Rattle.rb_model.specs.Step.Output.{Opened, TooMuch, IsPending, Done, LostIs, Replied, Forwarded as OutForwarded, Silent, UnsentIs, Ignored, Nothing, ConnectionLost}
 use Rattle.rb_laws.proofs.RunLaws.{after-append}
 use Rattle.rb_laws.proofs.EntriesKept.{after-setting}
-use Rattle.rb_record.specs.Entries.{entry_text, run_entries, options_text}
-use Rattle.rb_record.specs.Tapes.{Tape, Records, IsRecordOf, empty_tape}
-use Rattle.rb_record.proofs.RunTexts.{run_entries-append, one_recorded}
-use Rattle.rb_record.proofs.Tapes.{records_more, new_record, record_goes_on, record_stays}
+use Rattle.rb_lines.specs.Entries.{entry_text, run_entries, options_text}
+use Rattle.rb_lines.specs.Tapes.{Tape, Records, IsRecordOf, empty_tape}
+use Rattle.rb_lines.proofs.RunTexts.{run_entries-append, one_recorded}
+use Rattle.rb_lines.proofs.Tapes.{records_more, new_record, record_goes_on, record_stays}
 use Rattle.rb_model.specs.declared.served.Response as outcome
 use Rattle.rb_model.specs.declared.served.Response.TheVariants as outcome_kinds
 use Rattle.rb_model.specs.Served.{outcome_with}

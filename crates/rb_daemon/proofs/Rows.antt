@@ -9,7 +9,7 @@ use Rattle.rb_registry.specs.Registry.{rows_passed}
 use Rattle.rb_proto.specs.declared.listener.Listener.{Listener}
 use Rattle.rb_model.specs.declared.types.Limits.{Limits}
 use Rattle.rb_model.specs.State.{are_good}
-use Rattle.rb_record.specs.Tapes.{Tape}
+use Rattle.rb_lines.specs.Tapes.{Tape}
 use Rattle.rb_core.specs.StandsFor.{CoreView}
 use Rattle.rb_core.specs.Looks.{rows_held, rows_shown, StandsAmong, IsAtStart, IsAtEnd, row_behind, PassesOne}
 use Rattle.rb_core.specs.Metered.{Metered}

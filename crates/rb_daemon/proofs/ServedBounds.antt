@@ -5,7 +5,7 @@ use Rattle.std.proofs.Math.Bridge.{le_prop}
 use Rattle.std.proofs.Math.Logic.{∥∥₁_elim}
 use Rattle.rb_model.specs.State.{Setting, State, are_good}
 use Rattle.rb_model.specs.Bounds.{bytes_bound}
-use Rattle.rb_record.specs.Tapes.{Tape}
+use Rattle.rb_lines.specs.Tapes.{Tape}
 use Rattle.rb_core.specs.StandsFor.{CoreView, StandsFor}
 use Rattle.rb_core.specs.HeldBytes.{held}
 use Rattle.rb_core.proofs.HeldBytes.{never_passes}

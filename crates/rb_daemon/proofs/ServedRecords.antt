@@ -4,8 +4,8 @@ use Rattle.std.proofs.Common.{◌≡◌, ◌≤◌, ℕ, zero, suc, Bool, true, 
 use Rattle.std.proofs.lemmas.List.{take_all}
 use Rattle.rb_model.specs.State.{State, opening}
 use Rattle.rb_model.specs.Step.{Event, step, run, IsReached}
-use Rattle.rb_record.specs.Entries.{run_entries, options_text}
-use Rattle.rb_record.specs.Tapes.{Tape, last_line, IsFull, EndsWithin, HasFirst}
+use Rattle.rb_lines.specs.Entries.{run_entries, options_text}
+use Rattle.rb_lines.specs.Tapes.{Tape, last_line, IsFull, EndsWithin, HasFirst}
 use Rattle.rb_lines.specs.Lines.{longest_input}
 use Rattle.rb_lines.specs.RecordLaws.{HasLine, HasPath, ReadsAs}
 use Rattle.rb_lines.proofs.Recorded.{records_are_read, ended_records_are_read, no_entries_are_read}

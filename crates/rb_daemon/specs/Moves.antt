@@ -5,8 +5,8 @@ use Rattle.rb_model.specs.declared.types.Limits.{Limits}
 use Rattle.rb_model.specs.State.{State, opening}
 use Rattle.rb_model.specs.declared.types.CoreFault.{CoreFault}
 use Rattle.rb_model.specs.Step.{Event}
-use Rattle.rb_record.specs.Entries.{run_entries}
-use Rattle.rb_record.specs.Tapes.{Records}
+use Rattle.rb_lines.specs.Entries.{run_entries}
+use Rattle.rb_lines.specs.Tapes.{Records}
 use Rattle.rb_connections.specs.Slots.{Acts, Shows}
 use Rattle.rb_model.specs.declared.types.Exchanged.{Exchanged}
 use Rattle.rb_model.specs.declared.types.Given.{Given}

@@ -10,8 +10,8 @@ use Rattle.rb_model.specs.declared.types.Told.{Told}
 use Rattle.rb_model.specs.Step.{Event, Output, unsent_call, show_taken, show_told, IsReached}
 use Rattle.rb_model.specs.Step.Event.{Bytes, Pending, Gave, Unsent, Sent}
 use Rattle.rb_model.specs.Step.Output.{Refused, Done, IsPending, UnsentIs}
-use Rattle.rb_record.specs.Entries.{entry_text, run_entries, options_text}
-use Rattle.rb_record.specs.Tapes.{Tape, IsRecordOf}
+use Rattle.rb_lines.specs.Entries.{entry_text, run_entries, options_text}
+use Rattle.rb_lines.specs.Tapes.{Tape, IsRecordOf}
 use Rattle.rb_model.specs.declared.types.Exchanged.{Exchanged}
 use Rattle.rb_model.specs.Exchanges.{taken_in}
 use Rattle.rb_model.specs.Gives.{piece_events, pieces_of, first_piece}

@@ -16,7 +16,7 @@ use Rattle.rb_model.specs.Calls.{Outcome}
 use Rattle.rb_model.specs.Calls.Outcome.{NoCall, Reply, Forwarded, Silent as SilentCall}
 use Rattle.rb_model.specs.Step.{datagram, unsent_call, sent_call, IsReached}
 use Rattle.rb_model.specs.ChangeLaws.{this_machine, set_bytes}
-use Rattle.rb_record.specs.Tapes.{Tape}
+use Rattle.rb_lines.specs.Tapes.{Tape}
 use Rattle.rb_core.specs.StandsFor.{CoreView, StandsFor}
 use Rattle.rb_core.specs.HeldBytes.{IsListener}
 use Rattle.rb_lines.specs.RecordLaws.{HasLine}

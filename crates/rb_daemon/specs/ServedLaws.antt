@@ -6,7 +6,7 @@ use Rattle.rb_model.specs.Bounds.{bytes_bound, bound_at}
 use Rattle.rb_model.specs.Costs.{event_cost, run_cost}
 use Rattle.rb_model.specs.Step.{Event, run, IsReached}
 use Rattle.rb_model.specs.WholeRuns.{args_waiting, whole_bound}
-use Rattle.rb_record.specs.Tapes.{Tape, EndsWithin}
+use Rattle.rb_lines.specs.Tapes.{Tape, EndsWithin}
 use Rattle.rb_core.specs.StandsFor.{CoreView, StandsFor}
 use Rattle.rb_core.specs.HeldBytes.{held}
 use Rattle.rb_lines.specs.Lines.{longest_input}

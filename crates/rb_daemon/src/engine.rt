@@ -6,8 +6,8 @@ ghost use Rattle.rb_core.specs.Events.{OnlyBegins};
 ghost use Rattle.rb_core.specs.HeldBytes.{IsListener};
 ghost use Rattle.rb_core.specs.Looks.{rows_shown};
 ghost use Rattle.rb_core.specs.StandsFor.{StandsFor};
-ghost use Rattle.rb_record.specs.Entries.{options_of};
-ghost use Rattle.rb_record.specs.Tapes.{Records, empty_tape};
+ghost use Rattle.rb_lines.specs.Entries.{options_of};
+ghost use Rattle.rb_lines.specs.Tapes.{Records, empty_tape};
 ghost use Rattle.rb_sockets.specs.Dispatches.{Hands};
 ghost use Rattle.rb_daemon.specs.Recording.{end_entry};
 ghost use Rattle.rb_daemon.specs.Sending.{reply_told, ways_told};
@@ -26,7 +26,7 @@ use rb_core::{
 use rb_keep::{Owners, set_call, write_change, write_rows};
 use rb_model::{Event, Output};
 use rb_policy::WaysBack;
-use rb_record::{Start, Tape};
+use rb_lines::{Start, Tape};
 use rb_registry::Row;
 use rb_sockets::{Datagrams, Logged, reply_to_forwarded};
 use std::alloc::Global;
@@ -169,8 +169,8 @@ fn count_fits(bytes: &[u8])
 
 impl Engine {
     ghost use Rattle.std.specs.Prelude.{◌≡◌, ◌≤◌, ◌↔◌, [], ◌∷◌, false, IsTrue, IsErrOf, length, not, IfOk, OnOk, OnErr};
-    ghost use Rattle.rb_record.specs.Printing.{Writes};
-    ghost use Rattle.rb_record.specs.Tapes.{all_written, unwritten};
+    ghost use Rattle.rb_lines.specs.Printing.{Writes};
+    ghost use Rattle.rb_lines.specs.Tapes.{all_written, unwritten};
     ghost use Rattle.rb_model.specs.Step.Event.{Open, Closed, NextLost, Datagram, Forward, Expire, ZeroStats};
     ghost use Rattle.rb_daemon.specs.Recording.{send_events};
     ghost use Rattle.rb_model.specs.State.{are_good};

@@ -5,13 +5,13 @@ ghost use Rattle.rb_model.specs.Plain.{lent_output};
 ghost use Rattle.rb_model.specs.Step.{show_done};
 ghost use Rattle.rb_model.specs.Exchanges.{count_given};
 ghost use Rattle.rb_model.specs.Gives.{pieces_of};
-ghost use Rattle.rb_record.specs.Tapes.{Records};
+ghost use Rattle.rb_lines.specs.Tapes.{Records};
 ghost use Rattle.rb_daemon.specs.Recording.{output_or_refusal, given_entries, pieces_entries, exchange_entries, taken_output, unsent_entry};
 
 use rb_address::Peer;
 use rb_core::{CoreFault, Exchanged};
 use rb_model::{Event, Output, UnsentCall};
-use rb_record::Tape;
+use rb_lines::Tape;
 use rb_rpc::LONGEST_FRAGMENT;
 
 /// The number of a connection that was opened, or the refusal.

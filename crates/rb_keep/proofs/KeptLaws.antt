@@ -41,8 +41,8 @@ use Rattle.rb_proto.specs.Answers.{can_be_set, row_of_rpcb}
 use Rattle.rb_model.specs.Step.{Event}
 use Rattle.rb_model.specs.Step.Event.{Datagram, Open, Bytes, Pending, Gave, Closed, NextLost, Unsent, Sent, Forward, Expire, ZeroStats}
 use Rattle.rb_model.specs.ChangeLaws.{credential_for, set_rows, IsSpelled, this_machine, set_head, rpcb_for, set_bytes, set_call, HasShortCall}
-use Rattle.rb_record.specs.Printing.{hex_text, bytes_line}
-use Rattle.rb_record.specs.Entries.{who_line}
+use Rattle.rb_lines.specs.Printing.{hex_text, bytes_line}
+use Rattle.rb_lines.specs.Entries.{who_line}
 use Rattle.rb_laws.proofs.Ledgers.{settable-short}
 use Rattle.rb_laws.proofs.Restoring.{rows_can_be_set}
 use Rattle.rb_laws.proofs.Spelling.{rows_are_spelled, kept_calls_are_short}

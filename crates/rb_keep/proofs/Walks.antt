@@ -17,7 +17,7 @@ use Rattle.rb_proto.proofs.Lists.{Passes, passed_bytes, none_passed, one_passed}
 use Rattle.rb_model.specs.State.{State}
 use Rattle.rb_model.specs.Step.{IsReached}
 use Rattle.rb_model.specs.ChangeLaws.{set_rows, set_call}
-use Rattle.rb_record.specs.Entries.{event_text}
+use Rattle.rb_lines.specs.Entries.{event_text}
 use Rattle.rb_laws.proofs.Restoring.{rows_can_be_set}
 use Rattle.rb_core.specs.StandsFor.{CoreView, StandsFor}
 use Rattle.rb_core.specs.Looks.{rows_held, rows_shown, StandsAmong, IsAtStart, IsAtEnd, row_behind, PassesOne, slots_behind, slot_count, PaysForRow}

@@ -20,7 +20,7 @@ use Rattle.rb_model.specs.State.{State}
 use Rattle.rb_model.specs.Step.{Event}
 use Rattle.rb_model.specs.Step.Event.{Datagram}
 use Rattle.rb_model.specs.ChangeLaws.{credential_for, this_machine, set_rows, set_call, kept_calls}
-use Rattle.rb_record.specs.Entries.{event_text}
+use Rattle.rb_lines.specs.Entries.{event_text}
 
 -- ---- all rows
 

@@ -4,7 +4,7 @@ use Rattle.rb_registry.specs.declared.row.Row.{Row}
 use Rattle.rb_registry.specs.Rows.{rpcb_prog}
 use Rattle.rb_model.specs.State.{State}
 use Rattle.rb_model.specs.Step.{IsReached}
-use Rattle.rb_record.specs.Printing.{Writes}
+use Rattle.rb_lines.specs.Printing.{Writes}
 use Rattle.rb_core.specs.StandsFor.{CoreView, StandsFor}
 use Rattle.rb_keep.specs.Kept.{row_line, kept_text, change_text, owners_after}
 

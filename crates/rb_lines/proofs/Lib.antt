@@ -6,4 +6,8 @@ pub mod HexWords
 pub mod LineWords
 pub mod Recorded
 pub mod Written
+pub mod Reserves
+pub mod Digits
+pub mod RunTexts
+pub mod Tapes
 pub mod OnLiterals

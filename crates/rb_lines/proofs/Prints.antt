@@ -6,8 +6,7 @@ use Rattle.std.proofs.KnownBytes.{Appends-trans}
 use Rattle.std.proofs.lemmas.List.{map_more}
 use Rattle.std.proofs.lemmas.List.Concat.{flat_map-append}
 use Rattle.rb_model.specs.Plain.{OwnedOutput, output_of, outputs_of}
-use Rattle.rb_record.specs.Printing.{output_text}
-use Rattle.rb_lines.specs.Printing.{report_of}
+use Rattle.rb_lines.specs.Printing.{output_text, report_of}
 
 pub line_more : (old now new : Option (List ℕ)) (outputs : List OwnedOutput) (i : ℕ) (next : OwnedOutput) → i < length outputs → next ≡ get_or outputs i next → Appends old now (report_of (outputs_of (take i outputs))) → Appends now new (output_text (output_of next)) → Appends old new (report_of (outputs_of (take (i + 1) outputs)))
 unfolding report_of

@@ -36,9 +36,9 @@ use Rattle.rb_model.specs.State.{State, opening}
 use Rattle.rb_model.specs.Step.{Event, Output, step, run}
 use Rattle.rb_model.specs.Step.Event.{Datagram, Open, Bytes, Pending, Gave, Closed, NextLost, Unsent, Sent, Forward, Expire, ZeroStats}
 use Rattle.rb_model.specs.Step.Output.{Opened, Refused, TooMuch, Took, TookAndLost, IsPending, Done, LostIs, Replied, Forwarded, Silent, UnsentIs, Ignored, Nothing, ConnectionLost, Ready, RepliedTo}
-use Rattle.rb_record.specs.Printing.{hex_text, refusal_text, bytes_line, peer_line, source_line, output_text}
-use Rattle.rb_record.specs.Entries.{event_text, entry_text, run_entries, run_text, limits_text, announce_text, inet_text, inet6_text, local_text, lists_text, forwarding_text, last_text, reservation_text, reserve_text, reserved_text, terms_text, listener_text, options_text}
-use Rattle.rb_record.specs.Tapes.{last_line}
+use Rattle.rb_lines.specs.Printing.{hex_text, refusal_text, bytes_line, peer_line, source_line, output_text}
+use Rattle.rb_lines.specs.Entries.{event_text, entry_text, run_entries, run_text, limits_text, announce_text, inet_text, inet6_text, local_text, lists_text, forwarding_text, last_text, reservation_text, reserve_text, reserved_text, terms_text, listener_text, options_text}
+use Rattle.rb_lines.specs.Tapes.{last_line}
 use Rattle.rb_lines.specs.Lines.{longest_input, line, lines_of}
 use Rattle.rb_lines.specs.Lines.Line.{Skipped, Happens}
 use Rattle.rb_lines.specs.LineLaws.{event_in, has_bad}

@@ -3,7 +3,7 @@ use Rattle.std.specs.Prelude.{◌≡◌, ℕ, ◌++◌, true, List, [], codes, O
 use Rattle.std.specs.Fmt.{decimal}
 use Rattle.rb_model.specs.declared.types.Limits.{Limits}
 use Rattle.rb_proto.specs.declared.listener.Listener.{Listener}
-use Rattle.rb_record.specs.Printing.{Writes}
+use Rattle.rb_lines.specs.Printing.{Writes}
 use Rattle.rb_lines.specs.declared.lines.ReadFault.TheVariants as reading
 use Rattle.rb_lines.specs.declared.faults.Fault.{Fault}
 use Rattle.rb_lines.specs.declared.faults.Fault.TheVariants.{NotText, Lines, NoMemory, BadLimits, SocketFailed, ReadFailed, WriteFailed, NoOutputs, Differs, Lacks}

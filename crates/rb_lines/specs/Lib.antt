@@ -1,6 +1,9 @@
 pub mod Fields
 pub mod Lines
 pub mod Printing
+pub mod WrittenLines
+pub mod Entries
+pub mod Tapes
 pub mod Limits
 pub mod Faults
 pub mod Worked

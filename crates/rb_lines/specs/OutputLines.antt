@@ -3,7 +3,7 @@ use Rattle.std.specs.Prelude.{ℕ, if◌then◌else◌, List, [], ◌∷◌, ◌
 use Rattle.std.specs.List.{flat_map}
 use Rattle.std.specs.Str.{bytes_eq}
 use Rattle.rb_model.specs.Step.{Output}
-use Rattle.rb_record.specs.Printing.{output_text}
+use Rattle.rb_lines.specs.Printing.{output_text}
 use Rattle.rb_lines.specs.Lines.{lines_of}
 
 -- The output line that stands after `#> `, with the line feed that ends it. Another line has none.

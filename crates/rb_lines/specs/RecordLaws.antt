@@ -8,8 +8,8 @@ use Rattle.rb_model.specs.declared.types.Limits.{Limits}
 use Rattle.rb_model.specs.State.{opening}
 use Rattle.rb_model.specs.Step.{Event, Output, run}
 use Rattle.rb_model.specs.Step.Event.{Datagram, Open, Bytes, Pending, Gave, Closed, NextLost, Unsent, Sent, Forward, Expire, ZeroStats}
-use Rattle.rb_record.specs.Entries.{run_entries, run_text, options_text}
-use Rattle.rb_record.specs.Tapes.{HasFirst}
+use Rattle.rb_lines.specs.Entries.{run_entries, run_text, options_text}
+use Rattle.rb_lines.specs.Tapes.{HasFirst}
 use Rattle.rb_lines.specs.Lines.{longest_input, read}
 use Rattle.rb_lines.specs.Paths.{is_path}
 use Rattle.rb_lines.specs.OutputLines.{output_lines_in, output_lines}

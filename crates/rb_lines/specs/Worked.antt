@@ -15,7 +15,7 @@ use Rattle.rb_proto.specs.declared.listener.Terms.{Terms}
 use Rattle.rb_model.specs.Step.Event.{Datagram, Open, Bytes, Pending, Gave, Closed, NextLost, Unsent, Sent, Forward, Expire, ZeroStats}
 use Rattle.rb_model.specs.declared.types.CoreFault.TheVariants.{Full, Spent, Gone}
 use Rattle.rb_model.specs.Step.Output.{Replied, Silent, Opened, Refused, Took, TookAndLost, IsPending, Done, TooMuch, LostIs, Forwarded, UnsentIs, Ignored, Nothing, Ready, RepliedTo}
-use Rattle.rb_record.specs.Entries.{event_text, listener_text, reserved_text}
+use Rattle.rb_lines.specs.Entries.{event_text, listener_text, reserved_text}
 use Rattle.rb_lines.specs.declared.lines.ReadFault.TheVariants.{BadLine}
 use Rattle.rb_lines.specs.Lines.{read}
 use Rattle.rb_lines.specs.Printing.{report_of}

@@ -1,6 +1,6 @@
 //! Why `rpcbind` ends before all is done, and what it says of it.
 ghost use Rattle.std.specs.Prelude.{◌≡◌, OnOk};
-ghost use Rattle.rb_record.specs.Printing.{Writes};
+ghost use Rattle.rb_lines.specs.Printing.{Writes};
 ghost use Rattle.rb_lines.specs.Faults.{status_of, Says, fault_line, limit_line, lines_before, fault_lines};
 
 use crate::limits::{BadLimit, bad_limit};

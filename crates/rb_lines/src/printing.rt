@@ -1,10 +1,9 @@
 //! The lines that are printed of a run.
 ghost use Rattle.std.specs.Prelude.{OnOk};
-ghost use Rattle.rb_record.specs.Printing.{Writes};
-ghost use Rattle.rb_lines.specs.Printing.{printed, steps_line, report};
+ghost use Rattle.rb_lines.specs.Printing.{printed, steps_line, report, Writes};
 
+use crate::outputs::output_line;
 use rb_model::Output;
-use rb_record::write_output;
 use std::io::Write;
 use thiserror::Error;
 
@@ -17,7 +16,7 @@ pub struct WriteFailed;
 pub fn print_output<W: Write>(output: &Output, writer: &mut W) -> Result<(), WriteFailed>
     ensures { OnOk result (Writes W.contents writer.old writer.new (printed output.now)) }
 {
-    match write_output(output, writer) {
+    match output_line(output).write_to(writer) {
         Ok(()) => Ok(()),
         Err(_) => Err(WriteFailed),
     }

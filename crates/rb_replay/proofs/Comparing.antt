@@ -13,7 +13,7 @@ use Rattle.std.proofs.lemmas.List.Concat.{flat_map-append}
 use Rattle.std.proofs.Math.ListN.{get_or-map}
 use Rattle.rb_model.specs.Plain.{OwnedOutput, output_of, outputs_of}
 use Rattle.rb_model.specs.Step.{Event, Output}
-use Rattle.rb_record.specs.Printing.{output_text}
+use Rattle.rb_lines.specs.Printing.{output_text}
 use Rattle.rb_lines.specs.declared.lines.ReadFault.{ReadFault}
 use Rattle.rb_lines.specs.declared.lines.ReadFault.TheVariants as reading
 use Rattle.rb_lines.specs.declared.beginning.Beginning.{Beginning}

@@ -7,7 +7,7 @@ use Rattle.std.specs.Borrow.{Bor}
 use Rattle.std.specs.declared.io.buffered.BufWriter.{BufWriter}
 use Rattle.rb_model.specs.Plain.{OwnedOutput, output_of, outputs_of}
 use Rattle.rb_model.specs.Step.{Event, Output, run}
-use Rattle.rb_record.specs.Printing.{output_text}
+use Rattle.rb_lines.specs.Printing.{output_text}
 use Rattle.rb_lines.specs.declared.lines.ReadFault.{ReadFault}
 use Rattle.rb_replay.specs.declared.checking.Agreement.{Agreement}
 use Rattle.rb_lines.specs.declared.beginning.Beginning.{Beginning}

@@ -6,7 +6,7 @@ use Rattle.rb_model.specs.State.{State, are_good, opening}
 use Rattle.rb_model.specs.declared.types.Limits.{Limits}
 use Rattle.rb_model.specs.Step.{Event, run, IsReached}
 use Rattle.rb_model.specs.Plain.{outputs_of}
-use Rattle.rb_record.specs.Printing.{Writes}
+use Rattle.rb_lines.specs.Printing.{Writes}
 use Rattle.rb_xdr.specs.Meter.{Meter, PaysAtMost}
 use Rattle.rb_core.specs.CallCosts.{making_cost}
 use Rattle.rb_core.specs.Events.{count_shown}

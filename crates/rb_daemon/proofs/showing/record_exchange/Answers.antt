@@ -1,7 +1,7 @@
 use Rattle.std.proofs.Common.{◌≡◌, ℕ, false, cond, List, [], ◌∷◌, length, eqb, arith, sym, subst}
 use Rattle.std.proofs.lemmas.Bool.{cond-false}
-use Rattle.rb_record.specs.Tapes.{Tape, Records}
-use Rattle.rb_record.proofs.Tapes.{records_more}
+use Rattle.rb_lines.specs.Tapes.{Tape, Records}
+use Rattle.rb_lines.proofs.Tapes.{records_more}
 use Rattle.rb_daemon.proofs.showing.record_exchange.Goals as goal
 
 -- what is recorded of bytes that were given after the bytes that came, if some were

@@ -1,5 +1,5 @@
 use Rattle.std.proofs.Common.{[], ◌∷◌}
-use Rattle.rb_record.proofs.Tapes.{records_more}
+use Rattle.rb_lines.proofs.Tapes.{records_more}
 use Rattle.rb_daemon.proofs.showing.record_given.Goals as goal
 
 pub returns : goal.returns

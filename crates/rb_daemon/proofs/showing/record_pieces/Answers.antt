@@ -3,7 +3,7 @@ use Rattle.std.proofs.lemmas.List.{take_min, drop_min}
 use Rattle.std.specs.declared.slice.Chunks.{Chunks}
 use Rattle.std.specs.Slice.Iter.{chunks_rest, chunks_size}
 use Rattle.rb_model.specs.Connections.{longest_fragment}
-use Rattle.rb_record.specs.Tapes.{Records}
+use Rattle.rb_lines.specs.Tapes.{Records}
 use Rattle.rb_daemon.specs.Recording.{given_entries}
 use Rattle.rb_daemon.proofs.Pieces.{RecordsSome, records_first, records_next, records_all}
 use Rattle.rb_daemon.proofs.showing.record_pieces.Goals as goal

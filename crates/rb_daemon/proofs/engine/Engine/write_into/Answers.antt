@@ -5,8 +5,8 @@ use Rattle.rb_model.specs.declared.types.CoreFault.{CoreFault}
 use Rattle.rb_model.specs.declared.types.Given.{Given}
 use Rattle.rb_model.specs.Gives.{write_into, bytes_given}
 use Rattle.rb_model.specs.Sessions.{pending_bytes}
-use Rattle.rb_record.specs.Entries.{run_entries}
-use Rattle.rb_record.specs.Tapes.{Records}
+use Rattle.rb_lines.specs.Entries.{run_entries}
+use Rattle.rb_lines.specs.Tapes.{Records}
 use Rattle.rb_connections.specs.Slots.{Acts}
 use Rattle.rb_core.specs.StandsFor.{CoreView, StandsFor}
 use Rattle.rb_daemon.specs.Recording.{give_events}

@@ -1,6 +1,6 @@
 use Rattle.std.specs.Io.KnownBytes.{Appends}
 use Rattle.std.proofs.Common.{ℕ, length, List, Option}
-use Rattle.rb_record.proofs.line.write_digits.Given as goal
+use Rattle.rb_lines.proofs.written_line.write_digits.Given as goal
 use Rattle.hex.specs.Hex.{encode_lower}
 
 -- what is written with the rest of the bytes is written with all of them

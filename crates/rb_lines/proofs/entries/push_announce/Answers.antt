@@ -1,6 +1,6 @@
 use Rattle.std.proofs.Common.{◌++◌, ◌∙◌, ℕ, List, ap, append_assoc, codes}
 use Rattle.rb_address.specs.Peers.{bare_host_text}
-use Rattle.rb_record.proofs.entries.push_announce.Goals as goal
+use Rattle.rb_lines.proofs.entries.push_announce.Goals as goal
 
 pub returns-clause-text : goal.returns-clause-text
 returns-clause-text c =

@@ -1,6 +1,6 @@
 //! The options of the replay of a run.
 ghost use Rattle.std.specs.Prelude.{◌≡◌, ◌≤◌, ◌+◌, ◌*◌, ◌++◌, length};
-ghost use Rattle.rb_record.specs.Entries.{limits_text, announce_text, inet_text, inet6_text, local_text, lists_text, forwarding_text, last_text, reserve_text, reserved_text, terms_text, rest_text, listener_text, options_of};
+ghost use Rattle.rb_lines.specs.Entries.{limits_text, announce_text, inet_text, inet6_text, local_text, lists_text, forwarding_text, last_text, reserve_text, reserved_text, terms_text, rest_text, listener_text, options_of};
 
 use crate::front::Front;
 use rb_address::Host;

@@ -1,8 +1,8 @@
-//! Lines: a front, and bytes in hexadecimal digits after it.
+//! Lines as they are written: a front, and bytes in hexadecimal digits after it.
 ghost use Rattle.std.specs.Prelude.{◌≡◌, ◌≤◌, ◌<◌, ◌+◌, ◌*◌, ◌^◌, ◌++◌, length, decimal, codes, OnOk, vec_capacity};
 ghost use Rattle.hex.specs.Hex.{encode_lower};
-ghost use Rattle.rb_record.specs.Printing.{hex_text, bytes_line, Writes};
-ghost use Rattle.rb_record.specs.Lines.{line_text, tail_text};
+ghost use Rattle.rb_lines.specs.Printing.{hex_text, bytes_line, Writes};
+ghost use Rattle.rb_lines.specs.WrittenLines.{line_text, tail_text};
 
 use crate::front::{Front, MAX_FRONT};
 use std::io;
@@ -20,58 +20,58 @@ enum Tail<'a> {
     Bytes(&'a [u8]),
 }
 
-/// A line.
+/// A line that is written.
 #[derive(Drop)]
-pub(crate) struct Line<'a> {
+pub(crate) struct WrittenLine<'a> {
     front: Front<MAX_FRONT>,
     tail: Tail<'a>,
 }
 
-impl<'a> Line<'a> {
+impl<'a> WrittenLine<'a> {
     /// A line of a front alone.
-    pub(crate) fn of(front: Front<MAX_FRONT>) -> Line<'a>
+    pub(crate) fn of(front: Front<MAX_FRONT>) -> WrittenLine<'a>
         ensures { line_text result ≡ front.text.items ++ codes "\n" }
     {
-        Line {
+        WrittenLine {
             front,
             tail: Tail::End,
         }
     }
 
     /// A line of a front and bytes.
-    pub(crate) fn with(front: Front<MAX_FRONT>, bytes: &'a [u8]) -> Line<'a>
+    pub(crate) fn with(front: Front<MAX_FRONT>, bytes: &'a [u8]) -> WrittenLine<'a>
         ensures { line_text result ≡ front.text.items ++ (hex_text bytes.now ++ codes "\n") }
     {
-        Line {
+        WrittenLine {
             front,
             tail: Tail::Bytes(bytes),
         }
     }
 
     /// A line of a word.
-    pub(crate) fn word(word: &str) -> Line<'a>
+    pub(crate) fn word(word: &str) -> WrittenLine<'a>
         requires { length word.now ≤ 64 }
         ensures { line_text result ≡ word.now ++ codes "\n" }
     {
-        Line::of(Front::new(word))
+        WrittenLine::of(Front::new(word))
     }
 
     /// A line of a word and a number.
-    pub(crate) fn number(word: &str, number: u64) -> Line<'a>
+    pub(crate) fn number(word: &str, number: u64) -> WrittenLine<'a>
         requires { length word.now ≤ 64 }
         ensures { line_text result ≡ word.now ++ (decimal number ++ codes "\n") }
     {
         let mut front = Front::new(word);
         front.push_number(number);
-        Line::of(front)
+        WrittenLine::of(front)
     }
 
     /// A line of a word and bytes.
-    pub(crate) fn bytes(word: &str, bytes: &'a [u8]) -> Line<'a>
+    pub(crate) fn bytes(word: &str, bytes: &'a [u8]) -> WrittenLine<'a>
         requires { length word.now ≤ 64 }
         ensures { line_text result ≡ bytes_line word.now bytes.now }
     {
-        Line::with(Front::new(word), bytes)
+        WrittenLine::with(Front::new(word), bytes)
     }
 
     /// How many bytes it has.
@@ -113,7 +113,7 @@ fn tail_len(tail: Tail<'_>) -> u128
 }
 
 /// How many bytes the digits of some bytes are, or `-` is for none.
-#[tactic(auto, using(crate::proofs::Prints::some_digits))]
+#[tactic(auto, using(crate::proofs::Digits::some_digits))]
 fn hex_len(bytes: &[u8]) -> u128
     ensures count { result ≡ length (hex_text bytes.now) }
     ensures short { result ≤ 2 ^ 65 }
@@ -137,7 +137,7 @@ fn push_tail(text: &mut Vec<u8>, tail: Tail<'_>)
 }
 
 /// Adds bytes in hexadecimal digits, or `-` for none.
-#[tactic(auto, using(crate::proofs::Prints::some_digits))]
+#[tactic(auto, using(crate::proofs::Digits::some_digits))]
 fn push_hex(text: &mut Vec<u8>, bytes: &[u8])
     requires { length text.old.items + length (hex_text bytes.now) ≤ vec_capacity text.old }
     ensures text { text.new.items ≡ text.old.items ++ hex_text bytes.now }

@@ -5,7 +5,7 @@ use Rattle.std.proofs.lemmas.List.{take-append-le, take_all, drop-append-le}
 use Rattle.std.proofs.Math.Seq.{take-append-add, drop-append-add}
 use Rattle.std.proofs.lemmas.List.Folds.{concat-append}
 use mathlib.Core.Bool.{true≢false}
-use Rattle.rb_record.specs.Tapes.{Tape, last_line, entry_fits, IsFull, EndsWithin, Records, HasFirst, IsRecordOf, empty_tape}
+use Rattle.rb_lines.specs.Tapes.{Tape, last_line, entry_fits, IsFull, EndsWithin, Records, HasFirst, IsRecordOf, empty_tape}
 
 -- some entries after others
 behind : (front : List ℕ) (xs ys : List (List ℕ)) → (front ++ concat xs) ++ concat ys ≡ front ++ concat (xs ++ ys)

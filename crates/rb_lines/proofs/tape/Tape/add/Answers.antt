@@ -1,10 +1,10 @@
 use Rattle.std.proofs.Common.{◌≡◌, ◌∙◌, ℕ, false, List, [], ◌∷◌, length, refl, ap, sym, subst}
 use Rattle.rb_model.specs.Plain.{lent_event, lent_output}
-use Rattle.rb_record.specs.Entries.{event_text, entry_of}
-use Rattle.rb_record.specs.Printing.{output_text}
-use Rattle.rb_record.specs.Tapes.{Tape, Records, entry_fits}
-use Rattle.rb_record.proofs.Tapes.{ended_at_once, entry_too_long}
-use Rattle.rb_record.proofs.tape.Tape.add.Goals as goal
+use Rattle.rb_lines.specs.Entries.{event_text, entry_of}
+use Rattle.rb_lines.specs.Printing.{output_text}
+use Rattle.rb_lines.specs.Tapes.{Tape, Records, entry_fits}
+use Rattle.rb_lines.proofs.Tapes.{ended_at_once, entry_too_long}
+use Rattle.rb_lines.proofs.tape.Tape.add.Goals as goal
 
 pub returns-else-has_room : goal.returns-else-has_room
 returns-else-has_room c =

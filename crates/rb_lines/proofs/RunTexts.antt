@@ -2,8 +2,8 @@
 use Rattle.std.proofs.Common.{◌≡◌, List, ℕ, [], ◌∷◌, ◌++◌, refl, ap, subst}
 use Rattle.rb_model.specs.State.{State}
 use Rattle.rb_model.specs.Step.{Event, Output, step, after}
-use Rattle.rb_record.specs.Entries.{entry_text, run_entries}
-use Rattle.rb_record.specs.Tapes.{Tape, Records}
+use Rattle.rb_lines.specs.Entries.{entry_text, run_entries}
+use Rattle.rb_lines.specs.Tapes.{Tape, Records}
 
 -- a run goes on from where it stands
 pub run_entries-append : (s : State) (xs ys : List Event) → run_entries s (xs ++ ys) ≡ run_entries s xs ++ run_entries (after s xs) ys

@@ -1,11 +1,11 @@
 //! The tape that a run is recorded on.
 ghost use Rattle.std.specs.Prelude.{◌≡◌, ◌≤◌, ◌+◌, [], true, length, vec_capacity, IfOk};
-ghost use Rattle.rb_record.specs.Tapes.{last_line};
+ghost use Rattle.rb_lines.specs.Tapes.{last_line};
 
 use crate::entries::{Start, options_line};
 use crate::events::event_line;
-use crate::line::{Line, push_bytes};
-use crate::printing::output_line;
+use crate::outputs::output_line;
+use crate::written_line::{WrittenLine, push_bytes};
 use rb_model::{Event, Output};
 use std::alloc::{AllocError, Global};
 use std::io;
@@ -43,8 +43,8 @@ struct Page {
 
 impl Page {
     ghost use Rattle.std.specs.Prelude.{◌≡◌, ◌≤◌, ◌+◌, ◌++◌, nat_le, length, true, false};
-    ghost use Rattle.rb_record.specs.Lines.{line_text};
-    ghost use Rattle.rb_record.specs.Tapes.{HasRoom};
+    ghost use Rattle.rb_lines.specs.WrittenLines.{line_text};
+    ghost use Rattle.rb_lines.specs.Tapes.{HasRoom};
 
     /// Whether this many bytes fit, with the last line after them.
     fn has_room(&self, count: u128) -> bool
@@ -67,7 +67,7 @@ impl Page {
     }
 
     /// Adds a line that fits, with the last line after it.
-    fn push_line(&mut self, line: &Line<'_>)
+    fn push_line(&mut self, line: &WrittenLine<'_>)
         requires on { self.old.is_on ≡ true }
         requires fits { HasRoom self.old.limit self.old.text.items (line_text line.now) }
         ensures text { self.new.text.items ≡ self.old.text.items ++ line_text line.now }
@@ -98,7 +98,7 @@ pub struct Tape {
 }
 
 impl Model for Tape {
-    ghost use Rattle.rb_record.specs.Tapes as tapes;
+    ghost use Rattle.rb_lines.specs.Tapes as tapes;
 
     ghost Value = { tapes.Tape };
 
@@ -107,9 +107,9 @@ impl Model for Tape {
 
 impl Tape {
     ghost use Rattle.std.specs.Prelude.{◌≡◌, [], ◌∷◌, false, length, IfOk, OnOk, OnErr};
-    ghost use Rattle.rb_record.specs.Printing.{Writes};
-    ghost use Rattle.rb_record.specs.Entries.{entry_of, options_of};
-    ghost use Rattle.rb_record.specs.Tapes.{Records, all_written, empty_tape, unwritten};
+    ghost use Rattle.rb_lines.specs.Printing.{Writes};
+    ghost use Rattle.rb_lines.specs.Entries.{entry_of, options_of};
+    ghost use Rattle.rb_lines.specs.Tapes.{Records, all_written, empty_tape, unwritten};
 
     /// An empty one that records up to `limit` bytes, its last line among them; with no room for more than that it
     /// records nothing. An error if an allocation is refused.

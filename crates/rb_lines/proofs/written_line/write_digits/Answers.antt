@@ -1,6 +1,6 @@
 use Rattle.std.proofs.Common.{◌≡◌}
-use Rattle.rb_record.proofs.Prints.{piece_more, nothing_left}
-use Rattle.rb_record.proofs.line.write_digits.Goals as goal
+use Rattle.rb_lines.proofs.Digits.{piece_more, nothing_left}
+use Rattle.rb_lines.proofs.written_line.write_digits.Goals as goal
 use Rattle.hex.specs.Hex.{encode_lower}
 
 pub loop-rest-preserved : goal.loop-rest-preserved

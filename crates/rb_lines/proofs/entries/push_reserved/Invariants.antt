@@ -1,6 +1,6 @@
 use Rattle.std.proofs.Common.{◌≡◌, ◌≤◌, ◌+◌, ◌*◌, ◌++◌, length, take, ℕ, List}
-use Rattle.rb_record.specs.Entries.{reserved_text}
-use Rattle.rb_record.proofs.entries.push_reserved.Given as goal
+use Rattle.rb_lines.specs.Entries.{reserved_text}
+use Rattle.rb_lines.proofs.entries.push_reserved.Given as goal
 
 abbrev pub invariant-loop-reservation : goal.invariant-loop-reservation
 invariant-loop-reservation l =

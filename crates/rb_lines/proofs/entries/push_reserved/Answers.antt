@@ -1,7 +1,7 @@
 use Rattle.std.proofs.Common.{arith}
 use Rattle.rb_proto.specs.declared.reserved.Reservation.{Reservation}
-use Rattle.rb_record.proofs.Reserves.{one_more}
-use Rattle.rb_record.proofs.entries.push_reserved.Goals as goal
+use Rattle.rb_lines.proofs.Reserves.{one_more}
+use Rattle.rb_lines.proofs.entries.push_reserved.Goals as goal
 
 pub loop-reservation-preserved : goal.loop-reservation-preserved
 loop-reservation-preserved c =

@@ -18,8 +18,8 @@ use Rattle.rb_model.specs.Plain.{LentEvent, LentOutput, plain_event, lent_event,
 use Rattle.rb_model.specs.State.{State}
 use Rattle.rb_model.specs.Step.{Event, Output, step}
 use Rattle.rb_model.specs.Step.Event.{Datagram, Open, Bytes, Pending, Gave, Closed, NextLost, Unsent, Sent, Forward, Expire, ZeroStats}
-use Rattle.rb_record.specs.declared.entries.Start.{Start}
-use Rattle.rb_record.specs.Printing.{bytes_line, peer_line, output_text}
+use Rattle.rb_lines.specs.declared.entries.Start.{Start}
+use Rattle.rb_lines.specs.Printing.{bytes_line, peer_line, output_text}
 
 -- a word, a caller, and bytes from it
 abbrev pub who_line : List ℕ → Who → List ℕ → List ℕ

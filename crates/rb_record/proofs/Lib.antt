@@ -1,4 +1,0 @@
-pub mod Reserves
-pub mod Prints
-pub mod RunTexts
-pub mod Tapes

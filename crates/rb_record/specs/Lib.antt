@@ -1,4 +1,0 @@
-pub mod Printing
-pub mod Lines
-pub mod Entries
-pub mod Tapes
