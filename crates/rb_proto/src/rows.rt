@@ -215,7 +215,9 @@ pub(crate) fn version_sought(
     }
 }
 
-/// The next row after the cursor, or the next of the version that is searched for, and the cursor after it.
+/// The next row after the cursor, or the next of the version that is searched for, and the cursor after it. It is inlined:
+/// most lists are walked, and each row of one comes by here.
+#[inline(always)]
 pub(crate) fn next_row<'a>(
     sought: Option<(u32, u32)>,
     registry: &'a Registry,

@@ -375,7 +375,8 @@ impl Registry {
     /// were set, in the order of the changes that added them.
     ///
     /// A version has five rows at most, one for each netid. From a cursor among the rows as they are now it costs a
-    /// search for each netid, a walk over the own rows, and 9.
+    /// search for each netid, a walk over the own rows, and 9. It is not inlined: a version has few rows.
+    #[inline(never)]
     pub fn next_of(
         &self,
         prog: u32,
