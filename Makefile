@@ -94,9 +94,10 @@ bench:
 documents:
 	@status=0; for it in tests/make-*.py tests/draw-*.py; do $$it || status=1; done; exit $$status
 
-# `make test` anew, and where its time goes, by crate, into docs/TIMINGS.md. Nothing else should work beside it.
+# docs/TIMINGS.md: where the time goes, by crate, by what `make` from nothing, `make test` or `tests/try-edits.py --anew` said.
+# LOGS='FILE ..' names the files that have it.
 measure:
-	tests/measure-gate.py > timings.new && mv timings.new docs/TIMINGS.md
+	tests/measure-gate.py $(LOGS) > timings.new && mv timings.new docs/TIMINGS.md
 
 # The built programs, their man pages, completion of bash, and the units of systemd, with PREFIX and the programs' names in
 # them; the line for systemd-sysusers that makes their user, and beside the documents a file of options and a drop-in.

@@ -73,13 +73,35 @@ in_minutes() {
 measure_pace() {
     local here there
     here=$(for _ in 1 2 3; do tests/fixed-loop.py; done | sort -n | sed -n 2p)
-    there=$(sed -nE 's/.*processor seconds, ([0-9.]+) on average.*/\1/p' docs/TIMINGS.md)
+    there=$(told_number '.*processor seconds, ([0-9.]+) on average.*')
     awk -v here="${here:-1}" -v there="${there:-${here:-1}}" 'BEGIN { print here / there }'
+}
+
+# Times the fixed loop every two minutes until this is ended, and writes what it took into a file.
+measure_beside() {
+    trap 'kill "${waits:-}" 2> /dev/null; exit' TERM
+    while :; do
+        tests/fixed-loop.py >> "$1"
+        sleep 120 &
+        waits=$!
+        wait "$waits"
+    done
+}
+
+# Says what it took, for docs/TIMINGS.md.
+say_beside() {
+    sort -n "$1" | awk '{ took[NR] = $1; sum += $1 }
+        END { if (NR) printf "a fixed loop took %.2f to %.2f processor seconds, %.2f on average\n", took[1], took[NR], sum / NR }'
+}
+
+# The processor seconds, user and system, of all commands that have ended, of what `times` wrote into a file.
+processor_seconds() {
+    sed -n 2p "$1" | tr ms ' ' | awk '{ printf "%d", $1 * 60 + $2 + $3 * 60 + $4 + 0.5 }'
 }
 
 # A number of docs/TIMINGS.md: what the brackets of a pattern of sed find there.
 told_number() {
-    sed -nE "s/$1/\\1/p" docs/TIMINGS.md | head -n 1 | tr -d ,
+    sed -nE "s/$1/\\1/p" docs/TIMINGS.md 2> /dev/null | head -n 1 | tr -d ,
 }
 
 # About how many minutes `make` takes from nothing on this many processors at this pace. What nobody waits for is proved

@@ -51,7 +51,7 @@ read_crates() {
 measure_chains() {
     local name below least grows=1
     for name in "${names[@]}"; do
-        costs[$name]=$(sed -nE "s/^\| $name \|[^|]*\|[^|]*\| ([0-9]+) .*/\1/p" docs/TIMINGS.md 2> /dev/null)
+        costs[$name]=$(told_number "^\| $name \|[^|]*\|[^|]*\| ([0-9,]+) .*")
         [ -n "${costs[$name]}" ] || costs[$name]=$(($(find "crates/$name/src" -name '*.rt' -exec cat {} + | wc -l) / 10))
         chain[$name]=${costs[$name]}
     done
@@ -151,11 +151,6 @@ prove() {
         status=1
     fi
     echo "$name $status" >&"$ended"
-}
-
-# The processor seconds (user and system) of a crate that was proved: the second line of `times` has those of `rt`.
-processor_seconds() {
-    sed -n 2p "$logs/$1.times" | tr ms ' ' | awk '{ printf "%d", $1 * 60 + $2 + $3 * 60 + $4 + 0.5 }'
 }
 
 # ---- all of them
@@ -262,7 +257,7 @@ await_one() {
     free=$((free + 1))
     if [ "$status" -eq 0 ]; then
         state[$name]=proved
-        say "$name is proved, in $(in_minutes $((SECONDS - since[$name]))) ($(processor_seconds "$name") processor" \
+        say "$name is proved, in $(in_minutes $((SECONDS - since[$name]))) ($(processor_seconds "$logs/$name.times") processor" \
             "seconds): $(count proved) of ${#names[@]} crates"
         compare_axioms "$name"
         return
@@ -277,7 +272,7 @@ await_one() {
 clean_up() {
     local name
     trap '' INT TERM HUP
-    [ "${#pids[@]}" -eq 0 ] || kill "${pids[@]}" 2> /dev/null
+    kill "${pids[@]}" "${loop:-}" 2> /dev/null
     wait
     for name in "${names[@]}"; do
         put_back "$name"
@@ -298,6 +293,7 @@ tell_outcome() {
         [ -z "$skipped" ] || echo "not tried, as they stand on those:$skipped"
         return 1
     fi
+    say_beside "$logs/loops"
     echo "${#names[@]} crates are proved, in $(in_minutes "$SECONDS"). The programs:"
     for name in "${names[@]}"; do
         [ ! -f "crates/$name/src/main.rt" ] || echo "  crates/$name/out/$name"
@@ -319,6 +315,8 @@ for name in "${names[@]}"; do
     put_back "$name"
 done
 mkfifo "$logs/ended" && exec {ended}<> "$logs/ended" || exit 1
+measure_beside "$logs/loops" > /dev/null 2>&1 &
+loop=$!
 
 SECONDS=0
 echo "make: ${#names[@]} crates on $slots of $cores cores ($memory_of_one MiB of free memory for each):" \

@@ -11,15 +11,21 @@ cd "$(dirname "$0")/.." || exit 1
 memory_of_one=3000 # in MiB, for a check
 
 work=$(mktemp -d) || exit 1
-trap 'end_beside; put_back_libraries; rm -rf "$work"' EXIT
+trap 'end_beside; put_back_libraries; rm -rf "$work"' EXIT # ends the fixed loop too
 trap 'exit 1' INT TERM HUP
 passed=0
 failed=0
 
 # Runs a command whose last line is its counts, and adds them.
 add() {
+    local status before after
+    times > "$work/before"
     "$@" 2>&1 | tee "$work/log" | show_progress
-    add_counts "$*" "${PIPESTATUS[0]}" "$work/log"
+    status=${PIPESTATUS[0]}
+    times > "$work/after"
+    add_counts "$*" "$status" "$work/log"
+    before=$(processor_seconds "$work/before") after=$(processor_seconds "$work/after")
+    echo "$* has taken $((after - before)) processor seconds"
 }
 
 # A command that prints no counts is a failure, and so is one that fails and counts none.
@@ -127,6 +133,7 @@ if [ "${1:-}" = --quick ]; then
 else
     echo "make test: $crates crates on $cores cores: from nothing about $(minutes_of_test "$cores" "$(measure_pace)") minutes;" \
         "what this machine passed before is not proved again"
+    measure_beside "$work/loops" > /dev/null 2>&1 &
     put_back_libraries # that a run which was killed outright left
     slots=$(count_slots "$memory_of_one")
     add tests/run-tests.sh
@@ -142,6 +149,7 @@ else
     put_back_libraries
     add tests/run-rows.sh
     add tests/two-hosts.sh
+    say_beside "$work/loops"
 fi
 echo "$passed passed, $failed failed"
 [ "$failed" -eq 0 ]

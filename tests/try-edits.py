@@ -167,6 +167,7 @@ def read_edit(path):
 class Said:
     lines: list
     seconds: dict  # of each function that was proved or tried: processor seconds
+    taken: float  # by the whole check
 
     @property
     def is_whole(self):
@@ -234,7 +235,8 @@ def check(uses, crate, batch, kept):
                     now = processor_seconds(process.pid)
                     seconds[found[1]], before = now - before, now
             RUNNING.discard(process)
-        return Said(lines or [""], seconds)
+            _, process.returncode, usage = os.wait4(process.pid, 0)
+        return Said(lines or [""], seconds, usage.ru_utime + usage.ru_stime)
 
 
 def judge_batch(crate, batch, said):
@@ -281,12 +283,14 @@ def next_batch(waiting):
 
 
 def try_edits(uses, crate, edits, tell):
-    """Tries edits of a crate, and hands each to `tell`, with whether it is refused and what was said."""
+    """Tries edits of a crate, and hands each to `tell`, with whether it is refused and what was said. The seconds of all."""
+    taken = 0
     with tempfile.TemporaryDirectory(prefix="try-edits-kept-") as kept:
         waiting = sorted(edits, key=lambda it: it.is_apart)
         while waiting:
             batch = next_batch(waiting)
             said = check(uses, crate, batch, kept)
+            taken += said.taken
             if len(batch) == 1:
                 tell(batch[0], *judge_alone(crate, batch[0], said))
                 settled = batch
@@ -298,6 +302,7 @@ def try_edits(uses, crate, edits, tell):
             for edit in [] if settled else batch:
                 edit.is_apart = True
             waiting = sorted((it for it in waiting if it not in settled), key=lambda it: it.is_apart)
+    return taken
 
 
 # ---- all of them
@@ -335,6 +340,7 @@ class Count:
 
     def __init__(self, crates):
         self.passed, self.failed, self.done, self.crates, self.lock = 0, 0, 0, crates, threading.Lock()
+        self.loops = []  # what the fixed loop took beside them
 
     def tell(self, is_refused, line):
         with self.lock:
@@ -342,9 +348,10 @@ class Count:
             self.failed += not is_refused
             print(line, flush=True)
 
-    def end(self, line):
+    def end(self, line, loop):
         with self.lock:
             self.done += 1
+            self.loops.append(loop)
             print(f"{line}: {self.done} of {self.crates} crates", flush=True)
 
 
@@ -370,8 +377,10 @@ def try_crate(uses, crate, store, count):
         if is_refused and stand_of(uses, crate) == stand:
             store.keep(stand, edit)
 
-    try_edits(uses, crate, [it for it in edits if it not in known], tell)
-    count.end(f"{crate}: its {len(edits)} edits are tried, in {time.monotonic() - begun:.0f} s")
+    taken = try_edits(uses, crate, [it for it in edits if it not in known], tell)
+    loop = float(subprocess.check_output([sys.executable, "tests/fixed-loop.py"]))
+    took = f"in {time.monotonic() - begun:.0f} s ({taken:.0f} processor seconds)"
+    count.end(f"{crate}: its {len(edits)} edits are tried, {took}", loop)
 
 
 def stop(room):
@@ -387,6 +396,9 @@ def try_crates(uses, crates, is_anew):
     with concurrent.futures.ThreadPoolExecutor(int(os.environ.get("RT_JOBS") or 1)) as pool:
         for it in [pool.submit(try_crate, uses, crate, store, count) for crate in crates]:
             it.result()
+    if count.loops:
+        least, most, mean = min(count.loops), max(count.loops), sum(count.loops) / len(count.loops)
+        print(f"a fixed loop took {least:.2f} to {most:.2f} processor seconds, {mean:.2f} on average")
     print(f"{count.passed} passed, {count.failed} failed")
     return count.failed > 0
 
