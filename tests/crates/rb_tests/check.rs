@@ -1,6 +1,6 @@
 //! Rows whose programs are asked. One that answers is in tests/keep.sh, since here nobody would while it is asked.
 use rb_address::{Host, Netid, Owner};
-use rb_check::{Found, OwnHosts, ask_all};
+use rb_files::{Found, OwnHosts, ask_all};
 use rb_registry::Row;
 use rb_uaddr::AddressText;
 use std::net::{TcpListener, UdpSocket};
