@@ -40,14 +40,15 @@ pub fn read_words<'a, S: AsStr, O: Write, E: Write>(
 ) -> Result<Words<'a>, u8>
     ensures { IfErr result (λ status. status ≤ 2) }
 {
-    let command = match command(alloc) {
-        Ok(command) => command,
-        Err(_) => return Err(explain(Fault::NoMemory, faults).status),
-    };
-    match command.try_get_matches_from(words) {
+    match matches_of(alloc, words) {
         Ok(matches) => read_matches(&matches, faults),
         Err(error) => Err(show(&error, output, faults)),
     }
+}
+
+/// The words by their shape.
+fn matches_of<'a, S: AsStr>(alloc: Global, words: &'a [S]) -> Result<ArgMatches<'a>, Error> {
+    command(alloc)?.try_get_matches_from(words)
 }
 
 /// Writes help, or what is wrong with the words, and gives the status.
@@ -85,21 +86,29 @@ fn read_matches<'a, E: Write>(matches: &ArgMatches<'a>, faults: &mut E) -> Resul
 /// What the matches ask for. `command` takes no words without one of its two commands, so the last case never comes.
 fn words_of<'a>(matches: &ArgMatches<'a>) -> Result<Words<'a>, BadValue<'a>> {
     if let Some(serve) = matches.subcommand_matches("serve") {
-        return Ok(Words::Serve(serve_of(serve)?));
+        return match serve_of(serve) {
+            Ok(serve) => Ok(Words::Serve(serve)),
+            Err(bad) => Err(bad),
+        };
     }
     if let Some(replay) = matches.subcommand_matches("replay") {
-        let beginning = beginning_of(replay)?;
-        return Ok(if replay.get_flag("check") {
-            Words::Check(beginning)
-        } else {
-            Words::Replay(beginning)
-        });
+        return replay_of(replay);
     }
     Err(BadValue {
         option: "help",
         value: "",
         wanted: "a command",
     })
+}
+
+/// What `replay` is asked for.
+fn replay_of<'a>(matches: &ArgMatches<'a>) -> Result<Words<'a>, BadValue<'a>> {
+    let is_checked = matches.get_flag("check");
+    match beginning_of(matches) {
+        Ok(beginning) if is_checked => Ok(Words::Check(beginning)),
+        Ok(beginning) => Ok(Words::Replay(beginning)),
+        Err(bad) => Err(bad),
+    }
 }
 
 /// What `serve` is asked for.

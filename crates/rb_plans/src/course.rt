@@ -5,7 +5,7 @@ use rb_uaddr::Uaddr;
 use rb_words::Way;
 
 /// Where a question goes.
-#[derive(Clone, Copy, Debug, PartialEq, Eq)]
+#[derive(Clone, Copy)]
 pub enum Place {
     /// The portmapper of the host.
     Portmapper(Transport),
@@ -27,7 +27,7 @@ pub struct Course {
 }
 
 /// The version that is called, and why.
-#[derive(Clone, Copy, Debug, PartialEq, Eq)]
+#[derive(Clone, Copy)]
 pub enum Aim {
     /// The version that was named.
     Only(u32),
@@ -47,7 +47,7 @@ pub enum Aim {
 }
 
 /// How a course ends.
-#[derive(Clone, Copy, Debug, PartialEq, Eq)]
+#[derive(Clone, Copy)]
 pub enum End {
     /// Each version that was called for is ready.
     Ready,
@@ -66,7 +66,7 @@ pub enum End {
 }
 
 /// Where a course stands.
-#[derive(Clone, Copy, Debug, PartialEq, Eq)]
+#[derive(Clone, Copy)]
 pub enum Stage {
     /// The portmapper is asked where the program is.
     Find(Aim),

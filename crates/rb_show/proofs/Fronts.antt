@@ -1,21 +1,18 @@
 -- What is told of fronts, one after the other.
-use Rattle.std.proofs.Common.{◌≡◌, ◌⊎◌, ◌<◌, ◌≤◌, ◌+◌, ◌-◌, ℕ, suc, Bool, true, false, List, [], ◌∷◌, ◌++◌, length, drop, Option, Some, None, Result, Ok, Err, refl, sym, ap, ◌∙◌, append_assoc, append-nil, arith, inl, inr, subst, length-append}
+use Rattle.std.proofs.Common.{◌≡◌, ◌+◌, ◌-◌, ℕ, List, [], ◌++◌, length, drop, Ok, Err, refl, sym, ap, ◌∙◌, append_assoc, append-nil, arith, inl, inr, subst}
 use Rattle.std.specs.Prelude.{slice_range}
 use Rattle.std.proofs.lemmas.List.{drop-drop, drop_at, length-drop, take-append-drop, take_all}
-use Rattle.std.proofs.lemmas.Grind.{flat_map-append}
 use Rattle.rb_xdr.specs.declared.fault.XdrFault.{XdrFault}
 use Rattle.rb_xdr.specs.declared.fault.XdrFault.TheVariants.{Short, TooLong, BadBool, BadPadding}
-use Rattle.rb_xdr.specs.Xdr.{Reading, Reader, read_number, read_bool, read_opaque}
+use Rattle.rb_xdr.specs.Xdr.{Reading, Reader}
 use Rattle.rb_xdr.specs.XdrLaws.{BeginsWith, IsComplete}
-use Rattle.rb_xdr.specs.Forms.{Form, extent, extent_of, HasForm}
-use Rattle.rb_xdr.specs.Forms.Form.{Number, Flag, Content, Then, Optional}
+use Rattle.rb_xdr.specs.Forms.{Form, HasForm}
 use Rattle.rb_show.specs.declared.fault.InfoFault.{InfoFault}
-use Rattle.rb_show.specs.declared.fault.InfoFault.TheVariants.{Unreadable, Memory}
 use Rattle.rb_show.specs.declared.take.Pause.{Pause}
 use Rattle.rb_show.specs.declared.take.Pause.TheVariants.{More, Fault}
-use Rattle.rb_show.specs.Telling.{Told, Teller, add_lines, tell_on, ◌>>=◌, give, stop, tell, told_by, take_one, lines_text}
+use Rattle.rb_show.specs.Telling.{Told, Teller, add_lines, tell_on, ◌>>=◌, give, stop, told_by, take_one}
 use Rattle.rb_show.specs.Telling.Told.{Done, Stop}
-use Rattle.rb_show.specs.Fronts.{GoesOn, Lacks, Breaks, Pauses, Takes, TakesOr, Tells, TellsOr, pause_of}
+use Rattle.rb_show.specs.Fronts.{GoesOn, Pauses, Takes, pause_of}
 use Rattle.rb_show.proofs.LastingFaults.{unreadable_stays}
 
 -- ---- lines

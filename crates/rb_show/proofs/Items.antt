@@ -1,14 +1,14 @@
 -- Lists, item by item.
-use Rattle.std.proofs.Common.{◌≡◌, ◌≤◌, ◌+◌, ◌-◌, ◌<◌, ℕ, suc, Bool, true, false, List, [], ◌∷◌, ◌++◌, length, drop, Option, Some, None, refl, arith, subst, ap, length-append}
+use Rattle.std.proofs.Common.{◌≡◌, ◌+◌, ℕ, suc, Bool, true, false, List, [], ◌∷◌, ◌++◌, drop, Option, Some, None, refl}
 use Rattle.rb_xdr.specs.Xdr.{Reader, read_bool}
 use Rattle.rb_xdr.specs.XdrTypes.{read_optional}
 use Rattle.rb_show.specs.declared.fault.InfoFault.TheVariants.{TooMany}
 use Rattle.rb_show.specs.declared.take.Pause.{Pause}
 use Rattle.rb_show.specs.declared.take.Pause.TheVariants.{Fault}
 use Rattle.rb_show.specs.Telling.{Teller, ◌>>=◌, give, take_one}
-use Rattle.rb_show.specs.Lists.{tell_items, tell_item, tell_end, greatest_list}
+use Rattle.rb_show.specs.Lists.{tell_items, tell_item, tell_end}
 use Rattle.rb_show.specs.WholeLists.{take_items, next_item, take_end}
-use Rattle.rb_show.specs.Fronts.{GoesOn, Pauses, Takes, items_from, rest_items}
+use Rattle.rb_show.specs.Fronts.{GoesOn, Pauses, Takes}
 use Rattle.rb_show.proofs.Fronts.{gives_then, pauses_then, pauses_after, goes_at_once, breaks}
 
 module _ {A : Type 0} (reads : Reader A) (bytes : List ℕ) where

@@ -14,6 +14,7 @@ pub mod StatReadings
 pub mod Settles
 pub mod HeadReads
 pub mod GrowingLines
+pub mod GrowingTexts
 pub mod ShownLists
 pub mod LastingFaults
 pub mod Uses

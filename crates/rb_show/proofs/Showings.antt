@@ -6,24 +6,23 @@ use Rattle.std.specs.List.{flat_map}
 use Rattle.std.proofs.Common.{◌≡◌, ◌⊎◌, ◌<◌, ◌≤◌, ◌+◌, ℕ, zero, suc, Bool, true, false, nat_eq, ltb, cond, ◌||◌, List, [], ◌∷◌, ◌++◌, length, take, drop, Option, Some, None, Result, Ok, Err, refl, sym, ap, ◌∙◌, subst, append_assoc, append-nil, length-append, arith, inl, inr}
 use Rattle.std.proofs.lemmas.Bool.{cases_lt, lt-ltb, le-ltb}
 use Rattle.std.proofs.lemmas.Bool.Decides.{nat_tests}
-use Rattle.std.proofs.lemmas.List.{take_all, length-take, take-append-drop}
-use Rattle.rb_rpc.specs.Records.{data_of, first_record}
-use Rattle.rb_rpc.specs.RecordLaws.{IsMarked, AreMarked}
+use Rattle.std.proofs.lemmas.List.{take_all}
+use Rattle.rb_rpc.specs.Records.{data_of}
+use Rattle.rb_rpc.specs.RecordLaws.{AreMarked}
 use Rattle.rb_rpc.specs.declared.marks.Marks.{Marks}
 use Rattle.rb_rpc.specs.declared.marks.Part.{Part}
-use Rattle.rb_rpc.specs.declared.marks.Part.TheVariants as parts
-use Rattle.rb_rpc.specs.Streams.{StandsForStream, RecordData, StreamGoesOn, data_among, no_data}
+use Rattle.rb_rpc.specs.Streams.{StandsForStream, StreamGoesOn, data_among, no_data}
 use Rattle.rb_rpc.proofs.Markings.{data_again, record_again}
 use Rattle.rb_rpc.proofs.Feeding.{none_ended}
 use Rattle.rb_show.specs.declared.fault.InfoFault.{InfoFault}
-use Rattle.rb_show.specs.declared.fault.InfoFault.TheVariants.{CutOff, TooLong, Memory}
+use Rattle.rb_show.specs.declared.fault.InfoFault.TheVariants.{CutOff, TooLong}
 use Rattle.rb_show.specs.declared.ask.Ask.{Ask}
 use Rattle.rb_show.specs.declared.form.Form.{Form}
 use Rattle.rb_show.specs.declared.show.Shown.{Shown}
 use Rattle.rb_show.specs.declared.showing.Showing.{Showing}
 use Rattle.rb_show.specs.declared.telling.Telling.{Telling}
 use Rattle.rb_show.specs.Data.{longest_record, front_of, is_whole, end_of}
-use Rattle.rb_show.specs.Telling.{Teller, Told, add_lines, give, lines_text, EndsIn, IsNotShown, Outcome}
+use Rattle.rb_show.specs.Telling.{Teller, add_lines, give, lines_text, EndsIn, IsNotShown, Outcome}
 use Rattle.rb_show.specs.Telling.Told.{Done, Stop}
 use Rattle.rb_show.specs.Fronts.{GoesOn, Lacks}
 use Rattle.rb_show.specs.Tellings.{rest_of, UpTo, TellsAll, TellsAllOr}

@@ -1,5 +1,5 @@
 -- A reply that is told value by value.
-use Rattle.std.proofs.Common.{◌≡◌, ◌⊎◌, ◌<◌, ◌≤◌, ◌+◌, ◌-◌, ℕ, Bool, true, false, cond, nat_eq, List, [], ◌∷◌, ◌++◌, length, drop, Option, Some, None, Result, Ok, Err, refl, sym, ap, ◌∙◌, subst, append_assoc, append-nil, arith, inl, inr}
+use Rattle.std.proofs.Common.{◌≡◌, ◌<◌, ◌≤◌, ◌+◌, ◌-◌, ℕ, Bool, true, false, cond, nat_eq, List, [], ◌++◌, length, drop, Some, None, Result, Ok, Err, refl, sym, ap, ◌∙◌, subst, append_assoc, append-nil, arith, inl, inr}
 use Rattle.std.proofs.lemmas.Grind.{flat_map-append}
 use Rattle.std.specs.Global.{Vec}
 use Rattle.rb_rpc.specs.declared.reply.ReplyHead.{ReplyHead}
@@ -7,23 +7,22 @@ use Rattle.rb_arguments.specs.declared.mapping.Mapping.{Mapping}
 use Rattle.rb_arguments.specs.declared.rpcb.Rpcb.{Rpcb}
 use Rattle.rb_show.specs.declared.ask.Ask.{Ask}
 use Rattle.rb_show.specs.declared.fault.InfoFault.{InfoFault}
-use Rattle.rb_show.specs.declared.fault.InfoFault.TheVariants.{Unreadable, Refused, Memory}
+use Rattle.rb_show.specs.declared.fault.InfoFault.TheVariants.{Unreadable, Refused}
 use Rattle.rb_show.specs.declared.form.Form.{Form}
 use Rattle.rb_show.specs.declared.show.Shown.{Shown}
 use Rattle.rb_show.specs.declared.stage.Stage.{Stage}
 use Rattle.rb_show.specs.declared.stage.Stage.TheVariants.{Item, Row, Mapping as Mapped, Port, Address, Unset, Numbers, LookUp, Forward, Done as Ended}
-use Rattle.rb_show.specs.declared.take.Pause.{Pause}
 use Rattle.rb_show.specs.declared.take.Pause.TheVariants.{More, Fault}
 use Rattle.rb_show.specs.declared.telling.At.{At}
 use Rattle.rb_show.specs.declared.telling.At.TheVariants.{Head, Results}
 use Rattle.rb_show.specs.declared.telling.Telling.{Telling}
 use Rattle.rb_show.specs.Heads.{take_head}
-use Rattle.rb_show.specs.Telling.{Teller, Told, ◌>>=◌, give, stop, add_lines, lines_text}
-use Rattle.rb_show.specs.Telling.Told.{Done, Stop}
-use Rattle.rb_show.specs.Fronts.{GoesOn, Lacks, Breaks, Pauses, Takes, Tells}
+use Rattle.rb_show.specs.Telling.{Teller, give, stop, add_lines, lines_text}
+use Rattle.rb_show.specs.Telling.Told.{Stop}
+use Rattle.rb_show.specs.Fronts.{GoesOn, Lacks, Pauses, Takes, Tells}
 use Rattle.rb_show.specs.Replies.{is_success, by_head, tell_reply, tell_results}
 use Rattle.rb_show.specs.Stages.{first_stage, first_lines, check_head, rest_at, done_of}
-use Rattle.rb_show.specs.Tellings.{rest_from, rest_of, done_at, StepsTo, UpTo, TellsAll, TellsAllOr}
+use Rattle.rb_show.specs.Tellings.{rest_from, rest_of, done_at, StepsTo, TellsAllOr}
 use Rattle.rb_show.proofs.Fronts.{no_lines, gives_then, goes_at_once, goes_further, pauses_after, breaks}
 use Rattle.rb_show.proofs.Stages.{begins}
 

@@ -1,13 +1,13 @@
 -- What is told of the front of a reply's data, whatever follows it.
-use Rattle.std.specs.Prelude.{◌≡◌, ◌⊎◌, ◌+◌, ◌-◌, ◌<◌, ◌≤◌, ℕ, Bool, true, false, List, [], ◌∷◌, ◌++◌, length, drop, Option, Some, None, Result, Ok, Err, ⊤}
+use Rattle.std.specs.Prelude.{◌≡◌, ◌⊎◌, ◌-◌, ◌<◌, ◌≤◌, ℕ, Bool, true, false, List, [], ◌++◌, length, drop, Option, Some, None, Result, Ok, Err}
 use Rattle.std.specs.Global.{Vec}
 use Rattle.rb_xdr.specs.declared.fault.XdrFault.{XdrFault}
 use Rattle.rb_xdr.specs.Xdr.{Reader}
 use Rattle.rb_xdr.specs.declared.fault.XdrFault.TheVariants as xdr
 use Rattle.rb_show.specs.declared.fault.InfoFault.{InfoFault}
 use Rattle.rb_show.specs.declared.fault.InfoFault.TheVariants.{Unreadable, Memory}
-use Rattle.rb_show.specs.Telling.{Told, Teller, add_lines, give, lines_text}
-use Rattle.rb_show.specs.Telling.Told.{Done, Stop}
+use Rattle.rb_show.specs.Telling.{Teller, add_lines, give, lines_text}
+use Rattle.rb_show.specs.Telling.Told.{Stop}
 use Rattle.rb_show.specs.Lists.{tell_items, greatest_list}
 use Rattle.rb_show.specs.WholeLists.{take_items}
 use Rattle.rb_show.specs.declared.take.Pause.{Pause}

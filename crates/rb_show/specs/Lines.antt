@@ -53,9 +53,12 @@ row_line form r = if is_json form then row_object r else row_columns form r
 abbrev pub short_line : Form → Rpcb → List ℕ
 short_line form r = decimal r.prog ++ (codes " " ++ (decimal r.vers ++ (codes " " ++ (shown_text r.netid ++ line_end form r.prog))))
 
--- netid, address, semantics, family and protocol of an address of this program
+abbrev pub two_columns : List ℕ → List ℕ → List ℕ
+two_columns first second = shown_text first ++ (codes " " ++ shown_text second)
+
+-- netid and address, semantics, family and protocol of an address of this program
 abbrev pub entry_columns : Form → ℕ → Entry → List ℕ
-entry_columns form prog e = shown_text e.netid ++ (codes " " ++ (shown_text e.maddr ++ (codes " " ++ (decimal e.semantics ++ (codes " " ++ (shown_text e.protofmly ++ (codes " " ++ (shown_text e.proto ++ line_end form prog))))))))
+entry_columns form prog e = two_columns e.netid e.maddr ++ (codes " " ++ (decimal e.semantics ++ (codes " " ++ (two_columns e.protofmly e.proto ++ line_end form prog))))
 
 abbrev pub entry_line : Form → ℕ → Entry → List ℕ
 entry_line form prog e = if is_json form then entry_object e else entry_columns form prog e

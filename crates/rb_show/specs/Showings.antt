@@ -16,7 +16,6 @@ use Rattle.rb_show.specs.declared.ask.Ask.{Ask}
 use Rattle.rb_show.specs.declared.form.Form.{Form}
 use Rattle.rb_show.specs.declared.show.Shown.{Shown}
 use Rattle.rb_show.specs.declared.showing.Showing.{Showing}
-use Rattle.rb_show.specs.Fronts.{Lacks}
 use Rattle.rb_show.specs.Tellings.{rest_of}
 use Rattle.rb_show.specs.Replies.{tell_reply, tell_bytes}
 

@@ -1,5 +1,5 @@
 -- What is told of a reply from each stage on.
-use Rattle.std.specs.Prelude.{◌≡◌, ◌⊎◌, ◌-◌, ◌<◌, ◌≤◌, ◌==◌, ℕ, if◌then◌else◌, List, [], ◌∷◌, ◌++◌, length, drop, Option, Some, None, Result, Ok, Err, Bool, true, false}
+use Rattle.std.specs.Prelude.{◌≡◌, ◌==◌, ℕ, if◌then◌else◌, List, [], ◌∷◌, length, Option, Some, None, Result, Ok, Err, Bool, true, false}
 use Rattle.std.specs.Global.{Vec}
 use Rattle.rb_xdr.specs.Xdr.{Reader}
 use Rattle.rb_rpc.specs.declared.reply.ReplyHead.{ReplyHead}
@@ -7,10 +7,8 @@ use Rattle.rb_arguments.specs.declared.mapping.Mapping.{Mapping}
 use Rattle.rb_arguments.specs.declared.rpcb.Rpcb.{Rpcb}
 use Rattle.rb_arguments.specs.Types.{read_mapping, read_rpcb, read_entry}
 use Rattle.rb_show.specs.declared.fault.InfoFault.{InfoFault}
-use Rattle.rb_show.specs.declared.fault.InfoFault.TheVariants.{Memory, Unreadable, Refused}
-use Rattle.rb_show.specs.Telling.{Teller, Told, ◌>>=◌, give, lines_text}
-use Rattle.rb_show.specs.Telling.Told.{Stop}
-use Rattle.rb_show.specs.Lists.{greatest_list}
+use Rattle.rb_show.specs.declared.fault.InfoFault.TheVariants.{Unreadable, Refused}
+use Rattle.rb_show.specs.Telling.{Teller, ◌>>=◌, give}
 use Rattle.rb_show.specs.declared.ask.Question.{Question}
 use Rattle.rb_show.specs.declared.ask.Question.TheVariants as questions
 use Rattle.rb_show.specs.declared.form.Form.{Form}
@@ -23,12 +21,11 @@ use Rattle.rb_show.specs.declared.stage.Counted.TheVariants.{Nothing, Two, Three
 use Rattle.rb_show.specs.declared.stage.Stage.{Stage}
 use Rattle.rb_show.specs.declared.stage.Stage.TheVariants.{Item, Row, Mapping as Mapped, Port, Address, Unset, Numbers, LookUp, Forward, Done}
 use Rattle.rb_show.specs.declared.take.Pause.{Pause}
-use Rattle.rb_show.specs.declared.take.Pause.TheVariants.{More, Fault}
 use Rattle.rb_show.specs.Statistics.{read_addr, read_call}
 use Rattle.rb_show.specs.Lines.{is_json, heading, mapping_line, row_line, short_line, entry_line}
 use Rattle.rb_show.specs.Rows.{itself, mapping_row}
 use Rattle.rb_show.specs.Counts.{addr_line, call_line, tell_version, total}
-use Rattle.rb_show.specs.Fronts.{GoesOn, Lacks, Pauses, Tells, TellsOr, items_from, items_after, rest_items}
+use Rattle.rb_show.specs.Fronts.{Pauses, Tells, TellsOr, items_from, items_after, rest_items}
 use Rattle.rb_show.specs.Replies.{tell_items_summary, tell_port, tell_address, tell_unset, ready_line, is_success}
 
 -- ---- stages

@@ -1,5 +1,5 @@
 -- A reply that is told as its data comes.
-use Rattle.std.specs.Prelude.{◌≡◌, ◌⊎◌, ◌+◌, ◌<◌, ◌≤◌, ℕ, List, [], ◌++◌, length, drop, Option, Some, None, Result, Ok, Err}
+use Rattle.std.specs.Prelude.{◌≡◌, ◌⊎◌, ℕ, List, ◌++◌, drop, Option, Some, None, Result, Ok, Err}
 use Rattle.std.specs.Global.{Vec}
 use Rattle.rb_show.specs.declared.fault.InfoFault.{InfoFault}
 use Rattle.rb_show.specs.declared.fault.InfoFault.TheVariants.{Memory}

@@ -1,7 +1,7 @@
 //! The lines of lists.
 ghost use Rattle.std.specs.Prelude.{IfOk};
 ghost use Rattle.rb_show.specs.Texts.{HasBytes};
-ghost use Rattle.rb_show.specs.Lines.{mapping_columns, mapping_line, row_columns, row_line, short_line, entry_columns, entry_line};
+ghost use Rattle.rb_show.specs.Lines.{mapping_columns, mapping_line, row_columns, row_line, short_line, two_columns, entry_columns, entry_line};
 
 use crate::form::{Form, line_end};
 use crate::list::Style;
@@ -97,6 +97,15 @@ impl<T: AsRow> Style<T> for ShortLines<'_> {
     }
 }
 
+/// Two texts of a reply, with a space between them.
+fn two_columns(alloc: Global, first: &[u8], second: &[u8]) -> Result<String, AllocError>
+    ensures { IfOk result (HasBytes (two_columns first.now second.now)) }
+{
+    let first = shown_text(alloc, first)?;
+    let second = shown_text(alloc, second)?;
+    format!(in alloc; "{first} {second}")
+}
+
 /// The columns of an address of this program.
 fn entry_columns(
     alloc: Global,
@@ -106,13 +115,11 @@ fn entry_columns(
 ) -> Result<String, AllocError>
     ensures { IfOk result (HasBytes (entry_columns form.entry prog item.now)) }
 {
-    let netid = shown_text(alloc, item.netid.as_slice())?;
-    let maddr = shown_text(alloc, item.maddr.as_slice())?;
-    let family = shown_text(alloc, item.protofmly.as_slice())?;
-    let proto = shown_text(alloc, item.proto.as_slice())?;
+    let place = two_columns(alloc, item.netid.as_slice(), item.maddr.as_slice())?;
+    let family = two_columns(alloc, item.protofmly.as_slice(), item.proto.as_slice())?;
     let semantics = item.semantics;
     let end = line_end(alloc, form, prog)?;
-    format!(in alloc; "{netid} {maddr} {semantics} {family} {proto}{end}")
+    format!(in alloc; "{place} {semantics} {family}{end}")
 }
 
 /// Addresses of this program's version.

@@ -4,7 +4,7 @@ ghost use Rattle.rb_show.specs.Telling.{lines_text};
 ghost use Rattle.rb_show.specs.declared.stage.Stage.TheVariants.{Numbers, LookUp, Forward};
 ghost use Rattle.rb_show.specs.Texts.{HasBytes};
 ghost use Rattle.rb_show.specs.Statistics.{version_stat, addr_stat, call_stat};
-ghost use Rattle.rb_show.specs.Counts.{addr_columns, addr_line, procedure_text, outcomes_text, call_columns, call_line, count_lines};
+ghost use Rattle.rb_show.specs.Counts.{version_line, info_line, sets_line, addr_columns, addr_line, procedure_text, outcomes_text, call_columns, call_line, count_lines};
 ghost use Rattle.rb_show.specs.Stages.{NextIs};
 
 use crate::form::Form;
@@ -15,6 +15,27 @@ use crate::stat::{AddrStat, CallStat, VersionStat, info_in};
 use crate::take::{Pause, take};
 use crate::texts::{joined_ints, shown_text};
 use std::alloc::{AllocError, Global};
+
+fn version_line(alloc: Global, vers: u32) -> Result<String, AllocError>
+    ensures { IfOk result (HasBytes (version_line vers)) }
+{
+    format!(in alloc; "version {vers}\n")
+}
+
+fn info_line(alloc: Global, numbers: &VersionStat) -> Result<String, AllocError>
+    ensures { IfOk result (HasBytes (info_line (version_stat numbers.now))) }
+{
+    let (info, _) = numbers;
+    let counts = joined_ints(alloc, &info_in(*info), " ")?;
+    format!(in alloc; "info {counts}\n")
+}
+
+fn sets_line(alloc: Global, numbers: &VersionStat) -> Result<String, AllocError>
+    ensures { IfOk result (HasBytes (sets_line (version_stat numbers.now))) }
+{
+    let (_, (set, unset)) = numbers;
+    format!(in alloc; "set {set} unset {unset}\n")
+}
 
 /// The lines of the numbers of a version of rpcbind.
 fn count_lines(
@@ -28,11 +49,9 @@ fn count_lines(
     if form.is_json() {
         return numbers_object(alloc, vers, numbers);
     }
-    let (info, (set, unset)) = *numbers;
-    let counts = joined_ints(alloc, &info_in(info), " ")?;
-    let heading = format!(in alloc; "version {vers}\n")?;
-    let info = format!(in alloc; "info {counts}\n")?;
-    let sets = format!(in alloc; "set {set} unset {unset}\n")?;
+    let heading = version_line(alloc, vers)?;
+    let info = info_line(alloc, numbers)?;
+    let sets = sets_line(alloc, numbers)?;
     format!(in alloc; "{heading}{info}{sets}")
 }
 

@@ -3,7 +3,7 @@ use rb_address::{Netid, Transport};
 use rb_uaddr::Uaddr;
 
 /// What is listed of a host's portmapper.
-#[derive(Clone, Copy, Debug, PartialEq, Eq)]
+#[derive(Clone, Copy)]
 pub enum Listing {
     /// The rows of version 3.
     Rows,
@@ -18,7 +18,7 @@ pub enum Listing {
 }
 
 /// Where the replies come from.
-#[derive(Clone, Copy, Debug, PartialEq, Eq)]
+#[derive(Clone, Copy)]
 pub enum Source {
     /// This machine.
     Here,
@@ -29,7 +29,7 @@ pub enum Source {
 }
 
 /// How the place of a program is found whose procedure 0 is called.
-#[derive(Clone, Copy, Debug, PartialEq, Eq)]
+#[derive(Clone, Copy)]
 pub enum Way {
     /// By GETPORT of version 2, on the host that the first word names.
     Getport(Transport),
@@ -42,7 +42,7 @@ pub enum Way {
 }
 
 /// What a command line asks for.
-#[derive(Clone, Copy, Debug, PartialEq, Eq)]
+#[derive(Clone, Copy)]
 pub enum Plan {
     /// A list of a portmapper.
     Show(Listing, Source),
@@ -57,7 +57,7 @@ pub enum Plan {
 }
 
 /// How a list is written, if it is not in columns alone.
-#[derive(Clone, Copy, Debug, PartialEq, Eq)]
+#[derive(Clone, Copy)]
 pub enum Layout {
     /// With the names of programs.
     Names,
@@ -66,7 +66,7 @@ pub enum Layout {
 }
 
 /// The words of a command line, read.
-#[derive(Clone, Copy, PartialEq, Eq)]
+#[derive(Clone, Copy)]
 pub struct Request {
     /// The portmapper's port, 111 if none is given.
     pub port: u16,

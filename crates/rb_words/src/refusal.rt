@@ -8,7 +8,7 @@ use std::io;
 use std::io::Write;
 
 /// A place of a command line at which something can't be read.
-#[derive(Clone, Copy, PartialEq, Eq)]
+#[derive(Clone, Copy)]
 pub enum Spot {
     /// A flag after another one.
     Flag(Flag),
@@ -35,7 +35,7 @@ pub enum Spot {
 }
 
 /// What is expected in place of what can't be read.
-#[derive(Clone, Copy, PartialEq, Eq)]
+#[derive(Clone, Copy)]
 pub enum Expected {
     /// One flag at most.
     OneFlag,
@@ -78,7 +78,7 @@ pub enum Expected {
 }
 
 /// Why words can't be read: what stands where, and what is expected there.
-#[derive(Clone, Copy, PartialEq, Eq)]
+#[derive(Clone, Copy)]
 pub struct Refusal {
     /// The place of what can't be read.
     pub at: Spot,

@@ -5,7 +5,7 @@ use crate::plan::Layout;
 use crate::services::Service;
 
 /// A flag names a form; at most one stands on a command line.
-#[derive(Clone, Copy, PartialEq, Eq)]
+#[derive(Clone, Copy)]
 pub enum Flag {
     /// `-p`
     Table,

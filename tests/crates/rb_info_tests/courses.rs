@@ -58,7 +58,7 @@ fn each_version_over_tcp(rt: HostRuntime) -> Result<(), Fail> {
             None => break,
         }
     }
-    assert_eq!(rt; stage, Stage::End(End::Ready));
+    assert!(rt; matches!(stage, Stage::End(End::Ready)));
     assert_eq!(rt;
         shown.as_slice(),
         b"program 100000 version 2 ready\nprogram 100000 version 3 ready\nprogram 100000 version 4 ready\n".as_slice()

@@ -44,19 +44,18 @@ fn course_of(shape: &Shape<'_, '_, '_>) -> Option<(Course, Aim)> {
     }
 }
 
-/// Whether the words end so, and show this.
-fn ends(
+/// Whether the words end so that all is ready, and show this.
+fn is_ready(
     rt: &HostRuntime,
     shape: &Shape<'_, '_, '_>,
     host: SocketAddr,
-    wanted: End,
     text: &[u8],
 ) -> Option<bool> {
     let mut daemon = daemon_everywhere(rt)?;
     let (course, aim) = course_of(shape)?;
     let mut client = Client::new(rt, Form::Plain);
     let end = client.follow(&mut daemon, host, &course, aim)?;
-    Some(end == wanted && client.has_shown(text))
+    Some(matches!(end, End::Ready) && client.has_shown(text))
 }
 
 // COURSE-1
@@ -66,10 +65,7 @@ fn each_version_by_getport(rt: HostRuntime) -> Result<(), Fail> {
     for flag in [Flag::Tcp, Flag::Udp] {
         let flags = [flag];
         let shape = shape_of(&flags, &["127.0.0.1", "100000"]);
-        assert_eq!(rt;
-            ends(&rt, &shape, portmapper(), End::Ready, EACH),
-            Some(true)
-        );
+        assert_eq!(rt; is_ready(&rt, &shape, portmapper(), EACH), Some(true));
     }
     Ok(())
 }
@@ -82,10 +78,7 @@ fn version_at_a_port(rt: HostRuntime) -> Result<(), Fail> {
         ..shape_of(&[Flag::Tcp], &["127.0.0.1", "100000", "3"])
     };
     let text = b"program 100000 version 3 ready\n".as_slice();
-    assert_eq!(rt;
-        ends(&rt, &shape, portmapper(), End::Ready, text),
-        Some(true)
-    );
+    assert_eq!(rt; is_ready(&rt, &shape, portmapper(), text), Some(true));
     Ok(())
 }
 
@@ -103,12 +96,12 @@ fn versions_by_getaddr(rt: HostRuntime) -> Result<(), Fail> {
             ..shape_of(&[], &["127.0.0.1", "100000"])
         };
         assert_eq!(rt;
-            ends(&rt, &one, portmapper(), End::Ready, text),
+            is_ready(&rt, &one, portmapper(), text),
             Some(true),
             "{netid}"
         );
         assert_eq!(rt;
-            ends(&rt, &each, portmapper(), End::Ready, EACH),
+            is_ready(&rt, &each, portmapper(), EACH),
             Some(true),
             "{netid}"
         );
@@ -129,11 +122,8 @@ fn versions_at_an_address(rt: HostRuntime) -> Result<(), Fail> {
         words: &["100000"],
         ..one
     };
-    assert_eq!(rt; ends(&rt, &one, portmapper(), End::Ready, text), Some(true));
-    assert_eq!(rt;
-        ends(&rt, &each, portmapper(), End::Ready, EACH),
-        Some(true)
-    );
+    assert_eq!(rt; is_ready(&rt, &one, portmapper(), text), Some(true));
+    assert_eq!(rt; is_ready(&rt, &each, portmapper(), EACH), Some(true));
     Ok(())
 }
 
@@ -146,10 +136,7 @@ fn version_at_an_ipv6_address(rt: HostRuntime) -> Result<(), Fail> {
         address: Some("::1.78.150"),
         ..shape_of(&[], &["100000", "4"])
     };
-    assert_eq!(rt;
-        ends(&rt, &shape, portmapper(), End::Ready, text),
-        Some(true)
-    );
+    assert_eq!(rt; is_ready(&rt, &shape, portmapper(), text), Some(true));
     Ok(())
 }
 
@@ -158,10 +145,7 @@ fn version_at_an_ipv6_address(rt: HostRuntime) -> Result<(), Fail> {
 fn version_on_an_ipv6_host(rt: HostRuntime) -> Result<(), Fail> {
     let text = b"program 100000 version 4 ready\n".as_slice();
     let mapped = shape_of(&[Flag::Tcp], &["::1", "100000", "4"]);
-    assert_eq!(rt;
-        ends(&rt, &mapped, portmapper6(), End::Ready, text),
-        Some(true)
-    );
+    assert_eq!(rt; is_ready(&rt, &mapped, portmapper6(), text), Some(true));
     Ok(())
 }
 
@@ -175,7 +159,7 @@ fn version_by_getaddr_on_an_ipv6_host(rt: HostRuntime) -> Result<(), Fail> {
             ..shape_of(&[], &["::1", "100000", "4"])
         };
         assert_eq!(rt;
-            ends(&rt, &shape, portmapper6(), End::Ready, text),
+            is_ready(&rt, &shape, portmapper6(), text),
             Some(true),
             "{netid}"
         );
@@ -196,9 +180,6 @@ fn program_by_its_name(rt: HostRuntime) -> Result<(), Fail> {
         ..shape_of(&[Flag::Udp], &["127.0.0.1", "sunrpc", "3"])
     };
     let text = b"program 100000 version 3 ready\n".as_slice();
-    assert_eq!(rt;
-        ends(&rt, &shape, portmapper(), End::Ready, text),
-        Some(true)
-    );
+    assert_eq!(rt; is_ready(&rt, &shape, portmapper(), text), Some(true));
     Ok(())
 }

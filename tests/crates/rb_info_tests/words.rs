@@ -24,9 +24,11 @@ fn words_are_read(rt: HostRuntime) -> Result<(), Fail> {
     let request = read_words(&shape).map_err(|_| "refused")?;
     assert_eq!(rt; request.uid, Some(7));
     assert_eq!(rt; request.port, 111);
-    assert_eq!(rt;
-        request.plan,
-        Plan::Ping(Way::Getport(Transport::Udp), 100_000, None)
+    assert!(rt;
+        matches!(
+            request.plan,
+            Plan::Ping(Way::Getport(Transport::Udp), 100_000, None)
+        )
     );
     assert_eq!(rt; Netid::named(b"udp6".as_slice()), Some(Netid::Udp6));
     assert_eq!(rt; Netid::Udp6.text().as_bytes(), b"udp6".as_slice());
@@ -52,7 +54,15 @@ fn refusal_is_written(rt: HostRuntime) -> Result<(), Fail> {
         at: Spot::Port,
         wanted: Expected::Port,
     };
-    assert!(rt; read_words(&shape) == Err(refusal));
+    assert!(rt;
+        matches!(
+            read_words(&shape),
+            Err(Refusal {
+                at: Spot::Port,
+                wanted: Expected::Port,
+            },)
+        )
+    );
     let mut said = Vec::new(rt.alloc());
     write_refusal(&shape, refusal, &mut said)?;
     assert_eq!(rt;

@@ -1,5 +1,4 @@
 use Rattle.std.proofs.Common.{arith, length, ap}
-use Rattle.rb_show.specs.Asks.{call_of}
 use Rattle.rb_show.proofs.Calls.{call_some}
 use Rattle.rb_show.proofs.ask.write_marked_call.Goals as goal
 

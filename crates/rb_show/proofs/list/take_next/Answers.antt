@@ -1,4 +1,4 @@
-use Rattle.std.proofs.Common.{◌≡◌, ◌+◌, ◌-◌, ◌++◌, ◌∷◌, [], List, ℕ, suc, length, Bool, true, false, Option, Some, None, refl, sym, subst, length-append, arith, rules}
+use Rattle.std.proofs.Common.{◌≡◌, ◌+◌, ◌-◌, ◌++◌, ◌∷◌, [], List, length, Bool, true, false, Option, Some, None, refl, sym, subst, length-append, arith, rules}
 use Rattle.std.proofs.lemmas.Result.{err_from_is_err_and}
 use Rattle.rb_xdr.specs.Xdr.{read_bool}
 use Rattle.rb_xdr.specs.XdrTypes.{read_optional}

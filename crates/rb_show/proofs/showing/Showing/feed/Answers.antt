@@ -1,4 +1,4 @@
-use Rattle.std.proofs.Common.{◌≡◌, ◌-◌, ◌+◌, ℕ, length, take, ap, ◌∙◌, arith, rules}
+use Rattle.std.proofs.Common.{◌≡◌, ℕ, length, take, ap, ◌∙◌, arith, rules}
 use Rattle.std.specs.Prelude.{min}
 use Rattle.rb_show.proofs.Showings.{few_taken, feeds}
 use Rattle.rb_show.proofs.showing.Showing.feed.Goals as goal
