@@ -1,5 +1,8 @@
 //! The log: lines of what calls changed, and of those that were refused. It has the memory that a turn's lines need from
 //! the start.
+ghost use Rattle.std.specs.Prelude.{◌≡◌, false, None};
+ghost use Rattle.rb_daemon.specs.LogRates.{next_line_of};
+
 use rb_address::Source;
 use rb_core::{ChangeAsked, ChangeKind, Seen};
 use rb_forward::sooner;
@@ -31,6 +34,10 @@ pub(crate) struct Log {
     refused: LogRate,
     calls: LogRate,
     given_up: LogRate,
+    /// Whether lines may have been left out that are yet to be told: if not, no turn asks the rates.
+    may_be_more: bool,
+    ghost no_more: { may_be_more ≡ false
+        → next_line_of accepted refused calls given_up ≡ None },
 }
 
 impl Log {
@@ -53,6 +60,7 @@ impl Log {
             refused: LogRate::new(),
             calls: LogRate::new(),
             given_up: LogRate::new(),
+            may_be_more: true,
         })
     }
 
@@ -81,6 +89,9 @@ impl Log {
     pub(crate) fn next_line(&self) -> Option<u64>
         ensures { result ≡ next_line self.now }
     {
+        if !self.may_be_more {
+            return None;
+        }
         let of_changes = sooner(self.accepted.next_line(), self.refused.next_line());
         let of_others = sooner(self.calls.next_line(), self.given_up.next_line());
         sooner(of_changes, of_others)
@@ -89,8 +100,11 @@ impl Log {
     /// Writes the lines that are not written yet, and at this moment, in milliseconds, how many were left out in the
     /// seconds before. If that fails, they are lost.
     pub(crate) fn write<W: Write>(&mut self, now: u64, writer: &mut W) -> io::Result<()> {
-        for kind in KINDS {
-            self.tell_left_out(now, kind);
+        if self.may_be_more {
+            for kind in KINDS {
+                self.tell_left_out(now, kind);
+            }
+            self.may_be_more = self.next_line().is_some();
         }
         if self.text.is_empty() {
             return Ok(());
@@ -130,7 +144,9 @@ impl Log {
         }
     }
 
+    /// The rate of a kind, which may then leave lines out.
     fn rate(&mut self, kind: LogKind) -> &mut LogRate {
+        self.may_be_more = true;
         match kind {
             LogKind::Accepted => &mut self.accepted,
             LogKind::Refused => &mut self.refused,
