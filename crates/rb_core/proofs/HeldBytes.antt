@@ -32,9 +32,9 @@ use Rattle.rb_proto.specs.declared.listener.Listener.{Listener}
 use Rattle.rb_proto.specs.Callers.{own_row, own_pair, own_three, own_inet6, own_inet, own_local, own_rows}
 use Rattle.rb_model.specs.Calls.{longest_reply, longest_kept, kept_of}
 use Rattle.rb_model.specs.Connections.{longest_fragment}
-use Rattle.rb_model.specs.State.{Phase, Connection}
+use Rattle.rb_model.specs.State.{State, Phase, Connection}
 use Rattle.rb_model.specs.State.Phase.{Idle, Reading, Owing, Awaiting, Lost}
-use Rattle.rb_model.specs.Bounds.{longest_served_call, connection_charge}
+use Rattle.rb_model.specs.Bounds.{longest_served_call, connection_charge, bytes_bound}
 use Rattle.rb_laws.proofs.EntriesKept.{HasShortArgs, reached-kept}
 use Rattle.rb_laws.proofs.Ledgers.{IsShortChange, reached-short}
 use Rattle.rb_laws.proofs.Room.{reached-room}
@@ -42,8 +42,9 @@ use Rattle.rb_connections.specs.declared.slot.Slot.{Slot}
 use Rattle.rb_connections.specs.declared.slot.Stage.{Stage}
 use Rattle.rb_connections.specs.declared.slot.Stage.TheVariants as stages
 use Rattle.rb_connections.specs.StandsFor.{buffer_size, StandsForPhase, StandsForConnection, charge, held_in, IsWithin}
-use Rattle.rb_core.specs.StandsFor.{CoreView}
-use Rattle.rb_core.specs.HeldBytes.{takes_bytes, HoldsArguments, unheld_share, IsListener, HeldBytesAreBounded, NeverPasses}
+use Rattle.rb_model.specs.Step.{IsReached}
+use Rattle.rb_core.specs.StandsFor.{CoreView, StandsFor}
+use Rattle.rb_core.specs.HeldBytes.{held, takes_bytes, HoldsArguments, unheld_share, IsListener, HeldBytesAreBounded}
 
 -- ---- connections
 
@@ -195,5 +196,5 @@ held_bytes_are_bounded core s h reached listener =
       whole = omega (arith, connections, room, in_rows, keys, calls, h.short);
     }
 
-pub never_passes : (core : CoreView) → NeverPasses core
-never_passes core = record { within = λ s stands reached listener. let whole = (held_bytes_are_bounded core s stands reached listener).whole in omega (arith, whole) }
+pub never_passes : (core : CoreView) (s : State) → StandsFor core s → IsReached s → IsListener s.setting.listener → held core ≤ bytes_bound s.setting.limits
+never_passes core s stands reached listener = let whole = (held_bytes_are_bounded core s stands reached listener).whole in omega (arith, whole)

@@ -15,7 +15,6 @@ use Rattle.rb_model.proofs.CostBounds.{walked_few}
 use Rattle.rb_connections.specs.StandsFor.{Table, StandsForConnections}
 use Rattle.rb_connections.specs.Slots.{Acts, StaysTable}
 use Rattle.rb_core.specs.CallCosts.{PaysToWriteInto}
-use Rattle.rb_core.specs.Events.{GivesWithinSteps}
 use Rattle.rb_core.specs.StandsFor.{CoreView, StandsFor}
 use Rattle.rb_core.proofs.Spending.{at_most}
 use Rattle.rb_core.proofs.CallBounds.{few_connections, few_rows}
@@ -105,7 +104,8 @@ parts j one more all n some few within =
     let once = mul-le-mul_right more some in
     omega (arith, each, once, few)
 
-pub into_within : (core : CoreView) (a b : Meter) (id : ℕ) (result : Result Given CoreFault) → PaysToWriteInto core id result a b → GivesWithinSteps core (given_in result) a b
+pub into_within : (core : CoreView) (a b : Meter) (id : ℕ) (result : Result Given CoreFault) → PaysToWriteInto core id result a b
+    → (s : State) → StandsFor core s → IsReached s → PaysAtMost a b ((given_in result / longest_fragment + 1) * steps_bound core.setting.limits 0 longest_fragment)
 unfolding longest_fragment
 into_within core a b id result pays s h reached =
     let connections : ℕ = length core.connections.slots in
@@ -113,6 +113,6 @@ into_within core a b id result pays s h reached =
     let n : ℕ = given_in result in
     let most = into_most connections rows n (live_connection id s.connections.all) in
     let all : ℕ = steps_bound core.setting.limits 0 1028 in
-    let each : listed_cost rows + 1028 + (find_cost connections + 3 + recount_cost) ≤ all = omega (arith, few_connections core a b s h reached, few_rows core a b s h) in
+    let each : listed_cost rows + 1028 + (find_cost connections + 3 + recount_cost) ≤ all = omega (arith, few_connections core s h reached, few_rows core s h) in
     let whole = parts (n / 1028 + 1) (listed_cost rows) (find_cost connections + 3 + recount_cost) all n (omega arith) (omega arith) each in
     at_most a b (write_into_cost connections rows n (live_connection id s.connections.all)) _ (omega (arith, most, whole)) (pays s h)

@@ -91,14 +91,8 @@ PaysToAnswer ended old new args room n before now =
     (answer_cost (sizes_for (may_register_in old ended.who) (message_with ended.verdict lent) (sizes_of old new)) (length lent)
     + whole_cost (length room) n)
 
--- for a piece of bytes on the connection of the number, from whatever state the core stood for
-abbrev pub PaysForBytes : CoreView → CoreView → ℕ → List ℕ → Meter → Meter → Type 0
-PaysForBytes old new id piece before now =
-    (s : State) → StandsFor old s
-    → PaysAtMost before now
-    (bytes_cost (announced_in old) (sizes_of old new) piece (live_connection id s.connections.all))
-
--- the same if a reply may be given at once, in this room
+-- for a piece of bytes on the connection of the number, whose reply may be given at once in this room, from whatever state
+-- the core stood for
 abbrev pub PaysForExchange : CoreView → CoreView → ℕ → List ℕ → List ℕ → Result Exchanged CoreFault → Meter → Meter → Type 0
 PaysForExchange old new id piece room result before now =
     (s : State) → StandsFor old s

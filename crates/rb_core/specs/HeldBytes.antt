@@ -55,8 +55,3 @@ pub record IsListener (listener : Listener) : Type 0 where
 abbrev pub HeldBytesAreBounded : Type 0
 HeldBytesAreBounded =
     (core : CoreView) (s : State) → StandsFor core s → IsReached s → IsListener s.setting.listener → IsBounded core s
-
--- Whatever such state a core stands for, it holds no more than the bound.
-pub record NeverPasses (core : CoreView) : Type 0 where
-  pub within : (s : State) → StandsFor core s → IsReached s → IsListener s.setting.listener
-      → held core ≤ bytes_bound s.setting.limits

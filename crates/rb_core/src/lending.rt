@@ -1,6 +1,5 @@
 //! What is pending on a connection, and what a core lends, once the event that lends it has begun.
 ghost use Rattle.std.specs.Prelude.{◌≡◌, ◌+◌, ◌≤◌, length, IfOk, IfSome};
-ghost use Rattle.std.specs.Borrow.{sem};
 ghost use Rattle.rb_xdr.specs.Meter.{Pays, PaysAtMost};
 ghost use Rattle.rb_forward.specs.StandsFor.{longest_forwarded_call};
 ghost use Rattle.rb_forward.specs.Table.{plain_unsent, count_lent};
@@ -11,7 +10,7 @@ ghost use Rattle.rb_connections.specs.Giving.{pending_count};
 ghost use Rattle.rb_connections.specs.Slots.{Shows, Lends};
 ghost use Rattle.rb_core.specs.StandsFor.{StandsFor};
 ghost use Rattle.rb_core.specs.CallCosts.{lend_pending_cost, lending_cost};
-ghost use Rattle.rb_core.specs.Events.{BeginsAt, LendsFrom, StaysWithinSteps, length_lent};
+ghost use Rattle.rb_core.specs.Events.{BeginsAt};
 
 use crate::holding::Core;
 use rb_forward::Unsent;
@@ -48,29 +47,12 @@ impl Core {
     }
 
     /// The number of bytes that are pending on a connection. `Gone` if there is no such connection, or it is Lost.
-    #[tactic(auto, using(crate::proofs::CallBounds::length_within))]
     pub fn pending_len(&self, id: u64, meter: &mut Meter) -> Result<usize, CoreFault>
         requires { meter.old.tie ≡ self.now.tie }
         ensures len { Shows StandsFor (λ s. pending_count (pending s id)) self.now result }
         ensures cost { PaysAtMost meter.old meter.new (look_cost self.now.connections + 1) }
-        ensures bound { StaysWithinSteps self.now 0 0 meter.old meter.new }
     {
         self.connections.pending_len(id, meter)
-    }
-
-    /// The rest of the current fragment of the reply that a connection owes (RFC 5531 section 11), at most 1,028 bytes;
-    /// empty if it owes none. `Gone` if there is no such connection, or it is Lost.
-    #[tactic(auto, using(crate::proofs::CallBounds::pending_within))]
-    pub fn pending(&mut self, id: u64, meter: &mut Meter) -> Result<&[u8], CoreFault>
-        requires { meter.old.tie ≡ self.old.tie }
-        ensures* begun { sem 𝓛 (LendsFrom self.entry meter.old) }
-        ensures lent { Lends StandsFor (λ s. pending s id) self.old result }
-        ensures few { IfOk result (λ bytes. length bytes.now ≤ longest_fragment) }
-        ensures cost { PaysAtMost meter.old meter.new (lend_pending_cost self.old) }
-        ensures bound { StaysWithinSteps self.old 0 (length_lent result) meter.old meter.new }
-    {
-        self.begin(meter);
-        self.lend_pending(id, meter)
     }
 
     /// The unsent forwarded call of least number. `None` if all are sent.

@@ -39,26 +39,9 @@ impl Core {
         Cursor::start()
     }
 
-    /// The live row after the cursor, and the cursor after it. From `first_place` on each of them comes once, the
-    /// daemon's own first, in their order, and then `None`, if no event comes between. It costs at most 2 steps for
-    /// each row after the cursor, retained ones among them, and 1.
-    pub fn next_row(&self, cursor: Cursor, meter: &mut Meter) -> Option<(Cursor, &Row)>
-        requires tie { meter.old.tie ≡ self.now.tie }
-        requires place { StandsAmong self.now cursor }
-        ensures row { IfSome result (λ next. row_behind self.now cursor ≡ Some next.1.now) }
-        ensures place { IfSome result (λ next. StandsAmong self.now next.0) }
-        ensures passed { IfSome result (λ next. PassesOne self.now cursor next.0) }
-        ensures end { IfNone result (IsAtEnd self.now cursor) }
-        ensures rows { Shows StandsFor (λ s. rows_in s.ledger) self.now (rows_shown self.now) }
-        ensures cost { PaysAtMost meter.old meter.new (2 * slots_behind self.now cursor + 1) }
-        ensures cost_row { IfSome result
-            (λ next. PaysForRow self.now cursor next.0 meter.old meter.new) }
-    {
-        let registry = &self.books.registry;
-        registry.next_row(registry.stamp(), cursor, meter)
-    }
-
-    /// The same, and the cursor moves on after the row. It stays if no row is after it.
+    /// The live row after the cursor, which moves on after the row. It stays if no row is after it. From `first_place` on
+    /// each of them comes once, the daemon's own first, in their order, and then `None`, if no event comes between. It
+    /// costs at most 2 steps for each row after the cursor, retained ones among them, and 1.
     pub(crate) fn lend_row(&self, cursor: &mut Cursor, meter: &mut Meter) -> Option<&Row>
         requires tie { meter.old.tie ≡ self.now.tie }
         requires place { StandsAmong self.now cursor.old }
@@ -72,7 +55,8 @@ impl Core {
         ensures cost_row { PaysIfLent
             self.now cursor.old cursor.new result meter.old meter.new }
     {
-        match self.next_row(*cursor, meter) {
+        let registry = &self.books.registry;
+        match registry.next_row(registry.stamp(), *cursor, meter) {
             Some((next, row)) => {
                 *cursor = next;
                 Some(row)
@@ -100,16 +84,13 @@ impl Core {
     ghost use Rattle.rb_xdr.specs.Meter.{PaysAtMost};
     ghost use Rattle.rb_xdr.specs.Ordered.{looks};
     ghost use Rattle.rb_registry.specs.Rows.{find_exact};
-    ghost use Rattle.rb_core.specs.Events.{StaysWithinSteps};
     ghost use Rattle.rb_core.specs.Looks.{rows_held, rows_shown};
 
     /// The live row of this version of the program on the netid, if there is one. It costs a search in the index, and 1.
-    #[tactic(auto, using(crate::proofs::RowLooks::row_within))]
     pub fn row_at(&self, prog: u32, vers: u32, netid: Netid, meter: &mut Meter) -> Option<Row>
         requires { meter.old.tie ≡ self.now.tie }
         ensures row { result ≡ find_exact prog vers netid (rows_shown self.now) }
         ensures cost { PaysAtMost meter.old meter.new (looks (rows_held self.now).limit + 1) }
-        ensures bound { StaysWithinSteps self.now 0 0 meter.old meter.new }
     {
         match self.books.registry.find_exact(prog, vers, netid, meter) {
             Some(row) => Some(copy_of(row)),

@@ -1,4 +1,6 @@
 //! A core with the meter that counts its steps.
+ghost use Rattle.rb_core.specs.HeldBytes.{IsListener};
+
 use crate::holding::Core;
 use crate::seen::Seen;
 use rb_address::{Netid, Peer, Who};
@@ -10,6 +12,16 @@ use rb_xdr::Meter;
 use std::alloc::Global;
 use std::marker::Model;
 
+/// Says what the types of a listener say of it.
+fn check_listener(listener: &Listener)
+    ensures { IsListener listener.now }
+{
+    let _port = listener.port;
+    if let Some(path) = &listener.local {
+        let _path = path.as_slice();
+    }
+}
+
 /// A core and the meter that counts its steps: the calls of `Core`, each counted by that one meter.
 ///
 /// A contract sees both, `core` as that of a `Core` and `meter` as that of a `Meter`.
@@ -20,51 +32,48 @@ pub struct Metered {
 }
 
 impl Model for Metered {
-    ghost use Rattle.std.specs.Prelude.{◌≡◌};
-    ghost use Rattle.rb_core.specs.Metered.{Metered as Pair};
+    ghost use Rattle.rb_core.specs.Metered.{Metered as Pair, IsMetered};
 
     ghost Value = { Pair };
 
     ghost view = { λ m. record { core = m.core; meter = m.meter } };
 
-    ghost invariant = { λ m. m.meter.tie ≡ m.core.tie };
+    ghost invariant = { λ m. IsMetered m.core m.meter };
 }
 
 impl Metered {
     ghost use Rattle.std.specs.Prelude.{◌≡◌, ◌+◌, ◌*◌, ◌≤◌, ◌↔◌, length, Some, IsTrue, IfOk, IfErr, IfSome, IfNone, IsErrOf, OnErr, not};
     ghost use Rattle.std.specs.Borrow.{sem};
     ghost use Rattle.rb_xdr.specs.Meter.{PaysAtMost};
-    ghost use Rattle.rb_proto.specs.Costs.{zero_cost};
     ghost use Rattle.rb_proto.specs.Ledger.{rows_in};
-    ghost use Rattle.rb_forward.specs.Costs.{sent_cost};
     ghost use Rattle.rb_forward.specs.StandsFor.{longest_forwarded_call};
     ghost use Rattle.rb_forward.specs.Table.{plain_unsent};
     ghost use Rattle.rb_model.specs.State.{are_good, opening};
     ghost use Rattle.rb_model.specs.Calls.{longest_reply};
     ghost use Rattle.rb_model.specs.Connections.{longest_fragment};
     ghost use Rattle.rb_model.specs.Step.{datagram, open_connection, bytes, pending, gave, close_connection, next_lost, unsent_call, sent_call, zero_stats};
+    ghost use Rattle.rb_model.specs.Step.Event.{Open, Bytes, Gave, Closed, NextLost, Datagram, Sent, Forward, Expire, ZeroStats};
     ghost use Rattle.rb_model.specs.Ending.{forward_reply, expire};
     ghost use Rattle.rb_model.specs.NextDeadlines.{next_deadline};
     ghost use Rattle.rb_model.specs.Exchanges.{count_given};
     ghost use Rattle.rb_model.specs.Gives.{given_in};
     ghost use Rattle.rb_model.specs.Standings.{as_done};
     ghost use Rattle.rb_model.specs.Bounds.{bytes_bound};
-    ghost use Rattle.rb_model.specs.Costs.{close_cost, ended_cost};
     ghost use Rattle.rb_connections.specs.Slots.{Shows, Lends};
     ghost use Rattle.rb_connections.specs.Giving.{pending_count};
     ghost use Rattle.rb_connections.specs.Costs.{look_cost};
     ghost use Rattle.rb_core.specs.StandsFor.{StandsFor};
-    ghost use Rattle.rb_core.specs.HeldBytes.{held, NeverPasses};
+    ghost use Rattle.rb_core.specs.HeldBytes.{held};
     ghost use Rattle.rb_core.specs.Memory.{KeepsMemory, LacksMemory};
-    ghost use Rattle.rb_core.specs.Events.{count_shown, OnlyBegins, BeginsAt, GivesWithinSteps, TellsSteps, ExchangesWithinSteps, StaysCheapIfQuiet, TakesWithinSteps, GaveWithinSteps};
+    ghost use Rattle.rb_core.specs.Events.{count_shown, OnlyBegins, BeginsAt, TellsSteps};
     ghost use Rattle.rb_core.specs.Core.{TakesBytes};
     ghost use Rattle.rb_core.specs.Standings.{StandsThen, StandsAfterPiece, StandsBehind};
     ghost use Rattle.rb_core.specs.AtOnce.{CountsGiven, Exchanges};
     ghost use Rattle.rb_core.specs.Gives.{WritesInto};
-    ghost use Rattle.rb_core.specs.CallCosts.{deadline_cost, making_cost, sizes_of, PaysForBytes, PaysForPlainRecord, PaysToGive, PaysToWriteInto};
+    ghost use Rattle.rb_core.specs.CallCosts.{deadline_cost, making_cost, PaysForPlainRecord};
     ghost use Rattle.rb_core.specs.Looks.{rows_shown, StandsAmong, IsAtStart, row_behind, PassesOne, IsAtEnd, slot_count, slots_behind};
     ghost use Rattle.rb_core.specs.Lending.{LendsReply, LendsPending, LendsUnsent, LendsRow};
-    ghost use Rattle.rb_core.specs.MeteredCalls.{Does, DoesWithReply, StepsAtMost, StepsWithin, StepsForDatagram, StepsForPlainDatagram, StepsForExchange, StepsForPlainExchange};
+    ghost use Rattle.rb_core.specs.MeteredCalls.{Does, DoesWithReply, Priced, PricedWithLook, PricedExchange, PricedGiving, reply_look, StepsAtMost, StepsWithin, TakesWithin, ExchangesWithin, GivesWithin, StaysCheapIfQuiet, StepsForPlainDatagram, StepsForPlainExchange};
 
     /// Makes a core, as `Core::new`, and a meter for it that begins at 0. `BadLimits` if a limit is out of its range,
     /// or the rows have no room for the own ones and two more; else `NoMemory` if an allocation is refused.
@@ -102,6 +111,7 @@ impl Metered {
         ensures cost { IfOk result
             (λ made. PaysAtMost meter made.meter (making_cost limits listener)) }
     {
+        check_listener(&listener);
         let core = Core::new(alloc, limits, listener, first_xid, now, &mut meter)?;
         Ok(Metered { core, meter })
     }
@@ -121,9 +131,9 @@ impl Metered {
         ensures acts { DoesWithReply (λ s. datagram s now who content.now) self.old self.new result }
         ensures begun { self.new.core.steps_before ≡ count_shown self.old.meter }
         ensures memory { KeepsMemory self.old.core self.new.core }
-        ensures held { NeverPasses self.new.core }
         ensures short { length self.new.core.reply ≤ longest_reply }
-        ensures cost { StepsForDatagram who content.now self.old self.new }
+        ensures priced { PricedWithLook
+            (reply_look self.new) (Datagram now who content.now) self.old self.new }
         ensures plain { StepsForPlainDatagram who content.now self.old self.new }
         ensures bound { StepsWithin (length content.now) 0 self.old self.new }
     {
@@ -148,16 +158,16 @@ impl Metered {
         ensures refused { OnErr result (OnlyBegins self.old.core self.new.core) }
         ensures begun { self.new.core.steps_before ≡ count_shown self.old.meter }
         ensures memory { KeepsMemory self.old.core self.new.core }
-        ensures held { NeverPasses self.new.core }
-        ensures cost { StepsAtMost 4 self.old self.new }
+        ensures priced { Priced (Open now who) self.old self.new }
         ensures bound { StepsWithin 0 0 self.old self.new }
     {
         self.core.open(now, who, &mut self.meter)
     }
 
-    /// Takes bytes that arrive on a connection at the moment `now`, as `Core::bytes`: at most up to the end of a
-    /// record, which is answered. Returns how many were taken and where the connection stands then. `Gone` if there is
-    /// no such connection, or it is Lost.
+    /// Takes bytes that arrive on a connection at the moment `now`, at most up to the end of a record (RFC 5531 section
+    /// 11), which is answered. Returns how many were taken and where the connection stands then: Lost if the record is
+    /// no call, `Sends` if its call is forwarded. Takes none while a reply is owed or awaited. `Gone` if there is no
+    /// such connection, or it is Lost.
     pub fn bytes(&mut self, now: u64, id: u64, piece: &[u8]) -> Result<(Taken, Standing), CoreFault>
         ensures acts { TakesBytes now id piece.now self.old.core self.new.core result }
         ensures stands { IfOk result (λ done. StandsBehind id done.0.count self.new.core done.1) }
@@ -165,16 +175,20 @@ impl Metered {
         ensures refused { OnErr result (OnlyBegins self.old.core self.new.core) }
         ensures begun { self.new.core.steps_before ≡ count_shown self.old.meter }
         ensures memory { KeepsMemory self.old.core self.new.core }
-        ensures held { NeverPasses self.new.core }
-        ensures cost { PaysForBytes self.old.core self.new.core
-            id piece.now self.old.meter self.new.meter }
+        ensures priced { Priced (Bytes now id piece.now) self.old self.new }
         ensures plain { PaysForPlainRecord self.old.core
             id piece.now 0 self.old.meter self.new.meter }
-        ensures bound { TakesWithinSteps self.old.core result self.old.meter self.new.meter }
-        ensures quiet { StaysCheapIfQuiet
-            self.old.core id piece.now result self.old.meter self.new.meter }
+        ensures bound { TakesWithin self.old self.new result }
+        ensures quiet { StaysCheapIfQuiet id piece.now self.old self.new result }
     {
-        self.core.bytes(now, id, piece, &mut self.meter)
+        let Exchanged {
+            taken,
+            given: _,
+            standing,
+        } = self
+            .core
+            .exchange(now, id, piece, &mut [], &mut self.meter)?;
+        Ok((taken, standing))
     }
 
     /// Takes bytes as `bytes` does, and gives a reply of one fragment at once, as `Core::exchange`: if `room` has place
@@ -194,11 +208,10 @@ impl Metered {
         ensures refused { OnErr result (OnlyBegins self.old.core self.new.core) }
         ensures begun { self.new.core.steps_before ≡ count_shown self.old.meter }
         ensures memory { KeepsMemory self.old.core self.new.core }
-        ensures held { NeverPasses self.new.core }
-        ensures cost { StepsForExchange id piece.now room.old self.old self.new result }
+        ensures priced { PricedExchange
+            now id piece.now (length room.old) self.old self.new result }
         ensures plain { StepsForPlainExchange id piece.now room.old self.old self.new result }
-        ensures bound { ExchangesWithinSteps self.old.core
-            result self.old.meter self.new.meter }
+        ensures bound { ExchangesWithin self.old self.new result }
     {
         self.core.exchange(now, id, piece, room, &mut self.meter)
     }
@@ -216,7 +229,7 @@ impl Metered {
     /// The rest of the current fragment of the reply that a connection owes (RFC 5531 section 11), at most 1,028 bytes;
     /// empty if it owes none. `Gone` if there is no such connection, or it is Lost.
     pub fn pending(&mut self, id: u64) -> Result<&[u8], CoreFault>
-        ensures* begun { sem 𝓛 (LendsPending self.entry result) }
+        ensures* begun { sem 𝓛 (LendsPending id self.entry result) }
         ensures lent { Lends StandsFor (λ s. pending s id) self.old.core result }
         ensures few { IfOk result (λ bytes. length bytes.now ≤ longest_fragment) }
     {
@@ -232,10 +245,9 @@ impl Metered {
         ensures refused { OnErr result (OnlyBegins self.old.core self.new.core) }
         ensures begun { self.new.core.steps_before ≡ count_shown self.old.meter }
         ensures memory { KeepsMemory self.old.core self.new.core }
-        ensures held { NeverPasses self.new.core }
-        ensures cost { PaysToGive self.old.core id self.old.meter self.new.meter }
-        ensures bound { GaveWithinSteps self.old.core n result self.old.meter self.new.meter }
-        ensures few { StepsWithin 0 0 self.old self.new }
+        ensures priced { PricedWithLook
+            (look_cost self.old.core.connections + 1) (Gave now id n) self.old self.new }
+        ensures bound { StepsWithin 0 0 self.old self.new }
     {
         self.core.gave(now, id, n, &mut self.meter)
     }
@@ -251,10 +263,8 @@ impl Metered {
         ensures refused { OnErr result (OnlyBegins self.old.core self.new.core) }
         ensures begun { self.new.core.steps_before ≡ count_shown self.old.meter }
         ensures memory { KeepsMemory self.old.core self.new.core }
-        ensures held { NeverPasses self.new.core }
-        ensures cost { PaysToWriteInto self.old.core id result self.old.meter self.new.meter }
-        ensures bound { GivesWithinSteps
-            self.old.core (given_in result) self.old.meter self.new.meter }
+        ensures priced { PricedGiving id self.old self.new result }
+        ensures bound { GivesWithin (given_in result) self.old self.new }
     {
         self.core.write_into(now, id, room, &mut self.meter)
     }
@@ -266,8 +276,7 @@ impl Metered {
         ensures refused { OnErr result (OnlyBegins self.old.core self.new.core) }
         ensures begun { self.new.core.steps_before ≡ count_shown self.old.meter }
         ensures memory { KeepsMemory self.old.core self.new.core }
-        ensures held { NeverPasses self.new.core }
-        ensures cost { StepsAtMost (close_cost (sizes_of self.old.core self.new.core)) self.old self.new }
+        ensures priced { Priced (Closed id) self.old self.new }
         ensures bound { StepsWithin 0 0 self.old self.new }
     {
         self.core.closed(id, &mut self.meter)
@@ -277,14 +286,14 @@ impl Metered {
     pub fn next_lost(&mut self) -> Option<u64>
         ensures begun { BeginsAt self.old.meter self.old.core self.new.core }
         ensures lost { Shows StandsFor next_lost self.old.core result }
-        ensures cost { StepsAtMost (look_cost self.old.core.connections) self.old self.new }
+        ensures priced { Priced NextLost self.old self.new }
         ensures bound { StepsWithin 0 0 self.old self.new }
     {
         self.core.next_lost(&mut self.meter)
     }
 
-    /// The forwarded call to be sent next, as `Core::unsent`: the unsent one of least number, with at most 8,840 bytes.
-    /// `None` if all are sent.
+    /// The forwarded call to be sent next: the unsent one of least number, whether or not its deadline has come, with at
+    /// most 8,840 bytes. `None` if all are sent (RFC 1833 sections 2.2.1 and 3.2).
     pub fn unsent(&mut self) -> Option<Unsent<'_>>
         ensures* begun { sem 𝓛 (LendsUnsent self.entry result) }
         ensures unsent { Shows StandsFor unsent_call self.old.core (plain_unsent result) }
@@ -301,8 +310,7 @@ impl Metered {
         ensures refused { OnErr result (OnlyBegins self.old.core self.new.core) }
         ensures begun { self.new.core.steps_before ≡ count_shown self.old.meter }
         ensures memory { KeepsMemory self.old.core self.new.core }
-        ensures held { NeverPasses self.new.core }
-        ensures cost { StepsAtMost (sent_cost self.old.core.books.forwards.cap) self.old self.new }
+        ensures priced { Priced (Sent id.number) self.old self.new }
         ensures bound { StepsWithin 0 0 self.old self.new }
     {
         self.core.sent(id, &mut self.meter)
@@ -315,9 +323,9 @@ impl Metered {
         ensures acts { Does (λ s. forward_reply s now from bytes.now) self.old self.new result }
         ensures begun { self.new.core.steps_before ≡ count_shown self.old.meter }
         ensures memory { KeepsMemory self.old.core self.new.core }
-        ensures held { NeverPasses self.new.core }
         ensures short { length self.new.core.reply ≤ longest_reply }
-        ensures cost { StepsAtMost (ended_cost (sizes_of self.old.core self.new.core)) self.old self.new }
+        ensures priced { PricedWithLook
+            (reply_look self.new) (Forward now from bytes.now) self.old self.new }
         ensures bound { StepsWithin (length bytes.now) 0 self.old self.new }
     {
         self.core.forward_reply(now, from, bytes, &mut self.meter)
@@ -329,9 +337,8 @@ impl Metered {
         ensures acts { Does (λ s. expire s now) self.old self.new result }
         ensures begun { self.new.core.steps_before ≡ count_shown self.old.meter }
         ensures memory { KeepsMemory self.old.core self.new.core }
-        ensures held { NeverPasses self.new.core }
         ensures short { length self.new.core.reply ≤ longest_reply }
-        ensures cost { StepsAtMost (ended_cost (sizes_of self.old.core self.new.core)) self.old self.new }
+        ensures priced { PricedWithLook (reply_look self.new) (Expire now) self.old self.new }
         ensures bound { StepsWithin 0 0 self.old self.new }
     {
         self.core.expire(now, &mut self.meter)
@@ -354,16 +361,16 @@ impl Metered {
         ensures acts { Does (λ s. (tt {0}, zero_stats s)) self.old self.new (tt {0}) }
         ensures begun { self.new.core.steps_before ≡ count_shown self.old.meter }
         ensures memory { KeepsMemory self.old.core self.new.core }
-        ensures held { NeverPasses self.new.core }
-        ensures cost { StepsAtMost zero_cost self.old self.new }
+        ensures priced { Priced ZeroStats self.old self.new }
         ensures bound { StepsWithin 0 0 self.old self.new }
     {
         self.core.zero_stats(&mut self.meter);
     }
 
-    /// How many bytes are held, as `Core::held` counts them.
+    /// How many bytes are held, as `Core::held` counts them: at most `bytes_bound`.
     pub fn held(&self) -> u64
-        ensures { result ≡ held self.now.core }
+        ensures value { result ≡ held self.now.core }
+        ensures few { held self.now.core ≤ bytes_bound self.now.core.setting.limits }
     {
         self.core.held()
     }
@@ -419,7 +426,7 @@ impl Metered {
         self.core.first_place()
     }
 
-    /// The live row after the cursor, as `Core::next_row`, and the cursor moves on after it; it stays if there is
+    /// The live row after the cursor, and the cursor moves on after it; it stays if there is
     /// none. From `first_place` on each row comes once, and then `None`, if no event comes between.
     pub fn next_row(&mut self, cursor: &mut Cursor) -> Option<&Row>
         requires { StandsAmong self.old.core cursor.old }

@@ -26,7 +26,7 @@ pub served_bytes_are_bounded : ServedBytesAreBounded
 served_bytes_are_bounded core tape served =
     ∥∥₁_elim served le_prop (λ h.
     subst (λ (x : Setting). held core ≤ bytes_bound x.limits) (sym h.stands.setting)
-    ((never_passes core).within h.state h.stands h.reached h.listener))
+    (never_passes core h.state h.stands h.reached h.listener))
 
 pub served_steps_are_bounded : ServedStepsAreBounded
 served_steps_are_bounded core tape served s stands reached = steps_are_bounded s reached (served_good core tape s stands served)

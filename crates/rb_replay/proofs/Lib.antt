@@ -1,4 +1,3 @@
-pub mod Prices
 pub mod RunSteps
 pub mod Runs
 pub mod StepBounds

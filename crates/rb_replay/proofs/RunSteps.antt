@@ -1,6 +1,5 @@
 -- What an event of a run gives.
-use Rattle.std.proofs.Common.{◌≡◌, ◌+◌, ℕ, List, Option, Some, None, Result, Ok, Err, refl, ap, ◌∙◌, arith}
-use Rattle.rb_xdr.specs.Meter.{Meter, PaysAtMost}
+use Rattle.std.proofs.Common.{◌≡◌, ℕ, List, Option, Some, None, Result, Ok, Err, refl, ap, ◌∙◌}
 use Rattle.rb_model.specs.declared.types.CoreFault.{CoreFault}
 use Rattle.rb_model.specs.State.{State}
 use Rattle.rb_model.specs.declared.types.Told.{Told}
@@ -86,6 +85,3 @@ module _ (act : State → Expired × State) (old new : CoreView) where
       by_result (expiries.ConnectionLost number, t) e z = (ap ConnectionLost (closes number e), z)
       by_result (expiries.Nothing, t) e z = absurd cc
       by_result (Ended other, t) e z = absurd cc
-
-pub one_then_other : (a b c : Meter) (x y : ℕ) → PaysAtMost a b x → PaysAtMost b c y → PaysAtMost a c (x + y)
-one_then_other a b c x y p q = record { steps = omega (arith, p.steps, q.steps); rises = omega (arith, p.rises, q.rises); tie = q.tie ∙ p.tie }

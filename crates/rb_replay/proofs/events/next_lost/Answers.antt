@@ -1,8 +1,6 @@
 use Rattle.std.proofs.Common.{ap}
-use Rattle.rb_model.specs.Costs.{find_cost}
 use Rattle.rb_model.specs.Step.{step}
 use Rattle.rb_model.specs.Step.Output.{LostIs}
-use Rattle.rb_replay.proofs.Prices.{by_count}
 use Rattle.rb_core.proofs.Begun.{stands_begun}
 use Rattle.rb_replay.proofs.events.next_lost.Goals as goal
 
@@ -10,5 +8,5 @@ pub returns : goal.returns
 unfolding step
 returns c = record {
   step = λ s h. (ap LostIs (c.next_lost.ensures.lost s h), stands_begun c.args.core.now.core _ _ c.next_lost.ensures.begun s h);
-  cost = λ s h. by_count find_cost c.args.core.now.core s _ _ h c.next_lost.ensures.cost;
+  cost = c.next_lost.ensures.priced;
 }

@@ -7,5 +7,5 @@ pub returns-in-Err : goal.returns-in-Err
 unfolding step
 returns-in-Err c = record {
   step = λ s h. refused Opened (λ t. open_connection t c.args.now c.args.who) c.args.core.now.core c.open.new.self.core c.in-Err.fault c.in-Err.ensures.acts s h;
-  cost = λ s h. c.in-Err.ensures.cost;
+  cost = c.in-Err.ensures.priced;
 }

@@ -6,5 +6,5 @@ pub returns : goal.returns
 unfolding step
 returns c = record {
   step = λ s h. (refl, c.zero_stats.ensures.acts.stands s h);
-  cost = λ s h. c.zero_stats.ensures.cost;
+  cost = c.zero_stats.ensures.priced;
 }

@@ -27,8 +27,7 @@ use Rattle.rb_core.proofs.Begun.{with_steps_before, acts_begun}
 use Rattle.rb_xdr.specs.Meter.{PaysAtMost}
 use Rattle.rb_model.specs.Costs.{sizes_for, datagram_cost}
 use Rattle.rb_core.specs.CallCosts.{may_register_in, sizes}
-use Rattle.rb_core.proofs.Spending.{registers_as, datagram_pays, plain_datagram_paid}
-use Rattle.rb_core.proofs.CallBounds.{datagram_within}
+use Rattle.rb_core.proofs.Spending.{registers_as, datagram_pays}
 use Rattle.rb_core.proofs.Cores.{core_changed}
 use Rattle.rb_core.proofs.holding.Core.datagram.Goals as goal
 
@@ -83,18 +82,6 @@ returns-clause-cost c =
     subst (λ (held : CoreView). PaysAtMost c.args.meter.now c.len.new.meter (datagram_cost (sizes_for (may_register_in held c.args.who) (message_of content) (sizes held.connections held.books served.new.books)) (length content) (length served.new.out.bytes))) c.self.view_is
     (datagram_pays c.context_at-context.result _ (registers_as c.context_at-context.result old _ c.context_at-context.ensures) c.self.inside.connections c.self.inside.books served.new.books v lent.result.now content served.new.out c.args.meter.now c.clear.new.meter served.new.meter c.len.new.meter says lent.ensures.few
     c.clear.ensures.cost served.ensures.cost c.len.ensures.cost)
-
-pub returns-clause-plain : goal.returns-clause-plain
-returns-clause-plain c =
-    let old : CoreView = c.args.self.now in
-    let served = c.serve_verdict-served in
-    let limit : old.books.registry.limit ≡ old.setting.limits.rows = subst (λ (held : CoreView). held.books.registry.limit ≡ held.setting.limits.rows) c.self.view_is c.self.invariant.limit in
-    plain_datagram_paid (may_register_in old c.args.who) old.connections old.books served.new.books c.args.content.now old.setting.limits.rows (length served.new.out.bytes) c.args.meter.now c.len.new.meter limit (returns-clause-cost c)
-
-pub returns-clause-bound : goal.returns-clause-bound
-returns-clause-bound c =
-    datagram_within c.args.self.now c.args.meter.now _ _ c.args.now c.args.who c.args.content.now (outcome_with c.in-Answered.outcome c.serve_verdict-served.new.out.bytes)
-    (returns-clause-acts c) (returns-clause-cost c)
 
 pub invariant_of-self : goal.invariant_of-self
 invariant_of-self c =

@@ -13,11 +13,10 @@ use Rattle.rb_core.specs.contracts.holding.Core.{the_view}
 use Rattle.rb_core.specs.CallCosts.{announced_in, sizes_of}
 use Rattle.rb_core.specs.Core.{arguments_in}
 use Rattle.rb_core.specs.StandsFor.{CoreView, StandsFor}
-use Rattle.rb_core.proofs.Spending.{as_large, looked_paid, received_paid, answered_paid, plain_record_paid}
+use Rattle.rb_core.proofs.Spending.{as_large, looked_paid, received_paid, answered_paid}
 use Rattle.rb_core.proofs.Steps.{bytes_refused, quiet_acts, quiet_gives_none, with_ended, fed_by, held_after}
-use Rattle.rb_core.proofs.AtOnce.{plainly, counted, none_refused, by_count, exchange_ended, counted_ended, whole_few}
+use Rattle.rb_core.proofs.AtOnce.{plainly, counted, none_refused, by_count, exchange_ended, counted_ended}
 use Rattle.rb_core.proofs.Begun.{with_steps_before, still_stands, acts_begun, shows_begun}
-use Rattle.rb_core.proofs.CallBounds.{exchange_within}
 use Rattle.rb_core.proofs.Cores.{core_moved}
 use Rattle.rb_core.proofs.Awaited.{awaited_by_table}
 use Rattle.rb_core.proofs.holding.Core.exchange.Goals as goal
@@ -49,17 +48,6 @@ pub returns-in_err-got-clause-cost : goal.returns-in_err-got-clause-cost
 returns-in_err-got-clause-cost c =
     let p = err_from_is_err_and c.from_residual.result c.from_residual.ensures.1 in
     rw p.1 (λ s h. by_view (the_view c.self.inside) c.args.self.now (the_view c.self.inside) c.args.id c.args.piece.now s (whole_cost (length c.args.room.now) 0) _ _ c.self.view_is (looked_paid (announced_in (the_view c.self.inside)) (sizes_of (the_view c.self.inside) (the_view c.self.inside)) c.args.piece.now _ _ (whole_cost (length c.args.room.now) 0) (live_connection c.args.id s.connections.all) c.in_err-got.ensures.cost))
-
-pub returns-in_err-got-clause-plain : goal.returns-in_err-got-clause-plain
-returns-in_err-got-clause-plain c =
-    let p = err_from_is_err_and c.from_residual.result c.from_residual.ensures.1 in
-    rw p.1 (plain_record_paid c.args.self.now c.self.inside.books c.args.id c.args.piece.now (whole_cost (length c.args.room.now) 0) c.args.meter.now c.take_piece.new.meter (rw p.1 at (returns-in_err-got-clause-cost c)))
-
-pub returns-in_err-got-clause-bound : goal.returns-in_err-got-clause-bound
-returns-in_err-got-clause-bound c =
-    let p = err_from_is_err_and c.from_residual.result c.from_residual.ensures.1 in
-    rw p.1 (
-    exchange_within c.args.self.now c.args.meter.now c.take_piece.new.meter c.args.now c.args.id c.args.piece.now _ (length c.args.room.now) 0 (whole_cost (length c.args.room.now) 0) _ _ (rw p.1 at (returns-in_err-got-clause-acts c)) (whole_few (length c.args.room.now) 0) (rw p.1 at (returns-in_err-got-clause-cost c)))
 
 -- ---- no record ended
 
@@ -97,14 +85,6 @@ returns-in_default-clause-cost c = λ s h.
     c.in_ok-got.got.received (c.in_ok-got.ensures.acts view.books.registry) s z in
     by_view (the_view c.self.inside) c.args.self.now (the_view c.self.inside) c.args.id c.args.piece.now s (whole_cost (length c.args.room.now) 0) c.args.meter.now c.take_piece.new.meter c.self.view_is
     (rw f.there (received_paid (announced_in (the_view c.self.inside)) (sizes_of (the_view c.self.inside) (the_view c.self.inside)) c.args.piece.now _ _ (whole_cost (length c.args.room.now) 0) f.connection c.in_ok-got.got.received f.gives c.in_ok-got.ensures.cost))
-
-pub returns-in_default-clause-plain : goal.returns-in_default-clause-plain
-returns-in_default-clause-plain c =
-    plain_record_paid c.args.self.now c.self.inside.books c.args.id c.args.piece.now (whole_cost (length c.args.room.now) 0) c.args.meter.now c.take_piece.new.meter (returns-in_default-clause-cost c)
-
-pub returns-in_default-clause-bound : goal.returns-in_default-clause-bound
-returns-in_default-clause-bound c =
-    exchange_within c.args.self.now c.args.meter.now c.take_piece.new.meter c.args.now c.args.id c.args.piece.now _ (length c.args.room.now) 0 (whole_cost (length c.args.room.now) 0) _ _ (returns-in_default-clause-acts c) (whole_few (length c.args.room.now) 0) (returns-in_default-clause-cost c)
 
 -- ---- a record that is answered
 
@@ -146,15 +126,6 @@ returns-clause-cost c = λ s h.
     (rw f.there (
     answered_paid (announced_in (the_view c.self.inside)) (sizes_of (the_view c.self.inside) c.answer-lost.new.self) c.args.piece.now _ _ (whole_cost (length c.args.room.now) c.answer-lost.result.1) c.answer-lost.new.meter _ (as_large (length c.take_piece.new.connections.slots) (length c.self.inside.connections.slots) c.self.inside.books c.answer-lost.new.self.books c.in_ok-got.ensures.as_many) f.connection got c.in-Some.ended _ arguments f.gives c.in-Some.is kept
     c.in_ok-got.ensures.cost c.answer-lost.ensures.cost))
-
-pub returns-clause-plain : goal.returns-clause-plain
-returns-clause-plain c =
-    plain_record_paid c.args.self.now c.answer-lost.new.self.books c.args.id c.args.piece.now (whole_cost (length c.args.room.now) c.answer-lost.result.1) c.args.meter.now c.answer-lost.new.meter (returns-clause-cost c)
-
-pub returns-clause-bound : goal.returns-clause-bound
-returns-clause-bound c =
-    exchange_within c.args.self.now c.args.meter.now c.answer-lost.new.meter c.args.now c.args.id c.args.piece.now _ (length c.answer-lost.new.room) c.answer-lost.result.1 (whole_cost (length c.args.room.now) c.answer-lost.result.1) _ _
-    (returns-clause-acts c) (whole_few (length c.args.room.now) c.answer-lost.result.1) (returns-clause-cost c)
 
 pub invariant_of-self-in_default : goal.invariant_of-self-in_default
 invariant_of-self-in_default c =

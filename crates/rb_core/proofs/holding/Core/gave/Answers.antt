@@ -5,7 +5,6 @@ use Rattle.rb_core.specs.StandsFor.{CoreView}
 use Rattle.rb_core.specs.contracts.holding.Core.{the_view}
 use Rattle.rb_core.proofs.Steps.{gave_done, gave_refused}
 use Rattle.rb_core.proofs.Begun.{with_steps_before, acts_begun}
-use Rattle.rb_core.proofs.CallBounds.{gave_within}
 use Rattle.rb_core.proofs.holding.Core.gave.Goals as goal
 
 pub returns-in_err-standing-clause-acts : goal.returns-in_err-standing-clause-acts
@@ -32,15 +31,3 @@ returns-in_err-standing-clause-cost c =
 pub returns-clause-cost : goal.returns-clause-cost
 returns-clause-cost c =
     subst (λ (held : CoreView). PaysToGive held c.args.id c.args.meter.now c.gave.new.meter) c.self.view_is (λ s h. c.in_ok-standing.ensures.cost s.connections h.connections)
-
-pub returns-in_err-standing-clause-bound : goal.returns-in_err-standing-clause-bound
-returns-in_err-standing-clause-bound c = gave_within c.args.self.now _ _ c.args.id _ (returns-in_err-standing-clause-cost c)
-
-pub returns-clause-bound : goal.returns-clause-bound
-returns-clause-bound c = gave_within c.args.self.now _ _ c.args.id _ (returns-clause-cost c)
-
-pub returns-in_err-standing-clause-few : goal.returns-in_err-standing-clause-few
-returns-in_err-standing-clause-few c = gave_within c.args.self.now _ _ c.args.id 0 (returns-in_err-standing-clause-cost c)
-
-pub returns-clause-few : goal.returns-clause-few
-returns-clause-few c = gave_within c.args.self.now _ _ c.args.id 0 (returns-clause-cost c)

@@ -58,18 +58,19 @@ module _ (less more : Sizes) (within : AreWithin less more) (a b : Meter) where
       subst (λ (x : Bool). PaysAtMost a b (datagram_cost (sizes_for x message more) count written + look)) same
       (at_most a b total (datagram_cost (sizes_for mine message more) count written + look) (omega (arith, few, w.connections, w.looks, w.lists, w.rows, w.left, w.change)) pays)
 
-  bytes_paid_by : (announced : Announced) (piece : List ℕ) (m : Option Connection) → PaysAtMost a b (bytes_cost announced less piece m) → PaysAtMost a b (bytes_cost announced more piece m)
-  bytes_paid_by announced piece None pays = at_most a b (bytes_cost announced less piece None) (bytes_cost announced more piece None) (omega (arith, within.connections)) pays
-  bytes_paid_by announced piece (Some c) pays = by_taking (may_register announced c.who) (taking_of c.phase piece) pays
+  bytes_paid_by : (announced : Announced) (piece : List ℕ) (extra : ℕ) (m : Option Connection) → PaysAtMost a b (bytes_cost announced less piece m + extra) → PaysAtMost a b (bytes_cost announced more piece m + extra)
+  bytes_paid_by announced piece extra None pays = at_most a b (bytes_cost announced less piece None + extra) (bytes_cost announced more piece None + extra) (omega (arith, within.connections)) pays
+  bytes_paid_by announced piece extra (Some c) pays = by_taking (may_register announced c.who) (taking_of c.phase piece) pays
     where
-      by_taking : (may : Bool) (t : Taking) → PaysAtMost a b (find_cost less.connections + take_cost (count_taken piece t) + recount_cost + record_cost may less t)
-          → PaysAtMost a b (find_cost more.connections + take_cost (count_taken piece t) + recount_cost + record_cost may more t)
-      by_taking may TakesNone paid = at_most a b (find_cost less.connections + take_cost 0 + recount_cost + 0) _ (omega (arith, within.connections)) paid
-      by_taking may (GoesOn fed) paid = at_most a b (find_cost less.connections + take_cost (length piece) + recount_cost + 0) _ (omega (arith, within.connections)) paid
+      by_taking : (may : Bool) (t : Taking) → PaysAtMost a b (find_cost less.connections + take_cost (count_taken piece t) + recount_cost + record_cost may less t + extra)
+          → PaysAtMost a b (find_cost more.connections + take_cost (count_taken piece t) + recount_cost + record_cost may more t + extra)
+      by_taking may TakesNone paid = at_most a b (find_cost less.connections + take_cost 0 + recount_cost + 0 + extra) _ (omega (arith, within.connections)) paid
+      by_taking may (GoesOn fed) paid = at_most a b (find_cost less.connections + take_cost (length piece) + recount_cost + 0 + extra) _ (omega (arith, within.connections)) paid
       by_taking may (Ends n content) paid =
           let w = within_where (asks_for_rows may (message_of content)) less more within in
-          at_most a b (find_cost less.connections + take_cost n + recount_cost + record_cost may less (Ends n content)) _
+          at_most a b (find_cost less.connections + take_cost n + recount_cost + record_cost may less (Ends n content) + extra) _
           (omega (arith, w.connections, w.looks, w.lists, w.rows, w.left, w.change)) paid
 
-  pub bytes_paid : (mine its : Announced) → mine ≡ its → (piece : List ℕ) (m : Option Connection) → PaysAtMost a b (bytes_cost mine less piece m) → PaysAtMost a b (bytes_cost its more piece m)
-  bytes_paid mine its same piece m pays = subst (λ (x : Announced). PaysAtMost a b (bytes_cost x more piece m)) same (bytes_paid_by mine piece m pays)
+  -- with this many steps more
+  pub bytes_paid : (mine its : Announced) → mine ≡ its → (piece : List ℕ) (extra : ℕ) (m : Option Connection) → PaysAtMost a b (bytes_cost mine less piece m + extra) → PaysAtMost a b (bytes_cost its more piece m + extra)
+  bytes_paid mine its same piece extra m pays = subst (λ (x : Announced). PaysAtMost a b (bytes_cost x more piece m + extra)) same (bytes_paid_by mine piece extra m pays)
