@@ -6,4 +6,5 @@ pub mod PlainCallers
 pub mod Keeping
 pub mod Sending
 pub mod Links
+pub mod Waiting
 pub mod Logs
