@@ -12,8 +12,11 @@ goes; with local a path stands there. It is printed again, with the answer that 
 An answer is a number; an address; the netids and addresses of a list, each with a space after it, in their order; the rows
 of `dump`, with their owners and `; ` between them; an address and the results of a call that was forwarded, in hexadecimal;
 `refused`; or `silent`, if none comes: within 5 seconds where that is expected, and else within 60.
+
+With AT_ONCE=PID in the environment this process stands still until all questions were sent, so that they come at once.
 """
 import os
+import signal
 import socket
 import struct
 import sys
@@ -21,6 +24,7 @@ import sys
 from row import Encoder
 
 PORT = int(os.environ.get("PORT", "111"))
+AT_ONCE = int(os.environ.get("AT_ONCE", "0"))
 PATIENCE = 60.0
 SILENCE = 5.0
 
@@ -110,38 +114,79 @@ def as_record(call):
     return struct.pack(">I", 1 << 31 | len(call)) + call
 
 
-def reply_over(netid, source, host, call, patience=PATIENCE):
-    """The reply to a call, or no bytes. Over UDP one from another address than the one that is asked is not seen."""
+def ask_over(netid, source, host, call, patience=PATIENCE):
+    """Sends a call, and gives the socket over which its reply comes, or None."""
     family = {"6": socket.AF_INET6, "l": socket.AF_UNIX}.get(netid[-1], socket.AF_INET)
     is_stream = not netid.startswith("udp")
-    with socket.socket(family, socket.SOCK_STREAM if is_stream else socket.SOCK_DGRAM) as asker:
-        asker.settimeout(patience)
+    asker = socket.socket(family, socket.SOCK_STREAM if is_stream else socket.SOCK_DGRAM)
+    asker.settimeout(patience)
+    try:
         if source:
             asker.bind((source, 0))
+        asker.connect(host if netid == "local" else (host, PORT))
+        asker.sendall(as_record(call) if is_stream else call)
+        return asker
+    except OSError:
+        asker.close()
+        return None
+
+
+def reply_on(asker):
+    """The reply that comes over a socket, or no bytes. Over UDP one from another address than the one that is asked is not
+    seen."""
+    if asker is None:
+        return b""
+    with asker:
         try:
-            asker.connect(host if netid == "local" else (host, PORT))
-            if not is_stream:
-                asker.send(call)
+            if asker.type == socket.SOCK_DGRAM:
                 return asker.recv(65536)
-            asker.sendall(as_record(call))
             return b"".join(fragments_from(asker))
         except OSError:
             return b""
 
 
+def reply_over(*words):
+    return reply_on(ask_over(*words))
+
+
+class Question:
+    """A line of standard input."""
+
+    def __init__(self, encoder, line):
+        self.text, _, wanted = line.rstrip("\n").partition(": ")
+        self.netid, place, *words = self.text.split()
+        self.source, _, self.host = place.rpartition(">")
+        self.procedure = [word for word in words if "=" not in word][1]
+        self.call = encoder.bytes_of(words)
+        self.wants_silence = wanted == "silent"
+
+    def ask(self, patience):
+        return ask_over(self.netid, self.source, self.host, self.call, SILENCE if self.wants_silence else patience)
+
+    def tell(self, reply):
+        print(f"{self.text}: {told_by(self.procedure, reply)}", flush=True)
+
+
+def ask_at_once(questions, process):
+    os.kill(process, signal.SIGSTOP)
+    askers = [question.ask(PATIENCE) for question in questions]
+    os.kill(process, signal.SIGCONT)
+    for question, asker in zip(questions, askers):
+        question.tell(reply_on(asker))
+
+
 def main():
     encoder = Encoder()
+    questions = (Question(encoder, line) for line in sys.stdin)
+    if AT_ONCE:
+        ask_at_once(list(questions), AT_ONCE)
+        return
     patience = PATIENCE
-    for line in sys.stdin:
-        question, _, wanted = line.rstrip("\n").partition(": ")
-        netid, place, *words = question.split()
-        source, _, host = place.rpartition(">")
-        procedure = [word for word in words if "=" not in word][1]
-        is_silence = wanted == "silent"
-        reply = reply_over(netid, source, host, encoder.bytes_of(words), SILENCE if is_silence else patience)
-        if not reply and not is_silence:
+    for question in questions:
+        reply = reply_on(question.ask(patience))
+        if not reply and not question.wants_silence:
             patience = SILENCE  # which is shown once is not waited for again
-        print(f"{question}: {told_by(procedure, reply)}", flush=True)
+        question.tell(reply)
 
 
 if __name__ == "__main__":

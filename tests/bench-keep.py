@@ -2,9 +2,12 @@
 """What a SET costs with --keep, beside one without: bench-keep.py PROGRAM.
 
 A daemon without --keep, one that keeps its rows on a tmpfs and one that keeps them on a disk are asked in turn, by rounds, at
-20 rows and at 4,000: a SET and its UNSET again and again over UDP, one call out; and over TCP sixteen SETs at once and then
-their UNSETs. A line has the medians of the rounds: microseconds for each call as the client sees it, and of these how many
-are the daemon's processor time.
+20 rows, at 1,000 and at 4,000: a SET and its UNSET again and again over UDP, one call out; and sixteen SETs at once and then
+their UNSETs, by datagrams, on one connection, and on sixteen. A line has the medians of the rounds: microseconds for each
+call as the client sees it, and of these how many are the daemon's processor time.
+
+The last line is of starts with the longest journal of 4,000 rows: milliseconds until the daemon listens, and those of its
+processor time.
 
 The tmpfs is /dev/shm, or KEEP_TMPFS of the environment, the disk the folder of temporary files, or KEEP_DISK.
 """
@@ -27,6 +30,9 @@ SECONDS = 0.3
 AT_ONCE = 16
 ROWS = [20, 1000, 4000]
 
+# a file of kept rows has at most twice as many lines as rows, and 64 more
+MOST_ROWS, MOST_LINES = 4000, 8064
+
 ENCODER = Encoder()
 
 
@@ -36,8 +42,24 @@ def encoded(words):
 
 def line_of(program):
     """The line of a file of rows that keeps a row of a program."""
-    call = encoded(f"xid=0 4 set {program} 1 udp {HOST}.8.1")
-    return f"datagram 0 {HOST}:0 {call.hex()}\n"
+    return line_with(f"set {program} 1 udp {HOST}.8.1")
+
+
+def line_with(words):
+    return f"datagram 0 {HOST}:0 {encoded(f'xid=0 4 {words}').hex()}\n"
+
+
+def record(call):
+    return struct.pack(">I", 1 << 31 | len(call)) + call
+
+
+def check(reply):
+    if reply[24:] != struct.pack(">I", 1):
+        raise SystemExit("a change was not answered with TRUE")
+
+
+def take_reply(stream):
+    check(read_all(stream, number_from(read_all(stream, 4))[0] & 0x7FFFFFFF))
 
 
 class Daemon:
@@ -58,7 +80,7 @@ class Daemon:
             raise SystemExit("the daemon does not listen")
         self.datagrams = socket.socket(socket.AF_INET, socket.SOCK_DGRAM)
         self.datagrams.connect((HOST, PORT))
-        self.stream = socket.create_connection((HOST, PORT))
+        self.stream, *self.others = [socket.create_connection((HOST, PORT)) for _ in range(AT_ONCE + 1)]
 
     def fill(self):
         """Sets the rows that no file has."""
@@ -68,15 +90,24 @@ class Daemon:
 
     def ask(self, call):
         self.datagrams.send(call)
-        if self.datagrams.recv(100)[24:] != struct.pack(">I", 1):
-            raise SystemExit("a change was not answered with TRUE")
+        check(self.datagrams.recv(100))
 
     def ask_at_once(self, calls):
-        self.stream.sendall(b"".join(struct.pack(">I", 1 << 31 | len(call)) + call for call in calls))
+        self.stream.sendall(b"".join(map(record, calls)))
         for _ in calls:
-            reply = read_all(self.stream, number_from(read_all(self.stream, 4))[0] & 0x7FFFFFFF)
-            if reply[24:] != struct.pack(">I", 1):
-                raise SystemExit("a change was not answered with TRUE")
+            take_reply(self.stream)
+
+    def ask_on_each(self, calls):
+        for stream, call in zip(self.others, calls):
+            stream.sendall(record(call))
+        for stream in self.others:
+            take_reply(stream)
+
+    def ask_by_datagrams(self, calls):
+        for call in calls:
+            self.datagrams.send(call)
+        for _ in calls:
+            check(self.datagrams.recv(100))
 
     def processor_seconds(self):
         with open(f"/proc/{self.process.pid}/schedstat") as stat:
@@ -85,8 +116,8 @@ class Daemon:
     def end(self):
         self.process.kill()
         self.process.wait()
-        self.datagrams.close()
-        self.stream.close()
+        for it in [self.datagrams, self.stream, *self.others]:
+            it.close()
         if self.folder:
             self.folder.cleanup()
 
@@ -101,6 +132,18 @@ def one_out(daemon):
 def sixteen_at_once(daemon):
     daemon.ask_at_once(SETS)
     daemon.ask_at_once(UNSETS)
+    return 2 * AT_ONCE
+
+
+def on_sixteen(daemon):
+    daemon.ask_on_each(SETS)
+    daemon.ask_on_each(UNSETS)
+    return 2 * AT_ONCE
+
+
+def sixteen_datagrams(daemon):
+    daemon.ask_by_datagrams(SETS)
+    daemon.ask_by_datagrams(UNSETS)
     return 2 * AT_ONCE
 
 
@@ -124,6 +167,24 @@ def measure(program, rows, folder):
         daemon.end()
 
 
+def start_of(program):
+    """Milliseconds of a start with a journal of the most lines, and those of the processor time."""
+    with tempfile.TemporaryDirectory() as folder:
+        path = os.path.join(folder, "rows")
+        changes = [line_of(200001), line_with("unset 200001 1 udp")] * ((MOST_LINES - MOST_ROWS) // 2)
+        with open(path, "w") as file:
+            file.writelines([*map(line_of, range(300001, 300001 + MOST_ROWS)), *changes])
+        begin = time.monotonic()
+        words = [program, "serve", "--port", str(PORT), "--rows", "4096", "--keep", path]
+        with subprocess.Popen(words, stdout=subprocess.PIPE, text=True) as process:
+            process.stdout.readline()
+            taken = time.monotonic() - begin
+            with open(f"/proc/{process.pid}/schedstat") as stat:
+                used = int(stat.read().split()[0]) / 1e9
+            process.kill()
+    return 1e3 * taken, 1e3 * used
+
+
 def median_of(rounds, name):
     return [statistics.median(each[name][i] for each in rounds) for i in (0, 1)]
 
@@ -144,13 +205,20 @@ def main():
             for kind in kinds:
                 taken, processor = median_of(rounds[kind], name)
                 print(f"a change at {rows} rows, {name}, {kind}: {taken:.1f} microseconds, {processor:.1f} of the processor")
+    taken, processor = map(statistics.median, zip(*(start_of(program) for _ in range(ROUNDS))))
+    print(f"a start with {MOST_ROWS} rows and {MOST_LINES} lines: {taken:.0f} milliseconds, {processor:.0f} of the processor")
 
 
 SET = encoded(f"4 set 200001 1 udp {HOST}.8.1")
 UNSET = encoded("4 unset 200001 1 udp")
 SETS = [encoded(f"4 set {200002 + i} 1 udp {HOST}.8.1") for i in range(AT_ONCE)]
 UNSETS = [encoded(f"4 unset {200002 + i} 1 udp") for i in range(AT_ONCE)]
-LOADS = {"over UDP, one out": one_out, "over TCP, sixteen at once": sixteen_at_once}
+LOADS = {
+    "over UDP, one out": one_out,
+    "over UDP, sixteen at once": sixteen_datagrams,
+    "over TCP, sixteen at once": sixteen_at_once,
+    "over TCP, one on each of sixteen connections": on_sixteen,
+}
 
 if __name__ == "__main__":
     main()

@@ -171,7 +171,7 @@ END
 
 # The calls of the system by which changes are kept and answered: at the first change a file reaches the disk and takes the
 # place of the one before, then lines that are added to it reach the disk, and then the reply goes out. Of calls that change
-# nothing there is the reply alone.
+# nothing there is the reply alone. The lines of changes that come at once reach the disk at once, before the first reply.
 run_keep_before_reply() {
     local file=$work/rows-traced traced=$program program=$work/tracing
     if ! strace -D -o /dev/null true 2> /dev/null; then
@@ -189,9 +189,11 @@ tcp 127.0.0.1 2 getport 200001 1 tcp: 2049
 udp 127.0.0.1 4 unset 200001 1: 1
 END
     judge $? "a daemon whose calls are traced"
+    sets_at_once 1001 1002 1003 1004 1005
+    judge $? "five changes at once"
     stop_daemon
     sed -nE '/"(datagram|rpcbind:) /d; s/^(fdatasync|rename|write|send).*/\1/p' "$work/trace" | sed 's/^write$/send/' > "$work/order"
-    printf '%s\n' fdatasync rename send send fdatasync send send fdatasync send > "$work/wanted"
+    printf '%s\n' fdatasync rename send send fdatasync send send fdatasync send fdatasync send send send send send > "$work/wanted"
     same "$work/wanted" "$work/order" "calls of the system"
     judge $? "a change is kept before its reply goes out"
 }
@@ -439,6 +441,27 @@ run_keep_of_long_files() {
     refuses "more bytes than are read" 'too long'
 }
 
+# The processor time of the daemon so far, in nanoseconds.
+time_used() {
+    cut -d ' ' -f 1 "/proc/$daemon/schedstat"
+}
+
+# KEEP-15
+# The longest journal of 4,000 rows is read in less than four times the time of their lines alone.
+run_keep_of_a_long_journal() {
+    local file=$work/rows-journal change='datagram 0 127.0.0.1:0 (xid=0 4' short
+    seq 300001 304000 | sed 's/$/ 1 tcp 127.0.0.1.8.1 superuser/' > "$work/rows-1"
+    printf '%s\n' "$change set 200001 1 udp 127.0.0.1.8.1)" "$change unset 200001 1 udp)" | tests/row.py --bare > "$work/pair"
+    lines_for "$work/rows-1" > "$file"
+    start_keeper --rows 4096 && short=$(time_used) && stop_daemon
+    for _ in {1..2032}; do cat "$work/pair"; done >> "$file"
+    start_keeper --rows 4096 && [ "$(wc -l < "$file")" -eq 8064 ] && [ "$(time_used)" -lt $((4 * short)) ]
+    judge $? "a start with 4,000 rows in 8,064 lines"
+    lists_all "$work/rows-1" && said_is /dev/null
+    judge $? "they are there after it"
+    stop_daemon
+}
+
 # FILE-2
 # A file that is no plain file, or that another user than root and the daemon's own may have written.
 run_keep_in_the_way() {
@@ -487,6 +510,11 @@ sets_all() {
     for program in "$@"; do echo "udp 127.0.0.1 4 set $program 1 tcp 127.0.0.1.8.1: 1"; done | answers_are
 }
 
+# The same, so that they come to the daemon at once.
+sets_at_once() {
+    AT_ONCE=$daemon sets_all "$@"
+}
+
 unsets_all() {
     local program
     for program in "$@"; do echo "udp 127.0.0.1 4 unset $program 1: 1"; done | answers_are
@@ -512,7 +540,7 @@ run_keep_without_room() {
     sets_all 1001 1002 1003 1004 1005 && said_is /dev/null && keeps "$work/rows-1"
     judge $? "five rows have room"
     fails_by 'File too large (os error 27)' > "$work/wanted-said"
-    sets_all 1006 1007 1008 && said_is "$work/wanted-said" && keeps "$work/rows-1"
+    sets_at_once 1006 1007 1008 && said_is "$work/wanted-said" && keeps "$work/rows-1"
     judge $? "a file without room for eight rows is said once, and stays"
     rows_of 1001 1002 1003 1004 1005 1006 1007 1008 > "$work/rows-2"
     lists "$work/rows-2"
@@ -523,8 +551,8 @@ run_keep_without_room() {
     sets_all 1009 1010 && said_is "$work/wanted-said" && keeps "$work/rows-1"
     judge $? "it is said again behind a write that went well"
     if command -v prlimit > /dev/null; then
-        prlimit --pid "$daemon" --fsize=unlimited && sets_all 1011
-        rows_of 1004 1005 1006 1007 1008 1009 1010 1011 > "$work/rows-1"
+        prlimit --pid "$daemon" --fsize=unlimited && sets_at_once 1011 1012 1013
+        rows_of 1004 1005 1006 1007 1008 1009 1010 1011 1012 1013 > "$work/rows-1"
         goes_well >> "$work/wanted-said"
         keeps "$work/rows-1" && said_is "$work/wanted-said"
         judge $? "rows are kept once there is room"
@@ -618,11 +646,11 @@ keep_on_full_device() {
     start_keeper && sets_all 1001 && rows_of 1001 > "$work/rows-1" && keeps "$work/rows-1" || bad=1
     cat /dev/zero > "$work/device/filler" 2> /dev/null
     fails_by 'No space left on device (os error 28)' > "$work/wanted-said"
-    sets_all $(seq 1002 1040) && said_is "$work/wanted-said" || bad=1
+    sets_all $(seq 1002 1020) && sets_at_once $(seq 1021 1040) && said_is "$work/wanted-said" || bad=1
     rows_of $(seq 1001 1040) | head -n "$(tests/kept.py "$file" | wc -l)" > "$work/rows-1" && keeps "$work/rows-1" || bad=1
     rm "$work/device/filler"
     goes_well >> "$work/wanted-said"
-    sets_all 1041 && rows_of $(seq 1001 1041) > "$work/rows-1" && keeps "$work/rows-1" && said_is "$work/wanted-said" || bad=1
+    sets_at_once $(seq 1041 1056) && rows_of $(seq 1001 1056) > "$work/rows-1" && keeps "$work/rows-1" && said_is "$work/wanted-said" || bad=1
     stop_daemon
     return $bad
 }
@@ -720,5 +748,5 @@ run_writes_of_kept_rows_that_fail() {
     run_keep_on_full_device
 }
 
-checks+=(run_keep_of_most_rows run_refused_files_of_kept_rows run_files_of_kept_rows run_kept_rows
+checks+=(run_keep_of_most_rows run_keep_of_a_long_journal run_refused_files_of_kept_rows run_files_of_kept_rows run_kept_rows
     run_writes_of_kept_rows_that_fail run_keep_check)

@@ -1,7 +1,8 @@
 """A daemon that keeps its rows, killed again and again under a load of SETs and UNSETs over TCP and UDP, and started
 with the same file. After each start every change is there that was answered TRUE, no row is there that was never set, and
-each whole line of the file that the kill left sets or removes a row by a replay, which leaves the rows that are listed. At
-the last kill the file is also cut at each byte of its last line: what is left of that line counts for nothing.
+each whole line of the file that the kill left sets or removes a row by a replay, which leaves the rows that are listed.
+Changes of many clients come at once, and so their lines are added together. After the last kill 16 more are, and the file
+is cut at each byte of its last line, and within each of these: what is left of a line counts for nothing.
 
 Every second kill comes at the moment of an answer. A call whose reply did not come may be done or not; of several that a
 client sent in a row the first ones are done.
@@ -24,6 +25,9 @@ from kept import lines_left
 from row import Encoder
 
 KILLS = 40
+
+# how many changes come together at the end
+AT_ONCE = 16
 
 # how long a load goes on before the kill, in seconds, once each client was answered, and how many changes a client makes in
 # it at most
@@ -272,18 +276,32 @@ def kept_rows(path):
     return [kept_row(line) for line in lines_left(text)]
 
 
-def torn_ends(path, options):
-    """Starts daemons with the file cut at each byte of its last line: they have the rows of the lines before it."""
+def add_together(count):
+    """Has a change come on a connection, for which the file is made anew, and then so many at once, and waits for their replies:
+    their lines are the last of the file."""
+    encoder = Encoder()
+    calls = [encoder.bytes_of(f"4 set {FIRST - 1 - i} 1 udp {LOOPBACK}.8.1".split()) for i in range(1 + count)]
+    with connect(LOOPBACK, LOOPBACK, wait=LONGEST) as stream:
+        for part in (calls[:1], calls[1:]):
+            stream.sendall(b"".join(map(record, part)))
+            for call in part:
+                if read_all(stream, 4 + 28)[4:] != call[:4] + success(0)[4:] + TRUE:
+                    raise Unpassed("one of the last changes was not answered TRUE")
+
+
+def torn_ends(path, options, count):
+    """Starts daemons with the file cut within each of its last lines, and at each byte of the last one: they have the rows
+    of the lines before the cut."""
     text = whole_text(path)
-    last = text.rfind("\n", 0, -1) + 1
-    for end in range(last, len(text)):
+    begins = [0, *(found.end() for found in re.finditer("\n", text))][-count - 1 :]
+    for end in [*(begin + 60 for begin in begins[:-2]), *range(begins[-2], begins[-1])]:
         with open(path, "w", newline="") as file:
             file.write(text[:end])
-        wanted = [kept_row(line) for line in lines_left(text[:last])]
+        wanted = [kept_row(line) for line in lines_left(text[:end])]
         daemon = Daemon([LOOPBACK], options)
         try:
             if listed_rows() != wanted:
-                raise Unpassed(f"cut {end - last} bytes behind the last line's beginning it has other rows")
+                raise Unpassed(f"cut at byte {end} it has other rows")
         finally:
             daemon.end()
 
@@ -365,8 +383,9 @@ def kills_40(clients, path, counts):
                 compare(clients, path, counts)
             except Unpassed as fault:
                 raise Unpassed(f"kill {number}: {fault}") from fault
+        add_together(AT_ONCE)
         daemon.end()
-        torn_ends(path, options)
+        torn_ends(path, options, AT_ONCE)
     finally:
         daemon.end()
         counts.answered = sum(client.answered for client in clients)
@@ -380,7 +399,8 @@ def run_kills(names):
     name = kills_40.__name__
     if names and name not in names:
         return []
-    clients = [Client(i, *kind) for i, kind in enumerate([(True, 1), (True, 16), (False, 1), (False, 4)])]
+    kinds = [(True, 1)] * 6 + [(True, 16)] * 2 + [(False, 1)] * 6 + [(False, 4), (False, 16)]
+    clients = [Client(i, *kind) for i, kind in enumerate(kinds)]
     counts, fault = Counts(), ""
     with tempfile.TemporaryDirectory() as folder:
         try:

@@ -6,3 +6,5 @@ pub mod Rooms
 pub mod ServedRecords
 pub mod Rows
 pub mod Sendings
+pub mod Postings
+pub mod Takings

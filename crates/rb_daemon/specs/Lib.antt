@@ -7,4 +7,5 @@ pub mod Keeping
 pub mod Sending
 pub mod Links
 pub mod LogRates
+pub mod Waiting
 pub mod Logs

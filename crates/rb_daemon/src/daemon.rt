@@ -5,8 +5,9 @@ ghost use Rattle.rb_daemon.specs.Served.{has_good_limits};
 use crate::engine::Engine;
 use crate::keeping::{KeepNews, Keeper};
 use crate::load::Load;
+use crate::room::Room;
 use crate::secrets::{brake_of, draw, first_xid};
-use crate::serving::{Room, Serving};
+use crate::serving::Serving;
 use crate::waiting::{EVENTS, Waiting};
 use mio::Registry;
 use rb_lines::bad_limit;
@@ -118,9 +119,10 @@ impl<'a, R: Clock, H: Files> Daemon<'a, R, H> {
     /// Waits for events once, until the next deadline or for `longest` milliseconds, whichever is sooner, without an
     /// end if there is neither, and not at all if something is left from the last turn. Then it serves all that the
     /// wait showed, in this order: datagrams, what comes back for forwarded calls, connections, those that are owed
-    /// bytes last, and what is due, unless the turn is behind: then the next one does not wait. It closes Lost
-    /// connections, and accepts connections as far as there are free places. If calls over TCP from this host wait until it
-    /// is known whose they are, it reads a slice of the kernel's tables, which are files of `host`. A wait that fails is as
+    /// bytes last. What they changed is kept, and the replies that waited for that go out. Then it ends what is due, unless
+    /// the turn is behind: then the next one does not wait. It closes Lost connections, and accepts connections as far as
+    /// there are free places. If calls over TCP from this host wait until it is known whose they are, it reads a slice of the
+    /// kernel's tables, which are files of `host`. A wait that fails is as
     /// one that showed nothing, after a pause. After a fault, `Socket` of many waits that failed one after another or of the
     /// clock, what was handed to the core stands, and the daemon can do no more.
     pub fn turn(&mut self, host: &H, longest: Option<u64>) -> Result<(), DaemonFault> {
@@ -139,12 +141,13 @@ impl<'a, R: Clock, H: Files> Daemon<'a, R, H> {
             self.serving.note_ready(event);
         }
         self.serving.answer_calls(host);
-        self.serving.take_forward_replies();
+        self.serving.take_forward_replies(host);
         for event in &self.waiting.events {
             self.serving.serve(host, event);
         }
         self.serving.serve_left(host);
-        self.serving.expire(deadline, is_fresh, shown, EVENTS);
+        self.serving.answer_changes(host);
+        self.serving.expire(host, deadline, is_fresh, shown, EVENTS);
         self.serving.close_lost();
         self.serving.accept_all(host, self.waiting.registry());
         self.serving

@@ -1,31 +1,37 @@
-//! What is done about a datagram with a call: what it changed is kept, and then its reply goes out.
+//! What is done about a datagram with a call: what it changed is gathered, and its reply goes out or waits.
 ghost use Rattle.std.specs.Prelude.{◌≡◌};
+ghost use Rattle.rb_connections.specs.Slots.{Shows};
 ghost use Rattle.rb_model.specs.Step.{datagram};
-ghost use Rattle.rb_daemon.specs.Moves.{HandsNow, ShowsNow};
+ghost use Rattle.rb_core.specs.StandsFor.{StandsFor};
+ghost use Rattle.rb_daemon.specs.Moves.{ShowsNow};
 ghost use Rattle.rb_daemon.specs.Sending.{answer_sent, ways_answered};
+ghost use Rattle.rb_daemon.specs.Served.{change_count};
+ghost use Rattle.rb_daemon.specs.Waiting.{PostsNow, PostsReply, waiting};
 
 use crate::callers::Asked;
 use crate::engine::{Answer, Engine};
-use crate::keeping::Keeper;
+use crate::held::Replies;
+use crate::keeping::{Keeper, Kept};
 use rb_policy::WaysBack;
 use rb_sockets::Datagrams;
 use std::fs::Files;
 
-/// Answers a datagram: what it changed is kept first. A call that is forwarded is sent at once, and the socket on which it
-/// came is noted.
+/// Answers a datagram: its reply goes out, or waits until what changed is kept. A call that is forwarded is sent at once, and
+/// the socket on which it came is noted.
 pub(crate) fn answer_call<H: Files, S: Datagrams>(
     host: &H,
     engine: &mut Engine,
     keeper: &mut Keeper<H>,
+    replies: &mut Replies,
     sockets: &mut S,
     ways: &mut WaysBack,
     asked: Asked,
     content: &[u8],
 )
-    ensures sent { HandsNow S.sends
+    ensures sent { PostsNow S.sends
         (λ s now. answer_sent asked.socket asked.caller.who.source
         (datagram s now asked.caller.who content.now))
-        engine.old sockets.old sockets.new }
+        engine.old replies.old replies.new sockets.old sockets.new }
     ensures ways { ShowsNow
         (λ s now. ways_answered asked.socket ways.old
         (datagram s now asked.caller.who content.now))
@@ -33,11 +39,9 @@ pub(crate) fn answer_call<H: Files, S: Datagrams>(
 {
     let answer = engine.answer(asked.caller, content);
     engine.tell_call();
+    keeper.gather(host, engine);
     match answer {
-        Answer::Reply => {
-            let kept = keeper.keep(host, engine);
-            engine.reply(asked, sockets, kept);
-        }
+        Answer::Reply => reply(host, engine, keeper, replies, sockets, asked),
         Answer::Forwarded => {
             if let Some(number) = engine.send_forward(sockets) {
                 ways.note(number, asked.socket);
@@ -45,4 +49,46 @@ pub(crate) fn answer_call<H: Files, S: Datagrams>(
         }
         Answer::Nothing => {}
     }
+}
+
+/// Sends the reply to the last datagram, or has it wait until all changes are kept. If it can't wait, they are kept at once.
+fn reply<H: Files, S: Datagrams>(
+    host: &H,
+    engine: &mut Engine,
+    keeper: &mut Keeper<H>,
+    replies: &mut Replies,
+    sockets: &mut S,
+    asked: Asked,
+)
+    ensures { PostsReply S.sends
+        (waiting asked.socket asked.caller.who.source engine.old.core.core.reply)
+        replies.old replies.new sockets.old sockets.new }
+{
+    match keeper.kept(engine) {
+        Some(kept) => send_now(engine, replies, sockets, asked, kept),
+        None => {
+            if !engine.hold_reply(asked, replies) {
+                let kept = keeper.keep(host, engine);
+                send_now(engine, replies, sockets, asked, kept);
+            }
+        }
+    }
+}
+
+// KEEP-16
+/// Sends what waits, and then the reply to the last datagram, once all changes were kept.
+fn send_now<S: Datagrams>(
+    engine: &mut Engine,
+    replies: &mut Replies,
+    sockets: &mut S,
+    asked: Asked,
+    kept: Kept,
+)
+    requires { Shows StandsFor change_count engine.old.core.core kept.changes }
+    ensures { PostsReply S.sends
+        (waiting asked.socket asked.caller.who.source engine.old.core.core.reply)
+        replies.old replies.new sockets.old sockets.new }
+{
+    replies.send(engine, sockets, kept);
+    engine.reply(asked, sockets, kept);
 }

@@ -14,6 +14,7 @@ ghost use Rattle.rb_daemon.specs.Sending.{reply_told, ways_told};
 ghost use Rattle.rb_daemon.specs.Served.{IsServed, ready_of};
 
 use crate::callers::{Asked, Caller, Sender};
+use crate::held::Replies;
 use crate::keeping::Kept;
 use crate::log::Log;
 use crate::showing::{
@@ -168,7 +169,7 @@ fn count_fits(bytes: &[u8])
 }
 
 impl Engine {
-    ghost use Rattle.std.specs.Prelude.{◌≡◌, ◌≤◌, ◌↔◌, [], ◌∷◌, false, IsTrue, IsErrOf, length, not, IfOk, OnOk, OnErr};
+    ghost use Rattle.std.specs.Prelude.{◌≡◌, ◌≤◌, ◌↔◌, [], ◌∷◌, ◌++◌, false, IsTrue, IsErrOf, length, not, IfOk, OnOk, OnErr};
     ghost use Rattle.rb_lines.specs.Printing.{Writes};
     ghost use Rattle.rb_lines.specs.Tapes.{all_written, unwritten};
     ghost use Rattle.rb_model.specs.Step.Event.{Open, Closed, NextLost, Datagram, Forward, Expire, ZeroStats};
@@ -189,6 +190,7 @@ impl Engine {
     ghost use Rattle.rb_model.specs.Step.{unsent_call};
     ghost use Rattle.rb_model.specs.Ending.{forward_reply, expire};
     ghost use Rattle.rb_daemon.specs.Sending.{reply_after, ways_after, reply_due, ways_due, call_sent};
+    ghost use Rattle.rb_daemon.specs.Waiting.{waiting};
     ghost use Rattle.rb_daemon.specs.Logs.{next_line};
 
     /// A new core at this moment, which is the first, and whose first forwarded call has this xid. Up to `record_limit` bytes of its events are recorded, and `logged` says of what the log has lines. `BadLimits`
@@ -421,6 +423,20 @@ impl Engine {
         sockets.reply(asked.socket, asked.caller.who.source, reply);
     }
 
+    /// Has the reply to the last datagram wait, to who asked by it, if there is room for it. Returns whether it waits.
+    pub(crate) fn hold_reply(&mut self, asked: Asked, replies: &mut Replies) -> bool
+        ensures waits { IsTrue result
+            → replies.new ≡ replies.old
+            ++ waiting asked.socket asked.caller.who.source self.old.core.core.reply ∷ [] }
+        ensures full { result ≡ false → replies.new ≡ replies.old }
+        ensures core { OnlyBegins self.old.core.core self.new.core.core }
+        ensures tape { self.new.tape ≡ self.old.tape }
+        ensures moment { self.new.moment ≡ self.old.moment }
+    {
+        let reply = self.core.udp_reply();
+        replies.hold(asked.socket, asked.caller.who.source, reply)
+    }
+
     /// Sets a row again that was kept, as its owner's SET of version 4 from this machine does. Returns whether it is set.
     pub(crate) fn restore(&mut self, row: &Row) -> bool
         ensures acts { ActsNow (set_again row.now) self.old self.new result }
@@ -501,14 +517,18 @@ impl Engine {
         write_change(&mut self.core, owners, prog, vers, writer)
     }
 
-    /// Takes a datagram in that came where forwarded calls are sent from. The answer is the connection that goes on.
+    // KEEP-16
+    /// Takes a datagram in that came where forwarded calls are sent from, once all changes were kept. The answer is the
+    /// connection that goes on.
     pub(crate) fn take_forward_reply<S: Datagrams>(
         &mut self,
         sender: Sender,
         content: &[u8],
         sockets: &mut S,
         ways: &mut WaysBack,
+        kept: Kept,
     ) -> Option<u64>
+        requires { Shows StandsFor change_count self.old.core.core kept.changes }
         ensures sent { HandsNow S.sends
             (λ s now. reply_after ways.old.all (forward_reply s now sender.peer content.now))
             self.old sockets.old sockets.new }
@@ -529,8 +549,15 @@ impl Engine {
         tell(&mut self.core, &mut self.tape, &event, told, sockets, ways)
     }
 
-    /// Ends what is due first.
-    pub(crate) fn expire<S: Datagrams>(&mut self, sockets: &mut S, ways: &mut WaysBack) -> Due
+    // KEEP-16
+    /// Ends what is due first, once all changes were kept.
+    pub(crate) fn expire<S: Datagrams>(
+        &mut self,
+        sockets: &mut S,
+        ways: &mut WaysBack,
+        kept: Kept,
+    ) -> Due
+        requires { Shows StandsFor change_count self.old.core.core kept.changes }
         ensures sent { HandsNow S.sends
             (λ s now. reply_due ways.old.all (expire s now)) self.old sockets.old sockets.new }
         ensures ways { ShowsNow (λ s now. ways_due ways.old (expire s now)) self.old ways.new }

@@ -1,10 +1,11 @@
 //! The rows that were set are kept in a file: all of them, and then the lines of each change.
-ghost use Rattle.std.specs.Prelude.{◌≡◌, OnOk};
+ghost use Rattle.std.specs.Prelude.{◌≡◌, ◌≢◌, nat_le, [], true, IsTrue, IfSome, OnOk};
 ghost use Rattle.rb_connections.specs.Slots.{Shows};
 ghost use Rattle.rb_core.specs.StandsFor.{StandsFor};
 ghost use Rattle.rb_keep.specs.Writing.{NotesOwners};
 ghost use Rattle.rb_daemon.specs.Served.{change_count};
-ghost use Rattle.rb_daemon.specs.Keeping.{AreLinesOfRows, AddsLinesOf, HandsIn, SameEngine};
+ghost use Rattle.rb_files.specs.Kept.{Grows, WasWritten};
+ghost use Rattle.rb_daemon.specs.Keeping.{AreLinesOfRows, AddsLines, AddsLinesOf, Notes, lines_next, most_changes, Takes, Writes, Keeps, SameEngine};
 
 use crate::engine::Engine;
 use rb_files::{AppendFault, KeptFile};
@@ -94,20 +95,50 @@ impl<H: Files> Journal<H> {
             engine.old.core.core prog vers self.old.owners self.old.text.items self.new.text.items) }
         ensures owners { OnOk result
             (NotesOwners engine.old.core.core prog vers self.old.owners self.new.owners) }
+        ensures file { self.new.file.placed ≡ self.old.file.placed }
         ensures engine { SameEngine engine.old engine.new }
     {
         engine.write_change(&mut self.owners, prog, vers, &mut self.text)
     }
 
     /// Nothing is written next so far.
-    fn begin(&mut self) {
+    fn begin(&mut self)
+        ensures text { self.new.text.items ≡ [] }
+        ensures owners { self.new.owners ≡ self.old.owners }
+        ensures file { self.new.file.placed ≡ self.old.file.placed }
+    {
         self.text.clear();
         self.changes = 0;
         self.is_long = false;
     }
 
+    /// Whether there is no room for the lines of another change.
+    fn is_full(&self) -> bool
+        ensures { result ≡ nat_le most_changes self.now.changes }
+    {
+        self.changes >= MOST_CHANGES
+    }
+
+    /// The lines that are written next begin anew after a write, and if there are too many.
+    fn make_room(&mut self)
+        ensures text { self.new.text.items ≡ lines_next self.old.changes self.old.text.items }
+        ensures owners { self.new.owners ≡ self.old.owners }
+        ensures file { self.new.file.placed ≡ self.old.file.placed }
+    {
+        if self.is_full() {
+            self.begin();
+            self.is_long = true;
+        } else if self.changes == 0 {
+            self.text.clear();
+        }
+    }
+
     /// Notes the change that the last call of the engine made: its lines are written next. Returns whether there are some.
     fn note_next(&mut self, engine: &mut Engine) -> bool
+        ensures lines { IsTrue result
+            → AddsLines engine.old.core.core self.old.owners self.new.owners
+            (lines_next self.old.changes self.old.text.items) self.new.text.items }
+        ensures file { self.new.file.placed ≡ self.old.file.placed }
         ensures engine { SameEngine engine.old engine.new }
     {
         let Some((prog, vers)) = engine.changed() else {
@@ -116,20 +147,23 @@ impl<H: Files> Journal<H> {
         if prog == RPCB_PROG {
             return false;
         }
-        if self.changes == 0 {
-            self.text.clear();
-        }
-        if self.changes >= MOST_CHANGES {
-            self.begin();
-            self.is_long = true;
-        }
+        self.make_room();
         self.changes = self.changes.saturating_add(1);
-        let before = self.text.len();
-        self.gather(engine, prog, vers).is_ok() && before < self.text.len()
+        let before = self.text.as_slice().len();
+        match self.gather(engine, prog, vers) {
+            Ok(()) => before < self.text.as_slice().len(),
+            Err(_) => false,
+        }
     }
 
+    // KEEP-19: The lines of each change stand behind those of the changes before it that are not written yet.
     /// Notes the change that was made since the last one was noted, if there was one.
     fn note(&mut self, engine: &mut Engine)
+        ensures lines { IsTrue self.new.is_known
+            → Notes engine.old.core.core self.old.noted self.old.owners self.new.owners
+            self.old.changes self.old.text.items self.new.text.items }
+        ensures noted { Shows StandsFor change_count engine.old.core.core self.new.noted }
+        ensures file { self.new.file.placed ≡ self.old.file.placed }
         ensures engine { SameEngine engine.old engine.new }
     {
         let changes = engine.changes();
@@ -137,13 +171,15 @@ impl<H: Files> Journal<H> {
             return;
         }
         let is_next = self.noted.checked_add(1) == Some(changes);
-        self.noted = changes;
         self.is_known = self.is_known && is_next && self.note_next(engine);
+        self.noted = changes;
     }
 
     /// Writes all rows anew.
     fn replace(&mut self, host: &H, engine: &mut Engine) -> io::Result<()>
         ensures lines { OnOk result (AreLinesOfRows engine.old.core.core self.new.text.items) }
+        ensures taken { OnOk result (WasWritten self.new.file.placed
+            (λ placed. placed.file) H.File.contents self.new.text.items) }
         ensures failed { OnErr result (self.new.file.placed ≡ None) }
         ensures engine { SameEngine engine.old engine.new }
     {
@@ -155,9 +191,11 @@ impl<H: Files> Journal<H> {
     }
 
     // KEEP-15: All kept rows are written anew at the first change after a start, after a failed write, and
-    // when the lines would be more than twice the rows and 64 more, or over 64 changes came at once.
+    // when the lines would be more than twice the rows and 64 more.
     /// Whether the lines that were gathered may be added.
-    fn may_add(&self) -> bool {
+    fn may_add(&self) -> bool
+        ensures { IsTrue result → IsTrue self.now.is_known }
+    {
         let lines = self.lines.saturating_add(count_lines(&self.text));
         self.is_known
             && !self.is_long
@@ -167,7 +205,8 @@ impl<H: Files> Journal<H> {
 
     /// Adds the lines that were gathered.
     fn add(&mut self, host: &H) -> Result<(), AppendFault>
-        ensures lines { self.new.text.items ≡ self.old.text.items }
+        ensures taken { OnOk result (Grows self.old.file.placed self.new.file.placed
+            (λ placed. placed.file) H.File.contents self.old.text.items) }
         ensures failed { OnErr result (self.new.file.placed ≡ None) }
     {
         self.file.append(host, self.text.as_slice())?;
@@ -178,8 +217,9 @@ impl<H: Files> Journal<H> {
     /// Brings the file up to the rows of the core: the lines that were gathered are added, or all rows are written anew.
     /// Returns whether another file was found in its place. After an error all rows are written anew.
     fn keep(&mut self, host: &H, engine: &mut Engine) -> io::Result<bool>
-        ensures lines { OnOk result
-            (HandsIn engine.old.core.core self.old.text.items self.new.text.items) }
+        ensures taken { OnOk result (Takes
+            engine.old.core.core self.old.is_known self.old.text.items
+            self.old.file.placed self.new.file.placed (λ placed. placed.file) H.File.contents) }
         ensures failed { OnErr result (self.new.file.placed ≡ None) }
         ensures engine { SameEngine engine.old engine.new }
     {
@@ -193,6 +233,21 @@ impl<H: Files> Journal<H> {
         }
         self.replace(host, engine)?;
         Ok(is_another)
+    }
+
+    /// Notes the change that was made since the last one was noted, if there was one, and brings the file up to the rows of the
+    /// core. Returns whether another file was found in its place.
+    fn write(&mut self, host: &H, engine: &mut Engine) -> io::Result<bool>
+        ensures written { OnOk result (Writes engine.old.core.core
+            self.old.noted self.old.owners self.old.changes self.old.text.items
+            self.old.file.placed self.new.file.placed (λ placed. placed.file) H.File.contents) }
+        ensures engine { SameEngine engine.old engine.new }
+    {
+        self.note(engine);
+        let done = self.keep(host, engine);
+        self.changes = 0;
+        self.is_long = false;
+        done
     }
 }
 
@@ -228,6 +283,19 @@ impl<H: Files> Keeper<H> {
         })
     }
 
+    /// That all changes of the core are taken up, if they are: none waits to be written.
+    pub(crate) fn kept(&self, engine: &Engine) -> Option<Kept>
+        ensures { IfSome result
+            (λ kept. Shows StandsFor change_count engine.now.core.core kept.changes) }
+    {
+        let changes = engine.changes();
+        if self.journal.is_none() || changes == self.changes {
+            Some(Kept { changes })
+        } else {
+            None
+        }
+    }
+
     /// The file has what was noted so far.
     pub(crate) fn begin(&mut self, engine: &Engine) {
         self.changes = engine.changes();
@@ -245,10 +313,30 @@ impl<H: Files> Keeper<H> {
         }
     }
 
+    /// Notes what the last call of the engine changed, so that its lines are written with those of the other changes; at
+    /// once, if there is no room for another.
+    pub(crate) fn gather(&mut self, host: &H, engine: &mut Engine)
+        ensures engine { SameEngine engine.old engine.new }
+    {
+        self.note(engine);
+        if self
+            .journal
+            .as_ref()
+            .is_some_and(|journal| journal.is_full())
+        {
+            self.keep(host, engine);
+        }
+    }
+
     /// Adds the lines of the changes that were accepted since the file was last written, or writes it anew. If that
     /// fails, the next change tries again. All changes of the core are taken up then.
     pub(crate) fn keep(&mut self, host: &H, engine: &mut Engine) -> Kept
-        ensures kept { Shows StandsFor change_count engine.new.core.core result.changes }
+        ensures changes { Shows StandsFor change_count engine.new.core.core result.changes }
+        ensures kept { result.changes ≢ self.old.changes
+            → Keeps self.old.journal self.new.journal self.new.has_failed
+            (λ old new. Writes engine.old.core.core
+            old.noted old.owners old.changes old.text.items
+            old.file.placed new.file.placed (λ placed. placed.file) H.File.contents) }
         ensures engine { SameEngine engine.old engine.new }
     {
         let changes = engine.changes();
@@ -260,23 +348,25 @@ impl<H: Files> Keeper<H> {
     }
 
     fn write(&mut self, host: &H, engine: &mut Engine)
+        ensures kept { Keeps self.old.journal self.new.journal self.new.has_failed
+            (λ old new. Writes engine.old.core.core
+            old.noted old.owners old.changes old.text.items
+            old.file.placed new.file.placed (λ placed. placed.file) H.File.contents) }
         ensures engine { SameEngine engine.old engine.new }
     {
         let Some(journal) = &mut self.journal else {
             return;
         };
-        journal.note(engine);
-        let done = journal.keep(host, engine);
-        journal.changes = 0;
-        journal.is_long = false;
-        match done {
+        match journal.write(host, engine) {
             Ok(is_another) => self.note_written(is_another),
             Err(error) => self.note_failure(error),
         }
     }
 
     /// A write went well. That must be told once after a failure that was told.
-    fn note_written(&mut self, is_another: bool) {
+    fn note_written(&mut self, is_another: bool)
+        ensures { self.new.journal ≡ self.old.journal }
+    {
         if self.has_failed {
             self.news = match self.news.take() {
                 Some(_) => None,
@@ -289,7 +379,9 @@ impl<H: Files> Keeper<H> {
     }
 
     /// A write failed. The first one after a write that went well must be told.
-    fn note_failure(&mut self, error: io::Error) {
+    fn note_failure(&mut self, error: io::Error)
+        ensures { self.new.has_failed ≡ true }
+    {
         if !self.has_failed {
             self.news = Some(KeepNews::Failed(error));
         }

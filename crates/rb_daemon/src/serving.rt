@@ -4,10 +4,12 @@ ghost use Rattle.std.specs.Prelude.{◌≤◌, length};
 use crate::callers::{Asked, Sender};
 use crate::datagrams::answer_call;
 use crate::engine::{Due, Engine};
+use crate::held::{Held, HeldLink};
 use crate::keeping::{KeepNews, Keeper};
 use crate::load::Load;
 use crate::opening::{close_at, open_again, open_at};
-use crate::steps::{Progress, serve};
+use crate::room::Room;
+use crate::steps::{Progress, serve, serve_kept};
 use mio::Registry;
 use mio::event::Event;
 use rb_address::{Family, Network, Peer, Source, Who};
@@ -22,14 +24,11 @@ use rb_sockets::{
     AddressNews, Arrival, Asker, Follower, Shown, Slice, SocketFault, Sockets, Step, Stream, Table,
     TableFault, Visitor,
 };
-use std::alloc::{AllocError, Global};
+use std::alloc::AllocError;
 use std::fs::Files;
 use std::io;
 use std::io::Write;
 use std::net::Net;
-
-/// The longest datagram.
-const LONGEST_DATAGRAM: usize = 65_536;
 
 /// The most datagrams of one socket in a turn: each is a socket call, and a reply to it is another.
 const DATAGRAMS: usize = SOCKET_CALLS / 2;
@@ -53,6 +52,8 @@ pub(crate) struct Serving<H: Files> {
     datagram: Vec<u8>,
     /// On which sockets the calls came that were forwarded.
     ways_back: WaysBack,
+    /// What waits until the changes of the turn are kept.
+    held: Held,
     /// What drops datagrams of strangers that come too often, if that is asked for.
     brake: Option<Brake>,
     /// The kernel's tables of connections, which show whose those from this host are.
@@ -70,51 +71,6 @@ pub(crate) struct Serving<H: Files> {
     /// The first fault of a table, until it is told, and whether there was one.
     table_fault: Option<TableFault>,
     has_table_failed: bool,
-}
-
-/// The memory with which connections and datagrams are served, and whom.
-#[derive(Drop)]
-pub(crate) struct Room<H: Files> {
-    /// The networks whose hosts may ask.
-    networks: Vec<Network>,
-    places: Places,
-    sources: Vec<Source>,
-    datagram: Vec<u8>,
-    ways_back: WaysBack,
-    table: Table<H>,
-}
-
-impl<H: Files> Room<H> {
-    /// For hosts of these networks, with this many places for connections and forwarded calls, and with room for a slice of
-    /// the kernel's tables if they are read. An error if an allocation is refused.
-    pub(crate) fn new(
-        alloc: Global,
-        networks: &[Network],
-        places: usize,
-        forwards: usize,
-        are_tables_read: bool,
-    ) -> Result<Room<H>, AllocError> {
-        let networks = networks.to_vec(alloc)?;
-        let datagram = filled(alloc, LONGEST_DATAGRAM, 0)?;
-        let ways_back = WaysBack::new(alloc, forwards)?;
-        let sources = filled(alloc, places, Source::Local)?;
-        let table = Table::new(alloc, are_tables_read)?;
-        Ok(Room {
-            networks,
-            places: Places::new(alloc, places)?,
-            sources,
-            datagram,
-            ways_back,
-            table,
-        })
-    }
-}
-
-/// So many times the same value. An error if the allocation is refused.
-fn filled<T: Copy>(alloc: Global, count: usize, value: T) -> Result<Vec<T>, AllocError> {
-    let mut values = Vec::with_capacity(alloc, count)?;
-    values.resize(count, value)?;
-    Ok(values)
 }
 
 /// Whether a datagram of this caller is served that came at this moment: each one is, if there is no brake.
@@ -147,6 +103,7 @@ impl<H: Files> Serving<H> {
             sources,
             datagram,
             ways_back,
+            held,
             table,
         } = room;
         Serving {
@@ -160,6 +117,7 @@ impl<H: Files> Serving<H> {
             most_due: limits.conns.saturating_add(limits.forwards),
             datagram,
             ways_back,
+            held,
             brake,
             table,
             walk: None,
@@ -296,10 +254,13 @@ impl<H: Files> Serving<H> {
         if !self.places.is_served_by(self.turn, key) {
             return;
         }
+        if self.held.links.is_full() {
+            self.answer_changes(host);
+        }
         let Some(link) = self.places.links.get_mut(key) else {
             return;
         };
-        match serve(
+        let progress = serve(
             host,
             link,
             &mut self.engine,
@@ -308,12 +269,50 @@ impl<H: Files> Serving<H> {
             &mut self.places.long_outbox,
             self.turn,
             may_end,
-        ) {
+        );
+        if let Progress::Unkept(calls) = progress {
+            if self.held.links.hold(key, calls, may_end) {
+                return;
+            }
+        }
+        self.note_served(key, progress);
+    }
+
+    /// A turn has served the connection at a place, which stands so.
+    fn note_served(&mut self, key: usize, progress: Progress) {
+        match progress {
             Progress::Blocked => {}
-            Progress::CutOff => self.places.leave(key),
+            Progress::CutOff | Progress::Unkept(_) => self.places.leave(key),
             Progress::Over => self.close(key),
         }
         self.places.note_served(key);
+    }
+
+    // KEEP-18: What changes in a turn, over UDP, TCP and the local socket, is added to the file by one write, if there is room
+    // for its lines, and the replies that waited for it go out then.
+    /// Keeps what changed in the turn, and then sends the replies that waited for it.
+    pub(crate) fn answer_changes(&mut self, host: &H) {
+        let kept = self.keeper.keep(host, &mut self.engine);
+        self.held
+            .replies
+            .send(&self.engine, &mut self.sockets, kept);
+        for i in 0..self.held.links.count() {
+            if let Some(held) = self.held.links.get(i) {
+                self.go_on(host, held);
+            }
+        }
+        self.held.links.clear();
+    }
+
+    /// Goes on with a connection whose replies waited.
+    fn go_on(&mut self, host: &H, held: HeldLink) {
+        let kept = self.keeper.keep(host, &mut self.engine);
+        let Some(link) = self.places.links.get_mut(held.key) else {
+            return;
+        };
+        let long_outbox = &mut self.places.long_outbox;
+        let progress = serve_kept(link, &self.engine, kept, held, long_outbox, self.turn);
+        self.note_served(held.key, progress);
     }
 
     /// Closes the connection at a place, if there is one.
@@ -385,6 +384,7 @@ impl<H: Files> Serving<H> {
             host,
             &mut self.engine,
             &mut self.keeper,
+            &mut self.held.replies,
             &mut self.sockets,
             &mut self.ways_back,
             asked,
@@ -393,24 +393,24 @@ impl<H: Files> Serving<H> {
     }
 
     /// Takes what comes back for forwarded calls.
-    pub(crate) fn take_forward_replies(&mut self) {
-        self.take_forward_replies_from(Family::Inet);
-        self.take_forward_replies_from(Family::Inet6);
+    pub(crate) fn take_forward_replies(&mut self, host: &H) {
+        self.take_forward_replies_from(host, Family::Inet);
+        self.take_forward_replies_from(host, Family::Inet6);
     }
 
     /// Takes what comes back from targets of a family, if that must be served.
-    fn take_forward_replies_from(&mut self, family: Family) {
+    fn take_forward_replies_from(&mut self, host: &H, family: Family) {
         let forwards = self.sockets.forwards.of(family);
         if !forwards.is_some_and(|forwards| forwards.is_ready()) {
             return;
         }
-        let again = self.take_forward_replies_now(family);
+        let again = self.take_forward_replies_now(host, family);
         if let Some(forwards) = self.sockets.forwards.of_mut(family) {
             forwards.leave(again);
         }
     }
 
-    fn take_forward_replies_now(&mut self, family: Family) -> Again {
+    fn take_forward_replies_now(&mut self, host: &H, family: Family) -> Again {
         let mut got_some = false;
         for _ in 0..DATAGRAMS {
             let Some(forwards) = self.sockets.forwards.of(family) else {
@@ -419,7 +419,7 @@ impl<H: Files> Serving<H> {
             match forwards.socket.receive(&mut self.datagram) {
                 Ok((len, from)) => {
                     got_some = true;
-                    self.take_forward_reply(len, from);
+                    self.take_forward_reply(host, len, from);
                 }
                 Err(error) => {
                     if after_receive(outcome_of(&error)) == Next::AwaitEvent {
@@ -431,18 +431,23 @@ impl<H: Files> Serving<H> {
         after_all_calls(got_some)
     }
 
-    /// Takes the datagram of the first `len` bytes.
-    fn take_forward_reply(&mut self, len: usize, from: Option<Peer>)
+    /// Takes the datagram of the first `len` bytes, once all changes were kept.
+    fn take_forward_reply(&mut self, host: &H, len: usize, from: Option<Peer>)
         requires { len ≤ length self.old.datagram.items }
     {
         let Some(peer) = from else {
             return;
         };
         let sender = Sender::of(peer);
+        let kept = self.keeper.keep(host, &mut self.engine);
         let content = &self.datagram[..len];
-        let ready = self
-            .engine
-            .take_forward_reply(sender, content, &mut self.sockets, &mut self.ways_back);
+        let ready = self.engine.take_forward_reply(
+            sender,
+            content,
+            &mut self.sockets,
+            &mut self.ways_back,
+            kept,
+        );
         if let Some(id) = ready {
             self.places.wake(id);
         }
@@ -455,6 +460,7 @@ impl<H: Files> Serving<H> {
     /// no more than `most`.
     pub(crate) fn expire(
         &mut self,
+        host: &H,
         deadline: Option<u64>,
         is_fresh: bool,
         shown: usize,
@@ -468,7 +474,11 @@ impl<H: Files> Serving<H> {
         }
         self.close_stuck();
         for _ in 0..=self.most_due {
-            match self.engine.expire(&mut self.sockets, &mut self.ways_back) {
+            let kept = self.keeper.keep(host, &mut self.engine);
+            match self
+                .engine
+                .expire(&mut self.sockets, &mut self.ways_back, kept)
+            {
                 Due::Nothing => return,
                 Due::Done => {}
                 Due::Ready(id) => self.places.wake(id),

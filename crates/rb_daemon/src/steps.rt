@@ -1,6 +1,6 @@
 //! What is done with a connection that is ready: bytes go from its socket to the core, and replies from the core to its
 //! socket.
-ghost use Rattle.std.specs.Prelude.{◌≡◌, false};
+ghost use Rattle.std.specs.Prelude.{◌≡◌, length, false};
 ghost use Rattle.rb_connections.specs.Slots.{Shows};
 ghost use Rattle.rb_core.specs.StandsFor.{StandsFor};
 ghost use Rattle.rb_links.specs.Holding.{must_wait};
@@ -8,6 +8,7 @@ ghost use Rattle.rb_daemon.specs.Links.{HandsIn, TakesOver};
 ghost use Rattle.rb_daemon.specs.Served.{change_count};
 
 use crate::engine::Engine;
+use crate::held::HeldLink;
 use crate::keeping::{Keeper, Kept};
 use crate::outbox::{exchange, write_into};
 use rb_core::Standing;
@@ -27,6 +28,8 @@ pub(crate) enum Progress {
     Blocked,
     /// It used up its socket calls, or wrote enough.
     CutOff,
+    /// Its replies wait until what changed is kept. It has made this many socket calls.
+    Unkept(usize),
     /// It must be closed.
     Over,
 }
@@ -51,11 +54,11 @@ pub(crate) fn serve<H: Files, S: Datagrams>(
 }
 
 // TURN-5: A connection on which all 64 socket calls of a turn were interrupted is closed.
-// TURN-4: A socket is served until it would block or is cut off; one that was is served in the next
-// turn, which does not wait.
-/// Calls the core and the socket in turn, until the socket's calls are enough for a turn, or none is left to make: what
-/// changed is kept before what tells it is written. If they were enough and none moved a byte, each was interrupted:
-/// the connection would keep turns from waiting, and is over.
+// TURN-4: A socket is served until it would block or is cut off, or the core must be called for it after
+// its replies waited until changes were kept; then it is served in the next turn, which does not wait.
+/// Calls the core and the socket in turn, until the socket's calls are enough for a turn, or none is left to make, or replies
+/// wait and not all changes are kept. If they were enough and none moved a byte, each was interrupted: the connection would
+/// keep turns from waiting, and is over.
 fn serve_calls<H: Files, S: Datagrams>(
     host: &H,
     link: &mut Link,
@@ -68,23 +71,79 @@ fn serve_calls<H: Files, S: Datagrams>(
         if link.is_cut_off(calls) {
             break;
         }
-        let goes_on = !link.is_for_the_core() || make_exchanges(link, engine, keeper, sockets);
-        let kept = keeper.keep(host, engine);
+        let goes_on = !link.is_for_the_core()
+            || make_exchanges(host, link, engine, keeper, sockets);
         if !goes_on {
+            let kept = keeper.keep(host, engine);
             write_last(link, engine, kept);
             return Progress::Over;
         }
-        match call_socket(link, engine, kept, may_end) {
+        let next = match keeper.kept(engine) {
+            Some(kept) => call_socket(link, engine, kept, may_end),
+            None if link.outbox.is_empty() => read(link, may_end),
+            None => return Progress::Unkept(calls),
+        };
+        match next {
             Next::GoOn => {}
             Next::AwaitEvent | Next::AwaitTurn => return Progress::Blocked,
             Next::Close => return Progress::Over,
         }
     }
+    at_last_call(link)
+}
+
+/// How a connection stands after the last socket call that it may make in a turn.
+fn at_last_call(link: &Link) -> Progress {
     if link.moved_some() {
         Progress::CutOff
     } else {
         Progress::Over
     }
+}
+
+/// Goes on with a connection whose replies waited until all changes were kept, after so many socket calls of this turn. What
+/// the core must be called for then is left for the next turn, so nothing changes.
+pub(crate) fn serve_kept(
+    link: &mut Link,
+    engine: &Engine,
+    kept: Kept,
+    held: HeldLink,
+    long_outbox: &mut Outbox,
+    turn: Turn,
+) -> Progress
+    requires { Shows StandsFor change_count engine.now.core.core kept.changes }
+{
+    let progress = call_kept(link, engine, kept, held);
+    link.end(turn, long_outbox);
+    progress
+}
+
+// KEEP-16
+/// Calls the socket of a connection, once all changes were kept, until the core must be called for it.
+fn call_kept(link: &mut Link, engine: &Engine, kept: Kept, held: HeldLink) -> Progress
+    requires { Shows StandsFor change_count engine.now.core.core kept.changes }
+{
+    for calls in held.calls..=SOCKET_CALLS {
+        if link.is_cut_off(calls) {
+            break;
+        }
+        if link.is_for_the_core() {
+            return Progress::CutOff;
+        }
+        match call_socket(link, engine, kept, held.may_end) {
+            Next::GoOn => {}
+            Next::AwaitEvent | Next::AwaitTurn => return Progress::Blocked,
+            Next::Close => return Progress::Over,
+        }
+    }
+    at_last_call(link)
+}
+
+/// Reads from the socket of a connection of which no reply waits.
+fn read(link: &mut Link, may_end: bool) -> Next
+    requires { length link.old.outbox.bytes ≡ 0 }
+{
+    link.call_socket(may_end)
 }
 
 // KEEP-16
@@ -105,7 +164,7 @@ fn write_last(link: &mut Link, engine: &Engine, kept: Kept)
 
 // LINK-1
 /// Hands in what was read, which must not be held back, and notes what it changed. Returns whether the core took it.
-fn hand_in<H: Files>(link: &mut Link, engine: &mut Engine, keeper: &mut Keeper<H>) -> bool
+fn hand_in<H: Files>(host: &H, link: &mut Link, engine: &mut Engine, keeper: &mut Keeper<H>) -> bool
     requires { must_wait link.old ≡ false }
     ensures { HandsIn link.old link.new engine.old engine.new }
 {
@@ -114,7 +173,7 @@ fn hand_in<H: Files>(link: &mut Link, engine: &mut Engine, keeper: &mut Keeper<H
     };
     let done = exchange(engine, id, link.inbox.bytes(), &mut link.outbox);
     engine.tell_call();
-    keeper.note(engine);
+    keeper.gather(host, engine);
     let Ok(done) = done else {
         return false;
     };
@@ -146,6 +205,7 @@ fn take_over(link: &mut Link, engine: &mut Engine) -> bool
 /// for the end of a forwarded call, or owes more than the outbox has room for. A forwarded call is sent at once: no other
 /// one is unsent, since each was sent when it came. Returns whether the connection goes on.
 fn make_exchanges<H: Files, S: Datagrams>(
+    host: &H,
     link: &mut Link,
     engine: &mut Engine,
     keeper: &mut Keeper<H>,
@@ -157,7 +217,7 @@ fn make_exchanges<H: Files, S: Datagrams>(
                 if link.hold_back() {
                     return true;
                 }
-                if !hand_in(link, engine, keeper) {
+                if !hand_in(host, link, engine, keeper) {
                     return false;
                 }
             }

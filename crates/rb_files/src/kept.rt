@@ -1,5 +1,6 @@
 //! A file that is replaced as a whole, and to which text is added.
-ghost use Rattle.std.specs.Prelude.{◌≡◌, string_bytes, IfOk};
+ghost use Rattle.std.specs.Prelude.{◌≡◌, string_bytes, IfOk, OnOk};
+ghost use Rattle.std.specs.Io.KnownBytes.{Appends};
 
 use crate::identity::{Identity, identity_of, is_same_file};
 use crate::new::new_file;
@@ -42,6 +43,7 @@ pub struct KeptFile<H: Files> {
 impl<H: Files> KeptFile<H> {
     ghost use Rattle.std.specs.Prelude.{◌≡◌, ◌+◌, ◌++◌, length, string_bytes, codes, None, IfOk, OnOk, OnErr};
     ghost use Rattle.std.specs.Option.{is_some};
+    ghost use Rattle.rb_files.specs.Kept.{Grows, WasWritten};
 
     /// The file at the path, whose new text is written beside it, at the path with `.new` after it. It takes the
     /// memory for both paths, and looks at no file. An error if the allocation is refused.
@@ -89,6 +91,8 @@ impl<H: Files> KeptFile<H> {
     /// system refuses a step, its error: what is at the path stays, and the file beside goes.
     pub fn replace(&mut self, rt: &H, text: &[u8]) -> io::Result<()>
         ensures bytes { OnOk result (self.new.len ≡ length text.now) }
+        ensures taken { OnOk result (WasWritten
+            self.new.placed (λ placed. placed.file) H.File.contents text.now) }
         ensures failed { OnErr result (self.new.placed ≡ None) }
     {
         self.placed = None;
@@ -106,7 +110,10 @@ impl<H: Files> KeptFile<H> {
         }
     }
 
-    fn put_in_place(&self, rt: &H, mut file: H::File, text: &[u8]) -> io::Result<Placed<H>> {
+    fn put_in_place(&self, rt: &H, mut file: H::File, text: &[u8]) -> io::Result<Placed<H>>
+        ensures { IfOk result
+            (λ placed. Appends (H.File.contents file) (H.File.contents placed.file) text.now) }
+    {
         file.write_all(text)?;
         file.sync_data()?;
         let found = file.metadata()?;
@@ -124,6 +131,8 @@ impl<H: Files> KeptFile<H> {
     /// the system refuses a step. After either nothing is added until a file is put in place.
     pub fn append(&mut self, rt: &H, text: &[u8]) -> Result<(), AppendFault>
         ensures bytes { OnOk result (self.new.len ≡ self.old.len + length text.now) }
+        ensures taken { OnOk result (Grows
+            self.old.placed self.new.placed (λ placed. placed.file) H.File.contents text.now) }
         ensures failed { OnErr result (self.new.placed ≡ None) }
     {
         let Some(mut placed) = self.placed.take() else {
@@ -134,7 +143,9 @@ impl<H: Files> KeptFile<H> {
             return Err(AppendFault::Another);
         };
         self.find(rt, &placed)?;
-        add_to::<H>(&mut placed.file, text).map_err(AppendFault::Failed)?;
+        if let Err(error) = add_to::<H>(&mut placed.file, text) {
+            return Err(AppendFault::Failed(error));
+        }
         self.len = len;
         self.placed = Some(placed);
         Ok(())
@@ -158,7 +169,10 @@ fn is_left(found: &Metadata, placed: Identity, len: u64) -> bool {
     is_same_file(identity_of(found), placed) && found.len() == len
 }
 
-fn add_to<H: Files>(file: &mut H::File, text: &[u8]) -> io::Result<()> {
+fn add_to<H: Files>(file: &mut H::File, text: &[u8]) -> io::Result<()>
+    ensures { OnOk result
+        (Appends (H.File.contents file.old) (H.File.contents file.new) text.now) }
+{
     file.write_all(text)?;
     file.sync_data()
 }

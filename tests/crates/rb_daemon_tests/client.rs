@@ -148,7 +148,8 @@ impl Client {
         self.len == before && !self.is_closed
     }
 
-    fn read(&mut self) {
+    /// Reads what has come.
+    pub(crate) fn read(&mut self) {
         match self.stream.read(&mut self.got[self.len..]) {
             Ok(0) => self.is_closed = true,
             Ok(n) => self.len += n,
@@ -263,6 +264,12 @@ impl Caller {
     /// Whether bytes went back to where the last datagram came from.
     pub(crate) fn answer(&self, bytes: &[u8]) -> bool {
         self.socket.send_to(bytes, self.from).is_ok()
+    }
+
+    /// The first four bytes of the last datagram.
+    pub(crate) fn first_word(&self) -> u32 {
+        let [a, b, c, d, ..] = self.got;
+        u32::from_be_bytes([a, b, c, d])
     }
 
     /// The first four bytes of the last datagram, of this many in all.

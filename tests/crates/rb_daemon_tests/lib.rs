@@ -14,6 +14,8 @@ mod faults;
 #[cfg(test)]
 mod forwards;
 #[cfg(test)]
+mod keeping;
+#[cfg(test)]
 mod leaving;
 #[cfg(test)]
 mod listeners;

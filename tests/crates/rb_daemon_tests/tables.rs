@@ -1,6 +1,8 @@
 //! The system's files as the daemon of a test reads them: with a table of connections that the test wrote, if it has one, and
 //! without those of local sockets, if these are sockets of TCP (`faults.rs`).
+use crate::keeping::ROWS;
 use std::alloc::Allocator;
+use std::cell::Cell;
 use std::fs::{Files, Metadata, OpenOptions, Permissions};
 use std::io;
 use std::io::ErrorKind;
@@ -18,6 +20,8 @@ pub(crate) struct Tables {
     pub(crate) inet: Option<&'static str>,
     /// Whether local sockets have files.
     pub(crate) has_local: bool,
+    /// How often the file of kept rows was looked at.
+    pub(crate) rows_looks: Cell<u32>,
 }
 
 impl Tables {
@@ -27,6 +31,7 @@ impl Tables {
             rt: *rt,
             inet: None,
             has_local: true,
+            rows_looks: Cell::new(0),
         }
     }
 }
@@ -53,6 +58,9 @@ impl Files for Tables {
     }
 
     fn symlink_metadata(&self, path: &str) -> io::Result<Metadata> {
+        if path == ROWS {
+            self.rows_looks.set(self.rows_looks.get().saturating_add(1));
+        }
         if self.has_local {
             self.rt.symlink_metadata(path)
         } else {

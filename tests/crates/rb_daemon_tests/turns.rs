@@ -178,6 +178,11 @@ impl<'a> Host<'a> {
         })
     }
 
+    /// How often the file of kept rows was looked at: once for each write that adds lines.
+    pub(crate) fn rows_looks(&self) -> u32 {
+        self.tables.rows_looks.get()
+    }
+
     pub(crate) fn shortage(&self) -> Option<Shortage> {
         self.daemon.shortage()
     }
