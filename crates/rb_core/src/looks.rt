@@ -55,7 +55,10 @@ impl Core {
             (λ next. PaysForRow self.now cursor next.0 meter.old meter.new) }
     {
         let registry = &self.books.registry;
-        registry.next_row(registry.stamp(), cursor, meter)
+        match registry.next_row(registry.stamp(), cursor, meter) {
+            Some((next, listed)) => Some((next, listed.as_row())),
+            None => None,
+        }
     }
 
     /// The same, and the cursor moves on after the row. It stays if no row is after it.
