@@ -22,7 +22,7 @@ use Rattle.rb_registry.specs.declared.slot.Slot.{Slot as RowSlot}
 use Rattle.rb_registry.specs.Rows.{Change}
 use Rattle.rb_registry.specs.Rows.Change.{Added, Removed}
 use Rattle.rb_registry.specs.Registry.{Registry, StandsForChanges, slots_of as rows_of}
-use Rattle.rb_registry.specs.Slots.{slot_of, is_dropped, slots_by, all_slots, slots_from, held_in as held_of_rows}
+use Rattle.rb_registry.specs.Slots.{slot_of, is_dropped, slots_by, all_slots, slots_from, row_charge, held_in as held_of_rows}
 use Rattle.rb_stats.proofs.Sizes.{few_keys}
 use Rattle.rb_forward.specs.Forwards.{Entry, Forwards, held_call, question, head_of, entry_charge}
 use Rattle.rb_forward.specs.StandsFor.{Table as Entries, StandsForForwards, slots_of as calls_of, held_in as held_of_calls, longest_forwarded_call}
@@ -146,14 +146,14 @@ own_are_short listener is =
     All-append IsShortRow (own_inet6 port listener.announced.inet6 ++ own_inet port listener.announced.inet) (own_local listener.local) inet (local_short listener.local is.path)
 
 rows_within : (kept : Registry) (own : List Row) (changes : List Change) → StandsForChanges kept own changes → All IsShortRow own → All IsShortChange changes
-    → held_of_rows (rows_of kept) ≤ kept.limit * (32 + 128)
+    → held_of_rows (rows_of kept) ≤ kept.limit * (row_charge + 128)
 rows_within kept own changes stands owned changed =
     let all : All HasShortRow (all_slots own changes) =
     All-append HasShortRow (map (slot_of 0) own) (slots_by 0 changes) (All-map HasShortRow (slot_of 0) own owned) (by_short 0 changes changed) in
     let kept_short : All HasShortRow (slots_from kept.floor own changes) = All-filter (λ (slot : RowSlot). not (is_dropped (Some kept.floor) slot)) HasShortRow (all_slots own changes) all in
     let here : All HasShortRow (rows_of kept) = subst (All HasShortRow) (sym stands.slots) kept_short in
-    let sum = sum_by-le (λ (slot : RowSlot). 32 + length slot.row.addr) (32 + 128) (rows_of kept) (λ k slot lt. let few = here k slot lt in omega (arith, few)) in
-    let more = mul-le-mul_right (32 + 128) stands.within in
+    let sum = sum_by-le (λ (slot : RowSlot). row_charge + length slot.row.addr) (row_charge + 128) (rows_of kept) (λ k slot lt. let few = here k slot lt in omega (arith, few)) in
+    let more = mul-le-mul_right (row_charge + 128) stands.within in
     omega (arith, sum, more)
 
 -- ---- forwarded calls
@@ -187,8 +187,8 @@ held_bytes_are_bounded core s h reached listener =
     let own : All IsShortRow s.ledger.own = subst (All IsShortRow) (sym rows.0) (own_are_short s.setting.listener listener) in
     let connections = connections_within core.books.registry (values_of core.connections.slots) s.connections.all h.connections.all h.within in
     let room = mul-le-mul_right share (reached-room s reached) in
-    let in_rows : held_of_rows (rows_of core.books.registry) ≤ s.setting.limits.rows * (32 + 128) =
-    subst (λ n. held_of_rows (rows_of core.books.registry) ≤ n * (32 + 128)) h.limit (rows_within core.books.registry s.ledger.own s.ledger.changes h.ledger.registry own rows.1) in
+    let in_rows : held_of_rows (rows_of core.books.registry) ≤ s.setting.limits.rows * (row_charge + 128) =
+    subst (λ n. held_of_rows (rows_of core.books.registry) ≤ n * (row_charge + 128)) h.limit (rows_within core.books.registry s.ledger.own s.ledger.changes h.ledger.registry own rows.1) in
     let keys = few_keys core.books.stats s.ledger.history h.ledger.stats in
     let calls = calls_within core.books.forwards s.ledger.forwards s.setting.limits.forwards h.ledger.forwards kept.short kept.few in
     record {

@@ -4,6 +4,6 @@ use Rattle.rb_model.specs.Worked.{fresh}
 use Rattle.rb_core.specs.StandsFor.{CoreView, StandsFor}
 use Rattle.rb_core.specs.HeldBytes.{held}
 
--- the six own rows alone, each of 32 bytes and the 13 of 0.0.0.0.0.111
+-- the six own rows alone, each of 204 bytes and the 13 of 0.0.0.0.0.111
 abbrev pub FreshCoreHolds : Type 0
-FreshCoreHolds = (core : CoreView) → StandsFor core fresh → held core ≡ 270
+FreshCoreHolds = (core : CoreView) → StandsFor core fresh → held core ≡ 1302

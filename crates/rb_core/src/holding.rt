@@ -9,6 +9,7 @@ use rb_connections::{BUFFER_SIZE, CONNECTION_CHARGE, Connections};
 use rb_forward::{ENTRY_CHARGE, LONGEST_FORWARDED_CALL};
 use rb_model::{CoreFault, LONGEST_REPLY, Limits};
 use rb_proto::{Books, Listener, own_row_count};
+use rb_registry::ROW_CHARGE;
 use rb_rpc::LONGEST_FRAGMENT;
 use rb_xdr::{Kept, Meter};
 use std::alloc::Global;
@@ -137,7 +138,7 @@ fn bytes_bound(limits: &Limits) -> u64
 {
     let conns = limits.conns as u64
         * (CONNECTION_CHARGE + LONGEST_SERVED_CALL + LONGEST_FRAGMENT as u64);
-    let rows = limits.rows as u64 * (32 + LONGEST_ADDRESS);
+    let rows = limits.rows as u64 * (ROW_CHARGE + LONGEST_ADDRESS);
     let forwards = limits.forwards as u64 * (ENTRY_CHARGE + LONGEST_FORWARDED_CALL as u64);
     conns + rows + forwards + MOST_KEYS * 48 + LONGEST_REPLY as u64
 }
@@ -224,7 +225,7 @@ impl Core {
         })
     }
 
-    /// How many bytes are held: 128 for each connection, Lost ones too, with those of its buffers; 32 for each row, with
+    /// How many bytes are held: 128 for each connection, Lost ones too, with those of its buffers; 204 for each row, with
     /// those of its address text; 48 for each key of the statistics; 128 for each forwarded call, with those that are
     /// still to be sent; and those of the last reply over UDP.
     pub fn held(&self) -> u64

@@ -57,9 +57,9 @@ impl Core {
     {
         let registry = &self.books.registry;
         match registry.next_row(registry.stamp(), *cursor, meter) {
-            Some((next, row)) => {
+            Some((next, listed)) => {
                 *cursor = next;
-                Some(row)
+                Some(listed.as_row())
             }
             None => None,
         }

@@ -1,5 +1,6 @@
 -- Bounds, by the limits: of the bytes that are held, and of the steps that an event takes.
 use Rattle.std.specs.Prelude.{ℕ, ◌+◌, ◌*◌, List, [], ◌∷◌, length, Some}
+use Rattle.rb_registry.specs.Slots.{row_charge}
 use Rattle.rb_stats.specs.Stats.{most_keys}
 use Rattle.rb_forward.specs.StandsFor.{longest_forwarded_call}
 use Rattle.rb_model.specs.declared.types.Limits.{Limits}
@@ -29,7 +30,7 @@ connection_charge = 128
 -- Reading, in each state that a run reaches.
 abbrev pub bytes_bound : Limits → ℕ
 bytes_bound limits =
-    limits.conns * (connection_charge + longest_served_call + longest_fragment) + limits.rows * (32 + longest_address) + limits.forwards * (entry_charge + longest_forwarded_call)
+    limits.conns * (connection_charge + longest_served_call + longest_fragment) + limits.rows * (row_charge + longest_address) + limits.forwards * (entry_charge + longest_forwarded_call)
     + most_keys * 48 + longest_reply
 
 -- ---- steps

@@ -5,7 +5,7 @@ use Rattle.rb_model.specs.WorkedConnections.{limits}
 
 -- at the least limits, and at the greatest
 abbrev pub BytesBounds : Type 0
-BytesBounds = map bytes_bound (limits 1 8 0 ∷ limits 256 4096 64 ∷ []) ≡ 30308 ∷ 4015400 ∷ []
+BytesBounds = map bytes_bound (limits 1 8 0 ∷ limits 256 4096 64 ∷ []) ≡ 31684 ∷ 4719912 ∷ []
 
 -- an event that takes and gives nothing, at the least limits and at the greatest, and one that takes a call of 44 bytes
 abbrev pub StepsBounds : Type 0

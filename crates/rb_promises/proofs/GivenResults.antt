@@ -22,7 +22,8 @@ use Rattle.rb_arguments.specs.Types.{netbuf_spelling}
 use Rattle.rb_proto.specs.declared.answers.Answer.{Answer}
 use Rattle.rb_proto.specs.declared.answers.Answer.TheVariants as answers
 use Rattle.rb_proto.specs.declared.context.Context.{Context}
-use Rattle.rb_proto.specs.Callers.{owner_text, hosts_in}
+use Rattle.rb_registry.specs.Items.{owner_text}
+use Rattle.rb_proto.specs.Callers.{hosts_in}
 use Rattle.rb_proto.specs.Ledger.{Ledger, rows_in}
 use Rattle.rb_proto.specs.Netids.{prot_on, semantics_of, family_text, proto_text}
 use Rattle.rb_proto.specs.Answers.{shown_text, shown_port, answer_to}

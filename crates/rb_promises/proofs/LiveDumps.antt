@@ -36,7 +36,7 @@ use Rattle.rb_arguments.specs.Numbers.{is_void, is_mapping, is_rpcb, is_procedur
 use Rattle.rb_arguments.specs.Arguments.{procedure_at, is_known, request}
 use Rattle.rb_arguments.proofs.Requests.{asked_request}
 use Rattle.rb_proto.specs.declared.listener.Listener.{Listener}
-use Rattle.rb_proto.specs.Callers.{owner_text}
+use Rattle.rb_registry.specs.Items.{owner_text}
 use Rattle.rb_proto.specs.Ledger.{rows_in, with_call_noted}
 use Rattle.rb_proto.specs.Results.{is_inet, mapping_of, rpcb_of, result_bytes}
 use Rattle.rb_proto.specs.Netids.{prot_on, address_in}

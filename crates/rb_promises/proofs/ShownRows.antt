@@ -16,7 +16,8 @@ use Rattle.rb_address.specs.declared.who.Owner.{Owner}
 use Rattle.rb_address.specs.declared.who.Owner.TheVariants.{Unknown, Uid}
 use Rattle.rb_registry.specs.declared.row.Row.{Row}
 use Rattle.rb_proto.specs.declared.context.Context.{Context}
-use Rattle.rb_proto.specs.Callers.{owner_text, hosts_in}
+use Rattle.rb_registry.specs.Items.{owner_text}
+use Rattle.rb_proto.specs.Callers.{hosts_in}
 use Rattle.rb_proto.specs.Ledger.{rows_in}
 use Rattle.rb_proto.specs.Netids.{prot_on, semantics_of, family_text, proto_text, address_in}
 use Rattle.rb_proto.specs.Answers.{told_text, shown_text}

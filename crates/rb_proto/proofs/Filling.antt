@@ -1,5 +1,5 @@
 -- Parts of a list, made row by row.
-use Rattle.std.proofs.Common.{◌≡◌, ℕ, suc, ◌≤◌, ◌<◌, ◌+◌, ◌*◌, true, false, cond, List, [], ◌∷◌, ◌++◌, length, take, drop, Option, Some, None, refl, sym, ap, ◌∙◌, append_assoc, length-append, add-one, arith}
+use Rattle.std.proofs.Common.{◌≡◌, ℕ, suc, ◌≤◌, ◌<◌, ◌+◌, ◌*◌, true, false, cond, List, [], ◌∷◌, ◌++◌, length, take, drop, Option, Some, None, refl, sym, ap, ◌∙◌, append_assoc, length-append, arith}
 use Rattle.std.specs.Prelude.{◌==◌}
 use Rattle.std.proofs.Math.Seq.{take-length, take-append_seam, drop-append_seam}
 use Rattle.std.proofs.lemmas.Map.Entries.{length-values_of}
@@ -11,9 +11,8 @@ use Rattle.rb_xdr.specs.Places.{behind, to_come}
 use Rattle.rb_registry.specs.declared.row.Row.{Row}
 use Rattle.rb_registry.specs.declared.slot.Slot.{Slot}
 use Rattle.rb_registry.specs.Slots.{is_live_at}
-use Rattle.rb_registry.specs.Registry.{table_at, Registry, rows_at, slots_of, rows_passed}
+use Rattle.rb_registry.specs.Registry.{table_at, Registry, slots_of}
 use Rattle.rb_registry.specs.Cursors.{StandsIn, slots_left}
-use Rattle.rb_proto.specs.declared.answers.Listing.{Listing}
 use Rattle.rb_proto.specs.declared.list_reply.ListReply.{ListReply}
 use Rattle.rb_proto.specs.Results.{row_bytes, rows_bytes}
 use Rattle.rb_proto.specs.ListReplies.{longest_row, head_unless, rows_behind, bytes_behind}

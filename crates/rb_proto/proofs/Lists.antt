@@ -1,17 +1,14 @@
 -- Lists of rows, put row by row.
-use Rattle.std.proofs.Common.{◌≡◌, ◌≤◌, ◌<◌, ◌+◌, ◌*◌, ℕ, Bool, true, false, cond, List, [], ◌∷◌, ◌++◌, length, take, Some, Option, refl, sym, ap, ◌∙◌, append_assoc, append-nil, length-append, arith}
+use Rattle.std.proofs.Common.{◌≡◌, ◌+◌, ℕ, Bool, true, false, cond, List, [], ◌∷◌, ◌++◌, length, take, Some, Option, refl, ap, ◌∙◌, append-nil}
 use Rattle.std.specs.Prelude.{◌-◌, filter, map, slice_get}
 use Rattle.std.specs.List.{flat_map}
 use Rattle.std.proofs.lemmas.Grind.{flat_map-append}
 use Rattle.std.proofs.lemmas.List.{take_more}
-use Rattle.std.proofs.lemmas.List.Folds.{length-flat_map-take}
 use Rattle.std.proofs.lemmas.Option.{slice_get_within, get_or_from_slice_get}
 use Rattle.rb_xdr.specs.Xdr.{boolean, linked_list}
-use Rattle.rb_xdr.specs.Kept.{Kept}
-use Rattle.rb_xdr.specs.Meter.{Meter, PaysAtMost}
 use Rattle.rb_registry.specs.declared.row.Row.{Row}
-use Rattle.rb_registry.specs.Registry.{Registry, rows_at, slots_of, rows_passed}
-use Rattle.rb_registry.specs.Cursors.{StandsIn, slots_left}
+use Rattle.rb_registry.specs.Registry.{Registry, rows_at, rows_passed}
+use Rattle.rb_registry.specs.Cursors.{StandsIn}
 use Rattle.rb_proto.specs.declared.answers.Results.{Results}
 use Rattle.rb_proto.specs.declared.answers.Results.TheVariants.{Rows}
 use Rattle.rb_proto.specs.declared.answers.Listing.{Listing}

@@ -3,7 +3,7 @@ use Rattle.rb_stats.proofs.OnLiterals.{rb_stats_on_literals}
 use Rattle.rb_forward.proofs.OnLiterals.{rb_forward_on_literals}
 use Rattle.rb_arguments.proofs.OnLiterals.{rb_arguments_on_literals}
 use Rattle.rb_proto.specs.Answers.{row_of_rpcb, comes_from_here, row_of_mapping, can_be_set, has_share, accepts_row, set_row, accepts_removal, unset_rows, shown_address, shown_text, shown_port, getport, getaddr, getversaddr, seconds, taddr_of, uaddr_of, answer, row_to_set, adds_row}
-use Rattle.rb_proto.specs.Callers.{own_rows, is_local, hosts_told, owner_text}
+use Rattle.rb_proto.specs.Callers.{own_rows, is_local, hosts_told}
 use Rattle.rb_proto.specs.Forwarding.{outcome_note, address_to_forward, forward_of, forward_call, end_note, target_replied, fell_due, caller_dropped, call_sent, forwarded_bytes}
 use Rattle.rb_proto.specs.Ledger.{version_of, with_call_noted}
 use Rattle.rb_proto.specs.ListReplies.{rest_of}
@@ -18,7 +18,7 @@ unfolding rb_stats_on_literals rb_forward_on_literals rb_arguments_on_literals
     row_of_rpcb comes_from_here row_of_mapping can_be_set has_share accepts_row set_row
     accepts_removal unset_rows shown_address shown_text shown_port getport getaddr getversaddr
     seconds taddr_of uaddr_of answer row_to_set adds_row
-    own_rows is_local hosts_told owner_text
+    own_rows is_local hosts_told
     outcome_note address_to_forward forward_of forward_call end_note target_replied fell_due
     caller_dropped call_sent forwarded_bytes
     version_of with_call_noted

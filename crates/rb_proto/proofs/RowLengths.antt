@@ -1,4 +1,4 @@
--- What a row adds to a list of rpcbs or of entries is short, and so is its netid.
+-- What a row adds to a list of entries is short, and so is its netid.
 use Rattle.std.proofs.Common.{◌++◌, true, arith, rules}
 use Rattle.std.proofs.lemmas.List.{length-append}
 use Rattle.rb_xdr.specs.Xdr.{boolean, IsContent}
@@ -6,14 +6,10 @@ use Rattle.rb_xdr.proofs.Types.{length-boolean}
 use Rattle.rb_address.specs.declared.netid.Netid.{Netid}
 use Rattle.rb_address.specs.declared.netid.Netid.TheVariants.{Tcp, Udp, Tcp6, Udp6, Local}
 use Rattle.rb_address.specs.Netids.{netid_text}
-use Rattle.rb_arguments.specs.declared.rpcb.Rpcb.{Rpcb}
 use Rattle.rb_arguments.specs.declared.entry.Entry.{Entry}
-use Rattle.rb_arguments.specs.Types.{IsRpcb, rpcb_spelling, IsEntry, entry_spelling}
+use Rattle.rb_arguments.specs.Types.{IsEntry, entry_spelling}
 use Rattle.rb_proto.specs.ListParts.{IsShort}
-use Rattle.rb_arguments.proofs.Readings.{rpcb_bounded, entry_bounded}
-
-pub rpcb_is_short : (r : Rpcb) → IsRpcb r → IsShort (boolean true ++ rpcb_spelling r)
-rpcb_is_short r is = omega (arith, length-append (boolean true) (rpcb_spelling r), length-boolean true, rpcb_bounded r is)
+use Rattle.rb_arguments.proofs.Readings.{entry_bounded}
 
 pub entry_is_short : (e : Entry) → IsEntry e → IsShort (boolean true ++ entry_spelling e)
 entry_is_short e is = omega (arith, length-append (boolean true) (entry_spelling e), length-boolean true, entry_bounded e is)

@@ -18,7 +18,7 @@ use Rattle.rb_registry.specs.Versions.{versions_left, version_cost, PassesMore}
 use Rattle.rb_proto.specs.declared.answers.Listing.{Listing}
 use Rattle.rb_proto.specs.Results.{is_shown, row_bytes}
 use Rattle.rb_proto.specs.ListReplies.{rows_behind}
-use Rattle.rb_proto.specs.Searching.{IsVersionOf, IsSought, rows_left, steps_left, PassesRow}
+use Rattle.rb_proto.specs.Searching.{IsSought, rows_left, steps_left, PassesRow}
 
 -- what the rows after a cursor add to a list
 abbrev pub bytes_left : Listing → Registry → ℕ → Option ℕ → List ℕ

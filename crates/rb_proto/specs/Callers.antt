@@ -1,5 +1,5 @@
 -- The listener, and what it knows of a caller.
-use Rattle.std.specs.Prelude.{ℕ, ◌-◌, ◌/◌, ◌==◌, Bool, true, false, ◌||◌, List, [], ◌∷◌, ◌++◌, bytes_eq, Option, Some, None, codes, decimal, if◌then◌else◌}
+use Rattle.std.specs.Prelude.{ℕ, ◌-◌, ◌/◌, ◌==◌, Bool, true, false, ◌||◌, List, [], ◌∷◌, ◌++◌, bytes_eq, Option, Some, None, if◌then◌else◌}
 use Rattle.std.specs.Option.{option_map_or}
 use Rattle.rb_rpc.specs.declared.call.Credential.{Credential}
 use Rattle.rb_rpc.specs.declared.call.Credential.TheVariants as credentials
@@ -172,8 +172,3 @@ hosts_told announced (hosts.V6 asked) =
 -- TOLD-1
 abbrev pub hosts_in : Context → Hosts
 hosts_in context = hosts_told context.announced (who_of context.caller).asked
-
--- DUMP-2: DUMP shows the owner as superuser (uid 0), the uid in decimal, or unknown.
-unfoldable pub owner_text : Owner → List ℕ
-owner_text Unknown = codes "unknown"
-owner_text (Uid uid) = if uid == 0 then codes "superuser" else decimal uid

@@ -1,13 +1,13 @@
 -- The bytes of an answer's results (RFC 1833 sections 2.2 and 3.2).
-use Rattle.std.specs.Prelude.{ℕ, ◌==◌, Bool, true, false, ◌&&◌, if◌then◌else◌, List, [], ◌++◌, map, filter, take, drop}
+use Rattle.std.specs.Prelude.{ℕ, ◌==◌, Bool, true, false, ◌&&◌, if◌then◌else◌, List, [], ◌++◌, map, filter}
 use Rattle.std.specs.List.{flat_map}
 use Rattle.rb_xdr.specs.Xdr.{number, boolean, opaque, linked_list}
 use Rattle.rb_uaddr.specs.declared.address.Hosts.{Hosts}
-use Rattle.rb_address.specs.declared.netid.Netid.{Netid}
 use Rattle.rb_registry.specs.declared.row.Row.{Row}
 use Rattle.rb_registry.specs.declared.row.Which.TheVariants.{Inet}
 use Rattle.rb_registry.specs.Registry.{rows_of}
 use Rattle.rb_registry.specs.Rows.{is_among}
+use Rattle.rb_registry.specs.Items.{owner_text}
 use Rattle.rb_address.specs.Netids.{netid_text}
 use Rattle.rb_stats.specs.Statistics.{statistics}
 use Rattle.rb_stats.specs.Counting.{spelling}
@@ -20,7 +20,6 @@ use Rattle.rb_proto.specs.declared.answers.Listing.TheVariants.{Mappings, Rpcbs,
 use Rattle.rb_proto.specs.declared.answers.Value.{Value}
 use Rattle.rb_proto.specs.declared.answers.Value.TheVariants as values
 use Rattle.rb_arguments.specs.Types.{mapping_spelling, rpcb_spelling, netbuf_spelling, entry_spelling}
-use Rattle.rb_proto.specs.Callers.{owner_text}
 use Rattle.rb_proto.specs.Netids.{prot_on, semantics_of, family_text, proto_text}
 use Rattle.rb_proto.specs.Ledger.{Ledger, rows_in, Books}
 use Rattle.rb_proto.specs.Answers.{shown_text, shown_port, Results}
@@ -117,20 +116,6 @@ rows_bytes rows list = flat_map (row_bytes list) rows ++ boolean false
 -- TRUE and the item of one kind
 abbrev pub mapping_item : Row → List ℕ
 mapping_item row = boolean true ++ mapping_spelling (mapping_of row)
-
--- the first eight bytes of the netid's spelling, and those after them
-abbrev pub netid_front : Netid → List ℕ
-netid_front netid = take 8 (opaque (netid_text netid))
-
-abbrev pub netid_rest : Netid → List ℕ
-netid_rest netid = drop 8 (opaque (netid_text netid))
-
--- TRUE and the rpcb of a row up to the first eight bytes of its netid's spelling
-abbrev pub rpcb_head : Row → List ℕ
-rpcb_head row = boolean true ++ number row.prog ++ number row.vers ++ netid_front row.netid
-
-abbrev pub rpcb_item : Row → List ℕ
-rpcb_item row = boolean true ++ rpcb_spelling (rpcb_of row)
 
 abbrev pub entry_item : Hosts → Row → List ℕ
 entry_item hosts row = boolean true ++ entry_spelling (entry_of hosts row)

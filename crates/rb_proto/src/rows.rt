@@ -1,6 +1,5 @@
 //! Rows as a list shows them: the room that they need, and their bytes.
 ghost use Rattle.std.specs.Prelude.{◌≡◌, ◌+◌, ◌*◌, ◌≤◌, [], length, IfSome, IfNone};
-ghost use Rattle.rb_xdr.specs.Xdr.{IsContent};
 ghost use Rattle.rb_xdr.specs.Meter.{Pays, PaysAtMost};
 ghost use Rattle.rb_registry.specs.Registry.{Reaches, rows_at, slots_of};
 ghost use Rattle.rb_registry.specs.Cursors.{StandsIn};
@@ -8,23 +7,16 @@ ghost use Rattle.rb_xdr.specs.Puts.{Appends, HasRoom, Leaves};
 ghost use Rattle.rb_proto.specs.ListParts.{IsShort, FitsIfShort};
 ghost use Rattle.rb_proto.specs.Searching.{IsSought, rows_left, steps_left, PassesRow};
 ghost use Rattle.rb_proto.specs.Puts.{write_cost};
-ghost use Rattle.rb_proto.specs.Callers.{owner_text};
-ghost use Rattle.rb_arguments.specs.Types.{IsRpcb};
-ghost use Rattle.rb_proto.specs.Results.{mapping_item, netid_front, netid_rest, rpcb_head, rpcb_item, entry_item, is_shown, row_bytes, rows_bytes, rpcb_of};
+ghost use Rattle.rb_proto.specs.Results.{mapping_item, entry_item, is_shown, row_bytes, rows_bytes};
 
 use crate::answers::Listing;
-use crate::items::{entry_of, mapping_of, owner_text, rpcb_of};
-use itoa::Buffer;
-use rb_address::Netid;
-use rb_registry::{Cursor, Registry, Row, Which};
+use crate::items::{entry_of, mapping_of};
+use rb_registry::{Cursor, ListedRow, Registry, Row, Which};
 use rb_uaddr::Hosts;
-use rb_xdr::{Kept, Meter, Xdr, write_opaque};
+use rb_xdr::{Kept, Meter, Xdr};
 
 /// TRUE and a mapping, in bytes.
 const MAPPING_ITEM: usize = 20;
-
-/// TRUE and an rpcb up to the first eight bytes that spell its netid, in bytes.
-const RPCB_HEAD: usize = 20;
 
 /// Whether the list shows the row.
 fn is_shown(list: Listing, row: &Row) -> bool
@@ -39,15 +31,16 @@ fn is_shown(list: Listing, row: &Row) -> bool
 
 /// The room that is left of this much after what a row adds to a list, if that fits.
 #[tactic(auto, unfolding(crate::specs::Results::row_bytes))]
-fn room_after_row(list: Listing, row: &Row, room: usize) -> Option<usize>
-    ensures { Leaves (row_bytes list row.now) room result }
+fn room_after_row(list: Listing, listed: &ListedRow, room: usize) -> Option<usize>
+    ensures { Leaves (row_bytes list listed.now) room result }
 {
+    let row = listed.as_row();
     if !is_shown(list, row) {
         return Some(room);
     }
     match list {
         Listing::Mappings => room.checked_sub(MAPPING_ITEM),
-        Listing::Rpcbs => (true, rpcb_of(row)).room_after(room),
+        Listing::Rpcbs => room.checked_sub(listed.item().len()),
         Listing::Entries(_, _, hosts) => (true, entry_of(&hosts, row)).room_after(room),
     }
 }
@@ -67,93 +60,6 @@ fn mapping_item(row: &Row) -> [u8; MAPPING_ITEM]
     item
 }
 
-/// The first eight bytes of the netid as XDR spells it.
-#[tactic(auto, unfolding(rb_xdr::specs::Xdr::number, rb_xdr::specs::Xdr::opaque))]
-fn netid_front(netid: Netid) -> [u8; 8]
-    ensures { result ≡ netid_front netid }
-{
-    match netid {
-        Netid::Tcp => *b"\0\0\0\x03tcp\0",
-        Netid::Udp => *b"\0\0\0\x03udp\0",
-        Netid::Tcp6 => *b"\0\0\0\x04tcp6",
-        Netid::Udp6 => *b"\0\0\0\x04udp6",
-        Netid::Local => *b"\0\0\0\x05loca",
-    }
-}
-
-/// Writes those after them, which local alone has.
-#[tactic(auto, unfolding(rb_xdr::specs::Xdr::number, rb_xdr::specs::Xdr::opaque))]
-fn write_netid_rest(netid: Netid, out: &mut Kept, meter: &mut Meter)
-    requires tie { meter.old.tie ≡ out.old.tie }
-    requires room { HasRoom (netid_rest netid) out.old }
-    ensures written { Appends (netid_rest netid) out.old out.new }
-    ensures cost { Pays meter.old meter.new (length (netid_rest netid)) }
-{
-    match netid {
-        Netid::Tcp | Netid::Udp | Netid::Tcp6 | Netid::Udp6 => {}
-        Netid::Local => {
-            let _ = out.extend(b"l\0\0\0", meter);
-        }
-    }
-}
-
-/// TRUE and the rpcb of a row up to the first eight bytes that spell its netid, which are written at once.
-#[tactic(auto, unfolding(rb_xdr::specs::Xdr::number, rb_xdr::specs::Xdr::boolean))]
-fn rpcb_head(row: &Row) -> [u8; RPCB_HEAD]
-    ensures { result ≡ rpcb_head row.now }
-{
-    let mut head = [0; RPCB_HEAD];
-    head[..4].copy_from_slice(&u32::from(true).to_be_bytes());
-    head[4..8].copy_from_slice(&row.prog.to_be_bytes());
-    head[8..12].copy_from_slice(&row.vers.to_be_bytes());
-    head[12..].copy_from_slice(&netid_front(row.netid));
-    head
-}
-
-/// The text of an address is within the limit of an rpcb's. This does nothing.
-fn within_limit(addr: &[u8])
-    requires { length addr.now ≤ 128 }
-    ensures { IsContent 128 addr.now }
-{}
-
-/// The owner of the row as DUMP shows it. Each text of the row is within its limit.
-fn shown_owner<'a>(row: &Row, digits: &'a mut Buffer) -> &'a [u8]
-    ensures owner { result.now ≡ owner_text row.now.owner }
-    ensures within { IsRpcb (rpcb_of row.now) }
-{
-    let (_prog, _vers) = (row.prog, row.vers);
-    within_limit(row.addr.as_slice());
-    owner_text(row.owner, digits)
-}
-
-/// Writes TRUE and the rpcb of a row: its address and its owner from where they lie.
-fn write_texts(row: &Row, owner: &[u8], out: &mut Kept, meter: &mut Meter)
-    requires tie { meter.old.tie ≡ out.old.tie }
-    requires owner { owner.now ≡ owner_text row.now.owner }
-    requires within { IsRpcb (rpcb_of row.now) }
-    requires room { HasRoom (rpcb_item row.now) out.old }
-    ensures written { Appends (rpcb_item row.now) out.old out.new }
-    ensures cost { Pays meter.old meter.new (length (rpcb_item row.now)) }
-{
-    let _ = out.extend(&rpcb_head(row), meter);
-    write_netid_rest(row.netid, out, meter);
-    write_opaque(row.addr.as_slice(), out, meter);
-    write_opaque(owner, out, meter);
-}
-
-/// Writes TRUE and the rpcb of a row. They are short, and the buffer has room for them if they are.
-fn write_rpcb(row: &Row, out: &mut Kept, meter: &mut Meter)
-    requires tie { meter.old.tie ≡ out.old.tie }
-    requires room { FitsIfShort (rpcb_item row.now) out.old }
-    ensures short { IsShort (rpcb_item row.now) }
-    ensures written { Appends (rpcb_item row.now) out.old out.new }
-    ensures cost { Pays meter.old meter.new (length (rpcb_item row.now)) }
-{
-    let mut digits = Buffer::new();
-    let owner = shown_owner(row, &mut digits);
-    write_texts(row, owner, out, meter);
-}
-
 /// Writes TRUE and the entry of a row. They are short, and the buffer has room for them if they are.
 fn write_entry(hosts: &Hosts, row: &Row, out: &mut Kept, meter: &mut Meter)
     requires tie { meter.old.tie ≡ out.old.tie }
@@ -169,15 +75,17 @@ fn write_entry(hosts: &Hosts, row: &Row, out: &mut Kept, meter: &mut Meter)
 }
 
 /// Writes what a row adds to a list: TRUE and the item, or nothing if the list doesn't show the row. It is short, and
-/// the buffer has room for it if it is.
+/// the buffer has room for it if it is. It is inlined, as `next_row`.
+#[inline(always)]
 #[tactic(auto, unfolding(crate::specs::Results::row_bytes))]
-pub(crate) fn write_row(list: Listing, row: &Row, out: &mut Kept, meter: &mut Meter)
+pub(crate) fn write_row(list: Listing, listed: &ListedRow, out: &mut Kept, meter: &mut Meter)
     requires tie { meter.old.tie ≡ out.old.tie }
-    requires room { FitsIfShort (row_bytes list row.now) out.old }
-    ensures short { IsShort (row_bytes list row.now) }
-    ensures written { Appends (row_bytes list row.now) out.old out.new }
-    ensures cost { PaysAtMost meter.old meter.new (length (row_bytes list row.now)) }
+    requires room { FitsIfShort (row_bytes list listed.now) out.old }
+    ensures short { IsShort (row_bytes list listed.now) }
+    ensures written { Appends (row_bytes list listed.now) out.old out.new }
+    ensures cost { PaysAtMost meter.old meter.new (length (row_bytes list listed.now)) }
 {
+    let row = listed.as_row();
     if !is_shown(list, row) {
         return;
     }
@@ -185,7 +93,9 @@ pub(crate) fn write_row(list: Listing, row: &Row, out: &mut Kept, meter: &mut Me
         Listing::Mappings => {
             let _ = out.extend(&mapping_item(row), meter);
         }
-        Listing::Rpcbs => write_rpcb(row, out, meter),
+        Listing::Rpcbs => {
+            let _ = out.extend(listed.item(), meter);
+        }
         Listing::Entries(_, _, hosts) => write_entry(&hosts, row, out, meter),
     }
 }
@@ -224,7 +134,7 @@ pub(crate) fn next_row<'a>(
     stamp: u64,
     cursor: Cursor,
     meter: &mut Meter,
-) -> Option<(Cursor, &'a Row)>
+) -> Option<(Cursor, &'a ListedRow)>
     requires tie { meter.old.tie ≡ registry.now.tie }
     requires now { IfSome sought (λ version. stamp ≡ registry.now.stamp) }
     requires place { StandsIn registry.now stamp cursor }

@@ -6,14 +6,14 @@ use Rattle.rb_xdr.specs.Pool.{value_at, without}
 use Rattle.rb_registry.specs.declared.row.Row.{Row}
 use Rattle.rb_registry.specs.declared.slot.Slot.{Slot}
 use Rattle.rb_registry.specs.Rows.{Change}
-use Rattle.rb_registry.specs.Slots.{slot_of, held_in}
+use Rattle.rb_registry.specs.Slots.{slot_of, row_charge, held_in}
 use Rattle.rb_registry.specs.Table.{AreStamped, goes, with_mark, entries_with_marks}
 use Rattle.rb_xdr.proofs.PoolLemmas.{values_of-push}
 
 abbrev pub charge : Slot → ℕ
-charge slot = 32 + length slot.row.addr
+charge slot = row_charge + length slot.row.addr
 
-pub held-push : (key added : ℕ) (row : Row) (entries : List (ℕ × Slot)) → held_in (values_of (entries ++ (key, slot_of added row) ∷ [])) ≡ held_in (values_of entries) + (32 + length row.addr)
+pub held-push : (key added : ℕ) (row : Row) (entries : List (ℕ × Slot)) → held_in (values_of (entries ++ (key, slot_of added row) ∷ [])) ≡ held_in (values_of entries) + (row_charge + length row.addr)
 held-push key added row entries =
     ap (λ (slots : List Slot). held_in slots) (values_of-push entries key (slot_of added row)) ∙ sum_by_push charge (values_of entries) (slot_of added row)
 
@@ -46,7 +46,7 @@ held-without (e ∷ rest) key slot h = by_test (eqb e.0 key) refl (held-without 
         let old = sum_by-cons charge e.1 (values_of rest) in
         rw t (omega (arith, later, new, old))
 
-pub held_bound : (stamp : ℕ) (entries : List (ℕ × Slot)) → AreStamped stamp entries → held_in (values_of entries) ≤ 160 * length entries
+pub held_bound : (stamp : ℕ) (entries : List (ℕ × Slot)) → AreStamped stamp entries → held_in (values_of entries) ≤ 332 * length entries
 held_bound stamp [] h = omega arith
 held_bound stamp (e ∷ rest) h =
     let here = h.0.addr in
@@ -54,7 +54,7 @@ held_bound stamp (e ∷ rest) h =
     let whole = sum_by-cons charge e.1 (values_of rest) in
     omega (arith, here, further, whole)
 
-pub held_fits : (stamp limit : ℕ) (entries : List (ℕ × Slot)) → AreStamped stamp entries → length entries ≤ limit → limit < 2 ^ 56 → held_in (values_of entries) < 2 ^ 64
+pub held_fits : (stamp limit : ℕ) (entries : List (ℕ × Slot)) → AreStamped stamp entries → length entries ≤ limit → limit < 2 ^ 55 → held_in (values_of entries) < 2 ^ 64
 held_fits stamp limit entries stamped within few =
     let most = held_bound stamp entries stamped in
     omega (arith, most, within, few)

@@ -19,7 +19,7 @@ use Rattle.rb_registry.specs.Registry.{Registry, table_of, rows_at, rows_of, row
 use Rattle.rb_registry.specs.Table.{AreStamped}
 use Rattle.rb_registry.specs.Index.{rank, rank_of, ranks, AreRanked, IsIndexed}
 use Rattle.rb_registry.specs.Cursors.{StandsIn}
-use Rattle.rb_registry.specs.Versions.{is_version_now, versions_in, versions_left, VersionsAreFew, PassesMore}
+use Rattle.rb_registry.specs.Versions.{versions_in, versions_left, VersionsAreFew, PassesMore}
 use Rattle.rb_registry.proofs.Removing.{passed-to_come}
 use Rattle.rb_registry.proofs.Finds.{values_of-filter}
 use Rattle.rb_registry.proofs.Tables.{distinct_at, to_come_at}

@@ -1,5 +1,6 @@
 pub mod Rows
 pub mod Slots
+pub mod Items
 pub mod Index
 pub mod Order
 pub mod Registry

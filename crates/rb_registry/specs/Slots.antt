@@ -57,7 +57,11 @@ slots_from floor own changes = filter (λ slot. not (is_dropped (Some floor) slo
 
 -- ---- what is held
 
--- HELD-1: Each row in the table, live or retained, counts as 32 bytes and those of its address
+-- what the fixed part of a row, with its item of a list, counts as, in bytes
+abbrev pub row_charge : ℕ
+row_charge = 204
+
+-- HELD-1: Each row in the table, live or retained, counts as 204 bytes and those of its address
 -- text.
 abbrev pub held_in : List Slot → ℕ
-held_in slots = sum_by (λ (slot : Slot). 32 + length slot.row.addr) slots
+held_in slots = sum_by (λ (slot : Slot). row_charge + length slot.row.addr) slots

@@ -39,7 +39,7 @@ pub record IsTable (stamp floor limit held retained : ℕ) (entries : List (ℕ 
   pub distinct : HasDistinctKeys entries
   pub stamped : AreStamped stamp entries
   pub made : floor ≤ stamp
-  pub few : limit < 2 ^ 56
+  pub few : limit < 2 ^ 55
   pub within : length entries ≤ limit
   pub is_held : held ≡ count_held entries
   pub are_retained : retained ≡ count_retained entries

@@ -12,7 +12,6 @@ use Rattle.rb_registry.specs.declared.row.Row.{Row}
 use Rattle.rb_registry.specs.declared.slot.Slot.{Slot}
 use Rattle.rb_registry.specs.Rows.{is_of_version}
 use Rattle.rb_registry.specs.Registry.{Registry, rows_of, rows_passed}
-use Rattle.rb_registry.specs.Order.{count_own}
 
 -- the live rows of the version after a cursor
 abbrev pub versions_left : ℕ → ℕ → Registry → Option ℕ → List Row

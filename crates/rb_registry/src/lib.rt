@@ -4,6 +4,7 @@
 mod cursor;
 mod fault;
 mod laws;
+mod listed;
 mod registry;
 mod removal;
 mod row;
@@ -15,6 +16,7 @@ mod worked;
 pub use cursor::Cursor;
 pub use fault::RegistryFault;
 pub use laws::row_laws;
+pub use listed::ListedRow;
 pub use registry::{MOST_OWN_ROWS, Registry};
-pub use row::{RPCB_PROG, Row, Which};
+pub use row::{ROW_CHARGE, RPCB_PROG, Row, Which};
 pub use worked::worked_examples;

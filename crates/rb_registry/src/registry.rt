@@ -4,6 +4,7 @@ ghost use Rattle.rb_registry.specs.Rows.{is_change_left};
 
 use crate::cursor::Cursor;
 use crate::fault::RegistryFault;
+use crate::listed::ListedRow;
 use crate::removal::Removal;
 use crate::row::{Row, Which};
 use crate::slot::Slot;
@@ -24,7 +25,7 @@ pub const MOST_OWN_ROWS: usize = 12;
 const LONG: usize = 256;
 
 // A table of this many rows would take more than 2^63 bytes.
-const TOO_MANY: usize = 1 << 56;
+const TOO_MANY: usize = 1 << 55;
 
 /// The rows in the order in which they were set, the own rows first, and the number of changes that were accepted.
 ///
@@ -99,7 +100,7 @@ impl Registry {
     ghost use Rattle.rb_registry.specs.Costs.{set_cost, unset_cost};
     ghost use Rattle.rb_registry.specs.Versions.{versions_left, version_cost, PassesMore, VersionsAreFew};
     ghost use Rattle.rb_registry.specs.Cursors.{RowsAreLive, StandsIn, PassesOne, IsWithin, IsAtEnd, row_behind, slots_left, GoesOn};
-    ghost use Rattle.rb_registry.specs.Slots.{held_in};
+    ghost use Rattle.rb_registry.specs.Slots.{held_in, row_charge};
 
     /// A registry of these rows, with room for `cap` rows in all, for calls that this meter counts.
     ///
@@ -139,7 +140,7 @@ impl Registry {
             let slot = Slot {
                 added: 0,
                 removed: None,
-                row,
+                row: ListedRow::new(row),
             };
             let Ok(key) = slots.insert(slot, meter) else {
                 unreachable!()
@@ -184,7 +185,7 @@ impl Registry {
         let slot = Slot {
             added: self.changes + 1,
             removed: None,
-            row,
+            row: ListedRow::new(row),
         };
         match self.slots.insert(slot, meter) {
             Ok(key) => {
@@ -337,10 +338,10 @@ impl Registry {
         self.floor = self.floor.max(named);
     }
 
-    /// How many bytes are held: those of the address text of each row, live or retained, and 32 for the rest of it.
+    /// How many bytes are held: those of the address text of each row, live or retained, and 204 for the rest of it.
     pub fn held(&self) -> u64
         ensures held { result ≡ held_in (slots_of self.now) }
-        ensures bound { result ≤ (32 + 128) * self.now.limit }
+        ensures bound { result ≤ (row_charge + 128) * self.now.limit }
     {
         self.held
     }
@@ -350,8 +351,14 @@ impl Registry {
     /// From [`Cursor::start`] on each of these rows comes once, in order, and then `None`, whatever is set and
     /// removed meanwhile, as long as no `trim` raises the floor above `stamp`. `stamp` is at least the floor and at
     /// most [`Registry::stamp`]. It costs at most 2 steps for each row after the cursor, retained ones among them,
-    /// and 1.
-    pub fn next_row(&self, stamp: u64, cursor: Cursor, meter: &mut Meter) -> Option<(Cursor, &Row)>
+    /// and 1. It is inlined, as each row of a list comes by here.
+    #[inline(always)]
+    pub fn next_row(
+        &self,
+        stamp: u64,
+        cursor: Cursor,
+        meter: &mut Meter,
+    ) -> Option<(Cursor, &ListedRow)>
         requires tie { meter.old.tie ≡ self.now.tie }
         requires place { StandsIn self.now stamp cursor }
         ensures row { IfSome result (λ next. row_behind self.now stamp cursor ≡ Some next.1.now) }
@@ -383,7 +390,7 @@ impl Registry {
         vers: u32,
         cursor: Cursor,
         meter: &mut Meter,
-    ) -> Option<(Cursor, &Row)>
+    ) -> Option<(Cursor, &ListedRow)>
         requires tie { meter.old.tie ≡ self.now.tie }
         requires place { StandsIn self.now self.now.stamp cursor }
         ensures row { IfSome result (λ next. versions_left prog vers self.now cursor

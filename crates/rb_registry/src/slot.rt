@@ -3,16 +3,17 @@ ghost use Rattle.std.specs.Prelude.{◌≡◌};
 ghost use Rattle.rb_registry.specs.Slots.{is_live_at, is_dropped};
 ghost use Rattle.rb_registry.specs.Versions.{is_version_now};
 
+use crate::listed::ListedRow;
 use crate::row::Row;
 
 /// A row, the number of the change that added it (0 for an own row), and of the one that removed it.
 ///
-/// The numbers stand before the row and its address, so that what a walk looks at is together.
+/// The numbers stand before the row and its item of a list, so that what a walk looks at is together.
 #[derive(Drop)]
 pub(crate) struct Slot {
     pub(crate) added: u64,
     pub(crate) removed: Option<u64>,
-    pub(crate) row: Row,
+    pub(crate) row: ListedRow,
 }
 
 /// Names each field, so that a further one does not compile until it stands here. It belongs in the table of
@@ -24,7 +25,7 @@ fn layout(slot: &Slot) {
         row,
     } = slot;
     let _: (u64, Option<u64>) = (*added, *removed);
-    let _: &Row = row;
+    let _: &ListedRow = row;
 }
 
 impl Slot {
@@ -33,7 +34,7 @@ impl Slot {
         Slot {
             added: 0,
             removed: None,
-            row: Row::default(),
+            row: ListedRow::new(Row::default()),
         }
     }
 
@@ -53,7 +54,8 @@ impl Slot {
     pub(crate) fn is_version_now(&self, prog: u32, vers: u32) -> bool
         ensures { result ≡ is_version_now prog vers self.now }
     {
-        self.removed.is_none() && self.row.prog == prog && self.row.vers == vers
+        let row = self.row.as_row();
+        self.removed.is_none() && row.prog == prog && row.vers == vers
     }
 
     /// Whether `trim` drops the row: it was removed by the change of number `oldest` or an earlier one, or by any

@@ -9,7 +9,8 @@ ghost use Rattle.rb_registry.specs.Index.{IsIndexed};
 ghost use Rattle.rb_registry.specs.Order.{AreInOrder, count_own};
 ghost use Rattle.rb_registry.specs.Versions.{is_version_now, is_own_version, is_later_version, is_later_on, IsNextOf, first_place, earlier_of, added_at, HasNoOwn};
 
-use crate::row::{Row, rank};
+use crate::listed::ListedRow;
+use crate::row::rank;
 use crate::slot::Slot;
 use crate::walk::NETIDS;
 use rb_address::Netid;
@@ -23,7 +24,7 @@ pub(crate) fn next_of<'a>(
     vers: u32,
     start: Option<usize>,
     meter: &mut Meter,
-) -> Option<(usize, &'a Row)>
+) -> Option<(usize, &'a ListedRow)>
     requires tie { meter.old.tie ≡ slots.now.tie }
     requires index_tie { meter.old.tie ≡ index.now.tie }
     requires distinct { HasDistinctKeys slots.now.entries }
@@ -49,7 +50,7 @@ fn own_after<'a>(
     vers: u32,
     start: Option<usize>,
     meter: &mut Meter,
-) -> Option<(usize, &'a Row)>
+) -> Option<(usize, &'a ListedRow)>
     requires tie { meter.old.tie ≡ slots.now.tie }
     requires distinct { HasDistinctKeys slots.now.entries }
     requires ordered { AreInOrder 0 slots.now.entries }

@@ -10,6 +10,7 @@ ghost use Rattle.rb_registry.specs.Index.{rank_of, IsIndexed, IsSameBut, newest_
 ghost use Rattle.rb_registry.specs.Costs.{mark_cost, mark_cost_on};
 ghost use Rattle.rb_registry.specs.Table.{AreStamped, IsFoundAmong, count_going, with_marks, entries_left, count_retained, count_held, lesser_of, least_of, IsNextLive, count_left, PaysFor};
 
+use crate::listed::ListedRow;
 use crate::removal::Removal;
 use crate::row::{Row, rank};
 use crate::slot::Slot;
@@ -34,7 +35,7 @@ pub(crate) fn find_exact<'a>(
 {
     let key = index.find(rank(prog, netid, vers), meter)?;
     let slot = slots.get(key, meter)?;
-    Some(&slot.row)
+    Some(slot.row.as_row())
 }
 
 /// The live row of exactly this version, else that of the greatest version of the program on that netid.
@@ -55,7 +56,7 @@ pub(crate) fn find_row<'a>(
 {
     let key = key_of(index, prog, vers, netid, meter)?;
     let slot = slots.get(key, meter)?;
-    Some(&slot.row)
+    Some(slot.row.as_row())
 }
 
 /// The key of that row.
@@ -164,7 +165,7 @@ fn mark_on(
     let Some(slot) = slots.get_mut(key, meter) else {
         unreachable!()
     };
-    if !removal.covers(&slot.row) {
+    if !removal.covers(slot.row.as_row()) {
         return false;
     }
     slot.removed = Some(stamp + 1);
@@ -208,7 +209,7 @@ pub(crate) fn drop_retained(
     'rows: while let Some((key, slot)) = slots.entry_after(place, meter) {
         if slot.is_dropped(oldest) {
             rows += 1;
-            bytes += slot.row.charge();
+            bytes += slot.row.as_row().charge();
             slots.remove(key, meter);
         } else {
             place = Some(key);
@@ -243,13 +244,14 @@ fn lesser(least: Option<u64>, number: u64) -> u64
     }
 }
 
-/// The next row after the place that was live after this many changes, with its key.
+/// The next row after the place that was live after this many changes, with its key. It is inlined, as `next_row`.
+#[inline(always)]
 pub(crate) fn live_after<'a>(
     slots: &'a Pool<Slot>,
     stamp: u64,
     start: Option<usize>,
     meter: &mut Meter,
-) -> Option<(usize, &'a Row)>
+) -> Option<(usize, &'a ListedRow)>
     requires tie { meter.old.tie ≡ slots.now.tie }
     ensures next { IsNextLive stamp slots.now.entries start result }
     ensures cost { PaysAtMost meter.old meter.new (2 * count_left slots.now.entries start + 1) }

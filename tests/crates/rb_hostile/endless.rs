@@ -10,7 +10,7 @@ const HUGE: [u32; 11] = [0x7fffffff, 1, 0, 2, 100_000, 2, 0, 0, 0, 0, 0];
 
 /// What is held at the most while the arguments of a record come: the six own rows, a connection, and the first 8,816
 /// bytes of them.
-const HELD_AT_MOST: u64 = 270 + 128 + 8816;
+const HELD_AT_MOST: u64 = 1302 + 128 + 8816;
 
 /// The piece is taken this many times, each time whole, and no more than this many bytes are ever held.
 fn is_taken(core: &mut Metered, piece: &[u8], times: u32, most: u64) -> Result<bool, CoreFault> {
@@ -34,8 +34,8 @@ fn is_given_up(rt: &impl Abort, core: &mut Metered) {
 fn endless_records_of_empty_fragments(rt: HostRuntime) -> Result<(), Fail> {
     let mut core = core_of(rt.alloc(), 300)?;
     assert_eq!(rt; core.open(0, loopback()), Ok(1));
-    assert_eq!(rt; is_taken(&mut core, &[0; 4], 100_000, 398), Ok(true));
-    assert_eq!(rt; core.held(), 398);
+    assert_eq!(rt; is_taken(&mut core, &[0; 4], 100_000, 1430), Ok(true));
+    assert_eq!(rt; core.held(), 1430);
     is_given_up(&rt, &mut core);
     Ok(())
 }
@@ -46,7 +46,7 @@ fn endless_records_of_one_fragment(rt: HostRuntime) -> Result<(), Fail> {
     let first = bytes_of(rt.alloc(), &HUGE)?;
     let mut core = core_of(rt.alloc(), 300)?;
     assert_eq!(rt; core.open(0, loopback()), Ok(1));
-    assert_eq!(rt; is_taken(&mut core, &first, 1, 398), Ok(true));
+    assert_eq!(rt; is_taken(&mut core, &first, 1, 1430), Ok(true));
     assert_eq!(rt;
         is_taken(&mut core, &[0xff; 960], 1, HELD_AT_MOST),
         Ok(true)

@@ -52,10 +52,10 @@ fn outputs(alloc: Global, core: &mut Metered, events: &[Event]) -> Result<Vec<Ou
 
 // The call is answered, and the 24 bytes of its reply are held.
 fn null_is_answered(rt: &impl Abort, core: &mut Metered, call: &[u8]) {
-    assert_eq!(rt; core.held(), 270);
+    assert_eq!(rt; core.held(), 1302);
     assert_eq!(rt; core.datagram(0, loopback(), call), Response::Reply);
     assert_eq!(rt; core.udp_reply(), NULL_REPLY);
-    assert_eq!(rt; core.held(), 294);
+    assert_eq!(rt; core.held(), 1326);
     assert!(rt; core.held() <= core.bytes_bound());
 }
 
@@ -124,7 +124,7 @@ fn connection_is_served(rt: &impl Abort, alloc: Global, core: &mut Metered) -> R
     let given = outputs(alloc, core, &events)?;
     assert!(rt; given.len() == 6 && rest_is_pending(&given));
     assert!(rt; matches!(given.last(), Some(Output::Done)));
-    assert_eq!(rt; core.held(), 270);
+    assert_eq!(rt; core.held(), 1302);
     Ok(())
 }
 
@@ -151,10 +151,10 @@ fn is_null_reply(outputs: &[Output]) -> bool {
 fn null_reply_is_held(rt: HostRuntime) -> Result<(), Fail> {
     let events = null_call(rt.alloc())?;
     let mut core = new_core(rt.alloc())?;
-    assert_eq!(rt; core.held(), 270);
+    assert_eq!(rt; core.held(), 1302);
     let given = outputs(rt.alloc(), &mut core, &events)?;
     assert!(rt; is_null_reply(&given));
-    assert_eq!(rt; core.held(), 294);
+    assert_eq!(rt; core.held(), 1326);
     Ok(())
 }
 
@@ -176,11 +176,11 @@ fn took(outputs: &[Output], count: usize) -> bool {
     matches!(outputs, [Output::Took(n)] if *n == count)
 }
 
-// A piece of 1,000 bytes arrives 99 times, each time whole, and never more than 9,214 bytes are held.
+// A piece of 1,000 bytes arrives 99 times, each time whole, and never more than 10,246 bytes are held.
 fn stays_small(alloc: Global, core: &mut Metered, piece: &[Event]) -> Result<bool, NoMemory> {
     for _i in 0..99 {
         let given = outputs(alloc, core, piece)?;
-        if !took(&given, 1000) || core.held() > 9214 {
+        if !took(&given, 1000) || core.held() > 10246 {
             return Ok(false);
         }
     }
@@ -190,7 +190,7 @@ fn stays_small(alloc: Global, core: &mut Metered, piece: &[Event]) -> Result<boo
 fn connection_opens(rt: &impl Abort, alloc: Global, core: &mut Metered) -> Result<(), Fail> {
     let open = opening(alloc)?;
     let given = outputs(alloc, core, &open)?;
-    assert!(rt; matches!(given.as_slice(), [Output::Opened(1)]) && core.held() == 398);
+    assert!(rt; matches!(given.as_slice(), [Output::Opened(1)]) && core.held() == 1430);
     Ok(())
 }
 
@@ -198,7 +198,7 @@ fn connection_opens(rt: &impl Abort, alloc: Global, core: &mut Metered) -> Resul
 fn record_begins(rt: &impl Abort, alloc: Global, core: &mut Metered) -> Result<(), Fail> {
     let first = arrival(alloc, &words(alloc, &OVERLONG)?)?;
     let given = outputs(alloc, core, &first)?;
-    assert!(rt; took(&given, 44) && core.held() == 398);
+    assert!(rt; took(&given, 44) && core.held() == 1430);
     Ok(())
 }
 
@@ -207,7 +207,7 @@ fn record_ends(rt: &impl Abort, alloc: Global, core: &mut Metered) -> Result<(),
     let next = arrival(alloc, &[0xff; 1000])?;
     assert!(rt; stays_small(alloc, core, &next)?);
     let given = outputs(alloc, core, &next)?;
-    assert!(rt; took(&given, 1000) && core.held() == 450);
+    assert!(rt; took(&given, 1000) && core.held() == 1482);
     assert!(rt; core.held() <= core.bytes_bound());
     Ok(())
 }
@@ -217,7 +217,7 @@ fn record_ends(rt: &impl Abort, alloc: Global, core: &mut Metered) -> Result<(),
 #[test]
 fn overlong_record_is_kept_in_part(rt: HostRuntime) -> Result<(), Fail> {
     let mut core = new_core(rt.alloc())?;
-    assert_eq!(rt; core.held(), 270);
+    assert_eq!(rt; core.held(), 1302);
     connection_opens(&rt, rt.alloc(), &mut core)?;
     record_begins(&rt, rt.alloc(), &mut core)?;
     record_ends(&rt, rt.alloc(), &mut core)

@@ -33,10 +33,10 @@ fn versions(registry: &Registry, meter: &mut Meter) -> u64 {
     let stamp = registry.stamp();
     let mut digits: u64 = 0;
     let mut cursor = Cursor::start();
-    'rows: while let Some((next, row)) = registry.next_row(stamp, cursor, meter) {
+    'rows: while let Some((next, listed)) = registry.next_row(stamp, cursor, meter) {
         digits = digits
             .wrapping_mul(10)
-            .wrapping_add(u64::from(row.vers % 10));
+            .wrapping_add(u64::from(listed.as_row().vers % 10));
         cursor = next;
     }
     digits
@@ -103,8 +103,8 @@ fn rows_are_removed(rt: HostRuntime) -> Result<(), Fail> {
 fn netids_of(registry: &Registry, prog: u32, vers: u32, meter: &mut Meter) -> u64 {
     let mut digits: u64 = 0;
     let mut cursor = Cursor::start();
-    'rows: while let Some((next, row)) = registry.next_of(prog, vers, cursor, meter) {
-        let digit = match row.netid {
+    'rows: while let Some((next, listed)) = registry.next_of(prog, vers, cursor, meter) {
+        let digit = match listed.as_row().netid {
             Netid::Tcp => 1,
             Netid::Udp => 2,
             Netid::Tcp6 => 3,

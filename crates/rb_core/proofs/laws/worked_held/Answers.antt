@@ -22,7 +22,7 @@ pub returns : goal.returns
 unfolding own_rows text_of port_bytes is_dropped stat items_of keys_of digits
 returns c core h =
     let connections = no_slots core.books.registry (values_of core.connections.slots) h.connections.all in
-    let rows : held_of_rows (rows_of core.books.registry) ≡ 270 = ap held_of_rows h.ledger.registry.slots in
+    let rows : held_of_rows (rows_of core.books.registry) ≡ 1302 = ap held_of_rows h.ledger.registry.slots in
     let two : length core.books.stats.two.addrinfo + length core.books.stats.two.rmtinfo ≡ 0 = rw h.ledger.stats.two refl in
     let three : length core.books.stats.three.addrinfo + length core.books.stats.three.rmtinfo ≡ 0 = rw h.ledger.stats.three refl in
     let four : length core.books.stats.four.addrinfo + length core.books.stats.four.rmtinfo ≡ 0 = rw h.ledger.stats.four refl in

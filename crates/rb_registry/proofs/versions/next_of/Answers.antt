@@ -1,8 +1,4 @@
-use Rattle.std.proofs.Common.{◌≡◌, Some, None, refl, sym, ap, ◌∙◌}
-use Rattle.std.specs.Prelude.{option_map, Option}
-use Rattle.rb_registry.specs.declared.slot.Slot.{Slot}
-use Rattle.rb_registry.specs.declared.row.Row.{Row}
-use Rattle.rb_registry.specs.Versions.{versions_in}
+use Rattle.std.proofs.Common.{◌≡◌, Some, None, ◌∙◌}
 use Rattle.rb_registry.proofs.NextOf.{nothing_next, none_next, next_is}
 use Rattle.rb_registry.proofs.versions.next_of.Goals as goal
 

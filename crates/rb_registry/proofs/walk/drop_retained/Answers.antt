@@ -21,7 +21,7 @@ overflow_add-rows c =
 pub overflow_add-bytes : goal.overflow_add-bytes
 overflow_add-bytes c =
     let out = held-without c.rows.slots.entries c.in-Some.key c.in-Some.slot.now (is_there _ _ _ _ c.rows.invariant.removing c.in-Some.key _ c.in-Some.ensures.next) in
-    omega (arith, out, c.charge-bytes.ensures.charge, c.rows.invariant.bytes, c.requires.held)
+    omega (arith, out, (rw c.as_row.ensures at c.charge-bytes.ensures.charge), c.rows.invariant.bytes, c.requires.held)
 
 pub rows-smaller-then-is_dropped : goal.rows-smaller-then-is_dropped
 rows-smaller-then-is_dropped c =
@@ -43,7 +43,7 @@ rows-preserved-then-is_dropped c =
     record {
       removing = rw c.remove.ensures.entries (taken_out _ _ _ _ c.rows.invariant.removing c.in-Some.key _ c.in-Some.ensures.next dropped);
       rows = rw c.remove.ensures.entries (omega (arith, fewer_dead, c.rows.invariant.rows));
-      bytes = rw c.remove.ensures.entries (omega (arith, out, c.charge-bytes.ensures.charge, c.rows.invariant.bytes));
+      bytes = rw c.remove.ensures.entries (omega (arith, out, (rw c.as_row.ensures at c.charge-bytes.ensures.charge), c.rows.invariant.bytes));
       cap = rw c.remove.ensures.entries c.rows.invariant.cap;
       memory = rw c.remove.ensures.entries c.rows.invariant.memory;
       tie = rw c.remove.ensures.entries c.rows.invariant.tie;

@@ -18,4 +18,4 @@ returns-in_err-slot-clause-row c stamp stamped =
 pub returns-clause-row : goal.returns-clause-row
 returns-clause-row c stamp stamped =
     let exact = exact_under stamp c.args.prog c.args.netid c.args.slots.now.entries c.requires.distinct stamped c.args.index.now.entries c.requires.indexed c.args.vers c.rank.ensures.vers in
-    ap (option_map (λ (s : Slot). s.row)) c.in_ok-slot.ensures.value ∙ ap (row_under c.args.slots.now.entries) (c.in_ok-key.ensures.key ∙ ap (value_at c.args.index.now.entries) c.rank.ensures.rank) ∙ exact
+    rw c.as_row.ensures (ap (option_map (λ (s : Slot). s.row)) c.in_ok-slot.ensures.value ∙ ap (row_under c.args.slots.now.entries) (c.in_ok-key.ensures.key ∙ ap (value_at c.args.index.now.entries) c.rank.ensures.rank) ∙ exact)

@@ -17,4 +17,4 @@ returns-in_err-slot-clause-row c stamp stamped =
 pub returns-clause-row : goal.returns-clause-row
 returns-clause-row c stamp stamped =
     let found = found_under stamp c.args.prog c.args.netid c.args.slots.now.entries c.requires.distinct stamped c.args.index.now.entries c.requires.indexed c.in_ok-key.ensures.rising c.args.vers (omega (arith, c.ranges.vers)) in
-    ap (option_map (λ (s : Slot). s.row)) c.in_ok-slot.ensures.value ∙ ap (row_under c.args.slots.now.entries) c.in_ok-key.ensures.key ∙ found
+    rw c.as_row.ensures (ap (option_map (λ (s : Slot). s.row)) c.in_ok-slot.ensures.value ∙ ap (row_under c.args.slots.now.entries) c.in_ok-key.ensures.key ∙ found)

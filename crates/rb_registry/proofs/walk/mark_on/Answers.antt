@@ -31,7 +31,7 @@ returns-then-not-covers-clause-marks c =
     sym (c.requires.indexed.same _) ∙ ap (value_at c.args.index.now.entries) (sym c.rank-rank.ensures.rank) ∙ sym c.in-Some.ensures.key in
     let one = one_here c.args.stamp c.args.removal.now.prog c.args.removal.now.vers c.args.removal.now.which c.args.removal.now.owner c.args.netid c.rank-rank.ensures.vers
     c.in-Some.key c.in-Some-get_mut.slot.now c.args.slots.now.entries c.requires.distinct c.requires.indexed.distinct c.requires.indexed.ranked found (sym c.in-Some-get_mut.ensures.value) in
-    let stays = mark_uncovered_here c.args.stamp c.args.removal.now.prog c.args.removal.now.vers c.args.removal.now.which c.args.removal.now.owner c.args.netid c.rank-rank.ensures.vers c.in-Some-get_mut.slot.now (sym c.if-not-covers.ensures) in
+    let stays = mark_uncovered_here c.args.stamp c.args.removal.now.prog c.args.removal.now.vers c.args.removal.now.which c.args.removal.now.owner c.args.netid c.rank-rank.ensures.vers c.in-Some-get_mut.slot.now (sym (rw c.as_row.ensures at c.if-not-covers.ensures)) in
     rw (one, stays) refl
 
 pub returns-then-not-covers-clause-distinct : goal.returns-then-not-covers-clause-distinct
@@ -51,7 +51,7 @@ returns-clause-marks c =
     c.in-Some.key c.in-Some-get_mut.slot.now c.args.slots.now.entries c.requires.distinct c.requires.indexed.distinct c.requires.indexed.ranked found (sym c.in-Some-get_mut.ensures.value) in
     let under = slot_under _ c.in-Some.key c.in-Some-get_mut.slot.now c.args.slots.now.entries c.requires.distinct found (sym c.in-Some-get_mut.ensures.value) in
     let small = ranked_at c.args.slots.now.entries c.in-Some.key c.in-Some-get_mut.slot.now c.requires.indexed.ranked (sym c.in-Some-get_mut.ensures.value) in
-    let marked = mark_covered_here c.args.stamp c.args.removal.now.prog c.args.removal.now.vers c.args.removal.now.which c.args.removal.now.owner c.args.netid c.rank-rank.ensures.vers c.in-Some-get_mut.slot.now small under.0 under.1 (sym c.if-not-covers.ensures) in
+    let marked = mark_covered_here c.args.stamp c.args.removal.now.prog c.args.removal.now.vers c.args.removal.now.which c.args.removal.now.owner c.args.netid c.rank-rank.ensures.vers c.in-Some-get_mut.slot.now small under.0 under.1 (sym (rw c.as_row.ensures at c.if-not-covers.ensures)) in
     rw (one, marked) refl
 
 pub returns-clause-distinct : goal.returns-clause-distinct

@@ -1,4 +1,4 @@
-use Rattle.std.proofs.Common.{◌≡◌, ◌≤◌, length, ap, arith}
+use Rattle.std.proofs.Common.{◌≤◌, length, ap, arith}
 use Rattle.std.proofs.lemmas.Bool.Decides.{nat_tests}
 use Rattle.rb_registry.specs.Registry.{Registry, rows_of, slots_of}
 use Rattle.rb_registry.proofs.VersionsLeft.{versions_are_few, long_enough}

@@ -82,7 +82,7 @@ own-preserved c =
       can_next = tt;
       finite = tt;
       left = append_assoc c.own.yielded (c.in-Some.row ∷ []) _ ∙ stood;
-      table = rw (c.in-Ok.ensures.ok, c.in-Ok-insert.ensures.ok, c.rank-rank.ensures.rank) (record {
+      table = rw (c.in-Ok.ensures.ok, c.new-in-own.ensures, c.in-Ok-insert.ensures.ok, c.rank-rank.ensures.rank) (record {
         distinct = distinct-push c.own.slots.entries c.in-Ok.key (slot_of 0 c.in-Some.row) c.own.invariant.table.distinct c.in-Ok.ensures.fresh;
         stamped = AreStamped-own c.in-Ok.key c.in-Some.row c.own.slots.entries c.charge-held.ensures.addr c.own.invariant.table.stamped;
         made = c.own.invariant.table.made;
@@ -96,15 +96,15 @@ own-preserved c =
         index_cap = c.own.invariant.table.index_cap;
         index_tie = c.own.invariant.table.index_tie;
       });
-      slots = rw c.in-Ok.ensures.ok
+      slots = rw (c.in-Ok.ensures.ok, c.new-in-own.ensures)
           (values_of-push c.own.slots.entries c.in-Ok.key (slot_of 0 c.in-Some.row)
           ∙ ap (λ (slots : List Slot). slots ++ slot_of 0 c.in-Some.row ∷ []) (c.own.invariant.slots ∙ slots-new 0 c.own.yielded)
           ∙ sym (map-append (slot_of 0) c.own.yielded (c.in-Some.row ∷ []))
           ∙ sym (slots-new 0 (c.own.yielded ++ c.in-Some.row ∷ [])));
-      dead = rw c.in-Ok.ensures.ok (removals-push c.in-Ok.key 0 c.in-Some.row c.own.slots.entries ∙ c.own.invariant.dead);
-      counted = rw c.in-Ok.ensures.ok (live_and_retained 0 _ (AreStamped-own c.in-Ok.key c.in-Some.row c.own.slots.entries c.charge-held.ensures.addr c.own.invariant.table.stamped));
-      count = rw c.in-Ok.ensures.ok (omega (arith, more, longer, c.own.invariant.count));
-      rows = rw c.in-Ok.ensures.ok
+      dead = rw (c.in-Ok.ensures.ok, c.new-in-own.ensures) (removals-push c.in-Ok.key 0 c.in-Some.row c.own.slots.entries ∙ c.own.invariant.dead);
+      counted = rw (c.in-Ok.ensures.ok, c.new-in-own.ensures) (live_and_retained 0 _ (AreStamped-own c.in-Ok.key c.in-Some.row c.own.slots.entries c.charge-held.ensures.addr c.own.invariant.table.stamped));
+      count = rw (c.in-Ok.ensures.ok, c.new-in-own.ensures) (omega (arith, more, longer, c.own.invariant.count));
+      rows = rw (c.in-Ok.ensures.ok, c.new-in-own.ensures)
           (ap (λ (es : List (ℕ × Row)). values_of es) (own_now c.in-Ok.key c.in-Some.row c.own.slots.entries)
           ∙ values_of-push (table_at 0 c.own.slots.entries) c.in-Ok.key c.in-Some.row
           ∙ ap (λ (rows : List Row). rows ++ c.in-Some.row ∷ []) c.own.invariant.rows);

@@ -57,7 +57,7 @@ pub invariant_of-self : goal.invariant_of-self
 invariant_of-self c =
     let missing = none_found_there c.self.inside.index.entries (rank_of c.args.row) c.if-has_key.ensures.found in
     let pushed = IsIndexed-push c.in-Ok.key (c.self.inside.changes + 1) c.args.row c.self.inside.slots.entries c.self.inside.index.entries c.self.invariant.indexed c.if-has_key.ensures.vers missing in
-    rw (c.in-Ok.ensures.ok, c.in-Ok-insert.ensures.ok, c.rank-rank.ensures.rank) (record {
+    rw (c.in-Ok.ensures.ok, c.new.ensures, c.in-Ok-insert.ensures.ok, c.rank-rank.ensures.rank) (record {
       distinct = distinct-push c.self.inside.slots.entries c.in-Ok.key (slot_of _ c.args.row) c.self.invariant.distinct c.in-Ok.ensures.fresh;
       stamped = AreStamped-push _ c.in-Ok.key c.args.row c.self.inside.slots.entries c.charge-charge.ensures.addr c.self.invariant.stamped;
       made = let made = c.self.invariant.made in omega (arith, made);
@@ -79,13 +79,13 @@ returns-in-Ok-insert-clause-taken c =
 
 pub returns-in-Ok-insert-clause-changes : goal.returns-in-Ok-insert-clause-changes
 returns-in-Ok-insert-clause-changes c own changes h =
-    rw (c.in-Ok.ensures.ok, c.in-Ok-insert.ensures.ok) (after_set (the_view c.self.inside) _ c.args.row own changes c.charge-charge.ensures.addr c.self.invariant.stamped (c.in-Ok.ensures.room.0 (λ i. true)) (subst (λ (kept : Registry). StandsForChanges kept own changes) (sym c.self.view_is) h))
+    rw (c.in-Ok.ensures.ok, c.new.ensures, c.in-Ok-insert.ensures.ok) (after_set (the_view c.self.inside) _ c.args.row own changes c.charge-charge.ensures.addr c.self.invariant.stamped (c.in-Ok.ensures.room.0 (λ i. true)) (subst (λ (kept : Registry). StandsForChanges kept own changes) (sym c.self.view_is) h))
 
 pub returns-in-Ok-insert-clause-cursors : goal.returns-in-Ok-insert-clause-cursors
-returns-in-Ok-insert-clause-cursors c = rw (← c.self.view_is, c.in-Ok.ensures.ok, c.in-Ok-insert.ensures.ok) (goes_on-set (the_view c.self.inside) _ c.args.row)
+returns-in-Ok-insert-clause-cursors c = rw (← c.self.view_is, c.in-Ok.ensures.ok, c.new.ensures, c.in-Ok-insert.ensures.ok) (goes_on-set (the_view c.self.inside) _ c.args.row)
 
 pub returns-in-Ok-insert-clause-retained : goal.returns-in-Ok-insert-clause-retained
-returns-in-Ok-insert-clause-retained c = rw (← c.self.view_is, c.in-Ok.ensures.ok) (removals-push c.in-Ok.key _ c.args.row c.self.inside.slots.entries)
+returns-in-Ok-insert-clause-retained c = rw (← c.self.view_is, c.in-Ok.ensures.ok, c.new.ensures) (removals-push c.in-Ok.key _ c.args.row c.self.inside.slots.entries)
 
 pub returns-in-Ok-insert-clause-cost : goal.returns-in-Ok-insert-clause-cost
 returns-in-Ok-insert-clause-cost c =
