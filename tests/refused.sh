@@ -51,6 +51,13 @@ refuse_serve() {
         /dev/null "$program" serve --port 20113 --conns 3 --rows 20 --forwards 3 --turns 1
 }
 
+# One that keeps rows reads them first, and sets them again.
+refuse_kept() {
+    echo 'datagram 0 127.0.0.1:0 (xid=0 4 set 200002 1 tcp 127.0.0.1.8.1)' | tests/row.py > "$work/kept"
+    refuse_in_turn 'a daemon of kept rows' "$work/served" \
+        /dev/null "$program" serve --port 20113 --conns 3 --rows 20 --turns 1 --keep "$work/kept"
+}
+
 # rpcinfo reads a reply, and shows it.
 refuse_reply() {
     local row=tests/rows-rpcinfo/rpcinfo_rows words
@@ -73,6 +80,7 @@ refuse_calls() {
     wait "$daemon" 2> /dev/null
 }
 
+# EXIT-1
 run_refused_memory() {
     if [ -n "$has_checks" ] || ! "${CC:-cc}" -O1 -shared -fPIC -o "$work/refuse.so" tests/refuse.c; then
         echo 'not run: memory that is refused'
@@ -80,6 +88,7 @@ run_refused_memory() {
     fi
     refuse_replay
     refuse_serve
+    refuse_kept
     refuse_reply
     refuse_calls
 }

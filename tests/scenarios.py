@@ -68,7 +68,7 @@ class Background:
         with open(self.path, encoding="utf-8", errors="replace") as file:
             return file.read()
 
-    def says(self, line, seconds=20):
+    def says(self, line, seconds=60):
         return is_within(seconds, lambda: line in self.said().splitlines())
 
     # A program with checks may take minutes, on a busy machine, for its memory and to set kept rows again.

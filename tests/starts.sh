@@ -207,6 +207,7 @@ END
     judge $? "the rows are to be kept in the file of the record"
 }
 
+# EXIT-2
 # A user of --reserve may be named as in /etc/passwd, in each form of the option.
 run_names_of_users() {
     echo 'rpcbind: listening on 127.0.0.1 port 20112' > "$work/wanted"
@@ -230,7 +231,7 @@ run_daemon_of_networks() {
     judge $? "a daemon that serves sixteen networks"
 }
 
-# DEBIAN-1 DEBIAN-2
+# DEBIAN-1 DEBIAN-2 EXIT-2
 # Options of Debian's rpcbind(8) without a command: -h binds, with 127.0.0.1 and ::1 beside it, -w keeps rows, -r forwards, -l and -d
 # tell of all and -f is as it is. What has no like here ends the program and is named. Port 111 may be another's here, so each
 # start ends by a word that can't be read.

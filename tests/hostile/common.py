@@ -82,12 +82,14 @@ class Daemon:
         if descriptors:
             command = ["sh", "-c", f'ulimit -n {descriptors}; exec "$@"', "sh", *command]
         self.process = subprocess.Popen(command, stdout=self.written, stderr=self.written)
-        for _ in range(200):
-            self.written.seek(0)
-            if self.written.read().count(b"listening") >= len(addresses):
-                return
-            time.sleep(0.1)
-        raise SystemExit("the daemon does not listen")
+        while self.said().count("listening") < len(addresses):
+            if not self.is_there():
+                raise SystemExit(f"the daemon does not listen, and wrote: {self.said()}")
+            time.sleep(0.05)
+
+    def said(self):
+        self.written.seek(0)
+        return self.written.read().decode()
 
     def own_memory(self):
         """Kilobytes of its own that are resident."""

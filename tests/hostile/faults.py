@@ -75,6 +75,12 @@ class Daemon:
     def is_there(self):
         return self.process.poll() is None
 
+    def is_listening(self):
+        """Waits until it says where it listens, as long as it is there; whether it does."""
+        while self.is_there() and self.said().count("listening") < 2:
+            time.sleep(0.05)
+        return self.is_there()
+
     def end(self):
         self.process.kill()
         self.process.wait()
@@ -228,7 +234,7 @@ def within(seconds, is_so):
 
 def bear(daemon, name, error, counts):
     """What is wrong about how a daemon bears a fault, and what is told of it."""
-    if not within(RECOVERY, lambda: not daemon.is_there() or daemon.said().count("listening") == 2):
+    if not daemon.is_listening():
         return ["it does not listen"], ""
     if unanswered(daemon):
         return ["it did not answer before"], ""
@@ -284,7 +290,7 @@ def run_end(port):
     """Runs waits for events that fail until the daemon ends, prints the line, and returns whether that passed."""
     with tempfile.TemporaryDirectory() as folder:
         daemon = Daemon(port, folder)
-        within(RECOVERY, lambda: daemon.said().count("listening") == 2)
+        daemon.is_listening()
         tracer = attach(daemon, "epoll_wait", "EINVAL", os.path.join(folder, "counts"))
         begin = time.monotonic()
         has_ended = tracer is not None and within(END, lambda: not daemon.is_there())

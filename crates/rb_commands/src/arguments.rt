@@ -1,7 +1,7 @@
 //! The words of the command line: two commands and their options.
-ghost use Rattle.std.specs.Prelude.{◌≡◌, ◌≤◌, IfErr};
+ghost use Rattle.std.specs.Prelude.{◌≡◌, IfErr};
 ghost use Rattle.clap.specs.Words.{kind_of};
-ghost use Rattle.rb_commands.specs.Faults.{EndsWith};
+ghost use Rattle.rb_commands.specs.Faults.{EndsWith, EndsUnrun};
 ghost use Rattle.rb_commands.specs.Wanted.{is_the_record};
 
 use crate::command::command;
@@ -10,11 +10,14 @@ use crate::serving::{Serve, ServeTexts, read_serve};
 use crate::wanted::{BadValue, option_name, wanted_text};
 use clap::error::ErrorKind;
 use clap::{ArgMatches, Error};
-use rb_lines::{Beginning, Fault, explain};
+use rb_lines::{Beginning, DONE, Ending, Fault, explain};
 use rb_sockets::open_files;
 use std::alloc::Global;
 use std::convert::AsStr;
 use std::io::Write;
+
+/// The status of words that can't be read.
+const UNREADABLE: u8 = 2;
 
 /// What a command line asks for.
 #[derive(Drop)]
@@ -30,15 +33,16 @@ pub enum Words<'a> {
 // WORD-3: Words that name no command, or an option that can't be read, end the program with status
 // 2, and nothing is run.
 /// What the words ask for, the program's own name first. If nothing needs to be run, what there is to say was
-/// written, and the exit status is the error: 0 if help or the version went to `output`; 2 if the words can't
-/// be read, and `faults` got the reason; 1 if memory or `output` failed.
+/// written, and how it ended is the error: with status 0 if help or the version went to `output`; with 2 if the words
+/// can't be read, and `faults` got the reason; with 1 if memory or `output` failed.
 pub fn read_words<'a, S: AsStr, O: Write, E: Write>(
     alloc: Global,
     words: &'a [S],
     output: &mut O,
     faults: &mut E,
-) -> Result<Words<'a>, u8>
-    ensures { IfErr result (λ status. status ≤ 2) }
+) -> Result<Words<'a>, Ending>
+    ensures { IfErr result
+        (EndsUnrun E.contents faults.old faults.new output.old output.new) }
 {
     match matches_of(alloc, words) {
         Ok(matches) => read_matches(&matches, faults),
@@ -51,35 +55,36 @@ fn matches_of<'a, S: AsStr>(alloc: Global, words: &'a [S]) -> Result<ArgMatches<
     command(alloc)?.try_get_matches_from(words)
 }
 
-/// Writes help, or what is wrong with the words, and gives the status.
-fn show<O: Write, E: Write>(error: &Error, output: &mut O, faults: &mut E) -> u8
-    ensures { EndsWith (kind_of error.now) result }
+/// Writes help, or what is wrong with the words, and says how it ends by that.
+fn show<O: Write, E: Write>(error: &Error, output: &mut O, faults: &mut E) -> Ending
+    ensures { EndsWith
+        E.contents faults.old faults.new output.old output.new (kind_of error.now) result }
 {
     match error.kind() {
-        ErrorKind::OutOfMemory => explain(Fault::NoMemory, faults).status,
+        ErrorKind::OutOfMemory => explain(Fault::NoMemory, faults),
         ErrorKind::DisplayHelp | ErrorKind::DisplayVersion => {
             if write!(output, "{error}").is_err() || output.flush().is_err() {
-                explain(Fault::WriteFailed, faults).status
+                explain(Fault::WriteFailed, faults)
             } else {
-                0
+                DONE
             }
         }
-        _ => {
-            let _ = write!(faults, "{error}");
-            2
-        }
+        _ => Ending {
+            status: UNREADABLE,
+            is_told: write!(faults, "{error}").is_ok(),
+        },
     }
 }
 
-fn read_matches<'a, E: Write>(matches: &ArgMatches<'a>, faults: &mut E) -> Result<Words<'a>, u8>
-    ensures { IfErr result (λ status. status ≡ 2) }
+fn read_matches<'a, E: Write>(matches: &ArgMatches<'a>, faults: &mut E) -> Result<Words<'a>, Ending>
+    ensures { IfErr result (λ ending. ending.status ≡ 2) }
 {
     match words_of(matches) {
         Ok(words) => Ok(words),
-        Err(bad) => {
-            let _ = writeln!(faults, "{bad}");
-            Err(2)
-        }
+        Err(bad) => Err(Ending {
+            status: UNREADABLE,
+            is_told: writeln!(faults, "{bad}").is_ok(),
+        }),
     }
 }
 

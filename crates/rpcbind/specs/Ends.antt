@@ -1,5 +1,12 @@
 -- How `serve` ends, and what a service manager is told.
-use Rattle.std.specs.Prelude.{ℕ, List, ◌++◌, codes, decimal, Result, Ok, Err}
+use Rattle.std.specs.Prelude.{ℕ, Bool, true, false, List, ◌++◌, codes, decimal, Result, Ok, Err}
+use Rattle.std.specs.IoError.{error_kind}
+use Rattle.std.specs.declared.io.ErrorKind.{ErrorKind}
+use Rattle.std.specs.declared.io.ErrorKind.TheVariants.{OutOfMemory}
+use Rattle.rb_files.specs.declared.trusted.KeptFileFault.TheVariants as files
+use Rattle.rb_keep.specs.declared.fault.KeepFault.TheVariants as texts
+use Rattle.rpcbind.specs.declared.keep.KeepReadFault.{KeepReadFault}
+use Rattle.rpcbind.specs.declared.keep.KeepReadFault.TheVariants.{File, Text}
 use Rattle.rb_sockets.specs.declared.faults.DaemonFault.{DaemonFault}
 use Rattle.rb_sockets.specs.declared.faults.DaemonFault.TheVariants.{Memory, Limits as OfLimits, Socket}
 use Rattle.rb_sockets.specs.declared.handed.HandedFault.{HandedFault}
@@ -8,6 +15,8 @@ use Rattle.rb_daemon.specs.declared.load.Load.{Load}
 use Rattle.rb_address.specs.Peers.{bare_host_text}
 use Rattle.rpcbind.specs.declared.ending.End.{End as Ending}
 use Rattle.rpcbind.specs.declared.ending.End.TheVariants.{Done, NotStarted, Failed}
+use Rattle.rpcbind.specs.declared.ending.StartFault.{StartFault}
+use Rattle.rpcbind.specs.declared.ending.StartFault.TheVariants.{NoMemory, Locked, Unread, Handed, Daemon, Unmade, Unsaid}
 use Rattle.rpcbind.specs.declared.manager.News.{News}
 use Rattle.rpcbind.specs.declared.manager.News.TheVariants.{Missing, Ready, Turn, End}
 
@@ -18,12 +27,12 @@ status_of Done = 0
 status_of NotStarted = 3
 status_of Failed = 1
 
--- by the fault of a start
+-- by the fault of a daemon that can't begin
 -- EXIT-1
-abbrev pub end_at_start : DaemonFault → Ending
-end_at_start (Memory error) = Failed
-end_at_start OfLimits = NotStarted
-end_at_start (Socket failed) = NotStarted
+abbrev pub end_by_daemon : DaemonFault → Ending
+end_by_daemon (Memory error) = Failed
+end_by_daemon OfLimits = NotStarted
+end_by_daemon (Socket failed) = NotStarted
 
 -- by the fault of sockets that were handed over
 -- EXIT-1
@@ -31,6 +40,34 @@ abbrev pub end_by_handed : HandedFault → Ending
 end_by_handed (handed.Memory error) = Failed
 end_by_handed handed.Count = NotStarted
 end_by_handed (handed.Socket socket) = NotStarted
+
+abbrev pub is_refusal : ErrorKind → Bool
+is_refusal OutOfMemory = true
+is_refusal _ = false
+
+-- kept rows are not read since an allocation was refused
+-- EXIT-1
+abbrev pub is_memory : KeepReadFault → Bool
+is_memory (Text texts.NoMemory) = true
+is_memory (Text (texts.BadLine n)) = false
+is_memory (Text (texts.NotKept n)) = false
+is_memory (Text (texts.TooMany n)) = false
+is_memory (Text texts.TooLong) = false
+is_memory (File (files.Failed error)) = is_refusal (error_kind error)
+is_memory (File (files.Distrusted why)) = false
+is_memory (File files.Exchanged) = false
+is_memory (File files.TooLong) = false
+
+-- by the fault of a start
+-- EXIT-1
+abbrev pub end_at_start : StartFault → Ending
+end_at_start NoMemory = Failed
+end_at_start (Locked path) = NotStarted
+end_at_start (Unread path fault) = NotStarted
+end_at_start (Handed fault) = end_by_handed fault
+end_at_start (Daemon fault) = end_by_daemon fault
+end_at_start (Unmade path error) = NotStarted
+end_at_start Unsaid = NotStarted
 
 -- after the turns
 -- EXIT-1

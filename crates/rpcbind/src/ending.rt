@@ -1,8 +1,12 @@
-//! How `serve` ends.
+//! How `serve` ends, and why it can't start.
 ghost use Rattle.std.specs.Prelude.{◌≡◌};
-ghost use Rattle.rpcbind.specs.Ends.{end_after, end_at_start};
+ghost use Rattle.rpcbind.specs.Ends.{end_at_start, end_after};
 
+use crate::keep::KeepReadFault;
 use rb_daemon::DaemonFault;
+use rb_sockets::HandedFault;
+use std::alloc::AllocError;
+use std::io;
 
 /// How `serve` ends.
 #[derive(Clone, Copy)]
@@ -30,13 +34,50 @@ impl End {
     }
 }
 
+/// Why `serve` can't start.
+#[derive(Drop)]
+pub enum StartFault<'a> {
+    /// An allocation was refused.
+    NoMemory,
+    /// Another daemon keeps its rows at this path.
+    Locked(&'a str),
+    /// The rows at this path are not read.
+    Unread(&'a str, KeepReadFault),
+    /// Sockets that a service manager handed over are not taken.
+    Handed(HandedFault),
+    /// The daemon can't begin.
+    Daemon(DaemonFault),
+    /// The file of the record can't be made at this path.
+    Unmade(&'a str, io::Error),
+    /// Standard output does not take where it listens.
+    Unsaid,
+}
+
+impl<'a> From<AllocError> for StartFault<'a> {
+    ghost use Rattle.std.specs.Prelude.{◌≡◌};
+    ghost use Rattle.rpcbind.specs.declared.ending.StartFault.TheVariants.{NoMemory};
+
+    ghost from_gives = { λ _ fault. fault ≡ NoMemory };
+
+    fn from(_error: AllocError) -> StartFault<'a> {
+        StartFault::NoMemory
+    }
+}
+
 /// How it ends by a fault of its start.
-pub fn end_at_start(fault: &DaemonFault) -> End
+pub fn end_at_start(fault: &StartFault<'_>) -> End
     ensures { result ≡ end_at_start fault.now }
 {
     match fault {
-        DaemonFault::Memory(_) => End::Failed,
-        DaemonFault::Limits | DaemonFault::Socket(_) => End::NotStarted,
+        StartFault::NoMemory
+        | StartFault::Handed(HandedFault::Memory(_))
+        | StartFault::Daemon(DaemonFault::Memory(_)) => End::Failed,
+        StartFault::Locked(_)
+        | StartFault::Unread(_, _)
+        | StartFault::Handed(HandedFault::Count | HandedFault::Socket(_))
+        | StartFault::Daemon(DaemonFault::Limits | DaemonFault::Socket(_))
+        | StartFault::Unmade(_, _)
+        | StartFault::Unsaid => End::NotStarted,
     }
 }
 

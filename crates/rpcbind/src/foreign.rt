@@ -1,12 +1,13 @@
 //! Settings that were made for another rpcbind: options of Debian's, and the files of tcpd.
-ghost use Rattle.std.specs.Prelude.{◌≡◌, ◌≤◌, IfErr};
+ghost use Rattle.std.specs.Prelude.{◌≡◌, IfErr};
 ghost use Rattle.rpcbind.specs.Foreign.{is_service, is_between};
+ghost use Rattle.rpcbind.specs.Words.{IsOfOptions};
 
 use crate::files::text_of;
 use crate::leveled::{Level, Leveled};
+use crate::words::WordsFault;
 use rb_address::cut;
 use rb_commands::{Machine, Translation, translate};
-use rb_lines::{Fault, explain};
 use std::alloc::{AllocError, Global};
 use std::env::{self, Env};
 use std::fs::Files;
@@ -51,13 +52,6 @@ fn joined(alloc: Global, words: &[String]) -> Result<String, AllocError> {
     Ok(text)
 }
 
-/// Ends for want of memory.
-fn no_memory<E: Write>(faults: &mut E) -> u8
-    ensures { result ≤ 2 }
-{
-    explain(Fault::NoMemory, faults).status
-}
-
 /// Whether a word is an option of one dash, and not that for the version.
 fn is_dashed(word: &str) -> bool {
     word.starts_with('-') && !word.starts_with("--") && word != "-V"
@@ -82,13 +76,17 @@ fn are_of_serve(words: &[String]) -> bool {
 }
 
 /// Puts words of `serve` in the place of options of Debian's rpcbind: of all words, if they are such options, and of the text
-/// of `--options` of `serve`. What is taken is said, and in the text also what is not. An option without its like that is no
-/// part of a text ends the program, as does want of memory: it is said, and the error is the exit status.
-pub fn translate_words<R, E>(rt: &R, words: Vec<String>, faults: &mut E) -> Result<Vec<String>, u8>
+/// of `--options` of `serve`. What is taken is said, and in the text also what is not. An error if an option without its like
+/// is no part of a text, if `-h HOST` is, or if an allocation is refused.
+pub fn translate_words<R, E>(
+    rt: &R,
+    words: Vec<String>,
+    faults: &mut E,
+) -> Result<Vec<String>, WordsFault>
 where
     R: Files + Env + AllocGlobal,
     E: Write,
-    ensures { IfErr result (λ status. status ≤ 2) }
+    ensures { IfErr result IsOfOptions }
 {
     if are_options(&words) {
         return translate_all(rt, &words, faults);
@@ -100,18 +98,15 @@ where
 }
 
 /// Words of which each is one of Debian's options, or belongs to one.
-fn translate_all<R, E>(rt: &R, words: &[String], faults: &mut E) -> Result<Vec<String>, u8>
+fn translate_all<R, E>(rt: &R, words: &[String], faults: &mut E) -> Result<Vec<String>, WordsFault>
 where
     R: Files + Env + AllocGlobal,
     E: Write,
-    ensures { IfErr result (λ status. status ≤ 2) }
+    ensures { IfErr result IsOfOptions }
 {
-    let Ok((ours, left)) = ours_for(rt.alloc(), machine_of(rt), words) else {
-        return Err(no_memory(faults));
-    };
+    let (ours, left) = ours_for(rt.alloc(), machine_of(rt), words)?;
     if !left.is_empty() {
-        let _ = writeln!(faults, "rpcbind: {left}");
-        return Err(2);
+        return Err(WordsFault::NotTaken(left));
     }
     say_ours(rt.alloc(), &ours, faults)?;
     Ok(ours)
@@ -139,41 +134,32 @@ fn ours_for(
     Ok((ours, left))
 }
 
-fn say_ours<E: Write>(alloc: Global, ours: &[String], faults: &mut E) -> Result<(), u8>
-    ensures { IfErr result (λ status. status ≤ 2) }
-{
-    let Ok(text) = joined(alloc, ours.get(1..).unwrap_or(&[])) else {
-        return Err(no_memory(faults));
-    };
+fn say_ours<E: Write>(alloc: Global, ours: &[String], faults: &mut E) -> Result<(), AllocError> {
+    let text = joined(alloc, ours.get(1..).unwrap_or(&[]))?;
     let mut notices = Leveled::new(faults, Level::Notice);
     let _ = writeln!(notices, "rpcbind: taken as:{text}");
     Ok(())
 }
 
 /// Words of `serve`.
-fn translate_serve<R, E>(rt: &R, words: &[String], faults: &mut E) -> Result<Vec<String>, u8>
+fn translate_serve<R, E>(
+    rt: &R,
+    words: &[String],
+    faults: &mut E,
+) -> Result<Vec<String>, WordsFault>
 where
     R: Files + Env + AllocGlobal,
     E: Write,
-    ensures { IfErr result (λ status. status ≤ 2) }
+    ensures { IfErr result IsOfOptions }
 {
     if has_host_for_help(words) {
-        let _ = writeln!(
-            faults,
-            "rpcbind: serve -h shows help: give a host as --bind HOST, or in --options='-h HOST'"
-        );
-        return Err(2);
+        return Err(WordsFault::HostForHelp);
     }
-    let Ok((mut rest, text)) = without_options(rt.alloc(), words) else {
-        return Err(no_memory(faults));
-    };
-    if text.is_empty() {
-        return Ok(rest);
+    let (mut rest, text) = without_options(rt.alloc(), words)?;
+    if !text.is_empty() {
+        add_text(rt.alloc(), machine_of(rt), &mut rest, text.as_str(), faults)?;
     }
-    match add_text(rt.alloc(), machine_of(rt), &mut rest, text.as_str(), faults) {
-        Ok(()) => Ok(rest),
-        Err(_) => Err(no_memory(faults)),
-    }
+    Ok(rest)
 }
 
 /// Whether words have `-h`, which is for help, with a word behind it.

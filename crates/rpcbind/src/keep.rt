@@ -1,15 +1,17 @@
 //! What `serve` begins with of the rows that were kept, and what it says of them.
-ghost use Rattle.std.specs.Prelude.{◌≡◌};
+ghost use Rattle.std.specs.Prelude.{◌≡◌, true, false};
+ghost use Rattle.rpcbind.specs.declared.ending.StartFault.TheVariants.{NoMemory, Unread};
+ghost use Rattle.rpcbind.specs.Ends.{is_memory};
 ghost use Rattle.rpcbind.specs.Starts.{hosts_of};
 
-use crate::ending::End;
+use crate::ending::StartFault;
 use crate::leveled::{Level, Leveled};
 use rb_address::Host;
 use rb_commands::Serve;
 use rb_daemon::KeepNews;
 use rb_files::{Found, KeptFileFault, LockFault, OwnHosts, ask_all, lock_file, read_kept};
 use rb_keep::{KeepFault, read_rows, whole_part};
-use rb_lines::{Fault, explain, longest_input};
+use rb_lines::longest_input;
 use rb_policy::ANY;
 use rb_proto::Announced;
 use rb_registry::Row;
@@ -18,13 +20,13 @@ use std::alloc::{AllocError, Global};
 use std::fmt;
 use std::fmt::{Display, Formatter};
 use std::fs::{File, Files};
-use std::io::Write;
+use std::io::{ErrorKind, Write};
 use std::net::Net;
 use std::rt::Clock;
 
 /// Why rows that were kept are not read.
 #[derive(Drop)]
-enum KeepReadFault {
+pub enum KeepReadFault {
     /// Their file is not read.
     File(KeptFileFault),
     /// It is no text of kept rows.
@@ -42,31 +44,24 @@ impl Display for KeepReadFault {
 
 // KEEP-17: One daemon at most has the lock of a file of kept rows, at its path with `.lock` after it;
 // a second one does not start.
-/// The lock of the file where rows are kept, if they are: it is had as long as the answer lives. If another daemon has
-/// it, or memory is refused, it is said, and the error is how `serve` ends. If the system refuses it, that is said, and
-/// the daemon goes on without it.
-pub fn lock_keep<R, E>(rt: &R, serve: &Serve<'_>, faults: &mut E) -> Result<Option<File>, End>
+/// The lock of the file where rows are kept, if they are: it is had as long as the answer lives. An error if another daemon
+/// has it, or an allocation is refused. If the system refuses it, that is said, and the daemon goes on without it.
+pub fn lock_keep<'a, R, E>(
+    rt: &R,
+    settings: &Settings<'a>,
+    faults: &mut E,
+) -> Result<Option<File>, StartFault<'a>>
 where
     R: Files<File = File> + AllocGlobal,
     E: Write,
 {
-    let Some(path) = serve.settings.keep else {
+    let Some(path) = settings.keep else {
         return Ok(None);
     };
-    let Ok(lock) = lock_path(rt.alloc(), path) else {
-        explain(Fault::NoMemory, faults);
-        return Err(End::Failed);
-    };
+    let lock = lock_path(rt.alloc(), path)?;
     match lock_file(rt, &lock) {
         Ok(file) => Ok(Some(file)),
-        Err(LockFault::Held) => {
-            explain(Fault::ReadFailed, faults);
-            let _ = writeln!(
-                faults,
-                "rpcbind: {path}: another daemon keeps its rows there"
-            );
-            Err(End::NotStarted)
-        }
+        Err(LockFault::Held) => Err(StartFault::Locked(path)),
         Err(LockFault::Failed(error)) => {
             let _ = writeln!(faults, "rpcbind: {lock}: {error}; {path} is not locked");
             Ok(None)
@@ -111,9 +106,13 @@ fn say_torn<E: Write>(path: &str, text: &[u8], faults: &mut E) {
 }
 
 /// The rows that were kept, in their order: none if none should be kept, or if nothing is at the path. Those of this
-/// machine at whose port nobody answers are left out and said, if that is asked for. If the rows can't be read, or
-/// memory is refused, it is said why, and the error is how `serve` ends.
-pub fn read_keep<R, E>(rt: &R, serve: &Serve<'_>, faults: &mut E) -> Result<Vec<Row>, End>
+/// machine at whose port nobody answers are left out and said, if that is asked for. An error if the rows can't be read, or
+/// an allocation is refused.
+pub fn read_keep<'a, R, E>(
+    rt: &R,
+    serve: &Serve<'a>,
+    faults: &mut E,
+) -> Result<Vec<Row>, StartFault<'a>>
 where
     R: Files + Net + Clock + AllocGlobal,
     E: Write,
@@ -124,21 +123,38 @@ where
     };
     let rows = match rows_at(rt, rt.alloc(), path, faults) {
         Ok(rows) => rows,
-        Err(fault) => {
-            explain(Fault::ReadFailed, faults);
-            let _ = writeln!(faults, "rpcbind: {path}: {fault}");
-            return Err(End::NotStarted);
-        }
+        Err(fault) => return Err(start_fault(path, fault)),
     };
-    if !serve.keep_check {
-        return Ok(rows);
+    if serve.keep_check {
+        Ok(without_silent(rt, path, settings, rows, faults)?)
+    } else {
+        Ok(rows)
     }
-    match without_silent(rt, path, settings, rows, faults) {
-        Ok(rows) => Ok(rows),
-        Err(_) => {
-            explain(Fault::NoMemory, faults);
-            Err(End::Failed)
+}
+
+/// Whether an allocation was refused.
+fn is_memory(fault: &KeepReadFault) -> bool
+    ensures { result ≡ is_memory fault.now }
+{
+    match fault {
+        KeepReadFault::Text(KeepFault::NoMemory) => true,
+        KeepReadFault::File(KeptFileFault::Failed(error)) => {
+            matches!(error.kind(), ErrorKind::OutOfMemory)
         }
+        KeepReadFault::Text(_) | KeepReadFault::File(_) => false,
+    }
+}
+
+// EXIT-1
+/// Why it can't start, if this is why the rows at the path are not read.
+fn start_fault<'a>(path: &'a str, fault: KeepReadFault) -> StartFault<'a>
+    ensures memory { is_memory fault ≡ true → result ≡ NoMemory }
+    ensures unread { is_memory fault ≡ false → result ≡ Unread path.entry fault }
+{
+    if is_memory(&fault) {
+        StartFault::NoMemory
+    } else {
+        StartFault::Unread(path, fault)
     }
 }
 

@@ -1,9 +1,7 @@
 //! The file in which the events of `serve` are recorded.
-ghost use Rattle.std.specs.Prelude.{◌≡◌, IfErr};
-
+use crate::ending::StartFault;
 use rb_daemon::Daemon;
 use rb_files::new_file;
-use rb_lines::{Fault, explain};
 use std::fs::Files;
 use std::io::Write;
 use std::rt::Clock;
@@ -34,23 +32,16 @@ impl<F: Write + Drop> Recorder<F> {
 
 // TAPE-5: The file of a record is made once all sockets are bound, and before the daemon says where
 // it listens; its owner alone may read it.
-/// Makes the file at the path, if there is one. If it can't be made it is said why, and the error is the exit status.
-pub fn make_record<R: Files, E: Write>(
+/// Makes the file at the path, if there is one. An error if it can't be made.
+pub fn make_record<'a, R: Files>(
     rt: &R,
-    path: Option<&str>,
-    faults: &mut E,
-) -> Result<Recorder<R::File>, u8>
-    ensures { IfErr result (λ status. status ≡ 1) }
-{
+    path: Option<&'a str>,
+) -> Result<Recorder<R::File>, StartFault<'a>> {
     let Some(path) = path else {
         return Ok(Recorder { file: None });
     };
     match new_file(rt, path) {
         Ok(file) => Ok(Recorder { file: Some(file) }),
-        Err(error) => {
-            let status = explain(Fault::WriteFailed, faults).status;
-            let _ = writeln!(faults, "rpcbind: make {path}: {error}");
-            Err(status)
-        }
+        Err(error) => Err(StartFault::Unmade(path, error)),
     }
 }

@@ -1,20 +1,23 @@
 //! The command `serve`.
-use crate::ending::{End, end_after, end_at_start};
+ghost use Rattle.rpcbind.specs.Faults.{EndsServe, EndsAfterTurns};
+
+use crate::ending::StartFault;
 use crate::interfaces::Binds;
 use crate::keep::{lock_keep, read_keep, say_keep_news, say_left_out};
 use crate::leveled::{Level, Leveled};
 use crate::manager::{Manager, News};
 use crate::record::{Recorder, make_record};
 use crate::telling::{
-    explain_fault, explain_handed, say_address, say_local_change, say_loopback6, say_missing,
-    say_name, say_silent, say_start, say_table_fault,
+    conclude, explain_start, say_address, say_local_change, say_loopback6, say_missing, say_name,
+    say_silent, say_start, say_table_fault,
 };
 use rb_address::Host;
 use rb_commands::Serve;
 use rb_daemon::{Daemon, DaemonFault, Handed, Settings};
 use rb_forward::sooner;
-use rb_lines::{Fault, explain};
+use rb_lines::Ending;
 use rb_sockets::{Follower, HandedFault, MOST, lacks_loopback6, missing_host, take_handed};
+use std::alloc::AllocError;
 use std::env::Env;
 use std::fs::{File, Files};
 use std::io::Write;
@@ -39,39 +42,59 @@ const _: () = prove!(HOST_TRIES * HOST_PAUSE == 30_000);
 /// Serves, and says on standard output where it listens, and to a service manager that it serves. If it can't start, or a turn
 /// fails, the reason goes to `faults`, as the last line.
 /// If `--bind` is not given, it listens at the hosts of sockets that a service manager handed over.
-pub fn run_service<R, E>(rt: &R, mut serve: Serve<'_>, binds: Binds, faults: &mut E) -> End
+pub fn run_service<R, E>(rt: &R, mut serve: Serve<'_>, binds: Binds, faults: &mut E) -> Ending
 where
     R: Net + Files<File = File> + Clock + RandomSource + Wait + AllocGlobal + Print + Env,
     E: Write,
+    ensures { EndsServe E.contents faults.new result }
 {
     let mut manager = Manager::of(rt);
-    let end = match lock_keep(rt, &serve, faults) {
-        Ok(lock) => {
-            let end = run_locked(rt, &mut serve, binds, &mut manager, faults);
-            drop(lock);
-            end
-        }
-        Err(end) => end,
-    };
+    let ending = lock_and_run(rt, &mut serve, binds, &mut manager, faults);
     manager.tell(News::End);
-    end
+    ending
+}
+
+/// Takes the lock of the file of the kept rows, if there is one, and runs.
+#[tactic(auto, using(crate::proofs::Endings::ends_by_start))]
+fn lock_and_run<R, E>(
+    rt: &R,
+    serve: &mut Serve<'_>,
+    binds: Binds,
+    manager: &mut Manager,
+    faults: &mut E,
+) -> Ending
+where
+    R: Net + Files<File = File> + Clock + RandomSource + Wait + AllocGlobal + Print + Env,
+    E: Write,
+    ensures { EndsServe E.contents faults.new result }
+{
+    match lock_keep(rt, &serve.settings, faults) {
+        Ok(lock) => {
+            let ending = run_locked(rt, serve, binds, manager, faults);
+            drop(lock);
+            ending
+        }
+        Err(fault) => explain_start(&fault, &serve.settings, faults),
+    }
 }
 
 /// Begins, and takes the turns, while the file of the kept rows is this daemon's.
+#[tactic(auto, using(crate::proofs::Endings::ends_by_start))]
 fn run_locked<R, E>(
     rt: &R,
     serve: &mut Serve<'_>,
     binds: Binds,
     manager: &mut Manager,
     faults: &mut E,
-) -> End
+) -> Ending
 where
     R: Net + Files + Clock + RandomSource + Wait + AllocGlobal + Print + Env,
     E: Write,
+    ensures { EndsServe E.contents faults.new result }
 {
     match begin(rt, serve, binds, manager, faults) {
         Ok(mut daemon) => serve_until_the_end(rt, &mut daemon, serve, manager, faults),
-        Err(end) => end,
+        Err(fault) => explain_start(&fault, &serve.settings, faults),
     }
 }
 
@@ -91,13 +114,13 @@ fn take_sockets<R: Env + AllocGlobal>(
 }
 
 /// The addresses of interfaces that `--bind` names, or of all, are among the hosts of the settings from here on, and are
-/// followed. What there is to be said of them is said. If memory is refused, that is said, and the error is how it ends.
+/// followed. What there is to be said of them is said. An error if an allocation is refused.
 fn find_hosts<R, E>(
     rt: &R,
     settings: &mut Settings<'_>,
     binds: Binds,
     faults: &mut E,
-) -> Result<Option<Follower>, End>
+) -> Result<Option<Follower>, AllocError>
 where
     R: Net + Files + AllocGlobal,
     E: Write,
@@ -109,13 +132,10 @@ where
     if interfaces.is_empty() {
         return Ok(None);
     }
-    let made = if are_hosts {
-        Follower::new(rt.alloc(), interfaces, settings.bind.as_slice())
+    let mut follower = if are_hosts {
+        Follower::new(rt.alloc(), interfaces, settings.bind.as_slice())?
     } else {
-        Follower::new(rt.alloc(), interfaces, &[])
-    };
-    let Ok(mut follower) = made else {
-        return Err(no_memory(faults));
+        Follower::new(rt.alloc(), interfaces, &[])?
     };
     settings.bind = follower.begin(rt);
     say_silent(follower.silent(), faults);
@@ -128,22 +148,16 @@ where
     Ok(Some(follower))
 }
 
-/// Ends for want of memory.
-fn no_memory<E: Write>(faults: &mut E) -> End {
-    let _ = explain(Fault::NoMemory, faults);
-    End::Failed
-}
-
 // KEEP-10: Kept rows are read, and asked, before anything listens.
 /// A daemon that has the rows that were kept, which are read before anything listens; those that it has not are said. It has the
 /// sockets that were handed over.
-fn begin<'a, R, E>(
+fn begin<'a, 's, R, E>(
     rt: &'a R,
-    serve: &mut Serve<'_>,
+    serve: &mut Serve<'s>,
     binds: Binds,
     manager: &Manager,
     faults: &mut E,
-) -> Result<Daemon<'a, R, R>, End>
+) -> Result<Daemon<'a, R, R>, StartFault<'s>>
 where
     R: Net + Files + Clock + RandomSource + AllocGlobal + Env,
     E: Write,
@@ -152,7 +166,7 @@ where
     let follower = find_hosts(rt, &mut serve.settings, binds, faults)?;
     let handed = match take_sockets(rt, &mut serve.settings, are_given) {
         Ok(handed) => handed,
-        Err(fault) => return Err(explain_handed(&fault, faults)),
+        Err(fault) => return Err(StartFault::Handed(fault)),
     };
     let settings = &serve.settings;
     if manager.is_there() {
@@ -163,16 +177,11 @@ where
         Ok(mut daemon) => {
             say_left_out(settings, &rows, daemon.left_out(), faults);
             if let Some(follower) = follower {
-                if daemon.follow_by(follower).is_err() {
-                    return Err(no_memory(faults));
-                }
+                daemon.follow_by(follower)?;
             }
             Ok(daemon)
         }
-        Err(fault) => {
-            explain_fault(&fault, settings, faults);
-            Err(end_at_start(&fault))
-        }
+        Err(fault) => Err(StartFault::Daemon(fault)),
     }
 }
 
@@ -201,36 +210,69 @@ fn wait_for_hosts<R: Net + Clock, E: Write>(
 }
 
 /// Makes the file of the record, says where the daemon listens, and takes its turns.
+#[tactic(auto, using(crate::proofs::Endings::ends_by_start, crate::proofs::Endings::ends_turned))]
 fn serve_until_the_end<R, E>(
     rt: &R,
     daemon: &mut Daemon<'_, R, R>,
     serve: &Serve<'_>,
     manager: &mut Manager,
     faults: &mut E,
-) -> End
+) -> Ending
 where
     R: Files + Net + Clock + Wait + Print,
     E: Write,
+    ensures { EndsServe E.contents faults.new result }
+{
+    match announce(rt, daemon, serve, faults) {
+        Ok(recorder) => serve_on(rt, daemon, serve, recorder, manager, faults),
+        Err(fault) => explain_start(&fault, &serve.settings, faults),
+    }
+}
+
+/// Makes the file of the record, and says where the daemon listens.
+fn announce<'s, R, E>(
+    rt: &R,
+    daemon: &Daemon<'_, R, R>,
+    serve: &Serve<'s>,
+    faults: &mut E,
+) -> Result<Recorder<R::File>, StartFault<'s>>
+where
+    R: Files + Net + Clock + Print,
+    E: Write,
 {
     let settings = &serve.settings;
-    let Ok(mut recorder) = make_record(rt, serve.record_path, faults) else {
-        return End::NotStarted;
-    };
+    let recorder = make_record(rt, serve.record_path)?;
     say_loopback6(
         settings,
         lacks_loopback6(rt),
         &mut Leveled::new(&mut *faults, Level::Warning),
     );
-    if say_start(rt, settings, daemon.shortage(), faults).is_err() {
-        return End::NotStarted;
+    match say_start(rt, settings, daemon.shortage(), faults) {
+        Ok(()) => Ok(recorder),
+        Err(_) => Err(StartFault::Unsaid),
     }
+}
+
+/// Takes the turns, with what is recorded of them.
+#[tactic(auto, using(crate::proofs::Endings::ends_after_turns))]
+fn serve_on<R, F, E>(
+    rt: &R,
+    daemon: &mut Daemon<'_, R, R>,
+    serve: &Serve<'_>,
+    mut recorder: Recorder<F>,
+    manager: &mut Manager,
+    faults: &mut E,
+) -> Ending
+where
+    R: Files + Net + Clock + Wait,
+    F: Write + Drop,
+    E: Write,
+    ensures { EndsAfterTurns E.contents faults.new result }
+{
     recorder.write(daemon, faults);
     manager.tell(News::Ready(daemon.load()));
     let turns = take_turns(rt, daemon, serve, &mut recorder, manager, faults);
-    if let Err(fault) = &turns {
-        explain_fault(fault, settings, faults);
-    }
-    end_after(&turns)
+    conclude(&turns, &serve.settings, faults)
 }
 
 /// Takes a turn, which waits this many milliseconds at most, and writes what was recorded of it, the lines of the log,

@@ -1,11 +1,13 @@
 //! What `serve` says of its start and of its end.
-ghost use Rattle.std.specs.Prelude.{◌≡◌, IfErr, OnOk};
+ghost use Rattle.std.specs.Prelude.{◌≡◌, OnOk};
+ghost use Rattle.std.specs.Io.KnownBytes.{Appends};
 ghost use Rattle.std.specs.Option.{option_map};
-ghost use Rattle.rpcbind.specs.Ends.{end_by_handed};
+ghost use Rattle.rpcbind.specs.Ends.{status_of, end_at_start, end_after};
 ghost use Rattle.rpcbind.specs.Starts.{loopback6_text};
-ghost use Rattle.rpcbind.specs.Faults.{WritesFront, HasWritten, fault_front, TellsFault};
+ghost use Rattle.rpcbind.specs.Fronts.{front_text};
+ghost use Rattle.rpcbind.specs.Faults.{HasWritten, TellsThen, TellsFault, TellsStart, TellsTurns};
 
-use crate::ending::End;
+use crate::ending::{StartFault, end_after, end_at_start};
 use crate::leveled::{Level, Leveled};
 use crate::start::{ListeningText, ShortageLine, UnannouncedLine};
 use rb_address::Host;
@@ -13,31 +15,27 @@ use rb_lines::{Ending, Fault, explain, explain_run};
 use rb_policy::is_no_address;
 use rb_proto::Announced;
 use rb_sockets::{
-    AddressNews, DaemonFault, HandedFault, LocalSocket, MOST, Settings, Shortage, SocketFault,
-    Step, TableFault,
+    AddressNews, DaemonFault, LocalSocket, MOST, Settings, Shortage, SocketFault, Step, TableFault,
 };
 use std::fmt::{Display, Formatter};
 use std::io::Write;
 use std::{fmt, io};
 
+/// What is wrong if the lock of kept rows is had.
+const ANOTHER_DAEMON: &str = "another daemon keeps its rows there";
+
 /// Says on standard output where the daemon listens, and before that on `faults` if clients over UDP will be told no
-/// address, and if there is a shortage of descriptors. If standard output failed, it is said, and the error
-/// is the exit status.
+/// address, and if there is a shortage of descriptors. An error if standard output failed.
 pub fn say_start<R: Print, E: Write>(
     rt: &R,
     settings: &Settings<'_>,
     shortage: Option<Shortage>,
     faults: &mut E,
-) -> Result<(), u8>
-    ensures { IfErr result (λ status. status ≡ 1) }
-{
+) -> io::Result<()> {
     let mut warnings = Leveled::new(&mut *faults, Level::Warning);
     say_shortage(shortage, &mut warnings);
     say_announced(settings, &mut warnings);
-    match print!(rt; "{}", ListeningText(settings)) {
-        Ok(()) => Ok(()),
-        Err(_) => Err(explain(Fault::WriteFailed, faults).status),
-    }
+    print!(rt; "{}", ListeningText(settings))
 }
 
 /// For each family whether clients over UDP will be told no address of it, since none is given.
@@ -158,90 +156,154 @@ pub fn say_loopback6<E: Write>(settings: &Settings<'_>, is_missing: bool, faults
     }
 }
 
-/// Says why sockets that a service manager handed over are not taken.
-pub fn explain_handed<E: Write>(fault: &HandedFault, faults: &mut E) -> End
-    ensures { result ≡ end_by_handed fault.now }
-{
-    let _ = writeln!(faults, "rpcbind: {fault}");
-    match fault {
-        HandedFault::Memory(_) => End::Failed,
-        HandedFault::Count | HandedFault::Socket(_) => End::NotStarted,
-    }
-}
-
-/// Ends by a fault of the daemon: its lines are written, if they can be. Of a socket, the step that failed comes
-/// last.
-pub fn explain_fault<E: Write>(
-    fault: &DaemonFault,
+// EXIT-1
+/// Ends by a fault of the start: what it is was written, as the last line, if it can be.
+pub fn explain_start<E: Write>(
+    fault: &StartFault<'_>,
     settings: &Settings<'_>,
     faults: &mut E,
 ) -> Ending
-    ensures status { result.status ≡ 1 }
-    ensures told { TellsFault settings.now E.contents faults.old faults.new result fault.now }
+    ensures status { result.status ≡ status_of (end_at_start fault.now) }
+    ensures told { TellsStart
+        settings.now E.contents faults.old faults.new result.is_told fault.now }
 {
-    match fault {
-        DaemonFault::Memory(_) => explain(Fault::NoMemory, faults),
-        DaemonFault::Limits => explain_run(
-            Fault::BadLimits,
-            &settings.limits,
-            &settings.listener(),
-            faults,
-        ),
-        DaemonFault::Socket(failed) => {
-            let ending = explain(Fault::SocketFailed, faults);
-            let is_written = write_step(failed, settings, faults).is_ok();
-            Ending {
-                status: ending.status,
-                is_told: ending.is_told && is_written,
-            }
-        }
+    Ending {
+        status: end_at_start(fault).status(),
+        is_told: tell_start(fault, settings, faults),
     }
 }
 
-/// What stands before the system's word for a step that failed: its address, or of the local socket its path.
-#[derive(Clone, Copy)]
-struct StepFront<'a> {
-    step: Step,
-    local: Option<LocalSocket<'a>>,
+// EXIT-1
+/// Ends after these turns: what went wrong with the last one was written, if anything did, and can be.
+pub fn conclude<E: Write>(
+    turns: &Result<(), DaemonFault>,
+    settings: &Settings<'_>,
+    faults: &mut E,
+) -> Ending
+    ensures status { result.status ≡ status_of (end_after turns.now) }
+    ensures told { TellsTurns
+        settings.now E.contents faults.old faults.new result.is_told turns.now }
+{
+    Ending {
+        status: end_after(turns).status(),
+        is_told: tell_turns(turns, settings, faults),
+    }
 }
 
-impl Display for StepFront<'_> {
-    ghost use Rattle.std.specs.Prelude.{Some};
-    ghost use Rattle.rpcbind.specs.Faults.{step_front};
+/// Writes what is wrong with a start. Whether all of it was written.
+fn tell_start<E: Write>(fault: &StartFault<'_>, settings: &Settings<'_>, faults: &mut E) -> bool
+    ensures { TellsStart settings.now E.contents faults.old faults.new result fault.now }
+{
+    match fault {
+        StartFault::NoMemory => explain(Fault::NoMemory, faults).is_told,
+        StartFault::Locked(path) => {
+            tell_then(Fault::ReadFailed, Front::At(path), &ANOTHER_DAEMON, faults)
+        }
+        StartFault::Unread(path, why) => {
+            tell_then(Fault::ReadFailed, Front::At(path), why, faults)
+        }
+        StartFault::Handed(why) => write_behind(Front::Own, why, faults).is_ok(),
+        StartFault::Daemon(fault) => tell_fault(fault, settings, faults),
+        StartFault::Unmade(path, error) => {
+            tell_then(Fault::WriteFailed, Front::Make(path), error, faults)
+        }
+        StartFault::Unsaid => explain(Fault::WriteFailed, faults).is_told,
+    }
+}
 
-    ghost output = { λ front. Some (step_front front.step front.local) };
+/// Writes what is wrong with the last of these turns, if anything is. Whether all of it was written.
+fn tell_turns<E: Write>(
+    turns: &Result<(), DaemonFault>,
+    settings: &Settings<'_>,
+    faults: &mut E,
+) -> bool
+    ensures { TellsTurns settings.now E.contents faults.old faults.new result turns.now }
+{
+    match turns {
+        Ok(()) => true,
+        Err(fault) => tell_fault(fault, settings, faults),
+    }
+}
+
+/// Writes what is wrong with the daemon. Of a socket, the step that failed comes last. Whether all of it was written.
+fn tell_fault<E: Write>(fault: &DaemonFault, settings: &Settings<'_>, faults: &mut E) -> bool
+    ensures { TellsFault settings.now E.contents faults.old faults.new result fault.now }
+{
+    match fault {
+        DaemonFault::Memory(_) => explain(Fault::NoMemory, faults).is_told,
+        DaemonFault::Limits => {
+            let limits = &settings.limits;
+            explain_run(Fault::BadLimits, limits, &settings.listener(), faults).is_told
+        }
+        DaemonFault::Socket(failed) => tell_then(
+            Fault::SocketFailed,
+            Front::OfStep(failed.step, settings.local),
+            &failed.error,
+            faults,
+        ),
+    }
+}
+
+/// Writes the line of a fault, and another of a front and a word for what is wrong. Whether all of it was written.
+fn tell_then<D: Display, E: Write>(fault: Fault, front: Front<'_>, word: &D, faults: &mut E) -> bool
+    ensures { TellsThen E.contents faults.old result fault (front_text front.entry) }
+{
+    let ending = explain(fault, faults);
+    let is_written = write_behind(front, word, faults).is_ok();
+    ending.is_told && is_written
+}
+
+/// What stands before a word for what is wrong, which may be the system's.
+#[derive(Clone, Copy)]
+pub enum Front<'a> {
+    /// The program's name alone.
+    Own,
+    /// What is wrong at this path.
+    At(&'a str),
+    /// The file at this path can't be read.
+    Read(&'a str),
+    /// The file at this path can't be made.
+    Make(&'a str),
+    /// A step failed, with its address, or the path of the local socket.
+    OfStep(Step, Option<LocalSocket<'a>>),
+}
+
+impl Display for Front<'_> {
+    ghost use Rattle.std.specs.Prelude.{Some};
+    ghost use Rattle.rpcbind.specs.Fronts.{front_text};
+
+    ghost output = { λ front. Some (front_text front) };
 
     fn fmt<W: fmt::Write>(&self, f: &mut Formatter<W>) -> fmt::Result {
-        match (self.step, self.local) {
-            (Step::BindLocal, Some(local)) => {
+        match *self {
+            Front::Own => write!(f, "rpcbind: "),
+            Front::At(path) => write!(f, "rpcbind: {path}: "),
+            Front::Read(path) => write!(f, "rpcbind: read {path}: "),
+            Front::Make(path) => write!(f, "rpcbind: make {path}: "),
+            Front::OfStep(Step::BindLocal, Some(local)) => {
                 let path = local.path;
                 write!(f, "rpcbind: bind {path}: ")
             }
-            (step, _) => write!(f, "rpcbind: {step}: "),
+            Front::OfStep(step, _) => write!(f, "rpcbind: {step}: "),
         }
     }
 }
 
-/// Writes the step that failed, its address or path, and the system's word for it.
-fn write_step<E: Write>(
-    failed: &SocketFault,
-    settings: &Settings<'_>,
+/// Writes a line of a front and a word.
+pub fn write_behind<D: Display, E: Write>(
+    front: Front<'_>,
+    word: &D,
     faults: &mut E,
 ) -> io::Result<()>
-    ensures { OnOk result
-        (HasWritten E.contents faults.old (fault_front failed.now settings.now)) }
+    ensures { OnOk result (HasWritten E.contents faults.old (front_text front.entry)) }
 {
-    let front = StepFront {
-        step: failed.step,
-        local: settings.local,
-    };
     write_front(front, faults)?;
-    writeln!(faults, "{}", failed.error)?;
-    Ok(())
+    writeln!(faults, "{word}")
 }
 
-fn write_front<E: Write>(front: StepFront<'_>, faults: &mut E) -> io::Result<()>
-    ensures { OnOk result (WritesFront E.contents faults.old faults.new front.entry) }
+fn write_front<E: Write>(front: Front<'_>, faults: &mut E) -> io::Result<()>
+    ensures { OnOk result
+        (Appends (E.contents faults.old) (E.contents faults.new) (front_text front.entry)) }
 {
     write!(faults, "{front}")
 }

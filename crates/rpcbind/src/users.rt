@@ -1,13 +1,14 @@
 //! Users by their names in `--reserve` of `serve`: /etc/passwd has their uids (passwd(5)).
-ghost use Rattle.std.specs.Prelude.{◌≤◌, ◌≡◌, IfErr};
+ghost use Rattle.std.specs.Prelude.{◌≡◌, IfErr};
 ghost use Rattle.rpcbind.specs.Foreign.{uid_behind, uid_in};
+ghost use Rattle.rpcbind.specs.Words.{IsOfUsers};
 
 use crate::files::text_of;
+use crate::words::WordsFault;
 use rb_address::{cut, plain_number};
 use std::alloc::Global;
 use std::fs::Files;
-use std::io;
-use std::io::Write;
+use std::io::ErrorKind;
 
 const PASSWD: &str = "/etc/passwd";
 
@@ -57,28 +58,30 @@ fn user_named(word: &str) -> Option<(&str, &str)> {
     }
 }
 
-/// The value with the uid in the name's place; none if there is no such user.
+/// The value with the uid in the name's place.
 fn with_uid<R: Files>(
     rt: &R,
     alloc: Global,
     programs: &str,
     name: &str,
-) -> io::Result<Option<String>> {
-    let passwd = text_of(rt, alloc, PASSWD)?;
+) -> Result<String, WordsFault>
+    ensures { IfErr result IsOfUsers }
+{
+    let passwd = match text_of(rt, alloc, PASSWD) {
+        Ok(passwd) => passwd,
+        Err(error) if error.kind() == ErrorKind::OutOfMemory => return Err(WordsFault::NoMemory),
+        Err(error) => return Err(WordsFault::NoUsers(error)),
+    };
     match uid_of(&passwd, name.as_bytes()) {
-        Some(uid) => Ok(Some(format!(in alloc; "{programs}={uid}")?)),
-        None => Ok(None),
+        Some(uid) => Ok(format!(in alloc; "{programs}={uid}")?),
+        None => Err(WordsFault::NoUser(String::from_str(alloc, name)?)),
     }
 }
 
-/// Puts uids in the places of users' names in the values of `--reserve`, if the words are those of `serve`. If there is no
-/// user of a name, or the names can't be read, that is said, and the error is the exit status.
-pub fn name_users<R: Files + AllocGlobal, E: Write>(
-    rt: &R,
-    words: &mut [String],
-    faults: &mut E,
-) -> Result<(), u8>
-    ensures { IfErr result (λ status. status ≤ 2) }
+/// Puts uids in the places of users' names in the values of `--reserve`, if the words are those of `serve`. An error if there
+/// is no user of a name, or the names can't be read, or an allocation is refused.
+pub fn name_users<R: Files + AllocGlobal>(rt: &R, words: &mut [String]) -> Result<(), WordsFault>
+    ensures { IfErr result IsOfUsers }
 {
     let mut is_value = false;
     for (place, word) in words.iter_mut().enumerate() {
@@ -86,7 +89,7 @@ pub fn name_users<R: Files + AllocGlobal, E: Write>(
             return Ok(());
         }
         if is_value || word.starts_with(WITH_VALUE) {
-            name_user(rt, word, faults)?;
+            name_user(rt, word)?;
         }
         is_value = word.as_str() == OPTION;
     }
@@ -94,28 +97,12 @@ pub fn name_users<R: Files + AllocGlobal, E: Write>(
 }
 
 /// Puts the uid in the place of a user's name in one value, or in a word that ends with it.
-fn name_user<R: Files + AllocGlobal, E: Write>(
-    rt: &R,
-    value: &mut String,
-    faults: &mut E,
-) -> Result<(), u8>
-    ensures { IfErr result (λ status. status ≤ 2) }
+fn name_user<R: Files + AllocGlobal>(rt: &R, value: &mut String) -> Result<(), WordsFault>
+    ensures { IfErr result IsOfUsers }
 {
     let Some((programs, name)) = user_named(value.as_str()) else {
         return Ok(());
     };
-    match with_uid(rt, rt.alloc(), programs, name) {
-        Ok(Some(with_uid)) => {
-            *value = with_uid;
-            Ok(())
-        }
-        Ok(None) => {
-            let _ = writeln!(faults, "rpcbind: {OPTION}: {PASSWD} has no user {name}");
-            Err(2)
-        }
-        Err(error) => {
-            let _ = writeln!(faults, "rpcbind: read {PASSWD}: {error}");
-            Err(1)
-        }
-    }
+    *value = with_uid(rt, rt.alloc(), programs, name)?;
+    Ok(())
 }
