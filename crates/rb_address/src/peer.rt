@@ -9,7 +9,7 @@ use crate::reading::peer;
 use std::fmt;
 use std::net::{Ipv6Addr, SocketAddr};
 
-/// A host and a port. Its host is none of IPv4 in IPv6's form.
+/// A host and a port. `new` and `of` make none with a host of IPv4 in IPv6's form.
 #[derive(Clone, Copy, Debug, PartialEq, Eq)]
 pub struct Peer {
     host: Host,

@@ -4,6 +4,7 @@ pub mod Pieces
 pub mod ServedBounds
 pub mod Rooms
 pub mod ServedRecords
+pub mod ServedRows
 pub mod Rows
 pub mod Sendings
 pub mod Postings

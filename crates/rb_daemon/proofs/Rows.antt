@@ -56,7 +56,7 @@ all_counted first core cursor next count k same end =
 good_limit : (limits : Limits) (listener : Listener) → are_good limits listener ≡ true → limits.rows ≤ 4096
 good_limit limits listener good = grind arith
 
-few_of : (core : CoreView) (tape : Tape) → IsServed core tape → length (rows_shown core) ≤ 4096
+pub few_of : (core : CoreView) (tape : Tape) → IsServed core tape → length (rows_shown core) ≤ 4096
 few_of core tape h =
     let registry = h.stands.ledger.registry in
     omega (arith, registry.counted, registry.within, h.stands.limit, good_limit h.state.setting.limits h.state.setting.listener h.good)

@@ -10,7 +10,7 @@ use Rattle.rb_sockets.specs.declared.arrival.Arrival.{Arrival}
 use Rattle.rb_sockets.specs.Arrivals.{who_of}
 use Rattle.rb_links.specs.declared.link.Link.{Link}
 use Rattle.rb_links.specs.declared.places.Places.{Places}
-use Rattle.rb_links.specs.Numbers.{number_at}
+use Rattle.rb_links.specs.Numbers.{number_at, arrival_at}
 use Rattle.rb_daemon.specs.declared.engine.Engine.{Engine}
 use Rattle.rb_daemon.specs.PlainCallers.{plain_who}
 use Rattle.rb_daemon.specs.Moves.{Moves, ActsNow, FillsOutbox, WritesToOutbox}
@@ -40,10 +40,12 @@ pub record TakesOverOn (id : ℕ) (old new : Link) (before after : Engine) : Typ
 abbrev pub TakesOver : Link → Link → Engine → Engine → Type 0
 TakesOver old new before after = (id : ℕ) → old.id ≡ Some id → TakesOverOn id old new before after
 
--- The connection of whoever came in so was opened, and the place has its number.
+-- The connection at a place was opened, as one of whoever came in there, and the place has its number.
 -- LINK-2: A place has the number under which its connection was opened, as one of whoever came in there.
 -- TRUST-14
-pub record OpensAt (key : ℕ) (arrival : Arrival) (before after : Engine) (new : Places) : Type 0 where
+pub record OpensAt (key : ℕ) (before after : Engine) (old new : Places) : Type 0 where
+  pub arrival : Arrival
+  pub came : arrival_at old key ≡ Some arrival
   pub id : ℕ
   pub acts : ActsNow (λ s now. open_connection s now (plain_who (who_of arrival))) before after (Ok id)
   pub number : number_at new key ≡ Some id
@@ -56,7 +58,9 @@ pub record ClosesAt (key id : ℕ) (before after : Engine) (old : Places) : Type
 
 -- It was closed, and another one opened in its place.
 -- LINK-2
-pub record OpensAgain (key : ℕ) (arrival : Arrival) (before after : Engine) (old new : Places) : Type 0 where
+pub record OpensAgain (key : ℕ) (before after : Engine) (old new : Places) : Type 0 where
+  pub arrival : Arrival
+  pub came : arrival_at old key ≡ Some arrival
   pub closed : ℕ
   pub was : number_at old key ≡ Some closed
   pub id : ℕ

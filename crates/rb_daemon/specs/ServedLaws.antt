@@ -1,6 +1,8 @@
 -- Laws of the core between two events of the daemon: bounds that hold with no premise on its limits or its listener.
-use Rattle.std.specs.Prelude.{◌≡◌, ◌≤◌, ℕ, true, List, [], length, take, ◌⊎◌}
+use Rattle.std.specs.Prelude.{◌≡◌, ◌≤◌, ◌<◌, ℕ, ◌^◌, true, List, [], length, take, ◌⊎◌, Ok}
 use Rattle.std.specs.List.{concat}
+use Rattle.rb_proto.specs.Ledger.{rows_in}
+use Rattle.rb_model.specs.ChangeLaws.{set_rows, restored}
 use Rattle.rb_model.specs.State.{State, opening}
 use Rattle.rb_model.specs.Bounds.{bytes_bound, bound_at}
 use Rattle.rb_model.specs.Costs.{event_cost, run_cost}
@@ -11,6 +13,9 @@ use Rattle.rb_core.specs.StandsFor.{CoreView, StandsFor}
 use Rattle.rb_core.specs.HeldBytes.{held}
 use Rattle.rb_lines.specs.Lines.{longest_input}
 use Rattle.rb_lines.specs.RecordLaws.{HasPath, ReadsAs}
+use Rattle.rb_keep.specs.Reading.{read as read_kept}
+use Rattle.rb_keep.specs.KeptLaws.{CanBeKept}
+use Rattle.rb_daemon.specs.Keeping.{AreLinesOfRows}
 use Rattle.rb_daemon.specs.Recording.{entries_of}
 use Rattle.rb_daemon.specs.Served.{IsServed}
 
@@ -32,6 +37,26 @@ ServedRunsAreBounded =
     (core : CoreView) (tape : Tape) → ∥ IsServed core tape ∥₁ → (s : State) → StandsFor core s → IsReached s
     → (events : List Event)
     → run_cost s events ≤ whole_bound s.setting.limits (args_waiting s.connections.all) events (run s events)
+
+-- ---- the rows that are kept
+
+-- A text is read as the rows that were set. Their SETs bring back all live rows, in their order, and are in no statistics.
+-- KEEP-1 KEEP-7
+pub record KeepsTheRows (s : State) (text : List ℕ) : Type 0 where
+  pub read_as : read_kept text ≡ Ok (set_rows s)
+  pub again : rows_in (restored s).ledger ≡ rows_in s.ledger
+  pub uncounted : (restored s).ledger.history ≡ []
+
+-- So is what the keeper writes of all rows of the daemon, whatever it is asked for. The clock is a number of 64 bits.
+abbrev pub ServedRowsAreKept : Type 0
+ServedRowsAreKept =
+    (core : CoreView) (tape : Tape) (served : IsServed core tape) → core.clock < 2 ^ 64
+    → (text : List ℕ) → AreLinesOfRows core text → KeepsTheRows served.state text
+
+-- And the lines of changes may follow it: its state is one of those of which these laws speak.
+-- KEEP-14
+abbrev pub ServedRowsMayChange : Type 0
+ServedRowsMayChange = (core : CoreView) (tape : Tape) (served : IsServed core tape) → core.clock < 2 ^ 64 → CanBeKept served.state
 
 -- ---- the record
 

@@ -1,6 +1,7 @@
 //! The daemon and its turns.
 ghost use Rattle.std.specs.Prelude.{◌≡◌, ◌↔◌, IsTrue, IsErrOf, IfOk, OnOk, false, not};
 ghost use Rattle.rb_daemon.specs.Served.{has_good_limits};
+ghost use Rattle.rb_daemon.specs.Recording.{WritesRecord};
 
 use crate::engine::Engine;
 use crate::keeping::{KeepNews, Keeper};
@@ -200,7 +201,10 @@ impl<'a, R: Clock, H: Files> Daemon<'a, R, H> {
 
     /// Writes what was recorded of the turns and not yet written (docs/EVENTS.md). After an error nothing more is
     /// recorded, and the daemon goes on.
-    pub fn write_record<W: Write>(&mut self, writer: &mut W) -> io::Result<()> {
+    pub fn write_record<W: Write>(&mut self, writer: &mut W) -> io::Result<()>
+        ensures { OnOk result (WritesRecord W.contents writer.old writer.new
+            self.old.serving.engine.tape self.new.serving.engine.tape) }
+    {
         self.serving.write_record(writer)
     }
 

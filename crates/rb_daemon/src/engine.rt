@@ -169,7 +169,7 @@ fn count_fits(bytes: &[u8])
 }
 
 impl Engine {
-    ghost use Rattle.std.specs.Prelude.{◌≡◌, ◌≤◌, ◌↔◌, [], ◌∷◌, ◌++◌, false, IsTrue, IsErrOf, length, not, IfOk, OnOk, OnErr};
+    ghost use Rattle.std.specs.Prelude.{◌≡◌, ◌≤◌, ◌<◌, ◌^◌, ◌↔◌, [], ◌∷◌, ◌++◌, false, IsTrue, IsErrOf, length, not, IfOk, OnOk, OnErr};
     ghost use Rattle.rb_lines.specs.Printing.{Writes};
     ghost use Rattle.rb_lines.specs.Tapes.{all_written, unwritten};
     ghost use Rattle.rb_model.specs.Step.Event.{Open, Closed, NextLost, Datagram, Forward, Expire, ZeroStats};
@@ -490,10 +490,12 @@ impl Engine {
     pub(crate) fn write_rows<W: Write>(&mut self, writer: &mut W) -> io::Result<()>
         ensures written { OnOk result
             (WritesKept self.old.core.core W.contents writer.old writer.new) }
+        ensures clock { self.old.core.core.clock < 2 ^ 64 }
         ensures core { self.new.core.core ≡ self.old.core.core }
         ensures tape { self.new.tape ≡ self.old.tape }
         ensures moment { self.new.moment ≡ self.old.moment }
     {
+        number_fits(self.core.clock());
         write_rows(&mut self.core, writer)
     }
 

@@ -1,5 +1,5 @@
 //! What holds of the core of a running daemon.
-ghost use Rattle.rb_daemon.specs.ServedLaws.{ServedBytesAreBounded, ServedStepsAreBounded, ServedRunsAreBounded, ServedRecordsAreRead, ServedRecordsEndFull};
+ghost use Rattle.rb_daemon.specs.ServedLaws.{ServedBytesAreBounded, ServedStepsAreBounded, ServedRunsAreBounded, ServedRowsAreKept, ServedRowsMayChange, ServedRecordsAreRead, ServedRecordsEndFull};
 
 /// Between two events of the daemon, whatever it is asked for and whatever limits and listener it was given: what its core
 /// holds is at most the bound of its limits. From each state that a run reaches and that the core stands for, an event
@@ -8,6 +8,14 @@ pub fn served_cores_are_bounded()
     ensures bytes { ServedBytesAreBounded }
     ensures events { ServedStepsAreBounded }
     ensures runs { ServedRunsAreBounded }
+{}
+
+/// Between two events of the daemon, whatever bytes came in: the lines of all its rows are read as the rows that were set, in
+/// their order. Their SETs bring all live rows back, from an opening with the same options, and are in no statistics. The
+/// lines of later changes may follow them (`changes_are_read`). The clock is a number of 64 bits, as the code's is.
+pub fn served_rows_are_kept()
+    ensures rows { ServedRowsAreKept }
+    ensures changes { ServedRowsMayChange }
 {}
 
 /// Between two events of the daemon, the text of its record reads as the first events of the run that brought the core where

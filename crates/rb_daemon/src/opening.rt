@@ -1,36 +1,32 @@
 //! Connections at their places are opened and closed for the core.
 ghost use Rattle.std.specs.Prelude.{◌≡◌, true, IfSome};
-ghost use Rattle.rb_sockets.specs.Arrivals.{first_arrival};
 ghost use Rattle.rb_daemon.specs.Links.{OpensAt, ClosesAt, OpensAgain};
 
 use crate::callers::Caller;
 use crate::engine::Engine;
 use mio::Registry;
 use rb_links::Places;
-use rb_sockets::{Arrival, Visitor};
 
 // LINK-2
-/// Opens the connection at a place, as one of whoever came there, and shows its events. Whether that was done: if not, the
+/// Opens the connection at a place, as one of whoever came in there, and shows its events. Whether that was done: if not, the
 /// core knows nothing of it.
 pub(crate) fn open_at(
     places: &mut Places,
     engine: &mut Engine,
     registry: &Registry,
     key: usize,
-    visitor: Visitor,
 ) -> bool
-    ensures { result ≡ true
-        → OpensAt key (first_arrival visitor) engine.old engine.new places.new }
+    ensures { result ≡ true → OpensAt key engine.old engine.new places.old places.new }
 {
-    let Ok(id) = engine.open(Caller::of(visitor.arrival())) else {
+    let Some(arrival) = places.arrival(key) else {
+        return false;
+    };
+    let Ok(id) = engine.open(Caller::of(arrival)) else {
         return false;
     };
     if !places.open(registry, key, id) {
         engine.closed(id);
         return false;
-    }
-    if let Visitor::Unknown(ends) = visitor {
-        places.note_unknown(key, ends);
     }
     true
 }
@@ -46,16 +42,14 @@ pub(crate) fn close_at(places: &mut Places, engine: &mut Engine, key: usize) -> 
 }
 
 // LINK-2
-/// The connection at a place goes on as one that came in so: for the core the old one is closed, and a new one opened.
+/// The connection at a place goes on as whoever came in there: for the core the old one is closed, and a new one opened.
 /// Whether that was done.
-pub(crate) fn open_again(
-    places: &mut Places,
-    engine: &mut Engine,
-    key: usize,
-    arrival: Arrival,
-) -> bool
-    ensures { result ≡ true → OpensAgain key arrival engine.old engine.new places.old places.new }
+pub(crate) fn open_again(places: &mut Places, engine: &mut Engine, key: usize) -> bool
+    ensures { result ≡ true → OpensAgain key engine.old engine.new places.old places.new }
 {
+    let Some(arrival) = places.arrival(key) else {
+        return false;
+    };
     let Some(id) = places.take_id(key) else {
         return false;
     };

@@ -21,7 +21,7 @@ use rb_policy::{
     after_accept, after_all_calls, after_receive, is_behind, origin_of, outcome_of, serves_another,
 };
 use rb_sockets::{
-    AddressNews, Arrival, Asker, Follower, Shown, Slice, SocketFault, Sockets, Step, Stream, Table,
+    Accepted, AddressNews, Asker, Follower, Shown, Slice, SocketFault, Sockets, Step, Table,
     TableFault, Visitor,
 };
 use std::alloc::AllocError;
@@ -82,10 +82,11 @@ fn passes(brake: &mut Option<Brake>, now: u64, who: &Who) -> bool {
 }
 
 impl<H: Files> Serving<H> {
-    ghost use Rattle.std.specs.Prelude.{◌≡◌, vec_len};
+    ghost use Rattle.std.specs.Prelude.{◌≡◌, vec_len, OnOk};
     ghost use Rattle.rb_connections.specs.Slots.{Shows};
     ghost use Rattle.rb_core.specs.StandsFor.{StandsFor};
     ghost use Rattle.rb_daemon.specs.Served.{row_count};
+    ghost use Rattle.rb_daemon.specs.Recording.{WritesRecord};
 
     /// A core of these limits, what keeps its rows, and the sockets around it, which are served with this memory; and
     /// what drops datagrams of strangers, if they are limited.
@@ -135,7 +136,10 @@ impl<H: Files> Serving<H> {
     }
 
     /// Writes what was recorded and not yet written.
-    pub(crate) fn write_record<W: Write>(&mut self, writer: &mut W) -> io::Result<()> {
+    pub(crate) fn write_record<W: Write>(&mut self, writer: &mut W) -> io::Result<()>
+        ensures { OnOk result (WritesRecord W.contents
+            writer.old writer.new self.old.engine.tape self.new.engine.tape) }
+    {
         self.engine.write_record(writer)
     }
 
@@ -559,10 +563,12 @@ impl<H: Files> Serving<H> {
                 break;
             };
             match listener.socket.accept(host, &self.networks) {
-                Ok((stream, from)) => {
+                Ok(accepted) => {
                     got_some = true;
                     *left = left.saturating_sub(1);
-                    self.open(registry, stream, from);
+                    if let Some(accepted) = accepted {
+                        self.open(registry, accepted);
+                    }
                 }
                 Err(error) => match after_accept(outcome_of(&error)) {
                     Next::AwaitEvent => return Again::AtEvent,
@@ -629,12 +635,10 @@ impl<H: Files> Serving<H> {
     // DOOR-7: The connection that is given up is closed for the core before the one that takes its
     // place is opened.
     /// Gives a connection a free place, or that of one that is given up for it, and opens it. If the kernel's tables
-    /// must show whose it is, it is nobody's known until a call needs more. One that may not ask is closed at once, and so is one
-    /// that the core does not take, or whose events can't be shown.
-    fn open(&mut self, registry: &Registry, stream: Stream, from: Option<Visitor>) {
-        let Some(visitor) = from else {
-            return;
-        };
+    /// must show whose it is, it is nobody's known until a call needs more. One that the core does not take is closed at once,
+    /// and so is one whose events can't be shown.
+    fn open(&mut self, registry: &Registry, accepted: Accepted) {
+        let visitor = accepted.visitor;
         let origin = match &visitor {
             Visitor::Known(arrival) => origin_of(&arrival.who()),
             Visitor::Unknown(_) => Origin::New,
@@ -647,19 +651,18 @@ impl<H: Files> Serving<H> {
             }
             Admission::Close => return,
         };
-        self.places.seat(key, stream, origin, self.turn.moment);
+        self.places.seat(key, accepted, origin, self.turn.moment);
         if let Some(source) = self.sources.get_mut(key) {
             *source = visitor.arrival().source();
         }
-        if !open_at(&mut self.places, &mut self.engine, registry, key, visitor) {
+        if !open_at(&mut self.places, &mut self.engine, registry, key) {
             self.close(key);
         }
     }
 
-    /// The connection at a place, of which the core has no part of a record and owes nothing, goes on as one that
-    /// came in so.
-    fn open_again(&mut self, key: usize, arrival: Arrival) {
-        if !open_again(&mut self.places, &mut self.engine, key, arrival) {
+    /// The connection at a place, of which the core has no part of a record and owes nothing, goes on as who it is.
+    fn open_again(&mut self, key: usize) {
+        if !open_again(&mut self.places, &mut self.engine, key) {
             self.close(key);
         }
     }
@@ -750,8 +753,8 @@ impl<H: Files> Serving<H> {
     fn end_pass(&mut self) {
         self.walk = None;
         for key in 0..self.places.count() {
-            if let Some(arrival) = self.places.shown(key, self.turn.moment) {
-                self.open_again(key, arrival);
+            if self.places.shown(key, self.turn.moment) {
+                self.open_again(key);
             }
         }
     }

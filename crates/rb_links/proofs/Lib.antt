@@ -1,3 +1,4 @@
 pub mod Outboxes
 pub mod Rests
 pub mod Readings
+pub mod Looks

@@ -7,6 +7,7 @@ use Rattle.rb_policy.specs.declared.asks.Held.{Held}
 use Rattle.rb_policy.specs.declared.asks.Held.TheVariants.{Nothing, Part, Whole}
 use Rattle.rb_policy.specs.Asks.{may_change, held_in}
 use Rattle.rb_links.specs.declared.link.Link.{Link}
+use Rattle.rb_links.specs.Shown.{unknown_ends}
 
 -- whether the next byte that is handed in begins a record, by where the core says that the connection stands
 abbrev pub is_between_records : Standing → Bool
@@ -19,7 +20,7 @@ is_between_records Lost = true
 
 -- ASK-2: What may begin a call that waits is not handed in before it is known whose the connection is.
 abbrev pub must_wait : Link → Bool
-must_wait link = is_some link.unknown && link.is_between && may_change link.inbox
+must_wait link = is_some (unknown_ends link) && link.is_between && may_change link.inbox
 
 -- how much of its call is held back then
 abbrev pub held_of : Link → Held
@@ -33,7 +34,6 @@ is_same_held a b = false
 
 -- Nothing is known yet of the connection that has the place.
 pub record BeginsAnew (link : Link) : Type 0 where
-  pub unknown : link.unknown ≡ None
   pub sought : link.sought ≡ None
   pub held : link.held ≡ Nothing
   pub ended : link.has_ended ≡ false

@@ -1,3 +1,5 @@
 pub mod Outgoing
+pub mod Shown
 pub mod Holding
 pub mod Numbers
+pub mod Tables

@@ -1,11 +1,10 @@
 //! The place of an accepted connection: what is known of it, and its socket calls.
-ghost use Rattle.std.specs.Prelude.{◌≡◌, ◌≤◌, [], true, not, ◌&&◌, ◌||◌, length, drop, IfOk, IfSome, Some, None};
-ghost use Rattle.rb_policy.specs.Origins.{origin_of};
-ghost use Rattle.rb_policy.specs.declared.asks.Held.TheVariants.{Nothing};
-ghost use Rattle.rb_sockets.specs.Arrivals.{who_of};
+ghost use Rattle.std.specs.Prelude.{◌≡◌, ◌≤◌, [], true, not, ◌&&◌, ◌||◌, length, drop, IfOk, IfSome, Some, None, option_map};
+ghost use Rattle.rb_policy.specs.declared.evidence.Evidence.TheVariants.{NotFound};
 ghost use Rattle.rb_links.specs.Holding.{BeginsAnew, is_between_records, must_wait, held_of, is_same_held};
 ghost use Rattle.rb_links.specs.Numbers.{HasItsBytes, IsRest};
 ghost use Rattle.rb_links.specs.Outgoing.{nothing_in, own_room};
+ghost use Rattle.rb_links.specs.Shown.{arrival_in, unknown_ends, in_next_pass, IsSoughtBy, IsShownBy, HasSeen, IsShown};
 
 use crate::inbox::Inbox;
 use crate::outbox::{OWN_ROOM, Outbox};
@@ -18,7 +17,7 @@ use rb_policy::{
     is_cut_off, is_local, looks_in, may_change, origin_now, origin_of, outcome_of_count, reads_on,
     round_of, shown_after, sight_in, standing_outside, stuck_at,
 };
-use rb_sockets::{Arrival, Ends, Stream};
+use rb_sockets::{Accepted, Arrival, Ends, Stream, Visitor};
 use std::alloc::{AllocError, Global};
 
 /// A turn of the daemon.
@@ -30,10 +29,9 @@ pub struct Turn {
     pub moment: u64,
 }
 
-/// A connection of which the kernel's tables are to show whose it is.
+/// What the kernel's tables show of a connection, of which they are to show whose it is.
 #[derive(Clone, Copy)]
 struct Sought {
-    ends: Ends,
     /// How many passes through the tables it takes part in, or did.
     passes: u8,
     /// What they show of it so far.
@@ -51,15 +49,16 @@ fn is_between_records(standing: Standing) -> bool
     }
 }
 
-/// What is sought of a connection of these ends, if something is already or it is not known whose it is.
-fn sought_from(sought: Option<Sought>, unknown: Option<Ends>) -> Option<Sought> {
-    match (sought, unknown) {
-        (None, Some(ends)) => Some(Sought {
-            ends,
+impl Sought {
+    /// None of them was asked yet.
+    fn new() -> Sought
+        ensures passes { result.passes ≡ 0 }
+        ensures known { result.known ≡ NotFound }
+    {
+        Sought {
             passes: 0,
             known: Evidence::NotFound,
-        }),
-        (sought, _) => sought,
+        }
     }
 }
 
@@ -72,8 +71,8 @@ pub struct Link {
     id: Option<u64>,
     /// None if no connection has the place.
     stream: Option<Stream>,
-    /// Its ends, if it is not known whose it is: only calls that need no owner are handed in.
-    unknown: Option<Ends>,
+    /// Whose the connection is that has the place. If that is not known, only calls that need no owner are handed in.
+    visitor: Option<Visitor>,
     /// Whether the next byte to be handed in begins a record.
     is_between: bool,
     /// What the kernel's tables are to show of it, if they are.
@@ -116,7 +115,7 @@ impl Link {
         Ok(Link {
             id: None,
             stream: None,
-            unknown: None,
+            visitor: None,
             is_between: true,
             sought: None,
             held: Held::Nothing,
@@ -152,8 +151,10 @@ impl Link {
         self.id == Some(id)
     }
 
+    // TABLES-9
     /// A connection gets the place at this moment, in milliseconds. It is not opened yet.
-    pub(crate) fn take(&mut self, stream: Stream, origin: Origin, moment: u64)
+    pub(crate) fn take(&mut self, accepted: Accepted, origin: Origin, moment: u64)
+        ensures visitor { self.new.visitor ≡ Some accepted.visitor }
         ensures number { self.new.id ≡ None }
         ensures inbox { self.new.inbox ≡ [] }
         ensures outbox { self.new.outbox.bytes ≡ [] }
@@ -162,8 +163,8 @@ impl Link {
         ensures since { self.new.since ≡ moment }
     {
         self.id = None;
-        self.stream = Some(stream);
-        self.unknown = None;
+        self.stream = Some(accepted.stream);
+        self.visitor = Some(accepted.visitor);
         self.is_between = true;
         self.sought = None;
         self.held = Held::Nothing;
@@ -178,12 +179,24 @@ impl Link {
         self.is_waiting = false;
     }
 
-    /// It is opened though it is not known whose it is: it has these ends.
-    pub(crate) fn note_unknown(&mut self, ends: Ends)
-        ensures unknown { self.new.unknown ≡ Some ends }
-        ensures number { self.new.id ≡ self.old.id }
+    /// How whoever is there came in, as far as is known.
+    pub(crate) fn arrival(&self) -> Option<Arrival>
+        ensures { result ≡ arrival_in self.now }
     {
-        self.unknown = Some(ends);
+        match self.visitor {
+            Some(visitor) => Some(visitor.arrival()),
+            None => None,
+        }
+    }
+
+    /// Its two ends, if it is not known whose it is.
+    fn unknown_ends(&self) -> Option<Ends>
+        ensures { result ≡ unknown_ends self.now }
+    {
+        match self.visitor {
+            Some(Visitor::Unknown(ends)) => Some(ends),
+            Some(Visitor::Known(_)) | None => None,
+        }
     }
 
     /// Whether what was read must not be handed in before it is known whose it is: it may begin a call that needs an
@@ -191,7 +204,7 @@ impl Link {
     fn must_wait(&self) -> bool
         ensures { result ≡ must_wait self.now }
     {
-        self.unknown.is_some() && self.is_between && may_change(self.inbox.bytes())
+        self.unknown_ends().is_some() && self.is_between && may_change(self.inbox.bytes())
     }
 
     /// Holds back what was read, if it must not be handed in before it is known whose it is. Whether it is held back.
@@ -205,7 +218,9 @@ impl Link {
             self.held = Held::Nothing;
             return false;
         }
-        self.sought = sought_from(self.sought, self.unknown);
+        if self.sought.is_none() {
+            self.sought = Some(Sought::new());
+        }
         let held = held_in(self.inbox.bytes());
         self.made_progress |= held != self.held;
         self.held = held;
@@ -219,8 +234,9 @@ impl Link {
 
     /// The kernel's tables are to show whose it is, if they were not asked yet. Whether they are.
     pub(crate) fn seek(&mut self) -> bool {
-        if self.sought.is_none() && matches!(self.origin, Origin::New) {
-            self.sought = sought_from(None, self.unknown);
+        let is_unknown = self.unknown_ends().is_some() && matches!(self.origin, Origin::New);
+        if is_unknown && self.sought.is_none() {
+            self.sought = Some(Sought::new());
         }
         self.awaits_pass()
     }
@@ -249,28 +265,37 @@ impl Link {
     }
 
     /// A pass through the kernel's tables begins, in which it takes part if they are to show whose it is.
-    pub(crate) fn begin_pass(&mut self) {
+    pub(crate) fn begin_pass(&mut self)
+        ensures visitor { self.new.visitor ≡ self.old.visitor }
+        ensures sought { self.new.sought ≡ option_map in_next_pass self.old.sought }
+    {
         if let Some(sought) = &mut self.sought {
             sought.passes = sought.passes.saturating_add(1);
             sought.known = Evidence::NotFound;
         }
     }
 
+    // TABLES-2
     /// What a walk through the table of a family looks for, if it must look for it.
-    pub(crate) fn sight_in(&self, table: Family) -> Option<Sight> {
-        let sought = self.sought.as_ref()?;
+    pub(crate) fn sight_in(&self, table: Family) -> Option<Sight>
+        ensures { IfSome result (IsSoughtBy table self.now) }
+    {
+        let ends = self.unknown_ends()?;
+        let sought = self.sought?;
         if sought.passes > 0
             && !self.has_ended
-            && looks_in(table, sought.ends.theirs.family(), sought.known)
+            && looks_in(table, ends.theirs.family(), sought.known)
         {
-            Some(sight_in(table, &sought.ends.theirs, &sought.ends.ours))
+            Some(sight_in(table, &ends.theirs, &ends.ours))
         } else {
             None
         }
     }
 
     /// Notes what a walk has seen of it, if it takes part in the pass, and if the walk came to the end of its table.
-    pub(crate) fn note_seen(&mut self, is_whole: bool, sight: &Sight) {
+    pub(crate) fn note_seen(&mut self, is_whole: bool, sight: &Sight)
+        ensures { HasSeen is_whole sight.now self.old self.new }
+    {
         if let Some(sought) = &mut self.sought {
             if sought.passes > 0 {
                 sought.known = evidence_of(is_whole, sight);
@@ -280,34 +305,38 @@ impl Link {
 
     // TABLES-5
     /// A pass has ended at this moment, in milliseconds. If it showed whose this is, that is where it counts from here on; and
-    /// if its call is held back, the answer is how it came in. It may wait for one more pass.
-    pub(crate) fn shown(&mut self, moment: u64) -> Option<Arrival>
-        ensures origin { IfSome result (λ arrival.
-            self.new.origin ≡ origin_of (who_of arrival).trust (who_of arrival).source) }
-        ensures since { IfSome result (λ arrival. self.new.since ≡ moment) }
-        ensures held { IfSome result (λ arrival. self.new.held ≡ Nothing) }
-        ensures known { IfSome result (λ arrival. self.new.unknown ≡ None) }
+    /// if its call is held back, it goes on as who it is. It may wait for one more pass. Whether it goes on so.
+    pub(crate) fn shown(&mut self, moment: u64) -> bool
+        ensures shown { result ≡ true → IsShown moment self.old self.new }
     {
+        let Some(arrival) = self.arrival_shown() else {
+            return false;
+        };
+        self.sought = None;
+        self.origin = origin_of(&arrival.who());
+        if !self.is_held() {
+            return false;
+        }
+        self.held = Held::Nothing;
+        self.visitor = Some(Visitor::Known(arrival));
+        self.since = moment;
+        true
+    }
+
+    // TABLES-5
+    /// How whoever is there came in, by what the passes showed of its own two ends; none if there is one more, or it takes
+    /// part in none.
+    fn arrival_shown(&self) -> Option<Arrival>
+        ensures { IfSome result (IsShownBy self.now) }
+    {
+        let ends = self.unknown_ends()?;
         let sought = self.sought?;
         if sought.passes == 0 {
             return None;
         }
-        let evidence = shown_after(
-            sought.passes,
-            sought.known,
-            self.is_connected(),
-            self.has_ended,
-        )?;
-        let arrival = sought.ends.arrival(evidence);
-        self.sought = None;
-        self.origin = origin_of(&arrival.who());
-        if !self.is_held() {
-            return None;
-        }
-        self.held = Held::Nothing;
-        self.unknown = None;
-        self.since = moment;
-        Some(arrival)
+        let is_connected = self.is_connected();
+        let evidence = shown_after(sought.passes, sought.known, is_connected, self.has_ended)?;
+        Some(ends.arrival(evidence))
     }
 
     /// Whether the system says that it is connected still.
@@ -360,7 +389,7 @@ impl Link {
         ensures outbox { self.new.outbox.bytes ≡ [] }
     {
         self.stream = None;
-        self.unknown = None;
+        self.visitor = None;
         self.sought = None;
         self.held = Held::Nothing;
         self.outbox.clear();
@@ -471,7 +500,7 @@ impl Link {
     pub fn note_taken(&mut self, count: usize, standing: Standing)
         requires { count ≤ length self.old.inbox }
         ensures between { self.new.is_between ≡ is_between_records standing }
-        ensures unknown { self.new.unknown ≡ self.old.unknown }
+        ensures visitor { self.new.visitor ≡ self.old.visitor }
         ensures inbox { self.new.inbox ≡ drop count self.old.inbox }
         ensures outbox { self.new.outbox ≡ self.old.outbox }
         ensures number { self.new.id ≡ self.old.id }

@@ -1,6 +1,7 @@
 //! All places of connections: which of them are left for later, and who gets one.
-ghost use Rattle.std.specs.Prelude.{◌≡◌, true, vec_len, Some, IfOk, IfSome};
-ghost use Rattle.rb_links.specs.Numbers.{number_at};
+ghost use Rattle.std.specs.Prelude.{◌≡◌, true, vec_len, Some, None, IfOk, IfSome};
+ghost use Rattle.rb_links.specs.Numbers.{number_at, arrival_at};
+ghost use Rattle.rb_links.specs.Tables.{sight_at, IsSeatedAt, IsShownAt, StayBut, IsSoughtAt, AreSoughtIn, AreSought, HasSeenAt, HaveSeenIn, HaveSeen};
 ghost use Rattle.rb_links.specs.Outgoing.{nothing_in, long_room};
 
 use crate::link::{Link, Turn};
@@ -10,7 +11,7 @@ use rb_address::Family;
 use rb_evidence::Sight;
 use rb_forward::sooner;
 use rb_policy::{Admission, Holder, Origin, Round, accept_count, admit, is_unawaited};
-use rb_sockets::{Arrival, Ends, Stream};
+use rb_sockets::{Accepted, Arrival};
 use std::alloc::{AllocError, Global};
 
 /// The places of connections, by the keys that their events show.
@@ -56,6 +57,55 @@ fn no_sights(alloc: Global, count: usize) -> Result<Vec<Option<Sight>>, AllocErr
         sights.push_reserved(None);
     }
     Ok(sights)
+}
+
+/// Notes at a place what a walk through the table of a family looks for there. Whether that is anything.
+fn seek_at(links: &[Link], sights: &mut [Option<Sight>], key: usize, table: Family) -> bool
+    ensures here { IsSoughtAt key table links.now sights.new }
+    ensures others { StayBut key sights.old sights.new }
+{
+    if key >= links.len() || key >= sights.len() {
+        return false;
+    }
+    let sight = links[key].sight_in(table);
+    let is_some = sight.is_some();
+    sights[key] = sight;
+    is_some
+}
+
+/// Notes at each place what a walk through the table of a family looks for there. Whether that is anything.
+fn seek_all(links: &[Link], sights: &mut [Option<Sight>], table: Family) -> bool
+    ensures { AreSoughtIn table links.now sights.new }
+{
+    let mut is_some = false;
+    'places: for key in 0..links.len() {
+        is_some |= seek_at(links, sights, key, table);
+    }
+    is_some
+}
+
+/// Notes what a walk has seen of the connection at a place.
+fn note_at(links: &mut [Link], sights: &mut [Option<Sight>], key: usize, is_whole: bool)
+    ensures here { HasSeenAt key is_whole sights.old links.old links.new }
+    ensures others { StayBut key links.old links.new }
+    ensures sights { StayBut key sights.old sights.new }
+{
+    if key >= links.len() || key >= sights.len() {
+        return;
+    }
+    if let Some(sight) = &sights[key] {
+        links[key].note_seen(is_whole, sight);
+    }
+    sights[key] = None;
+}
+
+/// Notes what a walk has seen of each connection.
+fn note_all(links: &mut [Link], sights: &mut [Option<Sight>], is_whole: bool)
+    ensures { HaveSeenIn is_whole sights.old links.old links.new }
+{
+    'places: for key in 0..links.len() {
+        note_at(links, sights, key, is_whole);
+    }
 }
 
 impl Places {
@@ -195,9 +245,12 @@ impl Places {
         next
     }
 
-    /// Closes the connection at a place, if there is one, and gives its number, if it is opened.
+    // TABLES-9
+    /// Closes the connection at a place, if there is one, and gives its number, if it is opened. Nothing that a walk saw of
+    /// it is left.
     pub fn close(&mut self, key: usize) -> Option<u64>
-        ensures { IfSome result (λ id. number_at self.old key ≡ Some id) }
+        ensures number { IfSome result (λ id. number_at self.old key ≡ Some id) }
+        ensures sight { IfSome result (λ id. sight_at self.new key ≡ None) }
     {
         let link = self.links.get_mut(key)?;
         if link.is_free() {
@@ -272,12 +325,21 @@ impl Places {
         }
     }
 
-    /// Gives a connection a place at this moment, in milliseconds. It is not opened yet.
-    pub fn seat(&mut self, key: usize, stream: Stream, origin: Origin, moment: u64) {
+    /// Gives a connection a place at this moment, in milliseconds, if there is that place. It is not opened yet.
+    pub fn seat(&mut self, key: usize, accepted: Accepted, origin: Origin, moment: u64)
+        ensures { IsSeatedAt key accepted.visitor self.new }
+    {
         if let Some(link) = self.links.get_mut(key) {
-            link.take(stream, origin, moment);
+            link.take(accepted, origin, moment);
             self.taken = self.taken.saturating_add(1);
         }
+    }
+
+    /// How whoever is at a place came in, as far as is known.
+    pub fn arrival(&self, key: usize) -> Option<Arrival>
+        ensures { result ≡ arrival_at self.now key }
+    {
+        self.links.get(key)?.arrival()
     }
 
     /// The connection at a place is opened under this number of the core's, and its events are shown under the place's
@@ -288,15 +350,6 @@ impl Places {
         match self.links.get_mut(key) {
             Some(link) => link.open(registry, Token(key), id),
             None => false,
-        }
-    }
-
-    /// The connection at a place, which has these ends, is opened though it is not known whose it is.
-    pub fn note_unknown(&mut self, key: usize, ends: Ends)
-        ensures { number_at self.new key ≡ number_at self.old key }
-    {
-        if let Some(link) = self.links.get_mut(key) {
-            link.note_unknown(ends);
         }
     }
 
@@ -313,16 +366,12 @@ impl Places {
         }
     }
 
+    // TABLES-2
     /// A walk through the table of a family begins: what it looks for, if anything is looked for there.
-    pub fn begin_walk(&mut self, table: Family) -> bool {
-        let mut is_some = false;
-        for key in 0..self.links.len() {
-            if let (Some(sight), Some(link)) = (self.sights.get_mut(key), self.links.get(key)) {
-                *sight = link.sight_in(table);
-                is_some |= sight.is_some();
-            }
-        }
-        is_some
+    pub fn begin_walk(&mut self, table: Family) -> bool
+        ensures { AreSought table self.new }
+    {
+        seek_all(self.links.as_slice(), self.sights.as_mut_slice(), table)
     }
 
     /// What the walk looks for, at each place.
@@ -330,24 +379,29 @@ impl Places {
         self.sights.as_mut_slice()
     }
 
+    // TABLES-3
     /// The walk is over: it came to the end of its table, or the table can't be read.
-    pub fn end_walk(&mut self, is_whole: bool) {
-        for key in 0..self.links.len() {
-            if let (Some(place), Some(link)) = (self.sights.get_mut(key), self.links.get_mut(key)) {
-                if let Some(sight) = place.take() {
-                    link.note_seen(is_whole, &sight);
-                }
-            }
-        }
+    pub fn end_walk(&mut self, is_whole: bool)
+        ensures { HaveSeen is_whole self.old self.new }
+    {
+        note_all(
+            self.links.as_mut_slice(),
+            self.sights.as_mut_slice(),
+            is_whole,
+        );
     }
 
-    /// A pass has ended at this moment, in milliseconds: how whoever is at a place came in, if a call is held back there and need not wait for
-    /// one more.
-    pub fn shown(&mut self, key: usize, moment: u64) -> Option<Arrival> {
-        let link = self.links.get_mut(key)?;
-        let arrival = link.shown(moment);
+    /// A pass has ended at this moment, in milliseconds: whether the connection at a place goes on as who it is, as a call is
+    /// held back there and need not wait for one more.
+    pub fn shown(&mut self, key: usize, moment: u64) -> bool
+        ensures { result ≡ true → IsShownAt key moment self.old self.new }
+    {
+        let Some(link) = self.links.get_mut(key) else {
+            return false;
+        };
+        let goes_on = link.shown(moment);
         self.are_sought |= link.is_sought();
-        arrival
+        goes_on
     }
 
     /// The number of the connection at a place, which is its own no longer.

@@ -34,7 +34,7 @@ pub use follow::{AddressNews, Follower};
 pub use handed::{Handed, HandedFault, HandedOver, HandedSocket};
 pub use hosts::{lacks_loopback6, missing_host};
 pub use laws::address_examples;
-pub use listener::{Listener, Visitor};
+pub use listener::{Accepted, Listener, Visitor};
 pub use machine::{Listing, Search};
 pub use rb_policy::log_choice::Logged;
 pub use settings::{LocalSocket, Settings};

@@ -38,6 +38,15 @@ impl Visitor {
     }
 }
 
+/// A connection that was accepted, and whose it is. Nothing else has its ends.
+#[derive(Drop)]
+pub struct Accepted {
+    /// Its socket.
+    pub stream: Stream,
+    /// Whose it is, by the two ends of that socket.
+    pub visitor: Visitor,
+}
+
 /// Where connections come in.
 #[derive(Drop)]
 pub enum Listener {
@@ -69,29 +78,36 @@ impl Listener {
     }
 
     // ASKED-2
-    /// A connection, and whose it is when these networks are served. One that is nobody's must be closed.
+    /// A connection, if it is somebody's when these networks are served. Another one is closed.
     pub fn accept<R: Files>(
         &mut self,
         rt: &R,
         networks: &[Network],
-    ) -> io::Result<(Stream, Option<Visitor>)> {
+    ) -> io::Result<Option<Accepted>> {
         match self {
             Listener::Tcp(listener, beliefs) => {
                 let (stream, from) = listener.accept()?;
-                let stream = Stream::Tcp(stream);
-                let visitor = match asker(networks, sender(from)) {
-                    Some(theirs) => Some(visitor_of(Ends {
-                        theirs,
-                        ours: stream.own_end(),
-                        beliefs: *beliefs,
-                    })),
-                    None => None,
+                let Some(theirs) = asker(networks, sender(from)) else {
+                    return Ok(None);
                 };
-                Ok((stream, visitor))
+                let stream = Stream::Tcp(stream);
+                let ours = stream.own_end();
+                let ends = Ends {
+                    theirs,
+                    ours,
+                    beliefs: *beliefs,
+                };
+                Ok(Some(Accepted {
+                    stream,
+                    visitor: visitor_of(ends),
+                }))
             }
             Listener::Local(local) => {
                 let (stream, arrival) = local.accept(rt)?;
-                Ok((Stream::Local(stream), Some(Visitor::Known(arrival))))
+                Ok(Some(Accepted {
+                    stream: Stream::Local(stream),
+                    visitor: Visitor::Known(arrival),
+                }))
             }
             Listener::Closed => Err(io::Error::from(ErrorKind::WouldBlock)),
         }
