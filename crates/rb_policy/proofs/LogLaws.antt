@@ -12,11 +12,12 @@ use Rattle.rb_address.specs.declared.who.Owner.{Owner}
 use Rattle.rb_address.specs.declared.who.Owner.TheVariants.{Unknown, Uid}
 use Rattle.rb_address.specs.Hosts.{is_same_host}
 use Rattle.rb_policy.specs.declared.caller_rate.LogCaller.{LogCaller}
+use Rattle.rb_model.specs.CallerLaws.{is_same_owner}
 use Rattle.rb_policy.specs.declared.caller_rate.LogCaller.TheVariants as callers
 use Rattle.rb_policy.specs.declared.caller_rate.Count.{Count}
 use Rattle.rb_policy.specs.declared.caller_rate.CallerCount.{CallerCount}
 use Rattle.rb_policy.specs.declared.caller_rate.CallerRate.{CallerRate}
-use Rattle.rb_policy.specs.CallerRates.{lines_a_second, own_counts, second_of, greatest, is_same_owner, is_same_caller, gets, counted, Places, fits, count_in, count_of, with_count, has_place, left_out_in, left_out_of, rate_new, rate_at, rate_by, rate_after}
+use Rattle.rb_policy.specs.CallerRates.{lines_a_second, own_counts, second_of, greatest, is_same_caller, gets, counted, Places, fits, count_in, count_of, with_count, has_place, left_out_in, left_out_of, rate_new, rate_at, rate_by, rate_after}
 use Rattle.rb_policy.specs.LogLaws.{LineAsked, rate_then, lines_got, lines_of, has_own, count_for, FewOfASecond, FewInAll, NoneIsLost, OwnCountsAreApart, OwnersAndHostsAreApart, TheyAreToldThen}
 
 -- ---- callers

@@ -1,8 +1,7 @@
 -- How many lines callers get in a second: each of the first few by a count of his own, and all others by one.
 use Rattle.std.specs.Prelude.{ℕ, ◌+◌, ◌-◌, ◌*◌, ◌^◌, ◌/◌, ◌==◌, nat_lt, min, Bool, true, false, ◌&&◌, ◌||◌, if◌then◌else◌, Option, Some, None, List, [], ◌∷◌, replicate, sum_by, position, slice_index_or, slice_set}
-use Rattle.rb_address.specs.declared.who.Owner.{Owner}
-use Rattle.rb_address.specs.declared.who.Owner.TheVariants.{Unknown, Uid}
 use Rattle.rb_address.specs.Hosts.{is_same_host}
+use Rattle.rb_model.specs.CallerLaws.{is_same_owner}
 use Rattle.rb_policy.specs.declared.caller_rate.LogCaller.{LogCaller}
 use Rattle.rb_policy.specs.declared.caller_rate.LogCaller.TheVariants as callers
 use Rattle.rb_policy.specs.declared.caller_rate.Count.{Count}
@@ -27,12 +26,6 @@ abbrev pub greatest : ℕ
 greatest = 2 ^ 64 - 1
 
 -- ---- one caller
-
-abbrev pub is_same_owner : Owner → Owner → Bool
-is_same_owner Unknown Unknown = true
-is_same_owner Unknown (Uid uid) = false
-is_same_owner (Uid uid) Unknown = false
-is_same_owner (Uid a) (Uid b) = a == b
 
 abbrev pub is_same_caller : LogCaller → LogCaller → Bool
 is_same_caller (callers.Owner a) (callers.Owner b) = is_same_owner a b

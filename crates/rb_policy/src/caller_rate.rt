@@ -1,6 +1,6 @@
 //! How many lines callers get in a second: each of the first few by a count of its own, and all others by one.
 ghost use Rattle.std.specs.Prelude.{◌≡◌};
-ghost use Rattle.rb_policy.specs.CallerRates.{second_of, is_same_owner, is_same_caller, fits, count_in, left_out_in, has_left_out};
+ghost use Rattle.rb_policy.specs.CallerRates.{second_of, is_same_caller, fits, count_in, left_out_in, has_left_out};
 
 use crate::recent::SECOND;
 use rb_address::{Host, Owner};
@@ -63,21 +63,11 @@ fn second_of(now: u64) -> u64
     now / SECOND
 }
 
-fn is_same_owner(a: Owner, b: Owner) -> bool
-    ensures { result ≡ is_same_owner a b }
-{
-    match (a, b) {
-        (Owner::Unknown, Owner::Unknown) => true,
-        (Owner::Uid(a), Owner::Uid(b)) => a == b,
-        (Owner::Unknown, Owner::Uid(_)) | (Owner::Uid(_), Owner::Unknown) => false,
-    }
-}
-
 fn is_same_caller(a: LogCaller, b: LogCaller) -> bool
     ensures { result ≡ is_same_caller a b }
 {
     match (a, b) {
-        (LogCaller::Owner(a), LogCaller::Owner(b)) => is_same_owner(a, b),
+        (LogCaller::Owner(a), LogCaller::Owner(b)) => a == b,
         (LogCaller::Host(a), LogCaller::Host(b)) => a == b,
         (LogCaller::Owner(_), LogCaller::Host(_)) | (LogCaller::Host(_), LogCaller::Owner(_)) => {
             false
