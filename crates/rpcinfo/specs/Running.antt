@@ -1,15 +1,19 @@
 -- What the command does with words that were read.
 use Rattle.std.specs.Prelude.{◌≡◌, ◌≤◌, ◌⊎◌, ℕ, false, List, ◌++◌, Option, Some, None, Result, ⊤}
+use Rattle.std.specs.declared.io.ErrorKind.{ErrorKind}
+use Rattle.std.specs.declared.io.ErrorKind.TheVariants.{OutOfMemory}
 use Rattle.rb_words.specs.declared.plan.Plan.{Plan}
 use Rattle.rb_words.specs.declared.plan.Source.{Source}
 use Rattle.rb_words.specs.declared.plan.Source.TheVariants.{Here, Input, Named}
 use Rattle.rb_show.specs.declared.ask.Question.{Question}
+use Rattle.rb_show.specs.declared.fault.InfoFault.TheVariants.{Memory}
 use Rattle.rb_show.specs.declared.show.Shown.{Shown}
 use Rattle.rb_plans.specs.declared.ending.Ending.{Ending}
 use Rattle.rb_plans.specs.declared.ending.Notices.{Notices}
 use Rattle.rb_plans.specs.declared.fault.Fault.{Fault}
 use Rattle.rb_plans.specs.declared.invocation.Invocation.{Invocation}
-use Rattle.rb_plans.specs.Ending.{notice_lines, status_of, answer_lines, IsNothing, Says}
+use Rattle.rb_plans.specs.declared.fault.Fault.TheVariants.{Info}
+use Rattle.rb_plans.specs.Ending.{notice_lines, status_of, answer_lines, fault_lines, text_line, IsNothing, Says}
 use Rattle.rb_plans.specs.Plans.{plan_question}
 use Rattle.rb_plans.specs.Told.{Asks}
 
@@ -67,3 +71,10 @@ pub record EndsUnread {O E : Type 0} (contents : E → Option (List ℕ)) (outpu
   pub quiet : ending.status ≡ 0 → faults' ≡ faults
   pub failed : ending.status ≡ 1 → IsExplained contents faults faults' ending
   pub unwritten : ending.status ≡ 2 → output' ≡ output
+
+-- How it ends without words: by lack of memory, or since one is no text.
+-- STATUS-3
+abbrev pub EndsWithout : {E : Type 0} → (E → Option (List ℕ)) → E → E → Ending → ErrorKind → Type 0
+EndsWithout contents faults faults' ending OutOfMemory =
+    (ending.status ≡ 1) × Says contents faults faults' ending (fault_lines (Info Memory))
+EndsWithout contents faults faults' ending _ = (ending.status ≡ 2) × Says contents faults faults' ending text_line

@@ -1,7 +1,8 @@
 //! `rpcinfo` asks a portmapper and shows what it answers.
 #![tactic(auto)]
 
-ghost use Rattle.std.specs.Prelude.{◌≤◌, IfErr};
+ghost use Rattle.std.specs.IoError.{error_kind};
+ghost use Rattle.rpcinfo.specs.Running.{EndsWithout};
 
 mod asking;
 mod broadcast;
@@ -14,35 +15,33 @@ mod patient;
 mod programs;
 mod run;
 
-use rb_plans::{Fault, explain, refuse_text};
+use rb_plans::{Ending, Fault, explain, refuse_text};
 use rb_show::InfoFault;
 use run::run_info;
 use std::io::{ErrorKind, Write};
 use std::process::ExitCode;
 use std::{env, io};
 
+/// The words of the command line, if each is text.
 fn words_of(rt: &HostRuntime) -> io::Result<Vec<String>> {
     let words = env::args(rt)?.collect(rt.alloc())?;
     Ok(words)
 }
 
-/// The words of the command line, if each is text. A fault is written to `faults`, and the error is the exit status.
-fn command_words<E: Write>(rt: &HostRuntime, faults: &mut E) -> Result<Vec<String>, u8>
-    ensures { IfErr result (λ status. status ≤ 2) }
+/// Says why the words of the command line can't be had.
+fn explain_words<E: Write>(error: &io::Error, faults: &mut E) -> Ending
+    ensures { EndsWithout E.contents faults.old faults.new result (error_kind error.now) }
 {
-    match words_of(rt) {
-        Ok(words) => Ok(words),
-        Err(error) if error.kind() == ErrorKind::OutOfMemory => {
-            Err(explain(Fault::Info(InfoFault::Memory), faults).status)
-        }
-        Err(_) => Err(refuse_text(faults).status),
+    match error.kind() {
+        ErrorKind::OutOfMemory => explain(Fault::Info(InfoFault::Memory), faults),
+        _ => refuse_text(faults),
     }
 }
 
 fn main(rt: HostRuntime) -> ExitCode {
-    let words = match command_words(&rt, &mut rt.stderr()) {
+    let words = match words_of(&rt) {
         Ok(words) => words,
-        Err(status) => return ExitCode::from(status),
+        Err(error) => return ExitCode::from(explain_words(&error, &mut rt.stderr()).status),
     };
     let ending = run_info(
         rt.alloc(),
