@@ -16,7 +16,7 @@ from sources import CLAUSE, CRATES, FUNCTION, NAME, ROOMS, ROOT, cited, differen
 BELIEVED = ROOT / "docs" / "BELIEVED.md"
 AXIOMS = ROOT / "tests" / "axioms"  # by tests/list-axioms.sh
 PROMISERS = ("rb_promises", "rb_daemon")
-HEADLINE = "runs_are_served_within_bounds"
+HEADLINE = "runs_are_served"
 PAGE = "rb_promises", "Answers.Answers"
 # What a reader of replies and sessions must believe: this relation of events, outputs and what passed with them. It names no step of
 # the model and no function that answers, so nothing is left out of the count: what they are is what the law of runs says of them.

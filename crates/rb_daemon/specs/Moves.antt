@@ -14,6 +14,7 @@ use Rattle.rb_model.specs.Exchanges.{exchange, taken_in, count_given, count_now}
 use Rattle.rb_model.specs.Gives.{write_into, given_in, bytes_given}
 use Rattle.rb_model.specs.Sessions.{pending_bytes}
 use Rattle.rb_core.specs.AtOnce.{Exchanges}
+use Rattle.rb_core.specs.MeteredCalls.{Priced, PricedExchange}
 use Rattle.rb_core.specs.StandsFor.{StandsFor}
 use Rattle.rb_links.specs.Outgoing.{Outgoing}
 use Rattle.rb_sockets.specs.Dispatches.{Dispatch, Hands}
@@ -48,6 +49,16 @@ RecordsEvents events old new = (s : State) → StandsFor old.core.core s → Rec
 -- So this event, which is that of the engine's moment, was recorded with what it gave.
 abbrev pub RecordsEvent : (ℕ → Event) → Engine → Engine → Type 0
 RecordsEvent event old new = RecordsEvents (λ s now. event now ∷ []) old new
+
+-- At most what this event costs, which is that of the engine's moment, was counted, whatever state its core stood for.
+-- STEPS-7
+abbrev pub PricedNow : (ℕ → Event) → Engine → Engine → Type 0
+PricedNow event old new = Priced (event old.moment) old.core new.core
+
+-- The same of bytes, and of what was given at once of the reply to them, if there is this much room.
+-- STEPS-7
+abbrev pub PricedExchangeNow : ℕ → List ℕ → ℕ → Engine → Engine → Result Exchanged CoreFault → Type 0
+PricedExchangeNow id piece room old new result = PricedExchange old.moment id piece room old.core new.core result
 
 -- Bytes came on a connection, and what was given at once of the reply stands in the room.
 abbrev pub ExchangesNow : ℕ → List ℕ → Engine → Engine → Result Exchanged CoreFault → List ℕ → Type 0

@@ -5,6 +5,7 @@ ghost use Rattle.rb_connections.specs.Slots.{Shows};
 ghost use Rattle.rb_core.specs.Events.{OnlyBegins};
 ghost use Rattle.rb_core.specs.HeldBytes.{IsListener};
 ghost use Rattle.rb_core.specs.Looks.{rows_shown};
+ghost use Rattle.rb_core.specs.MeteredCalls.{StepsAtMost, reply_look};
 ghost use Rattle.rb_core.specs.StandsFor.{StandsFor};
 ghost use Rattle.rb_lines.specs.Entries.{options_of};
 ghost use Rattle.rb_lines.specs.Tapes.{Records, empty_tape};
@@ -87,6 +88,7 @@ fn tell<S: Datagrams>(
     ensures ways { ways.new ≡ ways_told ways.old told }
     ensures ready { result ≡ ready_of told }
     ensures core { OnlyBegins core.old.core core.new.core }
+    ensures cost { StepsAtMost (reply_look core.old) core.old core.new }
     ensures recorded { Records
         (end_entry event.now core.old.core.reply told ∷ []) tape.old tape.new }
 {
@@ -169,7 +171,7 @@ fn count_fits(bytes: &[u8])
 }
 
 impl Engine {
-    ghost use Rattle.std.specs.Prelude.{◌≡◌, ◌≤◌, ◌<◌, ◌^◌, ◌↔◌, [], ◌∷◌, ◌++◌, false, IsTrue, IsErrOf, length, not, IfOk, OnOk, OnErr};
+    ghost use Rattle.std.specs.Prelude.{◌≡◌, ◌≤◌, ◌<◌, ◌+◌, ◌*◌, ◌^◌, ◌↔◌, [], ◌∷◌, ◌++◌, false, IsTrue, IsErrOf, length, not, IfOk, OnOk, OnErr};
     ghost use Rattle.rb_lines.specs.Printing.{Writes};
     ghost use Rattle.rb_lines.specs.Tapes.{all_written, unwritten};
     ghost use Rattle.rb_model.specs.Step.Event.{Open, Closed, NextLost, Datagram, Forward, Expire, ZeroStats};
@@ -181,11 +183,14 @@ impl Engine {
     ghost use Rattle.rb_keep.specs.Writing.{WritesKept, WritesChange, NotesOwners};
     ghost use Rattle.rb_connections.specs.Slots.{Shows};
     ghost use Rattle.rb_core.specs.StandsFor.{StandsFor};
+    ghost use Rattle.rb_core.specs.CallCosts.{deadline_cost};
+    ghost use Rattle.rb_core.specs.Looks.{slot_count};
+    ghost use Rattle.rb_core.specs.MeteredCalls.{StepsAtMost, reply_look};
     ghost use Rattle.rb_model.specs.Exchanges.{count_given};
     ghost use Rattle.rb_model.specs.Gives.{given_in, bytes_given};
     ghost use Rattle.rb_core.specs.Standings.{StandsAfterPiece, StandsThen};
     ghost use Rattle.rb_daemon.specs.Served.{answer_datagram, change_count, row_count, set_again, ready_of, take_forward_reply, expire_due, send_forward};
-    ghost use Rattle.rb_daemon.specs.Moves.{IsNewEngine, Moves, ActsNow, RecordsEvent, RecordsEvents, RecordsExchange, RecordsGiven, ExchangesNow, WritesInto, CountsGiven, HandsNow, ShowsNow};
+    ghost use Rattle.rb_daemon.specs.Moves.{IsNewEngine, Moves, ActsNow, PricedNow, PricedExchangeNow, RecordsEvent, RecordsEvents, RecordsExchange, RecordsGiven, ExchangesNow, WritesInto, CountsGiven, HandsNow, ShowsNow};
     ghost use Rattle.rb_sockets.specs.Dispatches.Dispatch.{Reply};
     ghost use Rattle.rb_model.specs.Step.{unsent_call};
     ghost use Rattle.rb_model.specs.Ending.{forward_reply, expire};
@@ -292,6 +297,7 @@ impl Engine {
         ensures acts { ActsNow (λ s now. open_connection s now caller.who)
             self.old self.new result }
         ensures recorded { RecordsEvent (λ now. Open now caller.who) self.old self.new }
+        ensures priced { PricedNow (λ now. Open now caller.who) self.old self.new }
         ensures moment { self.new.moment ≡ self.old.moment }
     {
         let who = caller.who;
@@ -316,6 +322,7 @@ impl Engine {
         ensures fits { count_given result ≤ length room.new }
         ensures within { IfOk result (λ done. done.taken.count ≤ length piece.now) }
         ensures recorded { RecordsExchange id piece.now (count_given result) self.old self.new }
+        ensures priced { PricedExchangeNow id piece.now (length room.old) self.old self.new result }
         ensures moment { self.new.moment ≡ self.old.moment }
     {
         count_fits(room);
@@ -351,6 +358,7 @@ impl Engine {
     pub(crate) fn closed(&mut self, id: u64)
         ensures acts { Moves (λ s now. (close_connection s id).1) self.old self.new }
         ensures recorded { RecordsEvent (λ now. Closed id) self.old self.new }
+        ensures priced { PricedNow (λ now. Closed id) self.old self.new }
         ensures moment { self.new.moment ≡ self.old.moment }
     {
         let done = self.core.closed(id);
@@ -362,6 +370,7 @@ impl Engine {
         ensures lost { Shows StandsFor next_lost self.old.core.core result }
         ensures stays { Moves (λ s now. s) self.old self.new }
         ensures recorded { RecordsEvent (λ now. NextLost) self.old self.new }
+        ensures priced { PricedNow (λ now. NextLost) self.old self.new }
         ensures moment { self.new.moment ≡ self.old.moment }
     {
         let lost = self.core.next_lost();
@@ -373,6 +382,7 @@ impl Engine {
     /// deadline. It is a look, and no event.
     pub(crate) fn next_deadline(&mut self) -> Option<u64>
         ensures soonest { Shows StandsFor next_deadline self.old.core.core result }
+        ensures cost { StepsAtMost (deadline_cost self.old.core.core) self.old.core self.new.core }
         ensures stays { Moves (λ s now. s) self.old self.new }
         ensures tape { self.new.tape ≡ self.old.tape }
         ensures moment { self.new.moment ≡ self.old.moment }
@@ -386,6 +396,7 @@ impl Engine {
         ensures acts { ActsNow (answer_datagram caller.who content.now)
             self.old self.new result }
         ensures recorded { RecordsEvent (λ now. Datagram now caller.who content.now) self.old self.new }
+        ensures priced { PricedNow (λ now. Datagram now caller.who content.now) self.old self.new }
         ensures moment { self.new.moment ≡ self.old.moment }
     {
         let who = caller.who;
@@ -415,6 +426,7 @@ impl Engine {
         requires { Shows StandsFor change_count self.old.core.core kept.changes }
         ensures sent { S.sends sockets.old
             (Reply asked.socket asked.caller.who.source self.old.core.core.reply) sockets.new }
+        ensures cost { StepsAtMost (reply_look self.old.core) self.old.core self.new.core }
         ensures stays { Moves (λ s now. s) self.old self.new }
         ensures tape { self.new.tape ≡ self.old.tape }
         ensures moment { self.new.moment ≡ self.old.moment }
@@ -441,6 +453,7 @@ impl Engine {
     pub(crate) fn restore(&mut self, row: &Row) -> bool
         ensures acts { ActsNow (set_again row.now) self.old self.new result }
         ensures recorded { RecordsEvent (λ now. set_call now row.now) self.old self.new }
+        ensures priced { PricedNow (λ now. set_call now row.now) self.old self.new }
         ensures moment { self.new.moment ≡ self.old.moment }
     {
         let before = self.core.changes();
@@ -453,6 +466,7 @@ impl Engine {
     pub(crate) fn zero_stats(&mut self)
         ensures acts { Moves (λ s now. zero_stats s) self.old self.new }
         ensures recorded { RecordsEvent (λ now. ZeroStats) self.old self.new }
+        ensures priced { PricedNow (λ now. ZeroStats) self.old self.new }
         ensures moment { self.new.moment ≡ self.old.moment }
     {
         self.core.zero_stats();
@@ -491,6 +505,8 @@ impl Engine {
         ensures written { OnOk result
             (WritesKept self.old.core.core W.contents writer.old writer.new) }
         ensures clock { self.old.core.core.clock < 2 ^ 64 }
+        ensures cost { StepsAtMost
+            (2 * slot_count self.old.core.core + 1) self.old.core self.new.core }
         ensures core { self.new.core.core ≡ self.old.core.core }
         ensures tape { self.new.tape ≡ self.old.tape }
         ensures moment { self.new.moment ≡ self.old.moment }
@@ -540,6 +556,7 @@ impl Engine {
         ensures acts { ActsNow (take_forward_reply sender.peer content.now)
             self.old self.new result }
         ensures recorded { RecordsEvent (λ now. Forward now sender.peer content.now) self.old self.new }
+        ensures priced { PricedNow (λ now. Forward now sender.peer content.now) self.old self.new }
         ensures moment { self.new.moment ≡ self.old.moment }
     {
         let from = sender.peer;
@@ -565,6 +582,7 @@ impl Engine {
         ensures ways { ShowsNow (λ s now. ways_due ways.old (expire s now)) self.old ways.new }
         ensures acts { ActsNow expire_due self.old self.new result }
         ensures recorded { RecordsEvent (λ now. Expire now) self.old self.new }
+        ensures priced { PricedNow (λ now. Expire now) self.old self.new }
         ensures moment { self.new.moment ≡ self.old.moment }
     {
         let event = Event::Expire(self.moment);

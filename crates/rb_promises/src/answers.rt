@@ -1,7 +1,7 @@
 //! What a message is answered with, on one page.
 ghost use Rattle.rb_promises.specs.Answers.{MessagesAreAnsweredAsSaid, CallersAreServedAsSaid};
 ghost use Rattle.rb_promises.specs.PassedRuns.{RunsPassAsSaid};
-ghost use Rattle.rb_promises.specs.Headline.{RunsAreServedWithinBounds};
+ghost use Rattle.rb_promises.specs.Headline.{RunsAreServed};
 
 /// A message is answered with something if and only if the page of answers says so; so the page gives each message one answer.
 /// The hosts that were asked and that are announced have the bytes of their family, and no two rows have the same program,
@@ -19,13 +19,11 @@ pub fn runs_pass_as_said()
     ensures { RunsPassAsSaid }
 {}
 
-/// For every list of events from an opening at good limits, with a listener on a port of 16 bits, whose local socket has a path of
-/// at most 128 bytes: each call of a connection was answered as the page of answers says, and so is each datagram, of the rows that
-/// the SETs and UNSETs answered TRUE left until then, and of the calls that statistics count; the calls of a connection are the
-/// records in its bytes, and what it was given are their replies, in order; the bytes held stay within their bound, and the next
-/// event within its bound of counted steps. Events are openings, bytes in any cut, partial writes, closings, datagrams, forwarded
-/// calls that are sent or answered, moments and looks; a refused one is among them. Moments, addresses and what is known of callers
-/// are as they are handed in.
-pub fn runs_are_served_within_bounds()
-    ensures { RunsAreServedWithinBounds }
+/// For every list of events from every opening: each call of a connection was answered as the page of answers says, and so is
+/// each datagram, of the rows that the SETs and UNSETs answered TRUE left until then, and of the calls that statistics count; the
+/// calls of a connection are the records in its bytes, and what it was given are their replies, in order. Events are openings,
+/// bytes in any cut, partial writes, closings, datagrams, forwarded calls that are sent or answered, moments and looks; a refused
+/// one is among them. Moments, addresses and what is known of callers are as they are handed in.
+pub fn runs_are_served()
+    ensures { RunsAreServed }
 {}

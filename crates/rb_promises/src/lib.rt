@@ -23,9 +23,7 @@ mod turned_addresses;
 mod word_forms;
 mod worked;
 
-pub use answers::{
-    messages_are_answered_as_said, runs_are_served_within_bounds, runs_pass_as_said,
-};
+pub use answers::{messages_are_answered_as_said, runs_are_served, runs_pass_as_said};
 pub use connections::{
     gaves_are_capped, lost_connections_stay, numbers_are_distinct, only_openings_add,
 };

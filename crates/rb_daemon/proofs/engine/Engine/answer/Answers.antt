@@ -1,5 +1,8 @@
 use Rattle.std.proofs.Common.{refl}
 use Rattle.rb_model.specs.declared.served.Response.TheVariants.{Reply, Forwarded}
+use Rattle.rb_model.specs.Step.Event.{Datagram}
+use Rattle.rb_core.specs.MeteredCalls.{reply_look}
+use Rattle.rb_core.proofs.WithLooks.{no_look, then_look}
 use Rattle.rb_daemon.proofs.Reached.{bytes_are, datagram_records, datagram_served, silent_records, silent_served}
 use Rattle.rb_daemon.proofs.engine.Engine.answer.Goals as goal
 
@@ -20,3 +23,12 @@ returns-in-Forwarded-clause-recorded c = datagram_records _ c.datagram.new.self.
 
 pub returns-in-NoCall-clause-recorded : goal.returns-in-NoCall-clause-recorded
 returns-in-NoCall-clause-recorded c = silent_records _ c.datagram.new.self.core c.args.self.now.moment c.args.caller.who _ c.datagram.result _ _ c.in-NoCall.is c.datagram.ensures.acts c.record-in-NoCall.ensures
+
+pub returns-in-Reply-clause-priced : goal.returns-in-Reply-clause-priced
+returns-in-Reply-clause-priced c = then_look (Datagram c.args.self.now.moment c.args.caller.who c.args.content.now) (reply_look c.datagram.new.self) c.args.self.now.core c.datagram.new.self _ c.datagram.ensures.bound.rises c.datagram.ensures.priced c.udp_reply-reply.follows.holds-at-none.paid
+
+pub returns-in-Forwarded-clause-priced : goal.returns-in-Forwarded-clause-priced
+returns-in-Forwarded-clause-priced c = no_look (Datagram c.args.self.now.moment c.args.caller.who c.args.content.now) (reply_look c.datagram.new.self) c.args.self.now.core c.datagram.new.self c.datagram.ensures.bound.rises c.datagram.ensures.priced
+
+pub returns-in-NoCall-clause-priced : goal.returns-in-NoCall-clause-priced
+returns-in-NoCall-clause-priced c = no_look (Datagram c.args.self.now.moment c.args.caller.who c.args.content.now) (reply_look c.datagram.new.self) c.args.self.now.core c.datagram.new.self c.datagram.ensures.bound.rises c.datagram.ensures.priced

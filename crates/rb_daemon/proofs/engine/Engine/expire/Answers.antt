@@ -1,3 +1,6 @@
+use Rattle.rb_model.specs.Step.Event.{Expire}
+use Rattle.rb_core.specs.MeteredCalls.{reply_look}
+use Rattle.rb_core.proofs.WithLooks.{no_look, then_look}
 use Rattle.std.proofs.Common.{refl}
 use Rattle.rb_daemon.proofs.Reached.{expire_records, expire_served}
 use Rattle.rb_daemon.proofs.Sendings.{due_sends, due_ways}
@@ -47,3 +50,15 @@ returns-in-None-clause-sent g c = λ s h. due_sends g.S.Datagrams.sends c.args.w
 
 pub returns-in-None-clause-ways : goal.returns-in-None-clause-ways
 returns-in-None-clause-ways g c = λ s h. due_ways _ _ _ _ (c.in-Ended.ensures.acts.gives s h) c.tell-goes_on.ensures.ways
+
+pub returns-in-Nothing-clause-priced : goal.returns-in-Nothing-clause-priced
+returns-in-Nothing-clause-priced g c = no_look (Expire c.args.self.now.moment) (reply_look c.expire.new.self) c.args.self.now.core c.expire.new.self c.in-Nothing.ensures.bound.rises c.in-Nothing.ensures.priced
+
+pub returns-in-ConnectionLost-clause-priced : goal.returns-in-ConnectionLost-clause-priced
+returns-in-ConnectionLost-clause-priced g c = no_look (Expire c.args.self.now.moment) (reply_look c.expire.new.self) c.args.self.now.core c.expire.new.self c.in-ConnectionLost.ensures.bound.rises c.in-ConnectionLost.ensures.priced
+
+pub returns-in-Some-clause-priced : goal.returns-in-Some-clause-priced
+returns-in-Some-clause-priced g c = then_look (Expire c.args.self.now.moment) (reply_look c.expire.new.self) c.args.self.now.core c.expire.new.self _ c.in-Ended.ensures.bound.rises c.in-Ended.ensures.priced c.tell-goes_on.ensures.cost
+
+pub returns-in-None-clause-priced : goal.returns-in-None-clause-priced
+returns-in-None-clause-priced g c = then_look (Expire c.args.self.now.moment) (reply_look c.expire.new.self) c.args.self.now.core c.expire.new.self _ c.in-Ended.ensures.bound.rises c.in-Ended.ensures.priced c.tell-goes_on.ensures.cost

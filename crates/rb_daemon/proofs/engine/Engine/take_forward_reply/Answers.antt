@@ -1,3 +1,6 @@
+use Rattle.rb_model.specs.Step.Event.{Forward}
+use Rattle.rb_core.specs.MeteredCalls.{reply_look}
+use Rattle.rb_core.proofs.WithLooks.{no_look, then_look}
 use Rattle.rb_daemon.proofs.Reached.{bytes_are, forward_records, forward_served, ignored_records, ignored_served}
 use Rattle.rb_daemon.proofs.Sendings.{ignored_sends, ignored_ways, told_sends, told_ways}
 use Rattle.rb_daemon.proofs.engine.Engine.take_forward_reply.Goals as goal
@@ -25,3 +28,9 @@ returns-clause-sent g c = λ s h. told_sends g.S.Datagrams.sends c.args.ways.now
 
 pub returns-clause-ways : goal.returns-clause-ways
 returns-clause-ways g c = λ s h. told_ways _ _ _ _ (c.in-Some.ensures.acts.gives s h) c.tell.ensures.ways
+
+pub returns-in_default-clause-priced : goal.returns-in_default-clause-priced
+returns-in_default-clause-priced g c = no_look (Forward c.args.self.now.moment c.args.sender.peer c.args.content.now) (reply_look c.forward_reply.new.self) c.args.self.now.core c.forward_reply.new.self c.in_default.ensures.bound.rises c.in_default.ensures.priced
+
+pub returns-clause-priced : goal.returns-clause-priced
+returns-clause-priced g c = then_look (Forward c.args.self.now.moment c.args.sender.peer c.args.content.now) (reply_look c.forward_reply.new.self) c.args.self.now.core c.forward_reply.new.self _ c.in-Some.ensures.bound.rises c.in-Some.ensures.priced c.tell.ensures.cost
