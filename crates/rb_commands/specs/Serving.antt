@@ -1,5 +1,5 @@
 -- What the values of the options of `serve` mean.
-use Rattle.std.specs.Prelude.{ℕ, ◌+◌, ◌^◌, ◌==◌, nat_lt, nat_le, not, Bool, ◌&&◌, if◌then◌else◌, List, [], ◌∷◌, length, codes, bytes_eq, Option, Some, None, Result, Ok, Err, option_map}
+use Rattle.std.specs.Prelude.{ℕ, ◌+◌, ◌^◌, ◌==◌, nat_lt, nat_le, not, Bool, ◌&&◌, if◌then◌else◌, List, ◌∷◌, length, codes, bytes_eq, Option, Some, None, Result, Ok, Err, option_map}
 use Rattle.std.specs.List.{list_all}
 use Rattle.std.specs.Char.{digit_value}
 use Rattle.std.specs.Str.Parse.{digits_value}
@@ -15,33 +15,10 @@ use Rattle.rb_policy.specs.declared.log_choice.Logged.{Logged}
 use Rattle.rb_policy.specs.declared.log_choice.Logged.TheVariants.{Nothing, Changes, All as Everything}
 use Rattle.rb_sockets.specs.declared.settings.Settings.{Settings}
 use Rattle.rb_commands.specs.declared.options.Valued.{Valued}
-use Rattle.rb_commands.specs.declared.options.Valued.TheVariants.{Announce, Bind, From, Local, LocalMode, Port, Conns, Rows, Forwards, UdpLists, ForwardFor, ReplayForwardFor, UdpRate, Xid, Now, Turns, RecordLimit, Keep, Log, Reserve}
+use Rattle.rb_commands.specs.declared.options.Valued.TheVariants.{Bind, From, LocalMode, Port, UdpLists, ForwardFor, UdpRate, Turns, RecordLimit, Keep, Log}
 use Rattle.rb_commands.specs.declared.serving.ServeTexts.{ServeTexts}
 use Rattle.rb_commands.specs.declared.serving.Serve.{Serve}
 use Rattle.rb_commands.specs.Options.{◌>>=◌, value_of, values_from, reserved_from, announced_of, read_local, port, limits_of, udp_lists, forward_for}
-
--- OPTION-10: An option of `serve` that is not given has the value that the help shows.
-abbrev pub default_of : Valued → List ℕ
-default_of (Bind place) = codes "127.0.0.1"
-default_of LocalMode = codes "0600"
-default_of Port = codes "111"
-default_of Conns = codes "64"
-default_of Rows = codes "1024"
-default_of Forwards = codes "0"
-default_of UdpLists = codes "local"
-default_of ForwardFor = codes "local"
-default_of Turns = codes "0"
-default_of RecordLimit = codes "16000000"
-default_of (Announce place) = []
-default_of (From place) = []
-default_of Local = []
-default_of Keep = []
-default_of Log = []
-default_of UdpRate = []
-default_of ReplayForwardFor = []
-default_of Xid = []
-default_of Now = []
-default_of (Reserve place) = []
 
 -- the host at a place of `--bind`, of which there are at most 16
 abbrev pub host_at : ℕ → List ℕ → Result Host Valued

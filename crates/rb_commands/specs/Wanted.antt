@@ -1,33 +1,10 @@
--- What is wrong with the value of an option, and what is expected there.
-use Rattle.std.specs.Prelude.{ℕ, ◌==◌, nat_lt, Bool, false, if◌then◌else◌, List, ◌++◌, codes, bytes_eq, Option, Some, None}
+-- What is said of an option, and that a value is wrong.
+use Rattle.std.specs.Prelude.{ℕ, ◌==◌, nat_lt, Bool, false, if◌then◌else◌, List, [], ◌++◌, codes, bytes_eq, Option, Some, None}
 use Rattle.std.specs.Borrow.{Bor}
 use Rattle.rb_commands.specs.declared.options.Valued.{Valued}
 use Rattle.rb_commands.specs.declared.options.Valued.TheVariants.{Announce, Bind, From, Local, LocalMode, Port, Conns, Rows, Forwards, UdpLists, ForwardFor, ReplayForwardFor, UdpRate, Xid, Now, Turns, RecordLimit, Keep, Log, Reserve}
 use Rattle.rb_commands.specs.declared.wanted.BadValue.{BadValue}
-
--- the name of an option, after its two dashes
--- WORD-1
-abbrev pub option_name : Valued → List ℕ
-option_name (Announce place) = codes "announce"
-option_name (Bind place) = codes "bind"
-option_name (From place) = codes "from"
-option_name Local = codes "local"
-option_name LocalMode = codes "local-mode"
-option_name Port = codes "port"
-option_name Conns = codes "conns"
-option_name Rows = codes "rows"
-option_name Forwards = codes "forwards"
-option_name UdpLists = codes "udp-lists"
-option_name ForwardFor = codes "forward-for"
-option_name ReplayForwardFor = codes "forward-for"
-option_name UdpRate = codes "udp-rate"
-option_name Xid = codes "xid"
-option_name Now = codes "now"
-option_name Turns = codes "turns"
-option_name RecordLimit = codes "record-limit"
-option_name Keep = codes "keep"
-option_name Log = codes "log"
-option_name (Reserve place) = codes "reserve"
+use Rattle.rb_commands.specs.declared.wanted.OptionTexts.{OptionTexts}
 
 -- ---- what is expected
 
@@ -56,28 +33,44 @@ served_text place = if nat_lt place 16 then network_text else codes "no more tha
 abbrev pub reserve_text : ℕ → List ℕ
 reserve_text place = if nat_lt place 64 then codes "a reservation as 100003=0 or 100003-100005=0" else codes "no more than 64 reservations"
 
+-- ---- what is said of an option
+
+-- its name, after its two dashes; the text that stands for a value of `serve` that is not given; and what is expected
+pub record Texts : Type 0 where
+  pub name : List ℕ
+  pub default : List ℕ
+  pub wanted : List ℕ
+
+abbrev pub option_texts : List ℕ → List ℕ → List ℕ → Texts
+option_texts name default wanted = record { name = name; default = default; wanted = wanted }
+
 -- WORD-1
-abbrev pub wanted_text : Valued → List ℕ
-wanted_text (Announce place) = announced_text place
-wanted_text (Bind place) = bound_text place
-wanted_text (From place) = served_text place
-wanted_text Local = codes "a path of at most 107 bytes, without quotes and control characters,"
-wanted_text LocalMode = codes "a mode from 0 to 777 in octal digits"
-wanted_text Port = codes "a port from 1 to 65535"
-wanted_text Conns = number_text
-wanted_text Rows = number_text
-wanted_text Forwards = number_text
-wanted_text UdpLists = whom_text
-wanted_text ForwardFor = whom_text
-wanted_text ReplayForwardFor = codes "any, all or local"
-wanted_text UdpRate = codes "a number from 1 to 1000, or two as 20,5,"
-wanted_text Xid = codes "a number from 0 to 4294967295"
-wanted_text Now = number_text
-wanted_text Turns = number_text
-wanted_text RecordLimit = codes "a number from 1000 to 16777216"
-wanted_text Keep = codes "the path of a file"
-wanted_text Log = codes "changes or all"
-wanted_text (Reserve place) = reserve_text place
+-- OPTION-10: An option of `serve` that is not given has the value that the help shows.
+abbrev pub texts_of : Valued → Texts
+texts_of (Announce place) = option_texts (codes "announce") [] (announced_text place)
+texts_of (Bind place) = option_texts (codes "bind") (codes "127.0.0.1") (bound_text place)
+texts_of (From place) = option_texts (codes "from") [] (served_text place)
+texts_of Local = option_texts (codes "local") [] (codes "a path of at most 107 bytes, without quotes and control characters,")
+texts_of LocalMode = option_texts (codes "local-mode") (codes "0600") (codes "a mode from 0 to 777 in octal digits")
+texts_of Port = option_texts (codes "port") (codes "111") (codes "a port from 1 to 65535")
+texts_of Conns = option_texts (codes "conns") (codes "64") number_text
+texts_of Rows = option_texts (codes "rows") (codes "1024") number_text
+texts_of Forwards = option_texts (codes "forwards") (codes "0") number_text
+texts_of UdpLists = option_texts (codes "udp-lists") (codes "local") whom_text
+texts_of ForwardFor = option_texts (codes "forward-for") (codes "local") whom_text
+texts_of ReplayForwardFor = option_texts (codes "forward-for") [] (codes "any, all or local")
+texts_of UdpRate = option_texts (codes "udp-rate") [] (codes "a number from 1 to 1000, or two as 20,5,")
+texts_of Xid = option_texts (codes "xid") [] (codes "a number from 0 to 4294967295")
+texts_of Now = option_texts (codes "now") [] number_text
+texts_of Turns = option_texts (codes "turns") (codes "0") number_text
+texts_of RecordLimit = option_texts (codes "record-limit") (codes "16000000") (codes "a number from 1000 to 16777216")
+texts_of Keep = option_texts (codes "keep") [] (codes "the path of a file")
+texts_of Log = option_texts (codes "log") [] (codes "changes or all")
+texts_of (Reserve place) = option_texts (codes "reserve") [] (reserve_text place)
+
+-- as the code has it
+abbrev pub said : OptionTexts → Texts
+said texts = option_texts texts.name.now texts.default.now texts.wanted.now
 
 -- WORD-1: The line of a value that can't be read names its option, the value and what is expected
 -- there.

@@ -7,7 +7,7 @@ ghost use Rattle.rb_commands.specs.Wanted.{is_the_record};
 use crate::command::command;
 use crate::options::{ReplayTexts, Valued, read_beginning};
 use crate::serving::{Serve, ServeTexts, read_serve};
-use crate::wanted::{BadValue, option_name, wanted_text};
+use crate::wanted::{BadValue, texts_of};
 use clap::error::ErrorKind;
 use clap::{ArgMatches, Error};
 use rb_lines::{Beginning, DONE, Ending, Fault, explain};
@@ -193,18 +193,18 @@ fn beginning_of<'a>(matches: &ArgMatches<'a>) -> Result<Beginning, BadValue<'a>>
 
 /// What is wrong with the value of an option.
 fn bad_value<'a>(bad: Valued, matches: &ArgMatches<'a>) -> BadValue<'a> {
-    let option = option_name(bad);
+    let texts = texts_of(bad);
     let value = match bad {
         Valued::Announce(place)
         | Valued::Bind(place)
         | Valued::From(place)
-        | Valued::Reserve(place) => value_at(matches, option, place),
-        _ => text_of(matches, option),
+        | Valued::Reserve(place) => value_at(matches, texts.name, place),
+        _ => text_of(matches, texts.name),
     };
     BadValue {
-        option,
+        option: texts.name,
         value,
-        wanted: wanted_text(bad),
+        wanted: texts.wanted,
     }
 }
 

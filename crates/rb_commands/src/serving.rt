@@ -2,12 +2,14 @@
 ghost use Rattle.std.specs.Prelude.{◌≡◌, OnOk, ◌<◌};
 ghost use Rattle.std.specs.List.{list_all};
 ghost use Rattle.rb_commands.specs.Options.{value_of};
-ghost use Rattle.rb_commands.specs.Serving.{default_of, host_at, hosts_from, network_at, networks_from, is_octal, read_mode, local_of, rate_number, rate_of, udp_rate, terms_of, record_limit, recorded_of, keep_of, log_of, settings_of, serve_of};
+ghost use Rattle.rb_commands.specs.Wanted.{texts_of};
+ghost use Rattle.rb_commands.specs.Serving.{host_at, hosts_from, network_at, networks_from, is_octal, read_mode, local_of, rate_number, rate_of, udp_rate, terms_of, record_limit, recorded_of, keep_of, log_of, settings_of, serve_of};
 
 use crate::options::{
     Valued, number, read_announced, read_forward_for, read_host, read_limits, read_local,
     read_port, read_reserved, read_udp_lists,
 };
+use crate::wanted::texts_of;
 use rb_address::{Host, Network, cut, number_below};
 use rb_policy::{ANY, Rate};
 use rb_proto::Terms;
@@ -77,24 +79,9 @@ pub struct Serve<'a> {
 /// The text that stands for the value of an option of `serve` that is not given, as it stands in the help. If nothing
 /// stands for it, the empty text, which no reader of a value takes.
 pub fn serve_default(option: Valued) -> &'static str
-    ensures { result.now ≡ default_of option }
+    ensures { result.now ≡ (texts_of option).default }
 {
-    match option {
-        Valued::Bind(_) => "127.0.0.1",
-        Valued::LocalMode => "0600",
-        Valued::Port => "111",
-        Valued::Conns => "64",
-        Valued::Rows => "1024",
-        Valued::Forwards => "0",
-        Valued::UdpLists => "local",
-        Valued::ForwardFor => "local",
-        Valued::Turns => "0",
-        Valued::RecordLimit => "16000000",
-        Valued::Announce(_) | Valued::From(_) | Valued::Local => "",
-        Valued::Keep | Valued::Log => "",
-        Valued::UdpRate | Valued::ReplayForwardFor | Valued::Xid | Valued::Now => "",
-        Valued::Reserve(_) => "",
-    }
+    texts_of(option).default
 }
 
 /// The host of `--bind` at a place.

@@ -1,6 +1,6 @@
-//! What is wrong with the value of an option, and what is expected there.
+//! What is said of an option: its name, its default, what is expected as its value, and that a value is wrong.
 ghost use Rattle.std.specs.Prelude.{◌≡◌};
-ghost use Rattle.rb_commands.specs.Wanted.{option_name, wanted_text, announced_text, bound_text, served_text, reserve_text};
+ghost use Rattle.rb_commands.specs.Wanted.{said, option_texts, texts_of, announced_text, bound_text, served_text, reserve_text};
 
 use crate::options::Valued;
 use rb_proto::MOST_RESERVED;
@@ -46,54 +46,66 @@ impl Display for BadValue<'_> {
     }
 }
 
-/// The name of an option, without the two dashes.
-pub(crate) fn option_name(option: Valued) -> &'static str
-    ensures { result.now ≡ option_name option }
+/// What is said of an option.
+#[derive(Clone, Copy)]
+pub(crate) struct OptionTexts {
+    /// Its name, without the two dashes.
+    pub(crate) name: &'static str,
+    /// The text that stands for its value if `serve` is not given it, as it stands in the help. If nothing stands for it,
+    /// the empty text, which no reader of a value takes.
+    pub(crate) default: &'static str,
+    /// What is expected as its value. That of `--announce` at a place after the first may be the second of its family, and
+    /// those of `--bind`, `--from` and `--reserve` may be one too many.
+    pub(crate) wanted: &'static str,
+}
+
+fn option_texts(name: &'static str, default: &'static str, wanted: &'static str) -> OptionTexts
+    ensures { said result ≡ option_texts name.now default.now wanted.now }
 {
-    match option {
-        Valued::Announce(_) => "announce",
-        Valued::Bind(_) => "bind",
-        Valued::From(_) => "from",
-        Valued::Local => "local",
-        Valued::LocalMode => "local-mode",
-        Valued::Conns => "conns",
-        Valued::Rows => "rows",
-        Valued::Forwards => "forwards",
-        Valued::UdpLists => "udp-lists",
-        Valued::ForwardFor | Valued::ReplayForwardFor => "forward-for",
-        Valued::UdpRate => "udp-rate",
-        Valued::Port => "port",
-        Valued::Xid => "xid",
-        Valued::Now => "now",
-        Valued::Turns => "turns",
-        Valued::RecordLimit => "record-limit",
-        Valued::Keep => "keep",
-        Valued::Log => "log",
-        Valued::Reserve(_) => "reserve",
+    OptionTexts {
+        name,
+        default,
+        wanted,
     }
 }
 
-/// What is expected as its value. That of `--announce` at a place after the first may be the second of its family, and
-/// those of `--bind`, `--from` and `--reserve` may be one too many.
-pub(crate) fn wanted_text(option: Valued) -> &'static str
-    ensures { result.now ≡ wanted_text option }
+/// The table of the options that have a value.
+pub(crate) fn texts_of(option: Valued) -> OptionTexts
+    ensures { said result ≡ texts_of option }
 {
     match option {
-        Valued::Announce(place) => announced_text(place),
-        Valued::Bind(place) => bound_text(place),
-        Valued::From(place) => served_text(place),
-        Valued::Local => "a path of at most 107 bytes, without quotes and control characters,",
-        Valued::LocalMode => "a mode from 0 to 777 in octal digits",
-        Valued::Conns | Valued::Rows | Valued::Forwards | Valued::Now | Valued::Turns => NUMBER,
-        Valued::UdpLists | Valued::ForwardFor => WHOM,
-        Valued::ReplayForwardFor => "any, all or local",
-        Valued::UdpRate => "a number from 1 to 1000, or two as 20,5,",
-        Valued::Port => "a port from 1 to 65535",
-        Valued::Xid => "a number from 0 to 4294967295",
-        Valued::RecordLimit => "a number from 1000 to 16777216",
-        Valued::Keep => "the path of a file",
-        Valued::Log => "changes or all",
-        Valued::Reserve(place) => reserve_text(place),
+        Valued::Announce(place) => option_texts("announce", "", announced_text(place)),
+        Valued::Bind(place) => option_texts("bind", "127.0.0.1", bound_text(place)),
+        Valued::From(place) => option_texts("from", "", served_text(place)),
+        Valued::Local => option_texts(
+            "local",
+            "",
+            "a path of at most 107 bytes, without quotes and control characters,",
+        ),
+        Valued::LocalMode => option_texts(
+            "local-mode",
+            "0600",
+            "a mode from 0 to 777 in octal digits",
+        ),
+        Valued::Port => option_texts("port", "111", "a port from 1 to 65535"),
+        Valued::Conns => option_texts("conns", "64", NUMBER),
+        Valued::Rows => option_texts("rows", "1024", NUMBER),
+        Valued::Forwards => option_texts("forwards", "0", NUMBER),
+        Valued::UdpLists => option_texts("udp-lists", "local", WHOM),
+        Valued::ForwardFor => option_texts("forward-for", "local", WHOM),
+        Valued::ReplayForwardFor => option_texts("forward-for", "", "any, all or local"),
+        Valued::UdpRate => option_texts("udp-rate", "", "a number from 1 to 1000, or two as 20,5,"),
+        Valued::Xid => option_texts("xid", "", "a number from 0 to 4294967295"),
+        Valued::Now => option_texts("now", "", NUMBER),
+        Valued::Turns => option_texts("turns", "0", NUMBER),
+        Valued::RecordLimit => option_texts(
+            "record-limit",
+            "16000000",
+            "a number from 1000 to 16777216",
+        ),
+        Valued::Keep => option_texts("keep", "", "the path of a file"),
+        Valued::Log => option_texts("log", "", "changes or all"),
+        Valued::Reserve(place) => option_texts("reserve", "", reserve_text(place)),
     }
 }
 
