@@ -596,26 +596,31 @@ pub unsent_shown : (held : CoreView) (given : Option UnsentCall) → ((l : Ledge
 unfolding unsent_call
 unsent_shown held given shows s h = shows s.ledger h.ledger ∙ ap (λ (n : ℕ). unsent n s.ledger.forwards) h.first_xid
 
+-- with other books of the same registry, as a change of the ledger leaves them
+books_stand : (old : CoreView) (books : Books) (s : State) (l : Ledger) → books.registry ≡ old.books.registry → SameFrame old.books books → StandsFor old s → StandsForLedger books l
+    → StandsFor (record old { books = books }) (record s { ledger = l })
+books_stand old books s l same frame h z = record {
+  setting = h.setting;
+  clock = h.clock;
+  conns = h.conns;
+  within = h.within;
+  connections = same_registry old.books.registry books.registry old.connections s.connections same h.connections;
+  limit = frame.limit ∙ h.limit;
+  forwards = frame.cap ∙ h.forwards;
+  first_xid = frame.first_xid ∙ h.first_xid;
+  ledger = z;
+  reply = h.reply;
+  short = h.short;
+  arguments = h.arguments;
+}
+
 module _ (old : CoreView) (number : ℕ) (books : Books) where
   pub sent_acts : (u : Unit {0}) → books.registry ≡ old.books.registry → SameFrame old.books books → ((l : Ledger) → StandsForLedger old.books l → can_be_sent number l.forwards ≡ true) → Becomes (call_sent number) old.books books
       → Acts StandsFor (λ s. sent_call s number) old (record old { books = books }) (Ok u)
   unfolding sent_call
   sent_acts u same frame can becomes = record {
     gives = λ s h. rw (can s.ledger h.ledger) refl;
-    stands = λ s h. rw (can s.ledger h.ledger) (record {
-      setting = h.setting;
-      clock = h.clock;
-      conns = h.conns;
-      within = h.within;
-      connections = same_registry old.books.registry books.registry old.connections s.connections same h.connections;
-      limit = frame.limit ∙ h.limit;
-      forwards = frame.cap ∙ h.forwards;
-      first_xid = frame.first_xid ∙ h.first_xid;
-      ledger = becomes s.ledger h.ledger;
-      reply = h.reply;
-      short = h.short;
-      arguments = h.arguments;
-    });
+    stands = λ s h. rw (can s.ledger h.ledger) (books_stand old books s _ same frame h (becomes s.ledger h.ledger));
   }
 
   pub sent_refused : ((l : Ledger) → StandsForLedger old.books l → can_be_sent number l.forwards ≡ false) → Acts StandsFor (λ s. sent_call s number) old old (Err Gone)
@@ -631,20 +636,7 @@ pub zeroed : (old : CoreView) (books : Books) → books.registry ≡ old.books.r
 unfolding zero_stats
 zeroed old books same frame becomes = record {
   gives = λ s h. refl;
-  stands = λ s h. record {
-    setting = h.setting;
-    clock = h.clock;
-    conns = h.conns;
-    within = h.within;
-    connections = same_registry old.books.registry books.registry old.connections s.connections same h.connections;
-    limit = frame.limit ∙ h.limit;
-    forwards = frame.cap ∙ h.forwards;
-    first_xid = frame.first_xid ∙ h.first_xid;
-    ledger = becomes s.ledger h.ledger;
-    reply = h.reply;
-    short = h.short;
-    arguments = h.arguments;
-  };
+  stands = λ s h. books_stand old books s _ same frame h (becomes s.ledger h.ledger);
 }
 
 -- an entry ends, or none does

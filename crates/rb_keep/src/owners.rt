@@ -1,9 +1,8 @@
 //! Who set the rows that were kept.
 ghost use Rattle.std.specs.Prelude.{◌≡◌};
-ghost use Rattle.rb_registry.specs.Index.{netid_number, rank};
 ghost use Rattle.rb_keep.specs.Kept.{owner_number, owner_numbered};
 
-use rb_address::{Netid, Owner};
+use rb_address::Owner;
 use rb_xdr::{Meter, NoMemory, Ordered};
 use std::alloc::Global;
 use std::io;
@@ -28,27 +27,6 @@ impl Model for Owners {
     ghost view = { λ o. o.numbers.entries };
 
     ghost invariant = { λ o. o.meter.tie ≡ o.numbers.tie };
-}
-
-/// The place of a netid among those of a program.
-fn netid_number(netid: Netid) -> u128
-    ensures { result ≡ netid_number netid }
-{
-    match netid {
-        Netid::Tcp => 0,
-        Netid::Udp => 1,
-        Netid::Tcp6 => 2,
-        Netid::Udp6 => 3,
-        Netid::Local => 4,
-    }
-}
-
-/// Where a row stands among others: by program, then by netid, then by version.
-#[tactic(auto, unfolding(rb_registry::specs::Index::rank))]
-pub(crate) fn rank(prog: u32, netid: Netid, vers: u32) -> u128
-    ensures { result ≡ rank prog netid vers }
-{
-    (prog as u128 * 8 + netid_number(netid)) * (1 << 32) + vers as u128
 }
 
 /// The number of an owner: 0 if none is known, else the one after the uid.

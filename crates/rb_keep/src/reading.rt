@@ -1,21 +1,18 @@
 //! A text of kept rows is read: each line that says something has to be that of a row that came or went.
 ghost use Rattle.std.specs.Prelude.{◌≡◌, [], IfOk};
-ghost use Rattle.rb_proto.specs.Callers.{owner_named};
-ghost use Rattle.rb_proto.specs.Answers.{row_of_rpcb};
 ghost use Rattle.rb_model.specs.Plain.{event_of};
-ghost use Rattle.rb_model.specs.CallerLaws.{is_same_owner};
 ghost use Rattle.rb_lines.specs.Lines.{lines_of};
 ghost use Rattle.rb_keep.specs.Reading.{is_this_machine, row_of_request, row_asked, row_set, row_unset, kept_row, gone_row, kept_line, is_named, without, with_text, rows_from, whole_part, read, Gives, after_line, result_items};
 
 use crate::call::{SET, UNSET, set_call, this_machine, unset_call};
 use crate::fault::KeepFault;
-use rb_address::{Netid, Owner, Who};
-use rb_arguments::{LentRpcb, Request, RpcbProcedure, read_args};
+use rb_address::{Owner, Who};
+use rb_arguments::{Request, RpcbProcedure, read_args};
 use rb_lines::{Line, longest_input, read_line};
 use rb_model::Event;
+use rb_proto::{owner_named, row_of_rpcb};
 use rb_registry::Row;
-use rb_rpc::{Credential, Verdict, read_call};
-use rb_uaddr::AddressText;
+use rb_rpc::{Verdict, read_call};
 use rb_xdr::NoMemory;
 use std::alloc::Global;
 
@@ -37,17 +34,6 @@ pub enum KeptLine {
     Bad,
 }
 
-/// Whether both are the same.
-fn is_same_owner(owner: Owner, other: Owner) -> bool
-    ensures { result ≡ is_same_owner owner other }
-{
-    match (owner, other) {
-        (Owner::Unknown, Owner::Unknown) => true,
-        (Owner::Uid(uid), Owner::Uid(own)) => uid == own,
-        (Owner::Unknown, Owner::Uid(_)) | (Owner::Uid(_), Owner::Unknown) => false,
-    }
-}
-
 /// Whether the caller is the one that calls which set rows again come from.
 #[tactic(auto, unfolding(crate::specs::Reading::is_this_machine))]
 fn is_this_machine(who: &Who) -> bool
@@ -56,37 +42,12 @@ fn is_this_machine(who: &Who) -> bool
     *who == this_machine()
 }
 
-/// The owner that a credential names.
-fn owner_named(cred: Credential) -> Owner
-    ensures { result ≡ owner_named cred }
-{
-    match cred {
-        Credential::None => Owner::Unknown,
-        Credential::Sys(uid) => Owner::Uid(uid),
-    }
-}
-
-/// The row that an rpcb tells, of this owner.
-#[tactic(auto, unfolding(rb_proto::specs::Answers::row_of_rpcb))]
-fn row_of(owner: Owner, rpcb: &LentRpcb) -> Option<Row>
-    ensures { result ≡ row_of_rpcb owner rpcb.now }
-{
-    let netid = Netid::named(rpcb.netid())?;
-    Some(Row {
-        prog: rpcb.prog(),
-        vers: rpcb.vers(),
-        netid,
-        owner,
-        addr: AddressText::new(rpcb.addr()),
-    })
-}
-
 /// The row that a request asks to be set or removed, of this owner.
 fn row_of_request(owner: Owner, request: &Request<'_>) -> Option<Row>
     ensures { result ≡ row_of_request owner request.now }
 {
     match request {
-        Request::Rpcb(RpcbProcedure::Set | RpcbProcedure::Unset, rpcb) => row_of(owner, rpcb),
+        Request::Rpcb(RpcbProcedure::Set | RpcbProcedure::Unset, rpcb) => row_of_rpcb(owner, rpcb),
         _ => None,
     }
 }
@@ -180,7 +141,7 @@ fn is_named(gone: &Row, row: &Row) -> bool
     gone.prog == row.prog
         && gone.netid.is(row.netid)
         && gone.vers == row.vers
-        && is_same_owner(gone.owner, row.owner)
+        && gone.owner == row.owner
 }
 
 /// Takes the row out that went.

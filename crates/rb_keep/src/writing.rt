@@ -10,12 +10,12 @@ ghost use Rattle.rb_keep.specs.Kept.{row_line, gone_line, named_row, line_on, ow
 ghost use Rattle.rb_keep.specs.Writing.{line_where_set, WritesKept, WritesChange, NotesOwners};
 
 use crate::call::{set_call, this_machine, unset_call};
-use crate::owners::{Owners, owner_numbered, rank};
+use crate::owners::{Owners, owner_numbered};
 use rb_address::{Netid, Owner};
 use rb_core::Metered;
-use rb_model::Event;
 use rb_lines::write_event;
-use rb_registry::{RPCB_PROG, Row};
+use rb_model::Event;
+use rb_registry::{RPCB_PROG, Row, rank};
 use rb_uaddr::AddressText;
 use std::io;
 use std::io::Write;

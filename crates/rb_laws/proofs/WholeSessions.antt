@@ -30,14 +30,14 @@ use Rattle.rb_laws.proofs.WholeReplies.{is-left}
 
 -- ---- whole runs
 
-run-holds : (id : ℕ) (s : State) (t : Session) (events : List Event) → Await s → Holds id s.connections t → Holds id (after s events).connections (session_from s id t events)
+pub run-holds : (id : ℕ) (s : State) (t : Session) (events : List Event) → Await s → Holds id s.connections t → Holds id (after s events).connections (session_from s id t events)
 run-holds id s t [] waits h = h
 run-holds id s t (event ∷ events) waits h = run-holds id (step s event).1 (session_after s id event t) events (step-awaits s h.sound waits event) (step-holds id s t h event waits)
 
-none-found : (c : Connection) → ◌≡◌ {A = Option Connection} None (Some c) → ⊥
+pub none-found : (c : Connection) → ◌≡◌ {A = Option Connection} None (Some c) → ⊥
 none-found c e = cc
 
-opening-holds : (id : ℕ) (limits : Limits) (listener : Listener) (first_xid now : ℕ) → Holds id (opening limits listener first_xid now).connections empty_session
+pub opening-holds : (id : ℕ) (limits : Limits) (listener : Listener) (first_xid now : ℕ) → Holds id (opening limits listener first_xid now).connections empty_session
 unfolding first_record
 opening-holds id limits listener first_xid now = record {
   sound = omega arith;
@@ -50,7 +50,7 @@ opening-holds id limits listener first_xid now = record {
 
 -- ---- no byte is taken while a reply is owed
 
-same_one : (c d : Connection) → ◌≡◌ {A = Option Connection} (Some c) (Some d) → c ≡ d
+pub same_one : (c d : Connection) → ◌≡◌ {A = Option Connection} (Some c) (Some d) → c ≡ d
 same_one c d e = cc
 
 module _ (id : ℕ) (s : State) (t : Session) (h : Holds id s.connections t) where

@@ -33,7 +33,8 @@ use Rattle.rb_promises.specs.Sets.{told}
 use Rattle.rb_promises.specs.Unsets.{IsMeant, IsNamed, MayRemove, IsCovered, AreWithout, AreThePortmappers, IsRemovedFrom, RemovesARow, AnswersUnset, UnsetsAreAcceptedExactly}
 use Rattle.rb_promises.specs.Unsets.AreWithout.{Neither, Goes, Stays}
 use Rattle.rb_promises.proofs.LocalCallers.{local_exactly, owner_exactly}
-use Rattle.rb_promises.proofs.Keys.{some_passes, any_passes, netid_is, same_netid}
+use Rattle.rb_registry.proofs.FoundLaws.{some_passes, any_passes}
+use Rattle.rb_promises.proofs.Keys.{netid_is, same_netid}
 use Rattle.rb_promises.proofs.AcceptedSets.{value_in}
 use Rattle.rb_promises.proofs.Versions.{version_is}
 

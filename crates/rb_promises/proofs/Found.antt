@@ -1,35 +1,18 @@
 -- Which row is found.
-use Rattle.std.proofs.Common.{◌≡◌, ◌↔◌, ℕ, Bool, true, false, cond, ◌||◌, inl, inr, List, [], ◌∷◌, Option, Some, None, refl, sym, subst, ◌∙◌, arith}
+use Rattle.std.proofs.Common.{◌≡◌, ◌↔◌, ℕ, true, false, inl, inr, List, Option, Some, None, refl, sym, subst, ◌∙◌}
 use Rattle.std.specs.Prelude.{Contains, find}
 use Rattle.std.specs.List.{list_any}
 use Rattle.std.proofs.lemmas.Bool.{true≢false}
-use Rattle.std.proofs.lemmas.List.Elements.{Contains-append_right}
 use Rattle.std.proofs.lemmas.Option.{none-some, same_Some}
 use Rattle.rb_address.specs.declared.netid.Netid.{Netid}
 use Rattle.rb_registry.specs.declared.row.Row.{Row}
 use Rattle.rb_registry.specs.Rows.{is_on, is_row, find_exact, find_row}
 use Rattle.rb_registry.specs.Laws as laws
-use Rattle.rb_registry.proofs.FoundLaws.{version_is_found}
+use Rattle.rb_registry.proofs.FoundLaws.{found, not_found, any_passes, version_is_found}
 use Rattle.rb_promises.specs.LookUps.{IsOn, NoneIsOn, NoneIsOf, IsFound, IsFoundExactly}
 use Rattle.rb_promises.specs.LookUps.IsFound.{ThatVersion, GreatestVersion, NoVersion}
 use Rattle.rb_promises.specs.LookUps.IsFoundExactly.{ThatRow, NoRow}
-use Rattle.rb_promises.proofs.Keys.{any_passes, on_is, is_on_of, row_is, is_row_of}
-
-found : (test : Row → Bool) (rows : List Row) (row : Row) → find test rows ≡ Some row → Contains rows row × (test row ≡ true)
-found test [] row h = absurd cc
-found test (first ∷ rows) row h = by_test (test first) refl h (found test rows row)
-  where
-    by_test : (b : Bool) → test first ≡ b → cond b (Some first) (find test rows) ≡ Some row → (find test rows ≡ Some row → Contains rows row × (test row ≡ true)) → Contains (first ∷ rows) row × (test row ≡ true)
-    by_test true t h further = let same : first ≡ row = cc in ((0, omega arith, same), subst (λ (r : Row). test r ≡ true) same t)
-    by_test false f h further = (Contains-append_right (first ∷ []) rows row (further h).0, (further h).1)
-
-not_found : (test : Row → Bool) (rows : List Row) → find test rows ≡ None → list_any test rows ≡ false
-not_found test [] h = refl
-not_found test (first ∷ rows) h = by_test (test first) h (not_found test rows)
-  where
-    by_test : (b : Bool) → cond b (Some first) (find test rows) ≡ None → (find test rows ≡ None → list_any test rows ≡ false) → (b || list_any test rows) ≡ false
-    by_test true h further = absurd cc
-    by_test false h further = further h
+use Rattle.rb_promises.proofs.Keys.{on_is, is_on_of, row_is, is_row_of}
 
 module _ (prog vers : ℕ) (netid : Netid) (rows : List Row) where
   is_there : (row : Row) → Contains rows row → is_on prog netid row ≡ true → IsOn prog netid rows row

@@ -27,7 +27,8 @@ use Rattle.rb_proto.specs.Callers.{hosts_in}
 use Rattle.rb_proto.specs.Ledger.{Ledger, rows_in}
 use Rattle.rb_proto.specs.Netids.{prot_on, semantics_of, family_text, proto_text}
 use Rattle.rb_proto.specs.Answers.{shown_text, shown_port, answer_to}
-use Rattle.rb_proto.specs.Results.{is_inet, is_version, mapping_of, rpcb_of, entry_of, shown_of, result_bytes}
+use Rattle.rb_registry.specs.Rows.{is_of_version}
+use Rattle.rb_proto.specs.Results.{is_inet, mapping_of, rpcb_of, entry_of, shown_of, result_bytes}
 use Rattle.rb_promises.specs.Addresses.{IsOverIpv4}
 use Rattle.rb_promises.specs.Sets.{IsByProtocol, told, AnswersSet}
 use Rattle.rb_promises.specs.Unsets.{AnswersUnset}
@@ -331,7 +332,7 @@ module _ (context : Context) (head : CallHead) (arguments : List ℕ) (l : Ledge
       (address_is context l Finds one law.netid law.came _ law.tells results, is_address context l Finds one law.netid law.came _ law.tells results)
   results_are (requests.Rpcb rpcbs.Getaddrlist r) own bytes =
       let law = getaddrlist_lists context head r arguments l hosts in
-      let are = items_are (is_version r.prog r.vers) (entry_of (hosts_in context)) (IsOfVersion r.prog r.vers) (IsEntryOf context)
+      let are = items_are (is_of_version r.prog r.vers) (entry_of (hosts_in context)) (IsOfVersion r.prog r.vers) (IsEntryOf context)
       (version_exactly r.prog r.vers) (λ row e _. one_entry context hosts row e) in
       (list_is _ (IsOfVersion r.prog r.vers) (IsEntryOf context) l _ law _ are results, is_list _ (IsOfVersion r.prog r.vers) (IsEntryOf context) l _ law _ are results)
   results_are (requests.Uaddr2taddr text) own bytes = form_is text l _ (texts_are_turned context head text arguments l) results

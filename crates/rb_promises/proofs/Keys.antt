@@ -1,39 +1,15 @@
--- Rows of one program, version and netid, and rows that pass a test.
-use Rattle.std.proofs.Common.{◌≡◌, ℕ, ◌==◌, Bool, true, false, ◌||◌, inl, inr, List, [], ◌∷◌, refl, sym, subst, ◌∙◌, arith}
+-- Rows of one program, version and netid.
+use Rattle.std.proofs.Common.{◌≡◌, ℕ, ◌==◌, true, false, List, refl, sym, ◌∙◌}
 use Rattle.std.specs.Prelude.{Contains}
 use Rattle.std.specs.List.{list_any}
 use Rattle.std.proofs.lemmas.Bool.{and_parts, eqb-true, eq-eqb, true≢false, false_from_ne_true}
-use Rattle.std.proofs.lemmas.List.Elements.{Contains-append_right}
 use Rattle.rb_address.specs.declared.netid.Netid.{Netid}
 use Rattle.rb_address.specs.declared.netid.Netid.TheVariants.{Tcp, Udp, Tcp6, Udp6, Local}
 use Rattle.rb_address.specs.Netids.{is_netid}
 use Rattle.rb_registry.specs.declared.row.Row.{Row}
 use Rattle.rb_registry.specs.Rows.{is_on, is_row, is_of_key}
-use Rattle.rb_registry.proofs.RowLaws.{head_or_tail}
+use Rattle.rb_registry.proofs.FoundLaws.{some_passes, any_passes}
 use Rattle.rb_promises.specs.Sets.{HasSameKey}
-
--- ---- rows that pass a test
-
-pub some_passes : (test : Row → Bool) (rows : List Row) → list_any test rows ≡ true → (row : Row) × Contains rows row × (test row ≡ true)
-some_passes test [] h = absurd cc
-some_passes test (first ∷ rows) h = by_test (test first) refl h (some_passes test rows)
-  where
-    by_test : (b : Bool) → test first ≡ b → (b || list_any test rows) ≡ true → (list_any test rows ≡ true → (row : Row) × Contains rows row × (test row ≡ true))
-        → (row : Row) × Contains (first ∷ rows) row × (test row ≡ true)
-    by_test true t h further = (first, (0, omega arith, refl), t)
-    by_test false f h further = let s = further h in (s.0, Contains-append_right (first ∷ []) rows s.0 s.1, s.2)
-
-or_true : (b : Bool) → (b || true) ≡ true
-or_true true = refl
-or_true false = refl
-
-pub any_passes : (test : Row → Bool) (rows : List Row) (row : Row) → Contains rows row → test row ≡ true → list_any test rows ≡ true
-any_passes test [] row h t = absurd (omega (arith, h.1))
-any_passes test (first ∷ rows) row h t =
-    elim (head_or_tail first rows row h.0 h.1 h.2) [
-      | inl same ↦ let first_passes : test first ≡ true = subst (λ (r : Row). test r ≡ true) (sym same) t in rw first_passes refl
-      | inr later ↦ rw (any_passes test rows row later t) (or_true (test first))
-    ]
 
 -- ---- keys
 

@@ -5,7 +5,7 @@ use Rattle.std.specs.Option.{option_or}
 use Rattle.std.specs.Borrow.{Bor}
 use Rattle.std.specs.Net.Addr.{octets_of}
 use Rattle.std.specs.Net.Grammar.{IsDotted, IsColonHex}
-use Rattle.std.specs.Net.Reader.{Read, read_ipv6, whole_value}
+use Rattle.std.specs.Net.Reader.{read_ipv6, whole_value}
 use Rattle.std.proofs.Common.{◌≡◌, ◌≢◌, ◌<◌, ◌≤◌, ◌-◌, ◌^◌, ◌&&◌, ℕ, Bool, true, false, not, cond, eqb, leb, List, [], ◌∷◌, ◌++◌, length, take, drop, Option, Some, None, Result, Ok, Err, refl, sym, ap, subst, ◌∙◌, arith, inl, inr, append_assoc, append-nil}
 use Rattle.std.proofs.NetLemmas.Ipv6.{read_ipv6_complete, read_ipv6_sound, EndsGroups-nil, IsDotted-not_colon_hex}
 use Rattle.std.proofs.lemmas.Bool.{cases_Bool, and_parts, and_from, not-true, eqb-false, ne_eqb, leb-true, le-leb}
@@ -14,6 +14,7 @@ use Rattle.std.proofs.lemmas.List.Elements.{All-nil, All-cons, All-head, All-tai
 use Rattle.std.proofs.lemmas.Option.{none-some, same_Some, cond_some}
 use Rattle.std.proofs.lemmas.Slice.Eq.{bytes_eq-Decides}
 use Rattle.rb_uaddr.specs.Uaddr.{ipv6_host}
+use Rattle.rb_uaddr.proofs.Ipv6Laws.{whole_read}
 use Rattle.rb_address.specs.declared.host.Host.{Host}
 use Rattle.rb_address.specs.declared.host.Host.TheVariants.{V4, V6}
 use Rattle.rb_address.specs.Hosts.{mapped_front, is_mapped, plain_host, is_same_host}
@@ -119,16 +120,6 @@ dotted_of : (text octets : List ℕ) → IsDotted text octets → ipv4_host text
 dotted_of text octets is =
     let (a_fits, b_fits, c_fits, d_fits) = is.fit in
     ap ipv4_host (is.spelled ∙ sym (undotted _ _ _ _)) ∙ words.host_of is.a is.b is.c is.d a_fits b_fits c_fits d_fits ∙ ap Some (sym is.value)
-
-whole_is : (value rest x : List ℕ) → whole_value (Some (value, rest)) ≡ Some x → ◌≡◌ {A = Read (List ℕ)} (Some (value, rest)) (Some (x, []))
-whole_is value [] x is = ap (λ (v : List ℕ). Some (v, [])) (same_Some value x is)
-whole_is value (c ∷ rest) x is =
-    let more = ne_eqb (length (c ∷ rest)) 0 (omega arith) in
-    absurd (none-some x (rw more at is))
-
-whole_read : (r : Read (List ℕ)) (x : List ℕ) → whole_value r ≡ Some x → r ≡ Some (x, [])
-whole_read None x is = absurd (none-some x is)
-whole_read (Some r) x is = whole_is r.0 r.1 x is
 
 inet6_is : (text octets : List ℕ) → ipv6_host text ≡ Some octets → is_mapped octets ≡ false → SpellsInet6 octets text
 unfolding ipv6_host

@@ -1,31 +1,30 @@
 -- Bytes are taken to the end of a record, and no further.
 use Rattle.std.specs.Prelude.{option_map}
-use Rattle.std.proofs.Common.{◌≡◌, ◌⊎◌, inl, inr, ◌≤◌, ◌+◌, ◌-◌, ℕ, zero, suc, Bool, true, false, not, cond, eqb, Option, Some, None, Result, List, [], ◌∷◌, ◌++◌, length, take, drop, refl, sym, ap, ◌∙◌, append-nil, arith}
+use Rattle.std.proofs.Common.{◌≡◌, ◌⊎◌, inl, inr, ◌≤◌, ◌+◌, ◌-◌, ℕ, zero, suc, Bool, true, false, not, cond, eqb, Option, Some, None, Result, List, [], ◌++◌, length, take, drop, refl, sym, ap, ◌∙◌, append-nil, arith}
 use Rattle.std.proofs.Math.Seq.{take-nil}
 use Rattle.std.proofs.lemmas.List.{take_all, length-take, length-drop}
 use Rattle.std.proofs.lemmas.Bool.{and_parts, ltb-false}
 use Rattle.rb_rpc.specs.Records.{first_record, record_of, is_cut, is_last, fragment_end}
-use Rattle.rb_proto.specs.declared.listener.Listener.{Listener}
 use Rattle.rb_model.specs.declared.types.CoreFault.{CoreFault}
-use Rattle.rb_model.specs.declared.types.Limits.{Limits}
 use Rattle.rb_model.specs.declared.types.Taken.{Taken}
 use Rattle.rb_model.specs.Calls.{is_no_call}
 use Rattle.rb_model.specs.State.{State, Phase, Connection, opening}
 use Rattle.rb_model.specs.State.Phase.{Idle, Reading, Owing, Awaiting, Lost}
 use Rattle.rb_model.specs.Connections.{is_live, is_lost, live_connection, fed_in}
 use Rattle.rb_model.specs.Laws.{is_awaiting, IsLive, owed_in}
-use Rattle.rb_model.specs.Step.{Event, Output, bytes, output_or, show_taken, step, after}
+use Rattle.rb_model.specs.Step.{Output, bytes, output_or, show_taken, step, after}
 use Rattle.rb_model.specs.Step.Event.{Bytes}
-use Rattle.rb_model.specs.Sessions.{Session, taken_by, empty_session, session_after, session_from}
+use Rattle.rb_model.specs.Sessions.{Session, taken_by, empty_session, session_from}
 use Rattle.rb_model.specs.Bounds.{count_in}
 use Rattle.rb_laws.proofs.Cuts.{find-holds}
-use Rattle.rb_laws.proofs.Entries.{Await, step-awaits, opening-awaits}
+use Rattle.rb_laws.proofs.Entries.{opening-awaits}
 use Rattle.rb_laws.proofs.Happenings.{Arriving, arriving, said_in}
 use Rattle.rb_laws.proofs.Happenings.Arriving.{NotThere, NotTaken, ReadOn, Ended}
-use Rattle.rb_laws.proofs.Passing.{no-record, first-alone}
+use Rattle.rb_laws.proofs.Passing.{first-alone}
 use Rattle.rb_laws.proofs.Reached.{IsSoundPhase}
-use Rattle.rb_laws.proofs.Sessions.{Holds, count-shown, sound-live, unfinished-here, ends-whole, taken-is, step-holds}
+use Rattle.rb_laws.proofs.Sessions.{Holds, count-shown, sound-live, unfinished-here, ends-whole, taken-is}
 use Rattle.rb_laws.proofs.WholeReplies.{is-left}
+use Rattle.rb_laws.proofs.WholeSessions.{run-holds, none-found, opening-holds, same_one}
 use Rattle.rb_promises.specs.Pieces.{IsWhole, EndsRecord, PiecesEndAtRecords}
 
 -- ---- a record ends within the bytes
@@ -58,30 +57,7 @@ first-within : (bytes : List ℕ) (n : ℕ) → first_record bytes ≡ Some n �
 unfolding first_record
 first-within bytes n is = record-within (length bytes) bytes n is
 
--- ---- runs
-
-run-holds : (id : ℕ) (s : State) (t : Session) (events : List Event) → Await s → Holds id s.connections t → Holds id (after s events).connections (session_from s id t events)
-run-holds id s t [] waits h = h
-run-holds id s t (event ∷ events) waits h = run-holds id (step s event).1 (session_after s id event t) events (step-awaits s h.sound waits event) (step-holds id s t h event waits)
-
-none-found : (c : Connection) → ◌≡◌ {A = Option Connection} None (Some c) → ⊥
-none-found c e = cc
-
-opening-holds : (id : ℕ) (limits : Limits) (listener : Listener) (first_xid now : ℕ) → Holds id (opening limits listener first_xid now).connections empty_session
-unfolding first_record
-opening-holds id limits listener first_xid now = record {
-  sound = omega arith;
-  none = refl;
-  records = λ are. record { texts = []; are_marked = tt; whole = refl; none_more = no-record };
-  front = record { rest = []; whole = refl };
-  new = λ le. refl;
-  live = λ c is. absurd (none-found c is);
-}
-
 -- ---- one piece
-
-same_one : (c d : Connection) → ◌≡◌ {A = Option Connection} (Some c) (Some d) → c ≡ d
-same_one c d e = cc
 
 module _ (id : ℕ) (s : State) (t : Session) (h : Holds id s.connections t) (c : Connection) (there : IsLive s id c) where
   -- it takes bytes if it owes none and waits for none

@@ -21,7 +21,8 @@ use Rattle.rb_proto.specs.Callers.{hosts_in}
 use Rattle.rb_proto.specs.Ledger.{rows_in}
 use Rattle.rb_proto.specs.Netids.{prot_on, semantics_of, family_text, proto_text, address_in}
 use Rattle.rb_proto.specs.Answers.{told_text, shown_text}
-use Rattle.rb_proto.specs.Results.{is_inet, is_version, mapping_of, rpcb_of, entry_of, result_bytes}
+use Rattle.rb_registry.specs.Rows.{is_of_version}
+use Rattle.rb_proto.specs.Results.{is_inet, mapping_of, rpcb_of, entry_of, result_bytes}
 use Rattle.rb_promises.specs.Addresses.{IsOverIpv4, IsOverIpv6}
 use Rattle.rb_promises.specs.Sets.{IsByProtocol}
 use Rattle.rb_promises.specs.LookUps.{SpellsNone, HasHosts}
@@ -95,7 +96,7 @@ dump_lists context head arguments l =
 
 -- ---- GETADDRLIST
 
-pub version_exactly : (prog vers : ℕ) (row : Row) → (is_version prog vers row ≡ true) ↔ IsOfVersion prog vers row
+pub version_exactly : (prog vers : ℕ) (row : Row) → (is_of_version prog vers row ≡ true) ↔ IsOfVersion prog vers row
 version_exactly prog vers row = (
   λ e. let (same, version) = and_parts (row.prog == prog) (row.vers == vers) e in (eqb-true row.prog prog same, eqb-true row.vers vers version),
   λ is. rw (eq-eqb row.prog prog is.0, eq-eqb row.vers vers is.1) refl,
@@ -169,8 +170,8 @@ unfolding result_bytes
 getaddrlist_lists context head r arguments l h = record {
   given = _;
   is_given = refl;
-  items = map (entry_of (hosts_in context)) (filter (is_version r.prog r.vers) (rows_in l));
-  are_items = listed (is_version r.prog r.vers) (entry_of (hosts_in context)) (IsOfVersion r.prog r.vers) (IsEntryOf context)
+  items = map (entry_of (hosts_in context)) (filter (is_of_version r.prog r.vers) (rows_in l));
+  are_items = listed (is_of_version r.prog r.vers) (entry_of (hosts_in context)) (IsOfVersion r.prog r.vers) (IsEntryOf context)
       (version_exactly r.prog r.vers) (λ row _. is_entry context h row) (rows_in l);
   bytes = refl;
 }

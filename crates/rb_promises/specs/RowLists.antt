@@ -10,7 +10,8 @@ use Rattle.rb_arguments.specs.declared.rpcb.Rpcb.{Rpcb}
 use Rattle.rb_arguments.specs.declared.entry.Entry.{Entry}
 use Rattle.rb_arguments.specs.Types.{IsMapping, IsRpcb, IsEntry}
 use Rattle.rb_proto.specs.declared.answers.Listing.TheVariants.{Mappings, Rpcbs, Entries}
-use Rattle.rb_proto.specs.Results.{is_inet, is_version, mapping_of, rpcb_of, entry_of, list_bytes}
+use Rattle.rb_registry.specs.Rows.{is_of_version}
+use Rattle.rb_proto.specs.Results.{is_inet, mapping_of, rpcb_of, entry_of, list_bytes}
 use Rattle.rb_show.specs.declared.fault.InfoFault.{InfoFault}
 use Rattle.rb_show.specs.Telling.Told.{Done}
 use Rattle.rb_show.specs.Lists.{greatest_list}
@@ -107,7 +108,7 @@ MappingsAreShown =
 
 -- the rows of a program's version as entries, and the results that list them
 abbrev pub entries : ℕ → ℕ → Hosts → List Row → List Entry
-entries prog vers hosts rows = map (entry_of hosts) (filter (is_version prog vers) rows)
+entries prog vers hosts rows = map (entry_of hosts) (filter (is_of_version prog vers) rows)
 
 abbrev pub address_list : ℕ → ℕ → Hosts → List Row → List ℕ
 address_list prog vers hosts rows = list_bytes rows (Entries prog vers hosts)

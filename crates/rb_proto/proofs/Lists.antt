@@ -14,7 +14,8 @@ use Rattle.rb_proto.specs.declared.answers.Results.TheVariants.{Rows}
 use Rattle.rb_proto.specs.declared.answers.Listing.{Listing}
 use Rattle.rb_proto.specs.declared.answers.Listing.TheVariants.{Mappings, Rpcbs, Entries}
 use Rattle.rb_arguments.specs.Types.{mapping_spelling, rpcb_spelling, entry_spelling}
-use Rattle.rb_proto.specs.Results.{is_inet, is_version, mapping_of, rpcb_of, entry_of, list_bytes, row_bytes, rows_bytes, Shown, result_bytes}
+use Rattle.rb_registry.specs.Rows.{is_of_version}
+use Rattle.rb_proto.specs.Results.{is_inet, mapping_of, rpcb_of, entry_of, list_bytes, row_bytes, rows_bytes, Shown, result_bytes}
 
 -- ---- a list is what its rows add
 
@@ -40,7 +41,7 @@ pub list-rows : (rows : List Row) (list : Listing) → list_bytes rows list ≡ 
 unfolding linked_list row_bytes
 list-rows rows Mappings = ap (λ (xs : List ℕ). xs ++ boolean false) (shown_rows mapping_spelling mapping_of is_inet rows)
 list-rows rows Rpcbs = ap (λ (xs : List ℕ). xs ++ boolean false) (all_rows rpcb_spelling rpcb_of rows)
-list-rows rows (Entries prog vers host) = ap (λ (xs : List ℕ). xs ++ boolean false) (shown_rows entry_spelling (entry_of host) (is_version prog vers) rows)
+list-rows rows (Entries prog vers host) = ap (λ (xs : List ℕ). xs ++ boolean false) (shown_rows entry_spelling (entry_of host) (is_of_version prog vers) rows)
 
 pub rows_result : (shown : Shown) (list : Listing) (results : Results) → results ≡ Rows list → result_bytes shown results ≡ rows_bytes shown.rows list
 unfolding result_bytes

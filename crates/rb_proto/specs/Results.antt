@@ -1,12 +1,12 @@
 -- The bytes of an answer's results (RFC 1833 sections 2.2 and 3.2).
-use Rattle.std.specs.Prelude.{ℕ, ◌==◌, Bool, true, false, ◌&&◌, if◌then◌else◌, List, [], ◌++◌, map, filter}
+use Rattle.std.specs.Prelude.{ℕ, Bool, true, false, if◌then◌else◌, List, [], ◌++◌, map, filter}
 use Rattle.std.specs.List.{flat_map}
 use Rattle.rb_xdr.specs.Xdr.{number, boolean, opaque, linked_list}
 use Rattle.rb_uaddr.specs.declared.address.Hosts.{Hosts}
 use Rattle.rb_registry.specs.declared.row.Row.{Row}
 use Rattle.rb_registry.specs.declared.row.Which.TheVariants.{Inet}
 use Rattle.rb_registry.specs.Registry.{rows_of}
-use Rattle.rb_registry.specs.Rows.{is_among}
+use Rattle.rb_registry.specs.Rows.{is_among, is_of_version}
 use Rattle.rb_registry.specs.Items.{owner_text}
 use Rattle.rb_address.specs.Netids.{netid_text}
 use Rattle.rb_stats.specs.Statistics.{statistics}
@@ -39,10 +39,6 @@ value_bytes (values.Netbuf netbuf) = netbuf_spelling netbuf
 abbrev pub is_inet : Row → Bool
 is_inet row = is_among row.netid Inet
 
--- GETADDRLIST-1
-abbrev pub is_version : ℕ → ℕ → Row → Bool
-is_version prog vers row = row.prog == prog && row.vers == vers
-
 abbrev pub mapping_of : Row → Mapping
 mapping_of row = record { prog = row.prog; vers = row.vers; prot = prot_on row.netid; port = shown_port row }
 
@@ -65,7 +61,7 @@ entry_of hosts row = record {
 abbrev pub list_bytes : List Row → Listing → List ℕ
 list_bytes rows Mappings = linked_list mapping_spelling (map mapping_of (filter is_inet rows))
 list_bytes rows Rpcbs = linked_list rpcb_spelling (map rpcb_of rows)
-list_bytes rows (Entries prog vers hosts) = linked_list entry_spelling (map (entry_of hosts) (filter (is_version prog vers) rows))
+list_bytes rows (Entries prog vers hosts) = linked_list entry_spelling (map (entry_of hosts) (filter (is_of_version prog vers) rows))
 
 -- ---- all results
 
@@ -97,7 +93,7 @@ results_at books given = result_bytes (shown_in books) given
 abbrev pub is_shown : Listing → Row → Bool
 is_shown Mappings row = is_inet row
 is_shown Rpcbs row = true
-is_shown (Entries prog vers hosts) row = is_version prog vers row
+is_shown (Entries prog vers hosts) row = is_of_version prog vers row
 
 -- the spelling of that item
 abbrev pub item_bytes : Listing → Row → List ℕ

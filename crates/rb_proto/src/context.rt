@@ -58,7 +58,7 @@ pub(crate) fn netid_of_caller(caller: &Caller) -> Netid
 }
 
 /// Whom the credential names.
-fn owner_named(cred: Credential) -> Owner
+pub fn owner_named(cred: Credential) -> Owner
     ensures { result ≡ owner_named cred }
 {
     match cred {

@@ -41,7 +41,7 @@ pub(crate) fn row_of_mapping(owner: Owner, mapping: &Mapping) -> Option<Row>
 
 /// The row that a SET asks for, with the text of its address as it was given.
 #[tactic(auto, unfolding(crate::specs::Answers::row_of_rpcb))]
-pub(crate) fn row_of_rpcb(owner: Owner, rpcb: &LentRpcb) -> Option<Row>
+pub fn row_of_rpcb(owner: Owner, rpcb: &LentRpcb) -> Option<Row>
     ensures { result ≡ row_of_rpcb owner rpcb.now }
 {
     let netid = Netid::named(rpcb.netid())?;

@@ -18,5 +18,5 @@ pub use fault::RegistryFault;
 pub use laws::row_laws;
 pub use listed::ListedRow;
 pub use registry::{MOST_OWN_ROWS, Registry};
-pub use row::{ROW_CHARGE, RPCB_PROG, Row, Which};
+pub use row::{ROW_CHARGE, RPCB_PROG, Row, Which, rank};
 pub use worked::worked_examples;
