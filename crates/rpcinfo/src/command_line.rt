@@ -265,15 +265,12 @@ fn layouts_of(alloc: Global, matches: &ArgMatches<'_>) -> Result<Vec<Layout>, Al
     Ok(layouts)
 }
 
-/// What stands on the command line, with its flags and layouts.
-fn shape_of<'s, 'a, 'n>(
-    matches: &'s ArgMatches<'a>,
-    flags: &'s [Flag],
-    layouts: &'s [Layout],
-    services: &'n [Service],
-) -> Shape<'s, 'a, 'n> {
-    Shape {
-        flags,
+/// Whether the words want names of programs.
+pub fn needs_names(alloc: Global, matches: &ArgMatches<'_>) -> Result<bool, AllocError> {
+    let flags = flags_of(alloc, matches)?;
+    let layouts = layouts_of(alloc, matches)?;
+    let shape = Shape {
+        flags: &flags,
         port: matches.get_str("port"),
         uid: matches.get_str("uid"),
         target: matches.get_str("target"),
@@ -281,17 +278,11 @@ fn shape_of<'s, 'a, 'n>(
         address: matches.get_str("address"),
         local: matches.get_str("local"),
         broadcast: matches.get_str("broadcast"),
-        layouts,
+        layouts: &layouts,
         words: matches.get_strs("words").unwrap_or(&[]),
-        services,
-    }
-}
-
-/// Whether the words want names of programs.
-pub fn needs_names(alloc: Global, matches: &ArgMatches<'_>) -> Result<bool, AllocError> {
-    let flags = flags_of(alloc, matches)?;
-    let layouts = layouts_of(alloc, matches)?;
-    Ok(wants_names(&shape_of(matches, &flags, &layouts, &[])))
+        services: &[],
+    };
+    Ok(wants_names(&shape))
 }
 
 /// What the words ask for; programs may be given by these names. Faults are written, and then the `Err` says how
@@ -311,5 +302,18 @@ pub fn read_matches<'a, 'n, E: Write>(
     let Ok(layouts) = layouts_of(alloc, matches) else {
         return Err(explain(Fault::Info(InfoFault::Memory), faults));
     };
-    read_invocation(&shape_of(matches, &flags, &layouts, services), faults)
+    let shape = Shape {
+        flags: &flags,
+        port: matches.get_str("port"),
+        uid: matches.get_str("uid"),
+        target: matches.get_str("target"),
+        netid: matches.get_str("netid"),
+        address: matches.get_str("address"),
+        local: matches.get_str("local"),
+        broadcast: matches.get_str("broadcast"),
+        layouts: &layouts,
+        words: matches.get_strs("words").unwrap_or(&[]),
+        services,
+    };
+    read_invocation(&shape, faults)
 }
