@@ -44,15 +44,14 @@ pub fn read_words<'a, S: AsStr, O: Write, E: Write>(
     ensures { IfErr result
         (EndsUnrun E.contents faults.old faults.new output.old output.new) }
 {
-    match matches_of(alloc, words) {
+    let command = match command(alloc) {
+        Ok(command) => command,
+        Err(_) => return Err(explain(Fault::NoMemory, faults)),
+    };
+    match command.try_get_matches_from(words) {
         Ok(matches) => read_matches(&matches, faults),
         Err(error) => Err(show(&error, output, faults)),
     }
-}
-
-/// The words by their shape.
-fn matches_of<'a, S: AsStr>(alloc: Global, words: &'a [S]) -> Result<ArgMatches<'a>, Error> {
-    command(alloc)?.try_get_matches_from(words)
 }
 
 /// Writes help, or what is wrong with the words, and says how it ends by that.
