@@ -6,11 +6,11 @@ each that is used, as its name in the library says. What that trusts beside the 
 """
 
 import functools
+import operator
 import re
-from collections import Counter
 from pathlib import Path
 
-from antt_std import BUILT_IN, STD, Value, apply, curry, record
+from antt_std import BUILT_IN, STD, Value, apply, curry, record, tag_of
 
 ROOT = Path(__file__).resolve().parent.parent
 
@@ -19,6 +19,9 @@ INFIX = {  # how tight, and to which side
     ">>=": (10, "l"), "||": (30, "r"), "&&": (35, "r"), "==": (40, "n"), "++": (60, "r"), "∷": (60, "r"),
     "+": (65, "l"), "-": (65, "l"), "*": (70, "l"), "/": (70, "l"), "%": (70, "l"), "^": (75, "r"),
 }  # fmt: skip
+
+
+IN_PYTHON = {"std_true": "True", "std_false": "False", "std_not": "(not {})"}
 
 
 class Stuck(Exception):
@@ -387,6 +390,8 @@ class Expressions(Reader):
         if not isinstance(head, tuple):
             return f"apply({head}, {', '.join(args)})" if args else head
         name, count = head
+        if name in IN_PYTHON and len(args) == count:
+            return IN_PYTHON[name].format(*args)
         if len(args) < count:
             return f"apply(curry({name}, {count}), {', '.join(args)})" if args else f"curry({name}, {count})"
         made = f"{name}({', '.join(args[:count])})"
@@ -456,9 +461,9 @@ class World:
 
     def __init__(self):
         self.modules, self.made, self.count, self.arities = {}, {}, 0, {}
-        self.hits = Counter()  # of each clause, how often it was taken
+        self.hits = []  # of each clause, whether it was taken
         self.clauses = {}  # by number: the module, the name and the text of it
-        self.scope = {"apply": apply, "curry": curry, "record": record, "Stuck": Stuck, "Value": Value, "HIT": self.hits}
+        self.scope = {"apply": apply, "curry": curry, "record": record, "Stuck": Stuck, "Value": Value, "HIT": self.hits, "keeping": keeping}
         self.scope |= {f"std_{name}": made for name, (_, made) in STD.items()}
         self.waiting = []
 
@@ -583,6 +588,12 @@ class World:
             return name, count
         raise Stuck(f"{what[1]} is a type")
 
+    def tag(self, tag):
+        """The variable of Python for a constructor's tag."""
+        name = f"t_{'_'.join(re.sub(r'[^a-zA-Z0-9]', '_', it) for it in tag)}"
+        self.scope[name] = tag_of(tag)
+        return name
+
     # -- definitions
 
     def define(self, module, name):
@@ -611,9 +622,12 @@ class World:
         for patterns, tokens, text in clauses:
             number = len(self.clauses)
             self.clauses[number] = module, name, text
+            self.hits.append(False)
             lines += self.clause(module, patterns, tokens, text, number, "    ", {}, "a")
         lines.append(f"    raise Stuck({label!r})")
-        return "\n".join(lines)
+        made = "\n".join(lines)
+        again = made.replace(f"{label}(", f"{label}_again(")
+        return f"{again}\n{label} = keeping({label}_again)" if count and made.count(f"{label}(") > 1 else made
 
     def clause(self, module, patterns, tokens, text, number, indent, here, prefix):
         tests, here = [], dict(here)
@@ -624,7 +638,7 @@ class World:
             lines.append(f"{indent}if {' and '.join(tests)}:")
             inner += "    "
         if number is not None:
-            lines.append(f"{inner}HIT[{number}] += 1")
+            lines.append(f"{inner}HIT[{number}] = True")
         body, helpers = tokens, None
         depth = 0
         for at, it in enumerate(tokens):
@@ -694,13 +708,29 @@ class World:
         else:
             found = self.find(module, parts)
             if found and found[0][0] == "ctor":
-                tests.append(f"{place}.tag == {found[0][1]!r}")
+                tests.append(f"{place}.tag is {self.tag(found[0][1])}")
                 for at, it in enumerate(args):
                     self.match(module, it, f"{place}.args[{at}]", tests, here)
             elif len(parts) == 1 and not args:
                 here[parts[0]] = place
             else:
                 raise Stuck(f"{'.'.join(parts)} is no constructor in {'.'.join(module.path)}")
+
+
+def keeping(function):
+    """The function, which goes over a list by calling itself, with what it gave last for the very same arguments."""
+    kept = []
+
+    def made(*args):
+        for these, told in kept:
+            if all(map(operator.is_, these, args)):
+                return told
+        told = function(*args)
+        kept.insert(0, (args, told))
+        del kept[4:]
+        return told
+
+    return made
 
 
 def count_fields(text):

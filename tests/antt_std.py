@@ -8,16 +8,24 @@ from collections import namedtuple
 # ---- values
 
 
+TAGS = {}
+
+
+def tag_of(tag):
+    """The one tuple for a constructor, so that values of it are told by `is`."""
+    return TAGS.setdefault(tag, tag)
+
+
 class Value:
     """What a constructor makes, by its name and its type's."""
 
     __slots__ = ("tag", "args")
 
     def __init__(self, tag, args=()):
-        self.tag, self.args = tag, args
+        self.tag, self.args = tag_of(tag), args
 
     def __eq__(self, other):
-        return type(other) is Value and self.tag == other.tag and self.args == other.args
+        return type(other) is Value and self.tag is other.tag and self.args == other.args
 
     def __hash__(self):
         return hash((self.tag, self.args))

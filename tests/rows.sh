@@ -182,11 +182,12 @@ run_rpcinfo_rows() {
 # ---- inputs of replay that are made here
 
 # LINE-12
-# The input has at most 16,777,216 bytes: that many are read, and of one more no event is run.
+# The input has at most 16,777,216 bytes: that many are read, and of one more no event is run. Most of them are one comment,
+# and 262,144 are empty lines; behind them stands the last event.
 run_longest_inputs() {
-    head -c 16777216 /dev/zero | tr '\0' '\n' > "$work/events"
-    run "$work/events" replay
-    as_wanted /dev/null /dev/null 0
+    { printf '# '; head -c 16515065 /dev/zero | tr '\0' x; head -c 262144 /dev/zero | tr '\0' '\n'; echo lost; } > "$work/events"
+    echo 'lost -' > "$work/wanted"
+    [ "$(stat -c %s "$work/events")" -eq 16777216 ] && run "$work/events" replay && as_wanted "$work/wanted" /dev/null 0
     judge $? "an input of 16,777,216 bytes"
     { echo lost; head -c 16777212 /dev/zero | tr '\0' '\n'; } > "$work/events"
     echo 'rpcbind: input too long' > "$work/wanted"
@@ -319,7 +320,7 @@ run_rpcinfo_longest_texts() {
 # Empty fragments without end: 16,777,216 bytes are read, and that no more are is another fault than that no more are there.
 run_rpcinfo_endless_reply() {
     echo 'rpcinfo: read failed' > "$work/wanted"
-    yes 00000000 | head -n 4194304 > "$work/events"
+    head -c 33554432 /dev/zero | tr '\0' 0 > "$work/events"
     run_rpcinfo "$work/events" -p -
     as_wanted /dev/null "$work/wanted" 1
     judge $? "rpcinfo: a record that goes on behind 16,777,216 bytes"
@@ -328,7 +329,7 @@ run_rpcinfo_endless_reply() {
 # DATA-3
 run_rpcinfo_long_reply_cut_off() {
     echo 'rpcinfo: unreadable reply' > "$work/wanted"
-    yes 00000000 | head -n 4194303 > "$work/events"
+    head -c 33554424 /dev/zero | tr '\0' 0 > "$work/events"
     run_rpcinfo "$work/events" -p -
     as_wanted /dev/null "$work/wanted" 1
     judge $? "rpcinfo: a record that is cut off before"
@@ -396,6 +397,6 @@ run_rpcinfo_over_files() {
     run_rpcinfo_help
 }
 
-# Those that take longest come first.
 portless+=(run_rpcinfo_endless_reply run_rpcinfo_long_reply_cut_off run_rpcinfo_longest_texts run_longest_inputs
     run_rows_by_the_model run_rpcbind_over_files run_many_events run_shortest_outputs_of_bytes run_rpcinfo_over_files)
+of_rpcinfo+=(run_rpcinfo_endless_reply run_rpcinfo_long_reply_cut_off run_rpcinfo_longest_texts run_rpcinfo_over_files)

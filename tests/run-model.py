@@ -233,7 +233,7 @@ def main():
         passed, failed = passed + is_same, failed + (not is_same)
         if not is_same:
             print("failed: tests/unreached is not what no row reaches: tests/run-model.py --write makes it anew")
-    reached = sum(MODEL.hits[it] > 0 for it in MODEL.clauses)
+    reached = sum(MODEL.hits[it] for it in MODEL.clauses)
     left = sum(it is None for it in told.values())
     print(f"{reached} of {len(MODEL.clauses)} clauses of {len(MODEL.made)} definitions were reached; {left} files are left out")
     print(f"{passed} passed, {failed} failed")
