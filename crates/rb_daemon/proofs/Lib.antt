@@ -9,3 +9,4 @@ pub mod Rows
 pub mod Sendings
 pub mod Postings
 pub mod Takings
+pub mod Openings
