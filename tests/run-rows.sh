@@ -34,8 +34,8 @@ waiting=      # those that wait for most of their time
 
 # Those that take longest begin first.
 longest=(run_rpcinfo_endless_reply run_rpcinfo_long_reply_cut_off run_rpcinfo_longest_texts run_rpcbind_over_files
-    run_rows_by_the_model run_starts run_refused_files_of_kept_rows run_writes_of_kept_rows_that_fail run_many_events
-    run_keep_of_most_rows run_records run_under_a_manager)
+    run_keep_of_a_long_journal run_rows_by_the_model run_starts run_refused_files_of_kept_rows
+    run_writes_of_kept_rows_that_fail run_many_events run_keep_of_most_rows run_records run_under_a_manager)
 for part in daemon rows keep starts asking records serving manager refused releases repository; do
     . "tests/$part.sh"
 done
