@@ -1,6 +1,6 @@
 # Sourced by the scripts whose parts run side by side: run-all.sh, run-tests.sh, run-rows.sh and two-hosts.sh. What computes takes
 # a slot from a pipe, whose path is SLOTS in the environment, and puts it back at its end: so no more of it runs at a time
-# than there are processors, also if several of these scripts do.
+# than there are processors, also if several of these scripts do. Two hosts have slots of their own.
 
 # Namespaces in which a check has a network, mounts and processes of its own. What it started ends with it.
 namespaces=(unshare --net --mount --propagation private --pid --fork --kill-child --mount-proc)

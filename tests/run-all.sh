@@ -106,18 +106,29 @@ end() {
     add_counts "$1" "$(cat "$work/$1.status")" "$work/$1.log"
 }
 
-# The tests, and beside them, once the programs are built, the rows and two hosts.
+# Waits until these programs are built, or the tests are over.
+await_built() {
+    local name
+    for name in "$@"; do
+        until [ -x "$work/$name" ] || ! kill -0 "$tests" 2> /dev/null; do sleep 0.2; done
+    done
+}
+
+# The tests, and beside them, once the programs that they run are built, the rows and two hosts.
 run_quick() {
     local tests
     make_slots "$work/slots" "$cores" || exit 1
     begin tests tests/run-tests.sh --programs "$work"
     tests=$!
-    until [ -x "$work/rpcbind" ] && [ -x "$work/rpcinfo" ] || ! kill -0 "$tests" 2> /dev/null; do sleep 0.2; done
     has_namespaces || wait "$tests" # as they need the same ports
-    begin rows tests/run-rows.sh "$work/rpcbind" "$work/rpcinfo"
+    await_built rpcinfo
+    begin rows-of-rpcinfo tests/run-rows.sh --of rpcinfo "$work/rpcbind" "$work/rpcinfo"
+    await_built rpcbind
+    begin rows tests/run-rows.sh --of others "$work/rpcbind" "$work/rpcinfo"
     begin hosts tests/two-hosts.sh "$work/rpcbind" "$work/rpcinfo"
     wait
     end tests
+    end rows-of-rpcinfo
     end rows
     end hosts
 }

@@ -2,7 +2,8 @@
 # Runs the built programs over their rows, over inputs that are made here and over sockets, and checks what must hold in the
 # repository. With two words these are the programs rpcbind and rpcinfo that it runs, built with checks: such a program
 # does not run in little memory, so that is said and not tried. Further words are the checks to run, as run_keep; the two
-# programs are then empty words for those that `make` built.
+# programs are then empty words for those that `make` built. With --of rpcinfo before all words it runs the checks that need
+# rpcinfo alone, and with --of others those that are left.
 #
 # What is run and checked stands in the files that are sourced here, and the first lines of each say what it is for:
 #
@@ -26,9 +27,15 @@ cd "$(dirname "$0")/.." || exit 1
 . tests/machine.sh
 . tests/beside.sh
 
-portless=() # the checks that need no port
-checks=()   # those that need one, and then all
-waiting=    # those that wait for most of their time
+portless=()   # the checks that need no port
+checks=()     # those that need one, and then all
+of_rpcinfo=() # those that run no rpcbind
+waiting=      # those that wait for most of their time
+
+# Those that take longest begin first.
+longest=(run_rpcinfo_endless_reply run_rpcinfo_long_reply_cut_off run_rpcinfo_longest_texts run_rpcbind_over_files
+    run_keep_of_a_long_journal run_rows_by_the_model run_starts run_refused_files_of_kept_rows
+    run_writes_of_kept_rows_that_fail run_many_events run_keep_of_most_rows run_records run_under_a_manager)
 for part in daemon rows keep starts asking records serving manager refused releases repository; do
     . "tests/$part.sh"
 done
@@ -75,10 +82,24 @@ run_inside() {
     echo "$passed passed, $failed failed"
 }
 
+# The checks by their names, the longest first.
+in_order() {
+    local check
+    for check in "${longest[@]}"; do
+        [[ " $* " != *" $check "* ]] || echo "$check"
+    done
+    for check in "$@"; do
+        [[ " ${longest[*]} " == *" $check "* ]] || echo "$check"
+    done
+}
+
 if [ "${1:-}" = --inside ]; then
     run_inside "$2"
     exit
 fi
+
+of=
+[ "${1:-}" != --of ] || { of=$2 && shift 2; }
 
 export program=${1:-$PWD/crates/rpcbind/out/rpcbind}
 export rpcinfo=${2:-$PWD/crates/rpcinfo/out/rpcinfo}
@@ -95,13 +116,19 @@ if has_namespaces; then
     own_namespaces=1
     runner=("${namespaces[@]}" "${runner[@]}")
 fi
-checks=("${portless[@]}" "${checks[@]}")
+mapfile -t checks < <(in_order "${portless[@]}" "${checks[@]}")
+needed=("$program" "$rpcinfo")
+case $of in
+    rpcinfo) checks=("${of_rpcinfo[@]}") needed=("$rpcinfo") ;;
+    others) mapfile -t checks < <(printf '%s\n' "${checks[@]}" | grep -vxF "$(printf '%s\n' "${of_rpcinfo[@]}")") ;;
+esac
 [ $# -le 2 ] || checks=("${@:3}")
-for built in "$program" "$rpcinfo"; do
+for built in "${needed[@]}"; do
     why=$(why_not "$built")
     if [ -n "$why" ]; then
         judge 1 "the rows are not run: $why"
-        checks=(check_repository)
+        checks=()
+        [ "$of" = rpcinfo ] || checks=(check_repository)
     fi
 done
 run_checks rows "${checks[@]}"
