@@ -7,9 +7,8 @@ ghost use Rattle.rb_rpc.specs.Feeds.{StandsForCall};
 ghost use Rattle.rb_connections.specs.StandsFor.{IsHeld};
 ghost use Rattle.rb_connections.specs.Reading.{HasData, HasMore, KeepsMore, TakesData, CountsPiece, ReadsPiece};
 
-use rb_rpc::CallFeed;
 use rb_model::LONGEST_KEPT;
-use rb_rpc::{Marks, Part, Verdict};
+use rb_rpc::{CallFeed, Marks, Part, Verdict};
 use rb_xdr::{Kept, Meter};
 
 /// A record that is being read. The arguments of its call are not here, but in a buffer.

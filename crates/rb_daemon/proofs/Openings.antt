@@ -15,5 +15,6 @@ opened_as before after {who} {told} {result} {given} is same acts =
 
 pub opened_behind : (before mid after : Engine) (id : ℕ) (who : Who) {given : Result ℕ CoreFault} → Moves (λ s now. (close_connection s id).1) before mid → mid.moment ≡ before.moment → ActsNow (λ s now. open_connection s now who) mid after given → ActsNow (λ s now. open_connection (close_connection s id).1 now who) before after given
 opened_behind before mid after id who {given} moves same acts = record {
-    gives = λ s h. subst (λ (m : ℕ). given ≡ (open_connection (close_connection s id).1 m who).0) same (acts.gives (close_connection s id).1 (moves s h));
-    stands = λ s h. subst (λ (m : ℕ). StandsFor after.core.core (open_connection (close_connection s id).1 m who).1) same (acts.stands (close_connection s id).1 (moves s h)) }
+  gives = λ s h. subst (λ (m : ℕ). given ≡ (open_connection (close_connection s id).1 m who).0) same (acts.gives (close_connection s id).1 (moves s h));
+  stands = λ s h. subst (λ (m : ℕ). StandsFor after.core.core (open_connection (close_connection s id).1 m who).1) same (acts.stands (close_connection s id).1 (moves s h));
+}

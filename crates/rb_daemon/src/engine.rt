@@ -26,9 +26,9 @@ use rb_core::{
     CoreFault, Exchanged, Expired, Given, Limits, Listener, Metered, Response, Seen, Told,
 };
 use rb_keep::{Owners, set_call, write_change, write_rows};
+use rb_lines::{Start, Tape};
 use rb_model::{Event, Output};
 use rb_policy::WaysBack;
-use rb_lines::{Start, Tape};
 use rb_registry::Row;
 use rb_sockets::{Datagrams, Logged, reply_to_forwarded};
 use std::alloc::Global;

@@ -10,8 +10,8 @@ ghost use Rattle.rb_daemon.specs.Recording.{output_or_refusal, given_entries, pi
 
 use rb_address::Peer;
 use rb_core::{CoreFault, Exchanged};
-use rb_model::{Event, Output, UnsentCall};
 use rb_lines::Tape;
+use rb_model::{Event, Output, UnsentCall};
 use rb_rpc::LONGEST_FRAGMENT;
 
 /// The number of a connection that was opened, or the refusal.

@@ -4,8 +4,9 @@ use Rattle.rb_daemon.proofs.opening.open_at.Goals as goal
 
 pub returns : goal.returns
 returns c = λ told. record {
-    arrival = c.in-Some.arrival;
-    came = sym c.arrival.ensures ∙ c.in-Some.is;
-    id = c.in-Ok.id;
-    acts = opened_as c.args.engine.now c.open.new.self c.of.ensures c.in-Ok.is c.open.ensures.acts;
-    number = c.open-2.ensures c.if-not-open.false }
+  arrival = c.in-Some.arrival;
+  came = sym c.arrival.ensures ∙ c.in-Some.is;
+  id = c.in-Ok.id;
+  acts = opened_as c.args.engine.now c.open.new.self c.of.ensures c.in-Ok.is c.open.ensures.acts;
+  number = c.open-2.ensures c.if-not-open.false;
+}
