@@ -4,7 +4,7 @@ ghost use Rattle.rb_arguments.specs.Types.{IsMapping, mapping_spelling, max_mapp
 use rb_xdr::{Kept, Meter, Xdr, XdrFault};
 
 /// The port where a version of a program is reached by a protocol, 6 for TCP and 17 for UDP.
-#[derive(Clone, Copy, PartialEq, Eq)]
+#[derive(Clone, Copy)]
 pub struct Mapping {
     /// The program's number.
     pub prog: u32,

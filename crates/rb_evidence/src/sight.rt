@@ -7,7 +7,7 @@ use crate::table::{Line, OwnedSocket, is_same_socket, socket_in};
 use rb_address::Peer;
 
 /// What was seen so far.
-#[derive(Clone, Copy, Debug, PartialEq, Eq)]
+#[derive(Clone, Copy)]
 pub enum Seen {
     /// No line of it.
     Nothing,

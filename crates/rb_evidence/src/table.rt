@@ -9,7 +9,7 @@ use rb_address::{number_below, plain_number};
 const ESTABLISHED: &[u8] = b"01";
 
 /// A socket that a line shows: of which user it is, and its inode, which no other socket has meanwhile.
-#[derive(Clone, Copy, Debug, PartialEq, Eq)]
+#[derive(Clone, Copy)]
 pub struct OwnedSocket {
     pub(crate) uid: u32,
     pub(crate) inode: u64,

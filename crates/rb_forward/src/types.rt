@@ -63,7 +63,7 @@ pub struct Unsent<'a> {
 }
 
 /// How a forwarded call ended.
-#[derive(Clone, Copy, PartialEq, Eq, Debug)]
+#[derive(Clone, Copy)]
 pub enum ForwardEnd {
     /// The target's results are the bytes of the datagram from this place on, at most 8,800.
     Passed(usize),

@@ -33,7 +33,7 @@ pub enum Event<B = Vec<u8>> {
 }
 
 /// A forwarded call that must be sent.
-#[derive(Debug, Drop)]
+#[derive(Drop)]
 pub struct UnsentCall<B = Vec<u8>> {
     /// Its number; the first is 1.
     pub number: u64,

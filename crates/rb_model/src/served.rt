@@ -5,7 +5,7 @@ use rb_proto::Listing;
 pub const LONGEST_REPLY: usize = 9_000;
 
 /// What a datagram, or a record, is answered with.
-#[derive(Clone, Copy, Debug, PartialEq, Eq)]
+#[derive(Clone, Copy, Debug)]
 pub enum Response {
     /// Nothing: it is no call (RFC 5531 section 9). A connection on which it came is Lost.
     NoCall,

@@ -7,7 +7,7 @@ use rb_forward::FwdId;
 use thiserror::Error;
 
 /// How much a core may hold.
-#[derive(Clone, Copy, Debug, PartialEq, Eq)]
+#[derive(Clone, Copy)]
 pub struct Limits {
     /// How many connections there may be, 1 to 256, Lost ones among them.
     pub conns: usize,

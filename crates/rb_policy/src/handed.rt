@@ -94,7 +94,7 @@ pub struct Wanted<'a> {
 }
 
 /// Why a socket is not taken.
-#[derive(Clone, Copy, Debug, PartialEq, Eq)]
+#[derive(Clone, Copy, Debug)]
 pub enum Mismatch {
     /// It is none of TCP, UDP or the local socket.
     Kind,

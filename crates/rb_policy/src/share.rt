@@ -6,7 +6,7 @@ ghost use Rattle.rb_policy.specs.Shares.{rest_after};
 const REST: u64 = 3;
 
 /// When slices were read. Moments are in milliseconds.
-#[derive(Clone, Copy, Debug)]
+#[derive(Clone, Copy)]
 pub struct Share {
     /// The moment of the last turn that read a slice, if that was the last one.
     read_at: Option<u64>,

@@ -21,7 +21,7 @@ pub struct Announced {
 }
 
 /// For which callers another call is made, and to what (RFC 1833 sections 2.2.1 and 3.1).
-#[derive(Clone, Copy, PartialEq, Eq, Debug)]
+#[derive(Clone, Copy)]
 pub enum Forwarding {
     /// For every caller, to every program but the portmapper itself, at whichever host it is registered.
     Anywhere,

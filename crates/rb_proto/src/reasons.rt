@@ -1,7 +1,7 @@
 //! Why a SET or an UNSET changed nothing.
 
 /// Why a SET or an UNSET changed nothing. Of several reasons the first one here counts.
-#[derive(Clone, Copy, PartialEq, Eq, Debug)]
+#[derive(Clone, Copy, PartialEq, Eq)]
 pub enum Refusal {
     /// The caller may not register.
     MayNotRegister,

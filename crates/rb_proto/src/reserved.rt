@@ -13,7 +13,7 @@ pub const MOST_RESERVED: usize = 64;
 
 /// Rows of the programs from `first` to `last` are set by this uid, or by uid 0, alone. If several reservations cover a
 /// program, it belongs to the uids of all of them.
-#[derive(Clone, Copy, PartialEq, Eq, Debug, Default)]
+#[derive(Clone, Copy, Default)]
 pub struct Reservation {
     /// The first program.
     pub first: u32,

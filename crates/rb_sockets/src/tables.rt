@@ -22,7 +22,7 @@ pub enum Slice {
 }
 
 /// A table that could not be read whole.
-#[derive(Debug, Drop)]
+#[derive(Drop)]
 pub struct TableFault {
     /// Where it is.
     pub path: &'static str,

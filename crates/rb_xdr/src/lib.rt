@@ -28,6 +28,7 @@ pub use meter::Meter;
 pub use opaque::{Opaque, are_zero, residue, take_opaque, write_opaque};
 pub use ordered::Ordered;
 pub use pool::Pool;
+pub use tally::Tally;
 pub use text::Text;
 pub use worked::worked_examples;
 pub use xdr::Xdr;
