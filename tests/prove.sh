@@ -2,9 +2,10 @@
 # Proves each crate of crates.txt and builds the programs, as many crates side by side as processors and memory allow.
 #
 # A crate begins as soon as those that it stands on are proved, the one with the longest chain of others above it first, and
-# no more crates at a time than there are processors. The crate of the longest chain works in two processes, and others give
-# way to it (nice): nothing else decides when all is proved. Each other crate works in one, since a proof in four processes
-# takes half more processor time. Processors that nothing else waits for go to the crate that begins, four at most.
+# no more crates at a time than there are processors. The crate of the longest chain works in two processes, in three once
+# that chain is a fifth longer than all else that is left, and others give way to it (nice) but those with a chain of nine
+# tenths of it. Each other crate works in one, since a proof in four processes takes half more processor time. Processors that
+# nothing else waits for go to the crate that begins, four at most.
 #
 # `rt` lets one command at a time work in a crate's folder or in one below it. So each crate is proved in a room
 # of its own: a folder with links to its files and to the libraries below it, which has its out/ meanwhile. The crates'
@@ -192,6 +193,17 @@ longest_running() {
     echo "$longest"
 }
 
+# The seconds of all crates that are not proved yet, but for those of the longest chain that begins with this one.
+seconds_beside() {
+    local name sum=0
+    for name in "${names[@]}"; do
+        case ${state[$name]} in
+            waiting | running) sum=$((sum + costs[$name])) ;;
+        esac
+    done
+    echo $((sum - chain[$1]))
+}
+
 # The processors, less the processes that work.
 count_idle() {
     local name idle=$slots
@@ -203,7 +215,7 @@ count_idle() {
 
 # Begins the crates that are ready, as far as there are processors.
 start_ready() {
-    local ready name way longest spare waiting
+    local ready name way longest running most spare waiting
     mapfile -t ready < <(list_ready)
     waiting=${#ready[@]}
     longest=$(longest_to_come "${ready[@]}")
@@ -211,8 +223,12 @@ start_ready() {
         [ "$free" -gt 0 ] || return 0
         share[$name]=1
         way=10
-        if [ "${chain[$name]}" -ge "$longest" ] && [ "${chain[$name]}" -gt "$(longest_running)" ]; then
-            share[$name]=$((slots < 2 ? slots : 2))
+        running=$(longest_running)
+        if [ "${chain[$name]}" -ge "$longest" ] && [ "${chain[$name]}" -gt "$running" ]; then
+            most=$(($(seconds_beside "$name") * 6 < chain[$name] * 5 ? 3 : 2))
+            share[$name]=$((slots < most ? slots : most))
+            way=0
+        elif [ $((chain[$name] * 10)) -ge $(((longest > running ? longest : running) * 9)) ]; then
             way=0
         fi
         spare=$(($(count_idle) / waiting))
