@@ -17,7 +17,7 @@ use Rattle.rb_registry.specs.Registry.{table_at}
 use Rattle.rb_registry.specs.Table.{AreStamped}
 use Rattle.rb_registry.specs.Index.{rank, rank_of, ranks, AreRanked, IsIndexed}
 use Rattle.rb_registry.specs.Order.{number_after, AreInOrder}
-use Rattle.rb_registry.specs.Versions.{is_version_now, versions_in, is_own_version, is_later_version, is_later_on, place_of, first_place, earlier_of, added_at}
+use Rattle.rb_registry.specs.Versions.{is_version_now, versions_in, is_own_version, is_later_version, is_later_on, place_of, first_place, later_of, later_at, earlier_of, added_at}
 use Rattle.rb_registry.proofs.InOrder.{after_more}
 use Rattle.rb_xdr.proofs.Walks.{apart, nothing_behind}
 use Rattle.rb_registry.proofs.Tables.{live_has_none}
@@ -83,15 +83,6 @@ module _ (prog vers : ℕ) where
           rw (t, other) later
 
 -- ---- a row on a netid, by its rank
-
--- the row under a key, if it was added later
-abbrev pub later_of : ℕ → ℕ → Option Slot → Option (ℕ × ℕ)
-later_of after key None = None
-later_of after key (Some slot) = cond (nat_lt after slot.added) (Some (slot.added, key)) None
-
-abbrev pub later_at : ℕ → List (ℕ × Slot) → Option ℕ → Option (ℕ × ℕ)
-later_at after entries None = None
-later_at after entries (Some key) = later_of after key (value_at entries key)
 
 module _ (prog vers after : ℕ) (netid : Netid) (small : vers < 2 ^ 32) where
   test_is : (slot : Slot) → slot.row.vers < 2 ^ 32

@@ -49,10 +49,6 @@ pub record IsTable (stamp floor limit held retained : ℕ) (entries : List (ℕ 
   pub ordered : AreInOrder 0 entries
   pub few_own : count_own entries ≤ 12
 
--- Among the live ones of these rows, this is what is found, whichever stamp they have.
-abbrev pub IsFoundAmong : List (ℕ × Slot) → (List Row → Option Row) → Option Row → Type 0
-IsFoundAmong entries find found = (stamp : ℕ) → AreStamped stamp entries → found ≡ find (live_at stamp entries)
-
 -- ---- what a removal marks, and what a trim drops
 
 -- live, and covered by the next change

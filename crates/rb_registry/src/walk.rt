@@ -4,11 +4,10 @@ ghost use Rattle.rb_xdr.specs.Meter.{Pays, PaysAtMost};
 ghost use Rattle.rb_xdr.specs.Pool.{value_at, HasDistinctKeys};
 ghost use Rattle.rb_xdr.specs.Ordered.{IsRising, looks};
 ghost use Rattle.rb_registry.specs.Removals.{change_of};
-ghost use Rattle.rb_registry.specs.Rows.{find_exact, find_row};
 ghost use Rattle.rb_registry.specs.Registry.{removals};
-ghost use Rattle.rb_registry.specs.Index.{rank_of, IsIndexed, IsSameBut, newest_key, found_key, with_marks_on};
+ghost use Rattle.rb_registry.specs.Index.{rank_of, row_under, IsIndexed, IsSameBut, newest_key, found_key, with_marks_on};
 ghost use Rattle.rb_registry.specs.Costs.{mark_cost, mark_cost_on};
-ghost use Rattle.rb_registry.specs.Table.{AreStamped, IsFoundAmong, count_going, with_marks, entries_left, count_retained, count_held, lesser_of, least_of, IsNextLive, count_left, PaysFor};
+ghost use Rattle.rb_registry.specs.Table.{AreStamped, count_going, with_marks, entries_left, count_retained, count_held, lesser_of, least_of, IsNextLive, count_left, PaysFor};
 
 use crate::listed::ListedRow;
 use crate::removal::Removal;
@@ -17,50 +16,28 @@ use crate::slot::Slot;
 use rb_address::Netid;
 use rb_xdr::{Meter, Ordered, Pool};
 
-/// The live row of exactly this version.
-pub(crate) fn find_exact<'a>(
+/// The row under a key that was found in the index.
+pub(crate) fn row_under<'a>(
     slots: &'a Pool<Slot>,
+    key: Option<usize>,
+    meter: &mut Meter,
+) -> Option<&'a Row>
+    requires { meter.old.tie ≡ slots.now.tie }
+    ensures row { option_copied result ≡ row_under slots.now.entries key }
+    ensures cost { PaysAtMost meter.old meter.new 1 }
+{
+    let slot = slots.get(key?, meter)?;
+    Some(slot.row.as_row())
+}
+
+/// The key of exactly this version, else that of the greatest version of the program on that netid.
+pub(crate) fn key_of(
     index: &Ordered,
     prog: u32,
     vers: u32,
     netid: Netid,
     meter: &mut Meter,
-) -> Option<&'a Row>
-    requires tie { meter.old.tie ≡ slots.now.tie }
-    requires index_tie { meter.old.tie ≡ index.now.tie }
-    requires distinct { HasDistinctKeys slots.now.entries }
-    requires indexed { IsIndexed slots.now.entries index.now.entries }
-    ensures row { IsFoundAmong slots.now.entries (find_exact prog vers netid) (option_copied result) }
-    ensures cost { PaysAtMost meter.old meter.new (looks (length index.now.entries) + 1) }
-{
-    let key = index.find(rank(prog, netid, vers), meter)?;
-    let slot = slots.get(key, meter)?;
-    Some(slot.row.as_row())
-}
-
-/// The live row of exactly this version, else that of the greatest version of the program on that netid.
-pub(crate) fn find_row<'a>(
-    slots: &'a Pool<Slot>,
-    index: &Ordered,
-    prog: u32,
-    vers: u32,
-    netid: Netid,
-    meter: &mut Meter,
-) -> Option<&'a Row>
-    requires tie { meter.old.tie ≡ slots.now.tie }
-    requires index_tie { meter.old.tie ≡ index.now.tie }
-    requires distinct { HasDistinctKeys slots.now.entries }
-    requires indexed { IsIndexed slots.now.entries index.now.entries }
-    ensures row { IsFoundAmong slots.now.entries (find_row prog vers netid) (option_copied result) }
-    ensures cost { PaysAtMost meter.old meter.new (2 * looks (length index.now.entries) + 1) }
-{
-    let key = key_of(index, prog, vers, netid, meter)?;
-    let slot = slots.get(key, meter)?;
-    Some(slot.row.as_row())
-}
-
-/// The key of that row.
-fn key_of(index: &Ordered, prog: u32, vers: u32, netid: Netid, meter: &mut Meter) -> Option<usize>
+) -> Option<usize>
     requires { meter.old.tie ≡ index.now.tie }
     ensures key { result ≡ found_key prog vers netid index.now.entries }
     ensures rising { IsRising index.now.entries }
