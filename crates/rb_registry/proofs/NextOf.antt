@@ -141,12 +141,6 @@ module _ (prog vers after : ℕ) (netid : Netid) (small : vers < 2 ^ 32) where
   later_indexed entries index found d indexed is =
       later_under entries indexed.ranked d indexed.distinct ∙ ap (later_at after entries) (sym (is ∙ indexed.same (rank prog netid vers)))
 
-pub later_is : (after key : ℕ) (slot : Slot) → after < slot.added → later_of after key (Some slot) ≡ Some (slot.added, key)
-later_is after key slot later = let yes : nat_lt after slot.added ≡ true = grind (arith, nat_tests, later) in rw yes refl
-
-pub not_later_is : (after key : ℕ) (slot : Slot) → slot.added ≤ after → later_of after key (Some slot) ≡ None
-not_later_is after key slot upto = let no : nat_lt after slot.added ≡ false = grind (arith, nat_tests, upto) in rw no refl
-
 -- ---- the earlier of two
 
 first_least : (test : Slot → Bool) (least : ℕ) (entries : List (ℕ × Slot)) (first : ℕ × Slot) → AreInOrder least entries → find (λ e. test e.1) entries ≡ Some first → least ≤ first.1.added

@@ -8,7 +8,7 @@ use Rattle.rb_xdr.specs.Meter.{Meter}
 use Rattle.rb_xdr.specs.Ordered.{Ordered}
 use Rattle.rb_registry.specs.declared.slot.Slot.{Slot}
 use Rattle.rb_registry.specs.declared.row.Row.{Row}
-use Rattle.rb_registry.specs.Registry.{table_at, live_at, removals, Registry, rows_of, retained_count, StandsForChanges}
+use Rattle.rb_registry.specs.Registry.{table_at, removals, Registry, rows_of, retained_count, StandsForChanges}
 use Rattle.rb_registry.specs.Slots.{is_live_at, removed_by, is_dropped, held_in}
 use Rattle.rb_registry.specs.Rows.{Change, covers, has_place}
 use Rattle.rb_registry.specs.Index.{IsIndexed}

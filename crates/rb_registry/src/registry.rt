@@ -9,7 +9,7 @@ use crate::removal::Removal;
 use crate::row::{Row, Which, rank};
 use crate::slot::Slot;
 use crate::walk::{
-    drop_retained, has_key, key_of, least_removal, live_after, mark_covered, row_under,
+    NETIDS, drop_retained, has_key, key_of, least_removal, live_after, mark_on, row_under,
 };
 use arrayvec::ArrayVec;
 use rb_address::{Netid, Owner};
@@ -232,13 +232,15 @@ impl Registry {
         if !is_change_left(self.changes) {
             return false;
         }
-        let removed = mark_covered(
-            &mut self.slots,
-            &mut self.index,
-            self.changes,
-            &removal,
-            meter,
-        );
+        let stamp = self.changes;
+        let slots = &mut self.slots;
+        let index = &mut self.index;
+        let mut removed = 0;
+        'netids: for netid in NETIDS {
+            if mark_on(slots, index, stamp, &removal, netid, meter) {
+                removed += 1;
+            }
+        }
         if removed == 0 {
             return false;
         }

@@ -37,13 +37,7 @@ impl Registry {
     }
 
     /// The key of the row of the version that was added first, of those that a later change than this one added.
-    fn earliest_after(
-        &self,
-        prog: u32,
-        vers: u32,
-        after: u64,
-        meter: &mut Meter,
-    ) -> Option<usize>
+    fn earliest_after(&self, prog: u32, vers: u32, after: u64, meter: &mut Meter) -> Option<usize>
         requires { meter.old.tie ≡ self.now.tie }
         ensures key { result ≡ key_of (is_later_version prog vers after) self.now.entries }
         ensures cost { PaysAtMost meter.old meter.new (5 * looks (length (rows_of self.now)) + 5) }

@@ -6,8 +6,8 @@ ghost use Rattle.rb_xdr.specs.Ordered.{IsRising, looks};
 ghost use Rattle.rb_registry.specs.Removals.{change_of};
 ghost use Rattle.rb_registry.specs.Registry.{removals};
 ghost use Rattle.rb_registry.specs.Index.{rank_of, row_under, IsIndexed, IsSameBut, newest_key, found_key, with_marks_on};
-ghost use Rattle.rb_registry.specs.Costs.{mark_cost, mark_cost_on};
-ghost use Rattle.rb_registry.specs.Table.{AreStamped, count_going, with_marks, entries_left, count_retained, count_held, lesser_of, least_of, IsNextLive, count_left, PaysFor};
+ghost use Rattle.rb_registry.specs.Costs.{mark_cost_on};
+ghost use Rattle.rb_registry.specs.Table.{entries_left, count_retained, count_held, lesser_of, least_of, IsNextLive, count_left, PaysFor};
 
 use crate::listed::ListedRow;
 use crate::removal::Removal;
@@ -72,36 +72,6 @@ pub(crate) fn has_key(index: &Ordered, row: &Row, meter: &mut Meter) -> bool
     index.find(row.rank(), meter).is_some()
 }
 
-/// Marks each live row that the removal covers as removed by the next change, takes it out of the index, and says how
-/// many there were.
-pub(crate) fn mark_covered(
-    slots: &mut Pool<Slot>,
-    index: &mut Ordered,
-    stamp: u64,
-    removal: &Removal,
-    meter: &mut Meter,
-) -> usize
-    requires tie { meter.old.tie ≡ slots.old.tie }
-    requires index_tie { meter.old.tie ≡ index.old.tie }
-    requires number { stamp + 1 < 2 ^ 64 }
-    requires distinct { HasDistinctKeys slots.old.entries }
-    requires stamped { AreStamped stamp slots.old.entries }
-    requires indexed { IsIndexed slots.old.entries index.old.entries }
-    ensures removed { result ≡ count_going stamp (change_of removal.now) slots.old.entries }
-    ensures marks { slots.new ≡ with_marks stamp (change_of removal.now) slots.old }
-    ensures indexed { IsIndexed slots.new.entries index.new.entries }
-    ensures index { IsSameBut index.old index.new }
-    ensures cost { PaysAtMost meter.old meter.new (mark_cost removal.now index.old) }
-{
-    let mut removed = 0;
-    'netids: for netid in NETIDS {
-        if mark_on(slots, index, stamp, removal, netid, meter) {
-            removed += 1;
-        }
-    }
-    removed
-}
-
 pub(crate) const NETIDS: [Netid; 5] = [
     Netid::Tcp,
     Netid::Udp,
@@ -110,8 +80,9 @@ pub(crate) const NETIDS: [Netid; 5] = [
     Netid::Local,
 ];
 
-/// The same for the row on this netid, of which there is one at most.
-fn mark_on(
+/// Marks the live row on this netid, of which there is one at most, as removed by the next change if the removal covers
+/// it, takes it out of the index, and says whether it was there.
+pub(crate) fn mark_on(
     slots: &mut Pool<Slot>,
     index: &mut Ordered,
     stamp: u64,
