@@ -17,7 +17,7 @@ use Rattle.rb_registry.specs.Registry.{table_at}
 use Rattle.rb_registry.specs.Table.{AreStamped}
 use Rattle.rb_registry.specs.Index.{rank, rank_of, ranks, AreRanked, IsIndexed}
 use Rattle.rb_registry.specs.Order.{number_after, AreInOrder}
-use Rattle.rb_registry.specs.Versions.{is_version_now, versions_in, is_own_version, is_later_version, is_later_on, place_of, first_place, later_of, later_at, earlier_of, added_at}
+use Rattle.rb_registry.specs.Versions.{is_version_now, versions_in, is_own_version, is_later_version, is_later_on, place_of, first_place, later_at, earlier_of, added_at}
 use Rattle.rb_registry.proofs.InOrder.{after_more}
 use Rattle.rb_xdr.proofs.Walks.{apart, nothing_behind}
 use Rattle.rb_registry.proofs.Tables.{live_has_none}

@@ -12,7 +12,8 @@ use Rattle.rb_registry.specs.declared.row.Row.{Row}
 use Rattle.rb_registry.specs.declared.slot.Slot.{Slot}
 use Rattle.rb_registry.specs.Rows.{Change, covers}
 use Rattle.rb_registry.specs.Slots.{is_live_at, stays_at, slot_of, removed_by, is_dropped}
-use Rattle.rb_registry.specs.Table.{IsStamped, AreStamped, goes, with_mark, entries_with_marks, lesser_of, least_of, IsLeast}
+use Rattle.rb_registry.specs.Table.{IsStamped, AreStamped, lesser_of, least_of, IsLeast}
+use Rattle.rb_registry.proofs.Marked.{goes, with_mark, entries_with_marks}
 use Rattle.rb_registry.specs.Registry.{table_at, live_at, removals}
 
 -- ---- one slot

@@ -8,7 +8,8 @@ use Rattle.rb_address.specs.declared.netid.Netid.TheVariants.{Tcp}
 use Rattle.rb_registry.specs.declared.slot.Slot.{Slot}
 use Rattle.rb_registry.specs.Rows.{is_among}
 use Rattle.rb_address.specs.Netids.{is_netid}
-use Rattle.rb_registry.specs.Table.{with_mark, with_marks, entries_with_marks, count_retained, goes, count_going}
+use Rattle.rb_registry.specs.Table.{count_retained}
+use Rattle.rb_registry.proofs.Marked.{with_mark, with_marks, entries_with_marks, goes, count_going}
 use Rattle.rb_registry.specs.Index.{with_marks_where, marked_where}
 use Rattle.rb_registry.proofs.Counting.{removals-marked, none_counted, some_counted}
 use Rattle.rb_registry.proofs.Marks.{netids, is_one, none_marked, one_more, all_marked, ranks_and_retained, all_named, one_more_cost, looks_within, as_many, named_less}
