@@ -9,7 +9,8 @@ use Rattle.rb_xdr.specs.Pool.{value_at, without}
 use Rattle.rb_registry.specs.declared.slot.Slot.{Slot}
 use Rattle.rb_registry.specs.Rows.{Change, covers}
 use Rattle.rb_registry.specs.Slots.{is_dropped, removed_by}
-use Rattle.rb_registry.specs.Table.{AreStamped, goes, entries_with_marks, count_going, entries_left}
+use Rattle.rb_registry.specs.Table.{AreStamped, entries_left}
+use Rattle.rb_registry.proofs.Marked.{goes, entries_with_marks, count_going}
 use Rattle.rb_registry.specs.Registry.{removals}
 use Rattle.rb_registry.proofs.Tables.{live_has_none}
 

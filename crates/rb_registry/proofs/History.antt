@@ -13,7 +13,8 @@ use Rattle.rb_registry.specs.declared.row.Which.{Which}
 use Rattle.rb_registry.specs.Rows.{Change, covers, rpcb_prog}
 use Rattle.rb_registry.specs.Rows.Change.{Added, Removed}
 use Rattle.rb_registry.specs.Slots.{slot_of, removed_by, is_dropped, removal_of, slots_by, all_slots, slots_from}
-use Rattle.rb_registry.specs.Table.{IsStamped, AreStamped, with_mark, entries_with_marks, entries_left}
+use Rattle.rb_registry.specs.Table.{IsStamped, AreStamped, entries_left}
+use Rattle.rb_registry.proofs.Marked.{with_mark, entries_with_marks}
 use Rattle.rb_registry.specs.Registry.{AreOwn}
 use Rattle.rb_registry.proofs.Changes.{own_row, both}
 use Rattle.rb_xdr.proofs.PoolLemmas.{values_of-push}

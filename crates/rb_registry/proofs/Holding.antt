@@ -7,7 +7,8 @@ use Rattle.rb_registry.specs.declared.row.Row.{Row}
 use Rattle.rb_registry.specs.declared.slot.Slot.{Slot}
 use Rattle.rb_registry.specs.Rows.{Change}
 use Rattle.rb_registry.specs.Slots.{slot_of, row_charge, held_in}
-use Rattle.rb_registry.specs.Table.{AreStamped, goes, with_mark, entries_with_marks}
+use Rattle.rb_registry.specs.Table.{AreStamped}
+use Rattle.rb_registry.proofs.Marked.{goes, with_mark, entries_with_marks}
 use Rattle.rb_xdr.proofs.PoolLemmas.{values_of-push}
 
 abbrev pub charge : Slot → ℕ

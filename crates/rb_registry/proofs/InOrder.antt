@@ -8,7 +8,8 @@ use Rattle.rb_registry.specs.declared.slot.Slot.{Slot}
 use Rattle.rb_registry.specs.Rows.{Change}
 use Rattle.rb_registry.specs.Slots.{slot_of}
 use Rattle.rb_registry.specs.Order.{number_after, AreInOrder, count_own}
-use Rattle.rb_registry.specs.Table.{AreStamped, goes, with_mark, entries_with_marks}
+use Rattle.rb_registry.specs.Table.{AreStamped}
+use Rattle.rb_registry.proofs.Marked.{goes, with_mark, entries_with_marks}
 
 -- ---- numbers
 

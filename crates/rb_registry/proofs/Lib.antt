@@ -1,5 +1,6 @@
 pub mod Removing
 pub mod Marking
+pub mod Marked
 pub mod Tables
 pub mod Changes
 pub mod Finds

@@ -19,7 +19,8 @@ use Rattle.rb_registry.specs.Rows.{Change, rpcb_prog, covers, is_among, may_remo
 use Rattle.rb_address.specs.Netids.{is_netid}
 use Rattle.rb_registry.specs.Rows.Change.{Removed}
 use Rattle.rb_registry.specs.Registry.{Registry, removals, live_at, rows_of}
-use Rattle.rb_registry.specs.Table.{AreStamped, entries_with_marks, count_retained}
+use Rattle.rb_registry.specs.Table.{AreStamped, count_retained}
+use Rattle.rb_registry.proofs.Marked.{entries_with_marks}
 use Rattle.rb_registry.specs.Index.{rank, rank_of, ranks, AreRanked, IsIndexed, goes_where, mark_where, marked_where}
 use Rattle.rb_registry.specs.Costs.{count_named, unset_cost, removal_cost}
 use Rattle.rb_registry.proofs.Tables.{live_has_none, live_and_retained}

@@ -17,7 +17,7 @@ use Rattle.rb_registry.specs.Registry.{table_at}
 use Rattle.rb_registry.specs.Table.{AreStamped}
 use Rattle.rb_registry.specs.Index.{rank, rank_of, ranks, AreRanked, IsIndexed}
 use Rattle.rb_registry.specs.Order.{number_after, AreInOrder}
-use Rattle.rb_registry.specs.Versions.{is_version_now, versions_in, is_own_version, is_later_version, is_later_on, place_of, first_place, earlier_of, added_at}
+use Rattle.rb_registry.specs.Versions.{is_version_now, versions_in, is_own_version, is_later_version, is_later_on, place_of, first_place, later_at, earlier_of, added_at}
 use Rattle.rb_registry.proofs.InOrder.{after_more}
 use Rattle.rb_xdr.proofs.Walks.{apart, nothing_behind}
 use Rattle.rb_registry.proofs.Tables.{live_has_none}
@@ -84,15 +84,6 @@ module _ (prog vers : ℕ) where
 
 -- ---- a row on a netid, by its rank
 
--- the row under a key, if it was added later
-abbrev pub later_of : ℕ → ℕ → Option Slot → Option (ℕ × ℕ)
-later_of after key None = None
-later_of after key (Some slot) = cond (nat_lt after slot.added) (Some (slot.added, key)) None
-
-abbrev pub later_at : ℕ → List (ℕ × Slot) → Option ℕ → Option (ℕ × ℕ)
-later_at after entries None = None
-later_at after entries (Some key) = later_of after key (value_at entries key)
-
 module _ (prog vers after : ℕ) (netid : Netid) (small : vers < 2 ^ 32) where
   test_is : (slot : Slot) → slot.row.vers < 2 ^ 32
       → is_later_on prog vers after netid slot ≡ ((is_none slot.removed && eqb (rank_of slot.row) (rank prog netid vers)) && nat_lt after slot.added)
@@ -149,12 +140,6 @@ module _ (prog vers after : ℕ) (netid : Netid) (small : vers < 2 ^ 32) where
       → found ≡ value_at index (rank prog netid vers) → first_place (is_later_on prog vers after netid) entries ≡ later_at after entries found
   later_indexed entries index found d indexed is =
       later_under entries indexed.ranked d indexed.distinct ∙ ap (later_at after entries) (sym (is ∙ indexed.same (rank prog netid vers)))
-
-pub later_is : (after key : ℕ) (slot : Slot) → after < slot.added → later_of after key (Some slot) ≡ Some (slot.added, key)
-later_is after key slot later = let yes : nat_lt after slot.added ≡ true = grind (arith, nat_tests, later) in rw yes refl
-
-pub not_later_is : (after key : ℕ) (slot : Slot) → slot.added ≤ after → later_of after key (Some slot) ≡ None
-not_later_is after key slot upto = let no : nat_lt after slot.added ≡ false = grind (arith, nat_tests, upto) in rw no refl
 
 -- ---- the earlier of two
 

@@ -20,7 +20,7 @@ use Rattle.rb_address.specs.Netids.{is_netid}
 use Rattle.rb_registry.specs.Slots.{is_live_at, slot_of, is_dropped, removed_by}
 use Rattle.rb_registry.specs.Registry.{table_at, live_at}
 use Rattle.rb_registry.specs.Table.{AreStamped, entries_left}
-use Rattle.rb_registry.specs.Index.{netid_number, rank, rank_of, ranks, AreRanked, IsIndexed, key_from, newest_key}
+use Rattle.rb_registry.specs.Index.{netid_number, rank, rank_of, ranks, AreRanked, IsIndexed, key_from, newest_key, row_under}
 use Rattle.rb_registry.proofs.Tables.{live_has_none}
 use Rattle.rb_registry.proofs.Searching.{is_live_row, none_found, row_found}
 use Rattle.rb_registry.proofs.FoundLaws.{version_upto, greatest_there}
@@ -175,10 +175,6 @@ unfolding rank
 rank_between prog netid number from upto = (omega arith, omega arith)
 
 -- ---- the row that is found
-
-abbrev pub row_under : List (ℕ × Slot) → Option ℕ → Option Row
-row_under entries None = None
-row_under entries (Some key) = option_map (λ (slot : Slot). slot.row) (value_at entries key)
 
 module _ (n prog : ℕ) (netid : Netid) (entries : List (ℕ × Slot)) (distinct : HasDistinctKeys entries) (stamped : AreStamped n entries) (index : List (ℕ × ℕ)) (indexed : IsIndexed entries index) where
   pub exact_under : (vers : ℕ) → vers < 2 ^ 32 → row_under entries (value_at index (rank prog netid vers)) ≡ find_exact prog vers netid (live_at n entries)

@@ -9,7 +9,8 @@ use Rattle.rb_registry.specs.declared.row.Row.{Row}
 use Rattle.rb_registry.specs.declared.slot.Slot.{Slot}
 use Rattle.rb_registry.specs.Rows.{Change, is_of_key, is_change_left, has_place, removes_some}
 use Rattle.rb_registry.specs.Slots.{slot_of}
-use Rattle.rb_registry.specs.Table.{goes, AreStamped, entries_with_marks, entries_left, takes, stamp_named}
+use Rattle.rb_registry.specs.Table.{AreStamped, entries_left, takes, stamp_named}
+use Rattle.rb_registry.proofs.Marked.{goes, entries_with_marks}
 use Rattle.rb_registry.specs.Registry.{Registry, retained_count, rows_of, table_of}
 use Rattle.rb_registry.specs.Cursors.{GoesOn}
 use Rattle.rb_registry.proofs.Tables.{set_before, marked_table_before, trimmed_table, past_named, past_now, live_and_retained, any_goes, none_marked}

@@ -13,7 +13,8 @@ use Rattle.rb_registry.specs.declared.row.Which.{Which}
 use Rattle.rb_registry.specs.Rows.{Change, covers, left_by, live}
 use Rattle.rb_registry.specs.Rows.Change.{Added, Removed}
 use Rattle.rb_registry.specs.Slots.{slot_of, is_dropped, slots_from}
-use Rattle.rb_registry.specs.Table.{AreStamped, with_mark, entries_left}
+use Rattle.rb_registry.specs.Table.{AreStamped, entries_left}
+use Rattle.rb_registry.proofs.Marked.{with_mark}
 use Rattle.rb_registry.specs.Registry.{Registry, Reaches, StandsForChanges, slots_of, rows_of, rows_at, table_of, retained_count}
 use Rattle.rb_registry.proofs.Changes.{left_by-added, left_by-removed, own_stay}
 use Rattle.rb_xdr.proofs.PoolLemmas.{values_of-push}

@@ -12,7 +12,8 @@ use Rattle.rb_registry.specs.declared.row.Row.{Row}
 use Rattle.rb_registry.specs.declared.slot.Slot.{Slot}
 use Rattle.rb_registry.specs.Rows.{Change, covers}
 use Rattle.rb_registry.specs.Slots.{is_live_at, stays_at, slot_of, removed_by, is_dropped}
-use Rattle.rb_registry.specs.Table.{IsStamped, AreStamped, goes, with_mark, entries_with_marks, lesser_of, least_of, IsLeast}
+use Rattle.rb_registry.specs.Table.{IsStamped, AreStamped, lesser_of, least_of, IsLeast}
+use Rattle.rb_registry.proofs.Marked.{goes, with_mark, entries_with_marks}
 use Rattle.rb_registry.specs.Registry.{table_at, live_at, removals}
 
 -- ---- one slot
@@ -104,20 +105,6 @@ module _ (stamp : ℕ) (change : Change) (slot : Slot) (h : IsStamped stamp slot
     | false ↦ IsStamped-later stamp slot h
   ]
 
--- the mark as it is written
-pub marked_is : (stamp : ℕ) (change : Change) (slot gone : Slot) → gone ≡ slot → is_live_at stamp slot ≡ true → covers slot.row change ≡ true
-    → record { row = gone.row; added = gone.added; removed = Some (stamp + 1) } ≡ with_mark stamp change slot
-marked_is stamp change slot gone same live covered = rw (same, live, covered) refl
-
-pub goes_is : (stamp : ℕ) (change : Change) (slot : Slot) → is_live_at stamp slot ≡ true → covers slot.row change ≡ true → goes stamp change slot ≡ true
-goes_is stamp change slot live covered = rw (live, covered) refl
-
-pub dead_stays : (stamp : ℕ) (change : Change) (slot : Slot) → is_live_at stamp slot ≡ false → goes stamp change slot ≡ false
-dead_stays stamp change slot dead = rw dead refl
-
-pub not_covered_stays : (stamp : ℕ) (change : Change) (slot : Slot) → is_live_at stamp slot ≡ true → covers slot.row change ≡ false → goes stamp change slot ≡ false
-not_covered_stays stamp change slot live not_covered = rw (live, not_covered) refl
-
 pub not_marked : (stamp : ℕ) (change : Change) (slot : Slot) → goes stamp change slot ≡ false → with_mark stamp change slot ≡ slot
 not_marked stamp change slot stays = rw stays refl
 
@@ -157,9 +144,6 @@ table_at-push n key slot (e ∷ rest) =
     append_if : (b : Bool) (xs ys : List (ℕ × Row)) → cond b ((e.0, e.1.row) ∷ (xs ++ ys)) (xs ++ ys) ≡ cond b ((e.0, e.1.row) ∷ xs) xs ++ ys
     append_if true xs ys = refl
     append_if false xs ys = refl
-
-pub live_first : (n key : ℕ) (slot : Slot) (rest : List (ℕ × Slot)) → is_live_at n slot ≡ true → table_at n ((key, slot) ∷ rest) ≡ (key, slot.row) ∷ table_at n rest
-live_first n key slot rest live = rw live refl
 
 -- no row is added or removed between two moments
 pub table_on : (stamp n : ℕ) (entries : List (ℕ × Slot)) → AreStamped stamp entries → stamp ≤ n → table_at n entries ≡ table_at stamp entries

@@ -112,23 +112,23 @@ module _ (kept inside : Registry) (cursor place : Option ℕ) (same : inside ≡
   stamped : AreStamped kept.stamp kept.entries
   stamped = subst (λ (r : Registry). AreStamped r.stamp r.entries) same are_stamped
 
-  come : versions_in prog vers (to_come inside.entries place) ≡ filter (λ e. is_of_version prog vers e.1) (to_come (table_of kept kept.stamp) cursor)
+  come : versions_in prog vers (to_come kept.entries place) ≡ filter (λ e. is_of_version prog vers e.1) (to_come (table_of kept kept.stamp) cursor)
   come =
       let there : versions_in prog vers (to_come kept.entries cursor) ≡ filter (λ e. is_of_version prog vers e.1) (to_come (table_of kept kept.stamp) cursor) =
       versions_table kept.stamp prog vers (to_come kept.entries cursor) (stamped_to_come kept.stamp kept.entries cursor stamped)
       ∙ ap (filter (λ e. is_of_version prog vers e.1)) (to_come_at kept.stamp cursor kept.entries d h.place) in
-      rw (same, at) there
+      ap (λ (p : Option ℕ). versions_in prog vers (to_come kept.entries p)) at ∙ there
 
-  left_is : versions_left prog vers kept cursor ≡ values_of (versions_in prog vers (to_come inside.entries place))
+  left_is : versions_left prog vers kept cursor ≡ values_of (versions_in prog vers (to_come kept.entries place))
   left_is =
       ap (filter (is_of_version prog vers)) (rows_behind_it kept d cursor h)
       ∙ sym (values_of-filter (is_of_version prog vers) (to_come (table_of kept kept.stamp) cursor))
       ∙ ap (λ (es : List (ℕ × Row)). values_of es) (sym come)
 
-  pub none_left : versions_in prog vers (to_come inside.entries place) ≡ [] → versions_left prog vers kept cursor ≡ []
+  pub none_left : versions_in prog vers (to_come kept.entries place) ≡ [] → versions_left prog vers kept cursor ≡ []
   none_left none = left_is ∙ ap (λ (es : List (ℕ × Row)). values_of es) none
 
-  module _ (key : ℕ) (row : Row) (found : versions_in prog vers (to_come inside.entries place) ≡ (key, row) ∷ versions_in prog vers (behind inside.entries key)) (behind_it : Option ℕ) (is_key : behind_it ≡ Some key) where
+  module _ (key : ℕ) (row : Row) (found : versions_in prog vers (to_come kept.entries place) ≡ (key, row) ∷ versions_in prog vers (behind kept.entries key)) (behind_it : Option ℕ) (is_key : behind_it ≡ Some key) where
     after_it : value_at (to_come (table_of kept kept.stamp) cursor) key ≡ Some row
     after_it = first_there (λ e. is_of_version prog vers e.1) (to_come (table_of kept kept.stamp) cursor) key row _ (distinct_to_come (table_of kept kept.stamp) cursor (distinct_at kept.stamp kept.entries d)) (sym come ∙ found)
 
@@ -151,7 +151,7 @@ module _ (kept inside : Registry) (cursor place : Option ℕ) (same : inside ≡
 
 -- the versions that are left are this row and those that the next cursor leaves
 pub row_and_left : (kept inside : Registry) (cursor place : Option ℕ) (same : inside ≡ kept) (at : place ≡ cursor) (prog vers : ℕ) (distinct : HasDistinctKeys inside.entries) (are_stamped : AreStamped inside.stamp inside.entries) (h : StandsIn kept kept.stamp cursor)
-    → (key : ℕ) (row : Row) → versions_in prog vers (to_come inside.entries place) ≡ (key, row) ∷ versions_in prog vers (behind inside.entries key) → (behind_it : Option ℕ) → behind_it ≡ Some key
+    → (key : ℕ) (row : Row) → versions_in prog vers (to_come kept.entries place) ≡ (key, row) ∷ versions_in prog vers (behind kept.entries key) → (behind_it : Option ℕ) → behind_it ≡ Some key
     → versions_left prog vers kept cursor ≡ row ∷ versions_left prog vers kept behind_it
 row_and_left kept inside cursor place same at prog vers distinct are_stamped h key row found behind_it is_key =
     let stands = stands_there kept inside cursor place same at prog vers distinct are_stamped h key row found behind_it is_key in

@@ -35,6 +35,3 @@ removal_cost count = 2 * looks count + count + 2
 abbrev pub mark_cost_on : Netid → Removal → Ordered → ℕ
 mark_cost_on netid removal index =
     if is_among netid removal.which then removal_cost (length index.entries) else 0
-
-abbrev pub mark_cost : Removal → Ordered → ℕ
-mark_cost removal index = count_named removal.which * removal_cost (length index.entries)

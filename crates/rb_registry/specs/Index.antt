@@ -1,5 +1,5 @@
 -- The index of the live rows, by rank.
-use Rattle.std.specs.Prelude.{◌≡◌, ◌<◌, ℕ, ◌+◌, ◌-◌, ◌*◌, ◌^◌, nat_le, Bool, ◌&&◌, is_none, if◌then◌else◌, List, [], ◌∷◌, length, map, Option, Some, None}
+use Rattle.std.specs.Prelude.{◌≡◌, ◌<◌, ℕ, ◌+◌, ◌-◌, ◌*◌, ◌^◌, nat_le, Bool, ◌&&◌, is_none, if◌then◌else◌, List, [], ◌∷◌, length, map, Option, Some, None, option_map}
 use Rattle.std.specs.Option.{option_or}
 use Rattle.rb_xdr.specs.Pool.{Pool, value_at, HasDistinctKeys}
 use Rattle.rb_xdr.specs.Ordered.{Ordered, last_upto}
@@ -59,6 +59,11 @@ newest_key prog netid index = key_from (rank prog netid 0) (last_upto (rank prog
 -- that of the exact version, else of the greatest one
 abbrev pub found_key : ℕ → ℕ → Netid → List (ℕ × ℕ) → Option ℕ
 found_key prog vers netid index = option_or (value_at index (rank prog netid vers)) (newest_key prog netid index)
+
+-- the row under such a key
+abbrev pub row_under : List (ℕ × Slot) → Option ℕ → Option Row
+row_under entries None = None
+row_under entries (Some key) = option_map (λ (slot : Slot). slot.row) (value_at entries key)
 
 -- ---- a removal, netid by netid
 

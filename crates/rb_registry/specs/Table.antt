@@ -1,16 +1,16 @@
 -- What calls make of the table of rows with their changes.
-use Rattle.std.specs.Prelude.{◌≡◌, ◌<◌, ◌≤◌, ℕ, ◌+◌, ◌*◌, ◌^◌, nat_lt, min, max, Bool, not, ◌&&◌, if◌then◌else◌, List, [], ◌∷◌, ◌++◌, length, map, filter, fold, count_by, All, Contains, Option, Some, None, unwrap_or, IfSome}
+use Rattle.std.specs.Prelude.{◌≡◌, ◌<◌, ◌≤◌, ℕ, ◌+◌, ◌*◌, ◌^◌, nat_lt, min, max, Bool, not, ◌&&◌, if◌then◌else◌, List, [], ◌∷◌, ◌++◌, length, filter, fold, All, Contains, Option, Some, None, unwrap_or, IfSome}
 use Rattle.std.specs.Map.{values_of}
 use Rattle.std.specs.Borrow.{Bor}
-use Rattle.rb_xdr.specs.Pool.{Pool, HasDistinctKeys}
+use Rattle.rb_xdr.specs.Pool.{HasDistinctKeys}
 use Rattle.rb_xdr.specs.Places.{to_come}
 use Rattle.rb_xdr.specs.Meter.{Meter}
 use Rattle.rb_xdr.specs.Ordered.{Ordered}
 use Rattle.rb_registry.specs.declared.slot.Slot.{Slot}
 use Rattle.rb_registry.specs.declared.row.Row.{Row}
-use Rattle.rb_registry.specs.Registry.{table_at, live_at, removals, Registry, rows_of, retained_count, StandsForChanges}
-use Rattle.rb_registry.specs.Slots.{is_live_at, removed_by, is_dropped, held_in}
-use Rattle.rb_registry.specs.Rows.{Change, covers, has_place}
+use Rattle.rb_registry.specs.Registry.{table_at, removals, Registry, rows_of, retained_count, StandsForChanges}
+use Rattle.rb_registry.specs.Slots.{removed_by, is_dropped, held_in}
+use Rattle.rb_registry.specs.Rows.{Change, has_place}
 use Rattle.rb_registry.specs.Index.{IsIndexed}
 use Rattle.rb_registry.specs.Order.{AreInOrder, count_own}
 
@@ -49,28 +49,7 @@ pub record IsTable (stamp floor limit held retained : ℕ) (entries : List (ℕ 
   pub ordered : AreInOrder 0 entries
   pub few_own : count_own entries ≤ 12
 
--- Among the live ones of these rows, this is what is found, whichever stamp they have.
-abbrev pub IsFoundAmong : List (ℕ × Slot) → (List Row → Option Row) → Option Row → Type 0
-IsFoundAmong entries find found = (stamp : ℕ) → AreStamped stamp entries → found ≡ find (live_at stamp entries)
-
--- ---- what a removal marks, and what a trim drops
-
--- live, and covered by the next change
-abbrev pub goes : ℕ → Change → Slot → Bool
-goes stamp change slot = is_live_at stamp slot && covers slot.row change
-
--- a slot after the next change, which removes its row if that is live and it covers it
-abbrev pub with_mark : ℕ → Change → Slot → Slot
-with_mark stamp change slot = if goes stamp change slot then record slot { removed = Some (stamp + 1) } else slot
-
-abbrev pub entries_with_marks : ℕ → Change → List (ℕ × Slot) → List (ℕ × Slot)
-entries_with_marks stamp change entries = map (λ e. (e.0, with_mark stamp change e.1)) entries
-
-abbrev pub count_going : ℕ → Change → List (ℕ × Slot) → ℕ
-count_going stamp change entries = count_by (goes stamp change) (values_of entries)
-
-abbrev pub with_marks : ℕ → Change → Pool Slot → Pool Slot
-with_marks stamp change pool = record pool { entries = entries_with_marks stamp change pool.entries }
+-- ---- what a trim drops
 
 abbrev pub entries_left : Option ℕ → List (ℕ × Slot) → List (ℕ × Slot)
 entries_left oldest entries = filter (λ e. not (is_dropped oldest e.1)) entries

@@ -75,6 +75,15 @@ place_of e = (e.1.added, e.0)
 abbrev pub first_place : (Slot → Bool) → List (ℕ × Slot) → Option (ℕ × ℕ)
 first_place test entries = option_map place_of (find (λ e. test e.1) entries)
 
+-- the row under a key, if a later change added it
+abbrev pub later_of : ℕ → ℕ → Option Slot → Option (ℕ × ℕ)
+later_of after key None = None
+later_of after key (Some slot) = if nat_lt after slot.added then Some (slot.added, key) else None
+
+abbrev pub later_at : ℕ → List (ℕ × Slot) → Option ℕ → Option (ℕ × ℕ)
+later_at after entries None = None
+later_at after entries (Some key) = later_of after key (value_at entries key)
+
 -- the one of two that was added by the earlier change
 abbrev pub earlier_of : Option (ℕ × ℕ) → Option (ℕ × ℕ) → Option (ℕ × ℕ)
 earlier_of None other = other

@@ -6,11 +6,10 @@ use crate::cursor::Cursor;
 use crate::fault::RegistryFault;
 use crate::listed::ListedRow;
 use crate::removal::Removal;
-use crate::row::{Row, Which};
+use crate::row::{Row, Which, rank};
 use crate::slot::Slot;
-use crate::versions::next_of;
 use crate::walk::{
-    drop_retained, find_exact, find_row, has_key, least_removal, live_after, mark_covered,
+    NETIDS, drop_retained, has_key, key_of, least_removal, live_after, mark_on, row_under,
 };
 use arrayvec::ArrayVec;
 use rb_address::{Netid, Owner};
@@ -33,9 +32,9 @@ const TOO_MANY: usize = 1 << 55;
 /// changes from the floor on.
 #[derive(Drop)]
 pub struct Registry {
-    slots: Pool<Slot>,
+    pub(crate) slots: Pool<Slot>,
     /// The keys of the live rows, by rank.
-    index: Ordered,
+    pub(crate) index: Ordered,
     changes: u64,
     floor: u64,
     held: u64,
@@ -233,13 +232,15 @@ impl Registry {
         if !is_change_left(self.changes) {
             return false;
         }
-        let removed = mark_covered(
-            &mut self.slots,
-            &mut self.index,
-            self.changes,
-            &removal,
-            meter,
-        );
+        let stamp = self.changes;
+        let slots = &mut self.slots;
+        let index = &mut self.index;
+        let mut removed = 0;
+        'netids: for netid in NETIDS {
+            if mark_on(slots, index, stamp, &removal, netid, meter) {
+                removed += 1;
+            }
+        }
         if removed == 0 {
             return false;
         }
@@ -256,7 +257,8 @@ impl Registry {
         ensures found { option_copied result ≡ find_row prog vers netid (rows_of self.now) }
         ensures cost { PaysAtMost meter.old meter.new (2 * looks self.now.limit + 1) }
     {
-        find_row(&self.slots, &self.index, prog, vers, netid, meter)
+        let key = key_of(&self.index, prog, vers, netid, meter);
+        row_under(&self.slots, key, meter)
     }
 
     /// The live row of exactly this version of the program on the netid, or `None` if there is none (RFC 1833
@@ -266,7 +268,8 @@ impl Registry {
         ensures found { option_copied result ≡ find_exact prog vers netid (rows_of self.now) }
         ensures cost { PaysAtMost meter.old meter.new (looks self.now.limit + 1) }
     {
-        find_exact(&self.slots, &self.index, prog, vers, netid, meter)
+        let key = self.index.find(rank(prog, netid, vers), meter);
+        row_under(&self.slots, key, meter)
     }
 
     /// How many live rows there are, the own rows included.
@@ -401,7 +404,9 @@ impl Registry {
         ensures end { IfNone result (versions_left prog vers self.now cursor ≡ []) }
         ensures cost { PaysAtMost meter.old meter.new (version_cost self.now) }
     {
-        match next_of(&self.slots, &self.index, prog, vers, cursor.key(), meter) {
+        // The place needs what the table is between two calls.
+        let _ = &self.slots;
+        match self.version_after(prog, vers, cursor.key(), meter) {
             Some((key, row)) => Some((Cursor::behind(key), row)),
             None => None,
         }

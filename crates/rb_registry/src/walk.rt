@@ -4,11 +4,10 @@ ghost use Rattle.rb_xdr.specs.Meter.{Pays, PaysAtMost};
 ghost use Rattle.rb_xdr.specs.Pool.{value_at, HasDistinctKeys};
 ghost use Rattle.rb_xdr.specs.Ordered.{IsRising, looks};
 ghost use Rattle.rb_registry.specs.Removals.{change_of};
-ghost use Rattle.rb_registry.specs.Rows.{find_exact, find_row};
 ghost use Rattle.rb_registry.specs.Registry.{removals};
-ghost use Rattle.rb_registry.specs.Index.{rank_of, IsIndexed, IsSameBut, newest_key, found_key, with_marks_on};
-ghost use Rattle.rb_registry.specs.Costs.{mark_cost, mark_cost_on};
-ghost use Rattle.rb_registry.specs.Table.{AreStamped, IsFoundAmong, count_going, with_marks, entries_left, count_retained, count_held, lesser_of, least_of, IsNextLive, count_left, PaysFor};
+ghost use Rattle.rb_registry.specs.Index.{rank_of, row_under, IsIndexed, IsSameBut, newest_key, found_key, with_marks_on};
+ghost use Rattle.rb_registry.specs.Costs.{mark_cost_on};
+ghost use Rattle.rb_registry.specs.Table.{entries_left, count_retained, count_held, lesser_of, least_of, IsNextLive, count_left, PaysFor};
 
 use crate::listed::ListedRow;
 use crate::removal::Removal;
@@ -17,50 +16,28 @@ use crate::slot::Slot;
 use rb_address::Netid;
 use rb_xdr::{Meter, Ordered, Pool};
 
-/// The live row of exactly this version.
-pub(crate) fn find_exact<'a>(
+/// The row under a key that was found in the index.
+pub(crate) fn row_under<'a>(
     slots: &'a Pool<Slot>,
+    key: Option<usize>,
+    meter: &mut Meter,
+) -> Option<&'a Row>
+    requires { meter.old.tie ≡ slots.now.tie }
+    ensures row { option_copied result ≡ row_under slots.now.entries key }
+    ensures cost { PaysAtMost meter.old meter.new 1 }
+{
+    let slot = slots.get(key?, meter)?;
+    Some(slot.row.as_row())
+}
+
+/// The key of exactly this version, else that of the greatest version of the program on that netid.
+pub(crate) fn key_of(
     index: &Ordered,
     prog: u32,
     vers: u32,
     netid: Netid,
     meter: &mut Meter,
-) -> Option<&'a Row>
-    requires tie { meter.old.tie ≡ slots.now.tie }
-    requires index_tie { meter.old.tie ≡ index.now.tie }
-    requires distinct { HasDistinctKeys slots.now.entries }
-    requires indexed { IsIndexed slots.now.entries index.now.entries }
-    ensures row { IsFoundAmong slots.now.entries (find_exact prog vers netid) (option_copied result) }
-    ensures cost { PaysAtMost meter.old meter.new (looks (length index.now.entries) + 1) }
-{
-    let key = index.find(rank(prog, netid, vers), meter)?;
-    let slot = slots.get(key, meter)?;
-    Some(slot.row.as_row())
-}
-
-/// The live row of exactly this version, else that of the greatest version of the program on that netid.
-pub(crate) fn find_row<'a>(
-    slots: &'a Pool<Slot>,
-    index: &Ordered,
-    prog: u32,
-    vers: u32,
-    netid: Netid,
-    meter: &mut Meter,
-) -> Option<&'a Row>
-    requires tie { meter.old.tie ≡ slots.now.tie }
-    requires index_tie { meter.old.tie ≡ index.now.tie }
-    requires distinct { HasDistinctKeys slots.now.entries }
-    requires indexed { IsIndexed slots.now.entries index.now.entries }
-    ensures row { IsFoundAmong slots.now.entries (find_row prog vers netid) (option_copied result) }
-    ensures cost { PaysAtMost meter.old meter.new (2 * looks (length index.now.entries) + 1) }
-{
-    let key = key_of(index, prog, vers, netid, meter)?;
-    let slot = slots.get(key, meter)?;
-    Some(slot.row.as_row())
-}
-
-/// The key of that row.
-fn key_of(index: &Ordered, prog: u32, vers: u32, netid: Netid, meter: &mut Meter) -> Option<usize>
+) -> Option<usize>
     requires { meter.old.tie ≡ index.now.tie }
     ensures key { result ≡ found_key prog vers netid index.now.entries }
     ensures rising { IsRising index.now.entries }
@@ -95,36 +72,6 @@ pub(crate) fn has_key(index: &Ordered, row: &Row, meter: &mut Meter) -> bool
     index.find(row.rank(), meter).is_some()
 }
 
-/// Marks each live row that the removal covers as removed by the next change, takes it out of the index, and says how
-/// many there were.
-pub(crate) fn mark_covered(
-    slots: &mut Pool<Slot>,
-    index: &mut Ordered,
-    stamp: u64,
-    removal: &Removal,
-    meter: &mut Meter,
-) -> usize
-    requires tie { meter.old.tie ≡ slots.old.tie }
-    requires index_tie { meter.old.tie ≡ index.old.tie }
-    requires number { stamp + 1 < 2 ^ 64 }
-    requires distinct { HasDistinctKeys slots.old.entries }
-    requires stamped { AreStamped stamp slots.old.entries }
-    requires indexed { IsIndexed slots.old.entries index.old.entries }
-    ensures removed { result ≡ count_going stamp (change_of removal.now) slots.old.entries }
-    ensures marks { slots.new ≡ with_marks stamp (change_of removal.now) slots.old }
-    ensures indexed { IsIndexed slots.new.entries index.new.entries }
-    ensures index { IsSameBut index.old index.new }
-    ensures cost { PaysAtMost meter.old meter.new (mark_cost removal.now index.old) }
-{
-    let mut removed = 0;
-    'netids: for netid in NETIDS {
-        if mark_on(slots, index, stamp, removal, netid, meter) {
-            removed += 1;
-        }
-    }
-    removed
-}
-
 pub(crate) const NETIDS: [Netid; 5] = [
     Netid::Tcp,
     Netid::Udp,
@@ -133,8 +80,9 @@ pub(crate) const NETIDS: [Netid; 5] = [
     Netid::Local,
 ];
 
-/// The same for the row on this netid, of which there is one at most.
-fn mark_on(
+/// Marks the live row on this netid, of which there is one at most, as removed by the next change if the removal covers
+/// it, takes it out of the index, and says whether it was there.
+pub(crate) fn mark_on(
     slots: &mut Pool<Slot>,
     index: &mut Ordered,
     stamp: u64,

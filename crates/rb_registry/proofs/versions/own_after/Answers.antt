@@ -11,7 +11,7 @@ rows-init c = record {
   ordered = in_order_to_come c.args.start c.args.slots.now.entries c.requires.ordered;
   tie = refl;
   rises = omega arith;
-  steps = omega (arith, own_to_come c.args.start c.args.slots.now.entries);
+  steps = omega (arith, own_to_come c.args.start c.args.slots.now.entries, c.requires.few);
 }
 
 pub returns-then-slot-gt0-clause-none : goal.returns-then-slot-gt0-clause-none

@@ -14,7 +14,7 @@ invariant-rows l = record {
   ordered : AreInOrder 0 (to_come l.slots.entries l.place);
   tie : l.meter.tie ≡ l.fn.meter.tie;
   rises : l.fn.meter.steps ≤ l.meter.steps;
-  steps : l.meter.steps + 2 * count_own (to_come l.slots.entries l.place) ≤ l.fn.meter.steps + 2 * count_own l.slots.entries;
+  steps : l.meter.steps + 2 * count_own (to_come l.slots.entries l.place) ≤ l.fn.meter.steps + 24;
 }
 
 abbrev pub decreases-rows : goal.decreases-rows

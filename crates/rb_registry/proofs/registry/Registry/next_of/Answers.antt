@@ -1,6 +1,3 @@
-use Rattle.std.proofs.Common.{ℕ, ap, arith}
-use Rattle.rb_xdr.specs.Ordered.{looks}
-use Rattle.rb_registry.proofs.Marks.{as_many}
 use Rattle.rb_registry.proofs.VersionsLeft.{none_left, row_and_left, stands_there, passes_more, is_within}
 use Rattle.rb_registry.proofs.registry.Registry.next_of.Goals as goal
 
@@ -18,17 +15,3 @@ returns-in-Some-clause-within c = is_within _ _ _ _ c.self.view_is c.key.ensures
 
 pub returns-in-None-clause-end : goal.returns-in-None-clause-end
 returns-in-None-clause-end c = none_left _ _ _ _ c.self.view_is c.key.ensures c.args.prog c.args.vers c.self.invariant.distinct c.self.invariant.stamped c.requires.place c.in-None.ensures.next
-
-pub returns-in-Some-clause-cost : goal.returns-in-Some-clause-cost
-returns-in-Some-clause-cost c =
-    let rows = as_many c.self.inside.changes c.self.inside.slots.entries c.self.inside.index.entries c.self.invariant.indexed c.self.invariant.stamped in
-    let same = ap (λ (n : ℕ). looks n) rows in
-    let cost = c.next_of.ensures.cost in
-    record { rises = cost.rises; steps = rw (← c.self.view_is) (omega (arith, same, cost.steps, c.self.invariant.few_own)); tie = cost.tie }
-
-pub returns-in-None-clause-cost : goal.returns-in-None-clause-cost
-returns-in-None-clause-cost c =
-    let rows = as_many c.self.inside.changes c.self.inside.slots.entries c.self.inside.index.entries c.self.invariant.indexed c.self.invariant.stamped in
-    let same = ap (λ (n : ℕ). looks n) rows in
-    let cost = c.next_of.ensures.cost in
-    record { rises = cost.rises; steps = rw (← c.self.view_is) (omega (arith, same, cost.steps, c.self.invariant.few_own)); tie = cost.tie }
