@@ -355,16 +355,16 @@ module _ (test : Who → Bool) where
     IsPaid event = cost_of_theirs test s event + (owed_after event + later_on event) ≤ owed_now + paid_by_theirs test s event
 
     -- by its own caller
-    own-paid : (b : Bool) (cost new most : ℕ) → (b ≡ true → cost ≤ most) → new ≤ owed_now + cond b later_allowance 0 → cond b cost 0 + new ≤ owed_now + cond (b && true) (most + later_allowance) 0
-    own-paid true cost new most few more = omega (arith, few refl, more)
-    own-paid false cost new most few more = omega (arith, more)
+    own-paid : (b : Bool) (cost new most later : ℕ) → (b ≡ true → cost ≤ most) → new ≤ owed_now + cond b later 0 → cond b cost 0 + new ≤ owed_now + cond (b && true) (most + later) 0
+    own-paid true cost new most later few more = omega (arith, few refl, more)
+    own-paid false cost new most later few more = omega (arith, more)
 
     -- by earlier events
     ahead-paid : (b : Bool) (cost new pay most : ℕ) → cost ≤ pay → new + cond b pay 0 ≤ owed_now → cond b cost 0 + new ≤ owed_now + cond (b && false) most 0
     ahead-paid true cost new pay most few less = omega (arith, few, less)
     ahead-paid false cost new pay most few less = omega (arith, less)
 
-    within : (b : Bool) (n : ℕ) → n ≤ later_allowance → cond b n 0 ≤ cond b later_allowance 0
+    within : (b : Bool) (n : ℕ) → n ≤ 22000 → cond b n 0 ≤ cond b 22000 0
     within true n le = le
     within false n le = omega arith
 
@@ -406,8 +406,8 @@ module _ (test : Who → Bool) where
       few : (event : Event) → is_theirs test s event ≡ true → event_cost s event ≤ byte_allowance s event + allowance_at s event
       few event is = events_cost_few s reached good event (unchanged event is)
 
-      own : (event : Event) → is_paid_ahead event ≡ false → owed_after event + later_on event ≤ owed_now + cond (is_theirs test s event) later_allowance 0 → IsPaid event
-      own event is more = rw is (own-paid (is_theirs test s event) (event_cost s event) (owed_after event + later_on event) (byte_allowance s event + allowance_at s event) (few event) more)
+      own : (event : Event) → is_paid_ahead event ≡ false → owed_after event + later_on event ≤ owed_now + cond (is_theirs test s event) (later_allowance event) 0 → IsPaid event
+      own event is more = rw is (own-paid (is_theirs test s event) (event_cost s event) (owed_after event + later_on event) (byte_allowance s event + allowance_at s event) (later_allowance event) (few event) more)
 
       event-paid : (event : Event) → IsPaid event
       event-paid (Open now who) = own (Open now who) refl (omega (arith, left (Open now who), on-connections (Open now who), within (test who) end_pay (omega arith)))

@@ -165,7 +165,8 @@ pub fn whole_runs_are_bounded()
 /// that there may be, and 2,000, whatever is registered, retained, open or forwarded. A datagram costs at most a step for
 /// each of its bytes, two for each of its reply's, and 2,048, and as much more for a list. In a run from an opening at good
 /// limits, all events of some outsiders together, the ends of their connections and the sending and the ends of their
-/// forwarded calls among these, cost at most what the others of these may cost, and 22,000 for each.
+/// forwarded calls among these, cost at most what the others of these may cost, and 22,000 for each opening, piece of bytes
+/// and datagram.
 pub fn outsiders_cost_few()
     ensures events { EventsCostFew }
     ensures datagrams { DatagramsCostFew }

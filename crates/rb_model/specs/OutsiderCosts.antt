@@ -161,9 +161,13 @@ is_paid_ahead (Forward now from message) = true
 is_paid_ahead (Expire now) = true
 is_paid_ahead other = false
 
--- what an event may take apart from its bytes with all that comes of it later
-abbrev pub later_allowance : ℕ
-later_allowance = 22000
+-- what may come later of an event that opens, or brings bytes: the call that is forwarded for it is sent and ends, and the
+-- connection is Lost
+abbrev pub later_allowance : Event → ℕ
+later_allowance (Open now who) = 22000
+later_allowance (Bytes now id piece) = 22000
+later_allowance (Datagram now who content) = 22000
+later_allowance other = 0
 
 -- what the event costs, if it is theirs
 abbrev pub cost_of_theirs : (Who → Bool) → State → Event → ℕ
@@ -173,7 +177,7 @@ cost_of_theirs test s event = if is_theirs test s event then event_cost s event 
 abbrev pub paid_by_theirs : (Who → Bool) → State → Event → ℕ
 paid_by_theirs test s event =
     if is_theirs test s event && not (is_paid_ahead event)
-    then byte_allowance s event + allowance_at s event + later_allowance
+    then byte_allowance s event + allowance_at s event + later_allowance event
     else 0
 
 -- a number of each event, from the state that it meets, added up
@@ -188,8 +192,8 @@ is_outsider listener who = not (may_register listener.announced who)
 
 -- OUTSIDER-2: In a run from an opening at good limits, all events of some outsiders together, the
 -- sending and the end of calls that are forwarded for them and the loss of their connections among
--- these, cost at most what the others of these are allowed by OUTSIDER-1, and 22,000 for each. So
--- what comes later of an outsider's event costs little too, whatever a target sends.
+-- these, cost at most what the others of these are allowed by OUTSIDER-1, and 22,000 for each
+-- opening, piece of bytes and datagram, whatever targets send.
 abbrev pub OutsidersPayAhead : Type 0
 OutsidersPayAhead =
     (limits : Limits) (listener : Listener) (first_xid now : ℕ) (events : List Event) (test : Who → Bool)
