@@ -2,13 +2,11 @@
 use Rattle.std.specs.Prelude.{find, filter}
 use Rattle.std.specs.Option.{option_map, option_map_or}
 use Rattle.std.specs.List.{list_any, sum_by}
-use Rattle.std.proofs.Common.{◌≡◌, ◌≤◌, ℕ, ◌+◌, max, Bool, true, false, cond, not, ◌&&◌, eqb, Option, Some, None, List, [], ◌∷◌, ◌++◌, map, length, refl, sym, ap, subst, ◌∙◌, arith}
-use Rattle.std.proofs.lemmas.Bool.{and_parts}
+use Rattle.std.proofs.Common.{◌≡◌, ◌≤◌, ℕ, ◌+◌, max, Bool, true, false, cond, not, ◌&&◌, eqb, Option, Some, None, List, [], ◌∷◌, ◌++◌, map, length, refl, ap, arith}
 use Rattle.std.proofs.lemmas.List.Sums.{sum_by-cons, sum_by_push}
 use Rattle.std.proofs.lemmas.Grind.{common_steps}
 use Rattle.rb_address.specs.declared.peer.Peer.{Peer}
 use Rattle.rb_address.specs.declared.who.Who.{Who}
-use Rattle.rb_rpc.specs.Feeds.{arguments_of}
 use Rattle.rb_rpc.specs.declared.caller.Caller.{Caller}
 use Rattle.rb_rpc.specs.declared.caller.Caller.TheVariants.{Tcp, Udp}
 use Rattle.rb_forward.specs.declared.types.Forward.{Forward as Asked}
@@ -18,29 +16,27 @@ use Rattle.rb_forward.specs.declared.types.FwdId.{FwdId}
 use Rattle.rb_forward.specs.Forwards.{Entry, Forwards, is_unsent, as_sent, change_first as change_entry, sent, can_be_sent, next_entry, with_next_entry, without_first, id_of, ended_by, is_of_connection, counts_for, is_due as entry_is_due, outcome_of, reply, due, drop_caller}
 use Rattle.rb_forward.proofs.Tables.{all_stay, sum-without}
 use Rattle.rb_proto.specs.declared.context.Context.{Context}
-use Rattle.rb_proto.specs.declared.listener.Listener.{Listener}
 use Rattle.rb_proto.specs.Callers.{who_of, may_register}
 use Rattle.rb_proto.specs.Ledger.{Ledger}
 use Rattle.rb_proto.specs.Forwarding.{noted_end, target_replied, fell_due, caller_dropped, call_sent}
 use Rattle.rb_model.specs.declared.message.Message.{Message}
 use Rattle.rb_model.specs.declared.message.Message.TheVariants as says
-use Rattle.rb_model.specs.declared.types.Told.{Told}
 use Rattle.rb_model.specs.declared.types.Expired.{Expired}
 use Rattle.rb_model.specs.Calls.{Outcome, longest_reply, reply_in, message_of}
-use Rattle.rb_model.specs.State.{Setting, State, Connection, Connections, at_moment, opening, are_good}
+use Rattle.rb_model.specs.State.{State, Connection, Connections, at_moment, opening, are_good}
 use Rattle.rb_model.specs.State.Phase.{Idle}
-use Rattle.rb_model.specs.Connections.{Taking, taking_of, is_lost, is_live, change_first, changed_at, keep_reading, settle, with_given, give, live_connection, is_there, without_number}
+use Rattle.rb_model.specs.Connections.{Taking, taking_of, is_lost, is_live, change_first, keep_reading, settle, with_given, give, live_connection, is_there, without_number}
 use Rattle.rb_model.specs.Connections.Taking.{TakesNone, GoesOn, Ends}
-use Rattle.rb_model.specs.Losses.{is_due, first_due, lose, evict_early, expire_first}
-use Rattle.rb_model.specs.Ending.{outcome_at_end, tell, tell_end, at_fresh_moment, forward_reply, expire_connection, expired_as, expire}
+use Rattle.rb_model.specs.Losses.{is_due, lose, evict_early}
+use Rattle.rb_model.specs.Ending.{outcome_at_end, tell, tell_end, at_fresh_moment, forward_reply, expire}
 use Rattle.rb_model.specs.Step.{sender, Event, Output, context_in, serve, show_end, show_expired, step, IsReached}
 use Rattle.rb_model.specs.Step.Event.{Open, Bytes, Pending, Gave, Closed, NextLost, Datagram, Unsent, Sent, Forward, Expire, ZeroStats}
 use Rattle.rb_model.specs.ChangeLaws.{record_in, record_on}
 use Rattle.rb_model.specs.Costs.{event_cost}
 use Rattle.rb_model.specs.OutsiderCosts.{asks_for_change, ends_for_change, is_for_change, allowance_at, byte_allowance, caller_on, caller_for, caller_due, caller_of, is_theirs, is_paid_ahead, later_allowance, cost_of_theirs, paid_by_theirs, sum_along, is_outsider, OutsidersPayAhead}
-use Rattle.rb_model.proofs.Expiring.{AreApart, due-live, due-changed}
+use Rattle.rb_model.proofs.Expiring.{due-live, due-changed}
 use Rattle.rb_laws.proofs.Closings.{sound-apart}
-use Rattle.rb_laws.proofs.DueThings.{end_of, Expiry, expiry}
+use Rattle.rb_laws.proofs.DueThings.{Expiry, expiry}
 use Rattle.rb_laws.proofs.DueThings.Expiry.{EntryEnds, ConnectionEnds, NothingDue}
 use Rattle.rb_laws.proofs.Entering.{is_forwarded, Entering, serve-enters}
 use Rattle.rb_laws.proofs.Entering.Entering.{Same, Begins}
