@@ -47,3 +47,4 @@ pub mod Strangers
 pub mod Reflections
 pub mod Spelling
 pub mod Gives
+pub mod OutsiderRuns

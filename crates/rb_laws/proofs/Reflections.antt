@@ -79,7 +79,7 @@ success-most : (caller : Caller) (xid : ℕ) (bytes : List ℕ) → length (succ
 success-most caller xid bytes = fitting-most (longest_for caller) xid (reply_head xid replies.Success ++ bytes) (enough caller)
 
 -- the most that a caller over UDP may be told: its results, or why there are none
-abbrev most_told : Caller → ℕ
+abbrev pub most_told : Caller → ℕ
 most_told caller = max 32 (longest_for caller)
 
 results-most : (who : Who) (longest count xid : ℕ) (bytes : List ℕ) (given : Results)
@@ -149,7 +149,7 @@ forwarded-long context (verdicts.Call head place) n long arguments l is = long
 failure-most : (forward : Asked) (status : ReplyStatus) → length (reply_in (outcome_of_failure forward status)) ≤ 32
 failure-most forward status = grind (arith, short_head)
 
-end-most : (forward : Asked) (message : List ℕ) (outcome : target.ForwardEnd) → length (reply_in (outcome_of_end forward message outcome)) ≤ most_told forward.caller
+pub end-most : (forward : Asked) (message : List ℕ) (outcome : target.ForwardEnd) → length (reply_in (outcome_of_end forward message outcome)) ≤ most_told forward.caller
 end-most forward message (Passed place) = let most = success-most forward.caller forward.xid (forwarded_bytes forward (drop place message)) in omega (arith, most)
 end-most forward message (Refused status) = omega (arith, failure-most forward status)
 end-most forward message Failed = omega (arith, failure-most forward replies.SystemErr)

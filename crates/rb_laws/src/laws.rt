@@ -14,7 +14,7 @@ ghost use Rattle.rb_model.specs.DeadlineLaws.{ExpireDoesOneThing, NothingIsDueSo
 ghost use Rattle.rb_model.specs.NextDeadlines.{NextDeadlinesAreExact};
 ghost use Rattle.rb_model.specs.BoundLaws.{StepsAreBounded, RunsAreBounded};
 ghost use Rattle.rb_model.specs.WholeRuns.{EventsArePaidAhead, WholeRunsAreBounded};
-ghost use Rattle.rb_model.specs.OutsiderCosts.{OutsidersCostFew, OutsidersDatagramsCostFew};
+ghost use Rattle.rb_model.specs.OutsiderCosts.{EventsCostFew, DatagramsCostFew, ListsCostByRows, OutsidersPayAhead};
 
 /// For each connection in each run: the bytes taken on it are the marked records of its calls and an unfinished rest;
 /// those given on it, and then those still owed, are the marked replies to these calls, joined in order; and no byte is
@@ -160,13 +160,18 @@ pub fn whole_runs_are_bounded()
     ensures runs { WholeRunsAreBounded }
 {}
 
-/// In each state that a run reaches at good limits, an event of a caller that may not register, and that is for no list of
-/// rows, costs at most 16 steps for each byte that it takes, lends or reports as given, and 34,000, whatever is registered,
-/// retained, open or forwarded; SETs and UNSETs are among them. A datagram costs at most a step for each of its bytes, two
-/// for each of its reply's, and 2,048.
+/// In each state that a run reaches at good limits, an event that is no SET or UNSET of a caller that may register costs at
+/// most 16 steps for each byte that it takes, lends or reports as given, and 34,000, and for a list 20 more for each row
+/// that there may be, and 2,000, whatever is registered, retained, open or forwarded. A datagram costs at most a step for
+/// each of its bytes, two for each of its reply's, and 2,048, and as much more for a list. In a run from an opening at good
+/// limits, all events of some outsiders together, the ends of their connections and the sending and the ends of their
+/// forwarded calls among these, cost at most what the others of these may cost, and 22,000 for each opening, piece of bytes
+/// and datagram.
 pub fn outsiders_cost_few()
-    ensures events { OutsidersCostFew }
-    ensures datagrams { OutsidersDatagramsCostFew }
+    ensures events { EventsCostFew }
+    ensures datagrams { DatagramsCostFew }
+    ensures lists { ListsCostByRows }
+    ensures runs { OutsidersPayAhead }
 {}
 
 /// From every state, an event leaves the accepted changes, or appends one: the SET or UNSET of a whole call that it brings,

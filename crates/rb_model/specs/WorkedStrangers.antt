@@ -1,6 +1,6 @@
 -- Worked examples: what strangers are told and counted for, and for whom and to what other calls are made, if the terms
--- of the listener hold them back.
-use Rattle.std.specs.Prelude.{◌≡◌, ℕ, false, true, List, [], ◌∷◌, ◌++◌, map, replicate, codes}
+-- of the listener hold them back; and whose events are.
+use Rattle.std.specs.Prelude.{◌≡◌, ℕ, false, true, List, [], ◌∷◌, ◌++◌, map, replicate, codes, Option, Some, None}
 use Rattle.rb_xdr.specs.Xdr.{words}
 use Rattle.rb_address.specs.declared.host.Host.TheVariants.{V4}
 use Rattle.rb_address.specs.declared.netid.Netid.TheVariants as netids
@@ -11,10 +11,11 @@ use Rattle.rb_stats.specs.Statistics.Note.{Called, WasSet, LookedUp}
 use Rattle.rb_proto.specs.declared.listener.Forwarding.{Forwarding}
 use Rattle.rb_proto.specs.declared.listener.Forwarding.TheVariants.{ForAll, ForLocal}
 use Rattle.rb_model.specs.State.{State, opening}
-use Rattle.rb_model.specs.Step.{Event, Output, run}
-use Rattle.rb_model.specs.Step.Event.{Datagram, Sent, Forward}
+use Rattle.rb_model.specs.Step.{Event, Output, step, run}
+use Rattle.rb_model.specs.Step.Event.{Open, Closed, NextLost, Datagram, Unsent, Sent, Forward, Expire}
 use Rattle.rb_model.specs.Step.Output.{Done, Replied, Forwarded, RepliedTo}
 use Rattle.rb_model.specs.HistoryLaws.{history_by}
+use Rattle.rb_model.specs.OutsiderCosts.{caller_of}
 use Rattle.rb_model.specs.Worked.{who_at, listener, loopback, call2, call_by_none, success_reply}
 use Rattle.rb_model.specs.WorkedConnections.{limits}
 use Rattle.rb_model.specs.WorkedForwards.{set_event, was_set, target, indirect, reply_with_status, reply_length, passed_reply}
@@ -107,3 +108,26 @@ abbrev pub StrangersAreToldShortly : Type 0
 StrangersAreToldShortly =
     (ends_with 0 ≡ was_set ∷ Forwarded ∷ Done ∷ RepliedTo stranger passed_reply ∷ [])
     × (ends_with 400 ≡ was_set ∷ Forwarded ∷ Done ∷ RepliedTo stranger (reply_with_status 15 5 []) ∷ [])
+
+-- ---- whose events are
+
+abbrev pub callers_along : State → List Event → List (Option Who)
+callers_along s [] = []
+callers_along s (event ∷ events) = caller_of s event ∷ callers_along (step s event).1 events
+
+-- The look at a stranger's call, its sending and its end are the stranger's; a second answer is nobody's.
+abbrev pub LaterEventsAreTheirs : Type 0
+LaterEventsAreTheirs =
+    callers_along (held ForAll)
+    (set_event ∷ Datagram 1000 stranger (indirect 15 200001) ∷ Unsent ∷ Sent 1
+    ∷ Forward 2000 target (success_reply 1000 []) ∷ Forward 2000 target (success_reply 1000 []) ∷ [])
+    ≡ Some loopback ∷ Some stranger ∷ Some stranger ∷ Some stranger ∷ Some stranger ∷ None ∷ []
+
+-- At deadlines calls end first, each for its caller. The Lost connection, the look at it and its close are the stranger's.
+abbrev pub DeadlinesAreTheirs : Type 0
+DeadlinesAreTheirs =
+    callers_along (held ForAll)
+    (set_event ∷ Open 0 stranger ∷ Datagram 1000 loopback (indirect 15 200001) ∷ Expire 300000 ∷ Expire 300000
+    ∷ NextLost ∷ Closed 1 ∷ Expire 300000 ∷ [])
+    ≡ Some loopback ∷ Some stranger ∷ Some loopback ∷ Some loopback ∷ Some stranger
+    ∷ Some stranger ∷ Some stranger ∷ None ∷ []

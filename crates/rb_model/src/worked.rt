@@ -5,7 +5,7 @@ ghost use Rattle.rb_model.specs.WorkedConnections.{NoCallCloses, OtherRpcVersion
 ghost use Rattle.rb_model.specs.WorkedChanges.{ChangesOfSomeCalls, ChangesOfPieces, KeptCallsOfSomeCalls};
 ghost use Rattle.rb_model.specs.WorkedHistory.{HistoryOfSomeCalls, HistoryOfLookUps, HistoryOfForwards, HistoryBegunAnew};
 ghost use Rattle.rb_model.specs.WorkedForwards.{ForwardWithoutRow, RefusedCallsAreCounted, ForwardUntilDeadline, IndirectPasses, CallitPasses, TargetRefuses, DeniedIsSystemErr, CallitIsSilent, GreatestResults, NoPlace, GreatestArguments, SilentOnTcp, ForwardPassesOnTcp, ForwardOnTcpIsWhole, ClosedCallerIsDropped, EachEndsInTurn};
-ghost use Rattle.rb_model.specs.WorkedStrangers.{StrangersLookUp, StrangersGetNoLists, StrangersCountForRows, MadeForThisMachine, MadeToThisHost, MountdIsNotAsked, StrangersAreToldShortly};
+ghost use Rattle.rb_model.specs.WorkedStrangers.{StrangersLookUp, StrangersGetNoLists, StrangersCountForRows, MadeForThisMachine, MadeToThisHost, MountdIsNotAsked, StrangersAreToldShortly, LaterEventsAreTheirs, DeadlinesAreTheirs};
 ghost use Rattle.rb_model.specs.WorkedCallers.{KnownCallersSetAsTheyAre, StrangersAreRefused, LastQuarterIsKept, AskedHostIsTold, CallersOverIpv6AreTold, CallsOverIpv6AreForwarded, OwnRowsOfAllNetids, OwnRowsNeedRoom};
 ghost use Rattle.rb_model.specs.WorkedBounds.{BytesBounds, StepsBounds};
 ghost use Rattle.rb_model.specs.WorkedLists.{DumpSurvivesUnsetAndEvicts, OldReadersAreEvicted, FullTableRefuses, RowsThatCameAndWentAreNeeded, ListInTwoFragments, ListAsOfItsCall, ListIntoRoom};
@@ -138,6 +138,8 @@ pub fn worked_strangers()
     ensures made_to_this_host { MadeToThisHost }
     ensures not_of_mountd { MountdIsNotAsked }
     ensures told_shortly { StrangersAreToldShortly }
+    ensures later_events { LaterEventsAreTheirs }
+    ensures deadlines { DeadlinesAreTheirs }
 {}
 
 // STAT-7 HISTORY-1

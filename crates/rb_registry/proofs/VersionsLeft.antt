@@ -252,16 +252,16 @@ versions_are_few kept inside index same stamped indexed prog vers cursor small =
 
 -- ---- when searches are fewer than walks
 
--- among 256 live rows or more, six searches for a version cost less than a walk
-pub long_enough : (count slots : ℕ) → 256 ≤ count → count < 2 ^ 56 → count ≤ slots → 6 * (5 * looks count + 33) ≤ 2 * slots + 1
+-- among 256 rows or more, live or retained, six searches for a version cost less than a walk
+pub long_enough : (count slots : ℕ) → 256 ≤ slots → slots < 2 ^ 56 → count ≤ slots → 6 * (5 * looks count + 33) ≤ 2 * slots + 1
 long_enough count slots many few within =
-    elim (cases_lt 256 count) [
-      | inr upto ↦ let looked = looks_few count 8 (omega (arith, upto)) in omega (arith, looked, many, within)
-      | inl more ↦ elim (cases_lt 512 count) [
-        | inr upto ↦ let looked = looks_few count 9 (omega (arith, upto)) in omega (arith, looked, more, within)
-        | inl past ↦ elim (cases_lt 4096 count) [
-          | inr upto ↦ let looked = looks_few count 12 (omega (arith, upto)) in omega (arith, looked, past, within)
-          | inl far ↦ let looked = looks_few count 56 (omega (arith, few)) in omega (arith, looked, far, within)
+    elim (cases_lt 256 slots) [
+      | inr upto ↦ let looked = looks_few count 8 (omega (arith, upto, within)) in omega (arith, looked, many)
+      | inl more ↦ elim (cases_lt 512 slots) [
+        | inr upto ↦ let looked = looks_few count 9 (omega (arith, upto, within)) in omega (arith, looked, more)
+        | inl past ↦ elim (cases_lt 4096 slots) [
+          | inr upto ↦ let looked = looks_few count 12 (omega (arith, upto, within)) in omega (arith, looked, past)
+          | inl far ↦ let looked = looks_few count 56 (omega (arith, few, within)) in omega (arith, looked, far)
         ]
       ]
     ]

@@ -25,7 +25,8 @@ VersionsAreFew kept = (prog vers : ℕ) (cursor : Option ℕ) → vers < 2 ^ 32 
 -- what it costs to come from one to the next: the own rows, of which there are 12 at most, are walked, and a search for
 -- each netid finds the others
 -- LOOKUP-4: The rows of one version are searched for, in a list of the rows as they are now among
--- 256 live ones or more: a search for each netid finds the next of them. Other lists walk the rows.
+-- 256 live or retained ones or more: a search for each netid finds the next of them. Other lists
+-- walk the rows.
 abbrev pub version_cost : Registry → ℕ
 version_cost kept = 5 * looks (length (rows_of kept)) + 33
 

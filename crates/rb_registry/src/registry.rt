@@ -20,7 +20,7 @@ use std::marker::Model;
 /// The most own rows that a registry has.
 pub const MOST_OWN_ROWS: usize = 12;
 
-// From this many live rows on the index leads to the rows of a version in fewer steps than a walk.
+// From this many rows on, live or retained, the index leads to the rows of a version in fewer steps than a walk.
 const LONG: usize = 256;
 
 // A table of this many rows would take more than 2^63 bytes.
@@ -86,7 +86,7 @@ fn is_change_left(changes: u64) -> bool
 }
 
 impl Registry {
-    ghost use Rattle.std.specs.Prelude.{◌≡◌, ◌≤◌, ◌<◌, ◌+◌, ◌*◌, ◌∷◌, [], length, IsTrue, Some, None, Ok, Err, IfOk, OnOk, OnErr, IfSome, IfNone, IsErrOf, ◌↔◌, option_copied, if◌then◌else◌};
+    ghost use Rattle.std.specs.Prelude.{◌≡◌, ◌≤◌, ◌<◌, ◌+◌, ◌*◌, ◌∷◌, [], length, IsTrue, Some, None, Ok, Err, IfOk, OnOk, OnErr, IfSome, IfNone, IsErrOf, ◌↔◌, option_copied, nat_le, if◌then◌else◌};
     ghost use Rattle.std.specs.Bool.{OnFalse};
     ghost use Rattle.rb_xdr.specs.Meter.{PaysAtMost};
     ghost use Rattle.rb_xdr.specs.Ordered.{looks};
@@ -413,17 +413,16 @@ impl Registry {
     }
 
     // LOOKUP-4
-    /// Whether so many rows are live that the rows of one version are found in fewer steps by the index than by a walk
-    /// over all of them. It costs 1 step at most.
+    /// Whether there are so many rows, live or retained, that those of one version are found in fewer steps by the index
+    /// than by a walk over all of them. It costs 1 step at most.
     pub fn is_long(&self, meter: &mut Meter) -> bool
         requires { meter.old.tie ≡ self.now.tie }
+        ensures long { result ≡ nat_le 256 (length (slots_of self.now)) }
         ensures searched { IsTrue result
             → 6 * version_cost self.now ≤ 2 * length (slots_of self.now) + 1 }
         ensures few { VersionsAreFew self.now }
         ensures cost { PaysAtMost meter.old meter.new 1 }
     {
-        // The search needs what the table is between two calls.
-        let _ = &self.slots;
-        self.len(meter) >= LONG
+        self.slots.len(meter) >= LONG
     }
 }
