@@ -87,11 +87,10 @@ class Server:
     def await_sleep(self):
         """Until the process has nothing left to do, and sleeps."""
         while state_of(self.process.pid) != "S":
-            pass
+            time.sleep(0.0001)
 
     def ask(self, load, calls):
-        """Makes so many calls, as many at once as the load does, and each time once the server sleeps: how much it does at
-        once does not depend on how soon the next call comes."""
+        """Makes so many calls, as many at once as the load does, and each time once the server sleeps."""
         length = len(self.reply(load))
         with self.connected(load) as asker:
             for _ in range(calls // load.count):
