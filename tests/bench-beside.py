@@ -62,12 +62,16 @@ def answer_line(load, reply):
 
 
 class Counted:
-    """A daemon under callgrind, whose instructions are counted between two moments."""
+    """A daemon under callgrind, whose instructions are counted between two moments. It goes on where and when this process
+    waits for a reply, so that all calls that are out together are there then, in one turn, whatever the pace."""
 
     def __init__(self, program, folder, rows):
         self.out = f"{folder}/counts-{rows}"
         words = ["valgrind", "--tool=callgrind", f"--callgrind-out-file={self.out}", *daemon_words(program, COUNTED_PORT)]
         self.server = Server(words, COUNTED_PORT)
+        self.processors = os.sched_getaffinity(0)
+        os.sched_setaffinity(self.server.process.pid, {max(self.processors)})
+        os.sched_setscheduler(self.server.process.pid, os.SCHED_BATCH, os.sched_param(0))
         self.dumps = 0
 
     def control(self, word):
@@ -81,7 +85,9 @@ class Counted:
 
     def count(self, load, calls):
         self.control("--zero")
+        os.sched_setaffinity(0, {max(self.processors)})
         self.server.ask(load, calls)
+        os.sched_setaffinity(0, self.processors)
         self.control("--dump")
         self.dumps += 1
         return total_of(f"{self.out}.{self.dumps}")

@@ -34,6 +34,11 @@ def compile_in(folder):
         subprocess.run([COMPILER, "-O2", "-o", f"{folder}/{name}", f"{here}/{name}.c"], check=True)
 
 
+def state_of(pid):
+    with open(f"/proc/{pid}/stat") as stat:
+        return stat.read().rpartition(")")[2].split()[0]
+
+
 def processor_seconds(pid):
     with open(f"/proc/{pid}/schedstat") as stat:
         return int(stat.read().split()[0]) / 1e9
@@ -79,11 +84,17 @@ class Server:
             marks = [struct.pack(">I", len(it) | (i == len(found) - 1) << 31) for i, it in enumerate(found)]
             return b"".join(mark + it for mark, it in zip(marks, found))
 
+    def await_sleep(self):
+        """Until the process has nothing left to do, and sleeps."""
+        while state_of(self.process.pid) != "S":
+            time.sleep(0.0001)
+
     def ask(self, load, calls):
-        """Makes so many calls, as many at once as the load does."""
+        """Makes so many calls, as many at once as the load does, and each time once the server sleeps."""
         length = len(self.reply(load))
         with self.connected(load) as asker:
             for _ in range(calls // load.count):
+                self.await_sleep()
                 for _ in range(load.count) if not load.is_stream else [0]:
                     asker.sendall(load.call * (load.count if load.is_stream else 1))
                 for _ in range(load.count):

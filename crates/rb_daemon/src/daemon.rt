@@ -130,7 +130,7 @@ impl<'a, R: Clock, H: Files> Daemon<'a, R, H> {
         let is_work_left = self.serving.is_work_left();
         let deadline = self.serving.next_deadline();
         let wait = wait_of(
-            self.serving.is_something_left(),
+            is_work_left || self.serving.is_table_left(),
             self.moments.last(),
             self.serving.next_turn(deadline),
             longest,
@@ -155,6 +155,12 @@ impl<'a, R: Clock, H: Files> Daemon<'a, R, H> {
             .look_in_tables(host, !is_work_left && shown == 0);
         self.serving.keep(host);
         Ok(())
+    }
+
+    /// Whether one of the calls below has something to tell, or something to look for is due: if not, none need be made after
+    /// this turn.
+    pub fn has_news(&self) -> bool {
+        self.waiting.has_news() || self.serving.has_news()
     }
 
     /// The first fault of a listener, or of the wait for events, once: the daemon goes on, and tries it again in each turn.

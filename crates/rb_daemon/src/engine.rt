@@ -283,6 +283,11 @@ impl Engine {
         self.log.next_line()
     }
 
+    /// Whether lines of the log may be there that are not written yet.
+    pub(crate) fn may_have_log_lines(&self) -> bool {
+        self.log.may_have_lines()
+    }
+
     /// Writes the lines of the log that are not written yet. If that fails, they are lost.
     pub(crate) fn write_log<W: Write>(&mut self, writer: &mut W) -> io::Result<()>
         ensures core { self.new.core ≡ self.old.core }

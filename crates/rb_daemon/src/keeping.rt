@@ -388,6 +388,11 @@ impl<H: Files> Keeper<H> {
         self.has_failed = true;
     }
 
+    /// Whether something is yet to be told.
+    pub(crate) fn has_news(&self) -> bool {
+        self.news.is_some()
+    }
+
     /// What is yet to be told.
     pub(crate) fn take_news(&mut self) -> Option<KeepNews> {
         self.news.take()

@@ -97,6 +97,11 @@ impl Log {
         sooner(of_changes, of_others)
     }
 
+    /// Whether lines may be there that are not written yet.
+    pub(crate) fn may_have_lines(&self) -> bool {
+        self.may_be_more || !self.text.is_empty()
+    }
+
     /// Writes the lines that are not written yet, and at this moment, in milliseconds, how many were left out in the
     /// seconds before. If that fails, they are lost.
     pub(crate) fn write<W: Write>(&mut self, now: u64, writer: &mut W) -> io::Result<()> {

@@ -143,6 +143,15 @@ impl<H: Files> Serving<H> {
         self.engine.write_record(writer)
     }
 
+    /// Whether something is to be told, or something to look for is due.
+    pub(crate) fn has_news(&self) -> bool {
+        self.fault.is_some()
+            || self.table_fault.is_some()
+            || self.keeper.has_news()
+            || self.engine.may_have_log_lines()
+            || self.sockets.has_news(self.turn.moment)
+    }
+
     /// Keeps what changed and is not kept yet.
     pub(crate) fn keep(&mut self, host: &H) {
         self.keeper.keep(host, &mut self.engine);
@@ -178,9 +187,9 @@ impl<H: Files> Serving<H> {
         self.places.are_left() || self.sockets.is_something_left()
     }
 
-    /// Whether the next turn does not wait: it has something to serve, or a slice of the kernel's tables to read.
-    pub(crate) fn is_something_left(&self) -> bool {
-        self.is_work_left() || self.walk.is_some() || self.places.are_sought()
+    /// Whether the next turn has a slice of the kernel's tables to read at once.
+    pub(crate) fn is_table_left(&self) -> bool {
+        self.walk.is_some() || self.places.are_sought()
     }
 
     /// The next deadline, in milliseconds since the start of 1970, if anything has one: of a connection or a forwarded call,
@@ -527,6 +536,9 @@ impl<H: Files> Serving<H> {
     /// Accepts connections on each listener, beginning with another one in each turn, until they are as many as a
     /// turn accepts.
     pub(crate) fn accept_all(&mut self, host: &H, registry: &Registry) {
+        if !self.sockets.are_listeners_ready() {
+            return;
+        }
         let mut left = self.places.accept_count();
         for i in 0..self.sockets.listeners.len() {
             let which = self.sockets.nth_listener(self.turn.number, i);

@@ -74,6 +74,11 @@ impl Waiting {
         Ok(false)
     }
 
+    /// Whether a fault is yet to be told.
+    pub(crate) fn has_news(&self) -> bool {
+        self.fault.is_some()
+    }
+
     /// The fault of the first wait that failed, once.
     pub(crate) fn take_fault(&mut self) -> Option<SocketFault> {
         self.fault.take()

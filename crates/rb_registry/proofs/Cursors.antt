@@ -1,17 +1,17 @@
 -- A cursor and the rows that it has passed.
 use Rattle.std.proofs.Common.{◌≡◌, ℕ, ◌+◌, ◌<◌, ◌≤◌, Bool, true, false, cond, eqb, List, [], ◌∷◌, ◌++◌, length, Option, Some, None, refl, sym, ap, ◌∙◌, subst, arith, append-nil}
-use Rattle.std.specs.Prelude.{option_map, slice_get, IsSome, unwrap_or}
+use Rattle.std.specs.Prelude.{option_map, slice_get, IsSome, IfSome, unwrap_or}
 use Rattle.std.specs.Map.{values_of}
 use Rattle.std.proofs.lemmas.Option.{slice_get_within}
 use Rattle.std.proofs.lemmas.Map.Entries.{length-values_of}
-use Rattle.rb_xdr.specs.Pool.{first_key, HasDistinctKeys}
+use Rattle.rb_xdr.specs.Pool.{value_at, first_key, HasDistinctKeys}
 use Rattle.rb_registry.specs.declared.row.Row.{Row}
 use Rattle.rb_xdr.specs.Places.{behind, count_to, to_come, count_passed}
 use Rattle.rb_registry.specs.Registry.{Registry, table_of, rows_at, rows_passed, table_at}
 use Rattle.rb_registry.specs.Cursors.{StandsIn}
 use Rattle.rb_xdr.proofs.Walks.{step, up_to, passed}
 use Rattle.rb_registry.proofs.Removing.{passed-to_come}
-use Rattle.rb_registry.proofs.Tables.{distinct_at, to_come_at}
+use Rattle.rb_registry.proofs.Tables.{distinct_at, to_come_at, holds_at}
 
 module _ {T : Type 0} where
   length-up_to : (entries : List (ℕ × T)) (key n : ℕ) → count_to entries key ≡ Some n → length (up_to entries key) ≡ n
@@ -75,6 +75,9 @@ module _ (kept inside : Registry) (stamp : ℕ) (cursor place : Option ℕ) (sam
   come =
       let there : table_at stamp (to_come kept.entries cursor) ≡ to_come (table_of kept stamp) cursor = to_come_at stamp cursor kept.entries d h.place in
       rw (same, at) there
+
+  pub stands_at_row : IfSome place (λ key. IsSome (value_at inside.entries key))
+  stands_at_row = rw (same, at) (holds_at stamp cursor kept.entries h.place)
 
   pub no_row_left : table_at stamp (to_come inside.entries place) ≡ [] → rows_passed kept stamp cursor ≡ length (rows_at kept stamp)
   no_row_left last = all_counted (table_of kept stamp) cursor (rows_passed kept stamp cursor) here (sym come ∙ last)

@@ -250,6 +250,25 @@ pub to_come_at : (n : ℕ) (place : Option ℕ) (entries : List (ℕ × Slot)) �
 to_come_at n None entries d h = refl
 to_come_at n (Some key) entries d h = behind_at n key entries d h
 
+-- a key that was passed is there still
+holds_key : (n key : ℕ) (entries : List (ℕ × Slot)) → IsSome (count_to (table_at n entries) key) → IsSome (value_at entries key)
+holds_key n key [] h = h
+holds_key n key (e ∷ rest) h = by_tests (is_live_at n e.1) h (eqb e.0 key) refl (holds_key n key rest)
+  where
+    some_of : (o : Option ℕ) → IsSome (option_map (λ m. m + 1) o) → IsSome o
+    some_of None p = p
+    some_of (Some m) p = refl
+
+    by_tests : (b : Bool) → IsSome (count_to (cond b ((e.0, e.1.row) ∷ table_at n rest) (table_at n rest)) key) → (t : Bool) → eqb e.0 key ≡ t
+        → (IsSome (count_to (table_at n rest) key) → IsSome (value_at rest key)) → IsSome (value_at (e ∷ rest) key)
+    by_tests b h true t further = rw t refl
+    by_tests true h false t further = rw t (further (some_of _ (rw t at h)))
+    by_tests false h false t further = rw t (further h)
+
+pub holds_at : (n : ℕ) (place : Option ℕ) (entries : List (ℕ × Slot)) → IsSome (count_passed (table_at n entries) place) → IfSome place (λ key. IsSome (value_at entries key))
+holds_at n None entries h = tt
+holds_at n (Some key) entries h = holds_key n key entries h
+
 -- ---- a new row
 
 pub set_before : (stamp n key : ℕ) (row : Row) (entries : List (ℕ × Slot)) → n ≤ stamp → table_at n (entries ++ (key, slot_of (stamp + 1) row) ∷ []) ≡ table_at n entries

@@ -1,5 +1,5 @@
 //! Walks over the rows, live and retained, in their order.
-ghost use Rattle.std.specs.Prelude.{◌≡◌, ◌+◌, ◌*◌, ◌^◌, ◌<◌, length, is_some, if◌then◌else◌, IfSome, Some, option_copied};
+ghost use Rattle.std.specs.Prelude.{◌≡◌, ◌+◌, ◌*◌, ◌^◌, ◌<◌, length, is_some, if◌then◌else◌, IfSome, IsSome, Some, option_copied};
 ghost use Rattle.rb_xdr.specs.Meter.{Pays, PaysAtMost};
 ghost use Rattle.rb_xdr.specs.Pool.{value_at, HasDistinctKeys};
 ghost use Rattle.rb_xdr.specs.Ordered.{IsRising, looks};
@@ -192,7 +192,8 @@ fn lesser(least: Option<u64>, number: u64) -> u64
     }
 }
 
-/// The next row after the place that was live after this many changes, with its key. It is inlined, as `next_row`.
+/// The next row after the place, before all of them or after one, that was live after this many changes, with its key. It is
+/// inlined, as `next_row`.
 #[inline(always)]
 pub(crate) fn live_after<'a>(
     slots: &'a Pool<Slot>,
@@ -201,13 +202,14 @@ pub(crate) fn live_after<'a>(
     meter: &mut Meter,
 ) -> Option<(usize, &'a ListedRow)>
     requires tie { meter.old.tie ≡ slots.now.tie }
+    requires there { IfSome start (λ key. IsSome (value_at slots.now.entries key)) }
     ensures next { IsNextLive stamp slots.now.entries start result }
     ensures cost { PaysAtMost meter.old meter.new (2 * count_left slots.now.entries start + 1) }
     ensures far { IfSome result
         (λ n. PaysFor slots.now.entries start (Some n.0) meter.old meter.new) }
 {
     let mut place = start;
-    'rows: while let Some((key, slot)) = slots.entry_after(place, meter) {
+    'rows: while let Some((key, slot)) = slots.entry_next(place, meter) {
         if slot.is_live_at(stamp) {
             return Some((key, &slot.row));
         }

@@ -129,6 +129,14 @@ impl Listener {
         matches!(self, Listener::Closed)
     }
 
+    /// Whether it is the local socket, and it is yet to be told that it is root's no longer.
+    pub(crate) fn is_changed(&self) -> bool {
+        match self {
+            Listener::Tcp(_, _) | Listener::Closed => false,
+            Listener::Local(local) => local.is_changed(),
+        }
+    }
+
     /// Whether it was found since the last question that it is the local socket, and root's no longer.
     pub(crate) fn take_change(&mut self) -> bool {
         match self {

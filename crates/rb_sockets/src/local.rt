@@ -82,6 +82,11 @@ impl LocalListener {
         }
     }
 
+    /// Whether it is yet to be told that the socket is root's no longer.
+    pub(crate) fn is_changed(&self) -> bool {
+        self.is_change_untold
+    }
+
     /// Whether it was found in a look since the last question that the socket is root's no longer, which counts for good.
     pub(crate) fn take_change(&mut self) -> bool {
         let is_untold = self.is_change_untold;
@@ -207,6 +212,11 @@ impl AbstractName {
             Some(_) => None,
             None => Some(next_try(self.last_try)),
         }
+    }
+
+    /// Whether there is something to tell, or this moment, in milliseconds, is the one to try again.
+    pub(crate) fn has_news(&self, now: u64) -> bool {
+        self.fault.is_some() || self.next_try().is_some_and(|next| next <= now)
     }
 
     /// Tries again to take it, if it is not held, and this moment is the one for it. What is to be told: why the first try

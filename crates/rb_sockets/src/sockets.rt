@@ -267,6 +267,25 @@ impl Sockets {
         is_changed
     }
 
+    /// Whether `take_local_change`, or at this moment, in milliseconds, `take_name` or `follow` has something to tell or to do.
+    pub fn has_news(&self, now: u64) -> bool {
+        let is_read = self.next_look().is_some_and(|next| next <= now);
+        is_read || self.has_name_news(now) || self.is_local_changed()
+    }
+
+    fn has_name_news(&self, now: u64) -> bool {
+        match &self.abstract_name {
+            Some(name) => name.has_news(now),
+            None => false,
+        }
+    }
+
+    fn is_local_changed(&self) -> bool {
+        self.listeners
+            .iter()
+            .any(|listener| listener.socket.is_changed())
+    }
+
     /// Their events are shown from here on.
     pub fn register(&mut self, registry: &Registry) -> io::Result<()> {
         let ForwardSockets { inet, inet6 } = &mut self.forwards;
@@ -337,6 +356,11 @@ impl Sockets {
                 first.wrapping_add(place) % count
             }
         }
+    }
+
+    /// Whether one of the listeners must be served in this turn.
+    pub fn are_listeners_ready(&self) -> bool {
+        self.listeners.iter().any(|listener| listener.is_ready())
     }
 
     /// Whether one of them on which datagrams come in must be served at once.

@@ -76,8 +76,9 @@ impl Ordered {
             return 0;
         }
         let mut base = 0;
+        let mut looks = 1;
         'halves: while size > 1 {
-            meter.pay(1);
+            looks += 1;
             let half = size / 2;
             let middle = base + half;
             if self.entries[middle].0 <= number {
@@ -85,7 +86,7 @@ impl Ordered {
             }
             size -= half;
         }
-        meter.pay(1);
+        meter.pay(looks);
         if self.entries[base].0 <= number {
             base + 1
         } else {

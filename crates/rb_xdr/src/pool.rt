@@ -237,8 +237,22 @@ impl<T> Pool<T> {
         next
     }
 
-    // The same for a place before all of them or after one that is there: what a walk from entry to
-    // entry knows without a look.
+    /// The same for a place before all of them or after one that is there, which is not looked for again. It is inlined, as each
+    /// row of a list comes by here.
+    #[inline(always)]
+    pub fn entry_next(&self, place: Option<usize>, meter: &mut Meter) -> Option<(usize, &T)>
+        requires tie { meter.old.tie ≡ self.now.tie }
+        requires there { IfSome place (λ key. IsSome (value_at self.now.entries key)) }
+        ensures next { IsNextEntry self.now.entries place result }
+        ensures there { IfSome result (λ next. IsSome (value_at self.now.entries next.0)) }
+        ensures cost { Pays meter.old meter.new (look_cost result) }
+    {
+        let found = self.entry_behind(place);
+        meter.pay(if found.is_some() { 2 } else { 1 });
+        found
+    }
+
+    // The same, of which the caller pays.
     fn entry_behind(&self, place: Option<usize>) -> Option<(usize, &T)>
         requires { IfSome place (λ key. IsSome (value_at self.now.entries key)) }
         ensures next { IsNextEntry self.now.entries place result }

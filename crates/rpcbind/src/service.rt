@@ -289,6 +289,22 @@ fn take_turn<R: Clock + Files + Net, F: Write + Drop, E: Write>(
 ) -> Result<(), DaemonFault> {
     let turned = daemon.turn(rt, sooner(longest, manager.wait(daemon.moment())));
     recorder.write(daemon, faults);
+    if daemon.has_news() {
+        say_news(rt, daemon, settings, faults);
+    }
+    if turned.is_ok() && manager.hears_of_turn(daemon.moment()) {
+        manager.tell(News::Turn(daemon.load()));
+    }
+    turned
+}
+
+/// Writes what there is to be told after a turn, and looks for what is due to be looked for.
+fn say_news<R: Clock + Files + Net, E: Write>(
+    rt: &R,
+    daemon: &mut Daemon<'_, R, R>,
+    settings: &Settings<'_>,
+    faults: &mut E,
+) {
     let _ = daemon.write_log(&mut Leveled::new(&mut *faults, Level::Info));
     follow_addresses(rt, daemon, settings, faults);
     let mut warnings = Leveled::new(faults, Level::Warning);
@@ -299,10 +315,6 @@ fn take_turn<R: Clock + Files + Net, F: Write + Drop, E: Write>(
     say_table_fault(daemon.take_table_fault(), &mut warnings);
     say_local_change(settings, daemon.take_local_change(), &mut warnings);
     say_name(daemon.take_name(rt), &mut warnings);
-    if turned.is_ok() && manager.hears_of_turn(daemon.moment()) {
-        manager.tell(News::Turn(daemon.load()));
-    }
-    turned
 }
 
 /// More than can change at once of addresses that are followed.

@@ -9,8 +9,7 @@ invariant-halves l = record {
   within : l.base + l.size ≤ length l.self.entries;
   low : l.base ≤ count_upto l.number l.self.entries;
   high : count_upto l.number l.self.entries ≤ l.base + l.size;
-  tie : l.meter.tie ≡ l.fn.meter.tie;
-  steps : l.meter.steps + looks l.size ≡ l.fn.meter.steps + looks (length l.self.entries);
+  looked : l.looks + looks l.size ≡ looks (length l.self.entries) + 1;
 }
 
 abbrev pub decreases-halves : goal.decreases-halves
