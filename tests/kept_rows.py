@@ -6,15 +6,16 @@ import itertools
 import os
 import re
 import resource
+import shlex
 import shutil
 import signal
 import subprocess
-import sys
 import time
 
 from kept import lines_left
 from row import Encoder
-from scenarios import RPCBIND, RPCINFO, WORK, Background, asked, ended_as, finished, judge, lines, output_of, run_scenario, same, write
+from scenarios import (RPCBIND, RPCINFO, WORK, Background, asked, ended_as, finished, judge, lines, output_of, read, run_named, same,
+                       write)
 
 FILE = f"{WORK}/rows"
 IS_ROOT = os.getuid() == 0
@@ -38,14 +39,9 @@ class Keeper(Background):
         return int(read(f"/proc/{self.process.pid}/schedstat").split()[0])
 
 
-def start_with(file, *words):
+def start_with(file, turns=1, port=20112):
     """A start that ends by itself."""
-    return finished([RPCBIND, "serve", "--port", "20112", *words, "--keep", file], stderr=subprocess.PIPE)
-
-
-def read(path):
-    with open(path, encoding="utf-8", newline="") as file:
-        return file.read()
+    return finished([RPCBIND, "serve", "--port", str(port), "--turns", str(turns), "--keep", file], stderr=subprocess.PIPE)
 
 
 def add(path, text):
@@ -101,7 +97,7 @@ def state_of(file=FILE):
 def record_agrees(path):
     """Runs a record's events again, by the command in its first line."""
     with open(path, encoding="utf-8") as record:
-        words = record.readline().removeprefix("# rpcbind ").split()
+        words = shlex.split(record.readline().removeprefix("# rpcbind "))
         record.seek(0)
         return finished([RPCBIND, *words], stdin=record).returncode == 0
 
@@ -242,13 +238,13 @@ def other_starts_leave_the_file():
     write(FILE, lines_for(rows))
     before = state_of()
     with Background("listening", [RPCBIND, "serve", "--port", "20112"]):
-        judge(start_with(FILE, "--turns", "1").returncode == 3 and state_of() == before,
+        judge(start_with(FILE).returncode == 3 and state_of() == before,
               "a file of kept rows beside a daemon that has the port")
     with Keeper("--record", record, "--record-limit", "1000"):
         are_listed = lists(rows)
     judge(are_listed and os.stat(record).st_size <= 1000 and read(record).splitlines()[-1].startswith("# the limit")
           and record_agrees(record), "a record that ends in the midst of kept rows")
-    done = start_with(FILE, "--turns", "3")
+    done = start_with(FILE, turns=3)
     judge((done.returncode, done.stderr) == (0, "") and state_of() == before, "three turns of a daemon that keeps its rows")
 
 
@@ -282,7 +278,7 @@ def rows_that_cannot_be_set_are_left_out():
 def refuses(name, said, file=FILE):
     """Starts with a file that is refused: this is said of it, with status 3, and it stays as it is."""
     before = state_of(file)
-    done = start_with(file, "--turns", "1")
+    done = start_with(file)
     judge(ended_as(done, stderr=f"rpcbind: read failed\nrpcbind: {file}: {said}\n", status=3) and state_of(file) == before,
           f"a file of kept rows: {name}")
 
@@ -374,9 +370,8 @@ def one_daemon_has_the_file():
     rows = rows_of(1001)
     with Keeper() as daemon:
         is_set = sets_all(1001)
-        refused = start_with(FILE, "--port", "20113", "--turns", "1")
-        judge(is_set and ended_as(refused, stderr=f"rpcbind: read failed\nrpcbind: {FILE}: another daemon keeps its rows there\n", status=3)
-              and keeps(rows), "a second daemon does not start")
+        said = lines("rpcbind: read failed", f"rpcbind: {FILE}: another daemon keeps its rows there")
+        judge(is_set and ended_as(start_with(FILE, port=20113), stderr=said, status=3) and keeps(rows), "a second daemon does not start")
         daemon.process.kill()
         daemon.process.wait()
     with Keeper() as daemon:
@@ -573,16 +568,10 @@ def programs_that_are_gone_are_left_out():
 
 
 # Those that take longest come first.
-SCENARIOS = (long_journals_are_read, most_rows_are_kept, other_lines_are_refused, long_files_are_refused,
-             files_of_others_are_refused, programs_that_are_gone_are_left_out, torn_lines_are_left_out, changes_are_lines,
-             rows_are_kept, files_without_room_stay, what_is_in_the_way_of_a_new_file_stays, changes_alone_are_written,
-             changes_are_kept_before_replies, rows_of_others_are_kept, other_starts_leave_the_file,
-             rows_that_cannot_be_set_are_left_out, exchanged_files_are_written_anew, one_daemon_has_the_file,
-             folders_may_come_later, closed_folders_are_said, full_devices_are_said)
-
 if __name__ == "__main__":
-    if sys.argv[1] == "--names":
-        print(*(it.__name__ for it in SCENARIOS))
-        sys.exit()
-    os.mkdir(WORK)
-    sys.exit(run_scenario({it.__name__: it for it in SCENARIOS}[sys.argv[1]]))
+    run_named(long_journals_are_read, most_rows_are_kept, other_lines_are_refused, long_files_are_refused, files_of_others_are_refused,
+              programs_that_are_gone_are_left_out, torn_lines_are_left_out, changes_are_lines, rows_are_kept, files_without_room_stay,
+              what_is_in_the_way_of_a_new_file_stays, changes_alone_are_written, changes_are_kept_before_replies,
+              rows_of_others_are_kept, other_starts_leave_the_file, rows_that_cannot_be_set_are_left_out,
+              exchanged_files_are_written_anew, one_daemon_has_the_file, folders_may_come_later, closed_folders_are_said,
+              full_devices_are_said)

@@ -5,12 +5,12 @@
 # programs are then empty words for those that `make` built. With --of rpcinfo before all words it runs the checks that need
 # rpcinfo alone, and with --of others those that are left.
 #
-# What is run and checked stands in the files that are sourced here, and in one that is run for each of its scenarios. The first
-# lines of each say what it is for:
+# What is run and checked stands in the files that are sourced here, and in two that are run for each of their scenarios. The
+# first lines of each say what it is for:
 #
 #     rows.sh        rows of tests/rows and tests/rows-rpcinfo, and inputs that no file can hold
 #     starts.sh      starts of the daemon, what it says of them, and help
-#     manager.sh     the daemon under a service manager, which hands over sockets and is told
+#     managed.py     the daemon under a service manager, which hands over sockets and is told
 #     records.sh     its records and logs, and its rest
 #     serving.sh     a daemon that is short of something, and who may call it
 #     kept_rows.py   a daemon that keeps its rows
@@ -31,13 +31,13 @@ cd "$(dirname "$0")/.." || exit 1
 portless=()   # the checks that need no port
 checks=()     # those that need one, and then all
 of_rpcinfo=() # those that run no rpcbind
-waiting=      # those that wait for most of their time
+waiting=" missing_address_is_waited_for" # those that wait for most of their time
 
 # Those that take longest begin first.
 longest=(run_rpcinfo_endless_reply run_rpcinfo_long_reply_cut_off run_rpcinfo_longest_texts run_rpcbind_over_files
-    long_journals_are_read run_rows_by_the_model run_starts other_lines_are_refused run_many_events most_rows_are_kept run_records
-    run_under_a_manager)
-for part in daemon rows starts asking records serving manager refused releases repository; do
+    long_journals_are_read run_rows_by_the_model run_starts other_lines_are_refused run_many_events most_rows_are_kept run_records)
+scenarios=(tests/kept_rows.py tests/managed.py)
+for part in daemon rows starts asking records serving refused releases repository; do
     . "tests/$part.sh"
 done
 
@@ -77,7 +77,7 @@ run_inside() {
     elif [[ " ${portless[*]} " != *" $1 "* ]]; then
         exec {ports}> "$work/ports" && flock "$ports" || exit 1
     fi
-    declare -F "$1" > /dev/null || RPCBIND=$program RPCINFO=$rpcinfo WORK=$work exec tests/kept_rows.py "$1"
+    declare -F "$1" > /dev/null || RPCBIND=$program RPCINFO=$rpcinfo WORK=$work exec "$(grep -lx "def $1():" "${scenarios[@]}")" "$1"
     work=$work/$1
     mkdir "$work" || exit 1
     "$1"
@@ -118,7 +118,8 @@ if has_namespaces; then
     own_namespaces=1
     runner=("${namespaces[@]}" "${runner[@]}")
 fi
-mapfile -t checks < <(in_order "${portless[@]}" "${checks[@]}" $(RPCBIND= RPCINFO= WORK= tests/kept_rows.py --names))
+checks+=($(for file in "${scenarios[@]}"; do RPCBIND= RPCINFO= WORK= "$file" --names; done))
+mapfile -t checks < <(in_order "${portless[@]}" "${checks[@]}")
 needed=("$program" "$rpcinfo")
 case $of in
     rpcinfo) checks=("${of_rpcinfo[@]}") needed=("$rpcinfo") ;;

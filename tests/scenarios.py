@@ -35,6 +35,11 @@ def lines(*texts):
     return "".join(f"{it}\n" for it in texts)
 
 
+def read(path):
+    with open(path, encoding="utf-8", newline="") as file:
+        return file.read()
+
+
 def write(path, text):
     with open(path, "w", encoding="utf-8") as file:
         file.write(text)
@@ -117,3 +122,12 @@ def run_scenario(function):
         judge(False, what)
     print(f"{counts['passed']} passed, {counts['failed']} failed")
     return counts["failed"] > 0
+
+
+def run_named(*scenarios):
+    """Runs the one that is named, or with --names prints the names of all."""
+    if sys.argv[1] == "--names":
+        print(*(it.__name__ for it in scenarios))
+        sys.exit()
+    os.mkdir(WORK)
+    sys.exit(run_scenario({it.__name__: it for it in scenarios}[sys.argv[1]]))
