@@ -118,7 +118,7 @@ def run_scenario(function):
     """Runs it, prints the counts, and gives the status."""
     try:
         function()
-    except Unfit as what:
+    except (Unfit, OSError) as what:
         judge(False, what)
     print(f"{counts['passed']} passed, {counts['failed']} failed")
     return counts["failed"] > 0
