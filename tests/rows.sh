@@ -305,7 +305,7 @@ run_rpcinfo_longest_list() {
 # At most 4,096 rows are shown, and look-ups and forwarded calls of a version: one more is too many, and the lines before it
 # stand, of which a summary has none.
 run_rpcinfo_longest_lists() {
-    local row=000000010000000700000001 netid=0000000374637000 zeros numbers
+    local longest=tests/rows-rpcinfo/rpcinfo_json_longest_row row=000000010000000700000001 netid=0000000374637000 zeros numbers
     zeros=$(printf '%0120d' 0)
     numbers=$(printf 'info%s\nset 0 unset 0' "$(printf ' 0%.0s' {1..13})")
     { echo '   program   vers proto  port'; yes '         7      1 udp    2049' | head -n 4096; } > "$work/wanted"
@@ -320,6 +320,9 @@ run_rpcinfo_longest_lists() {
     run_rpcinfo_longest_list -m ${row}0000000000000000$netid "$zeros" "$(printf '%0280d' 0)"
     sed -i 's/^addr 7 1 tcp 0 0/call 7 1 0 tcp 0 0 0/' "$work/wanted" "$work/wanted-of-more"
     run_rpcinfo_longest_list -m ${row}00000000000000000000000000000000$netid "${zeros}00000000" "$(printf '%0272d' 0)"
+    row=$(tr -d '\n' < $longest.input) # behind its mark and its head, and before the end of the list
+    yes "$(cat $longest.expected)" | head -n 4096 | tee "$work/wanted" > "$work/wanted-of-more"
+    run_rpcinfo_longest_list --json "${row:56:-8}"
 }
 
 # HEX-2
