@@ -1,6 +1,6 @@
 #!/usr/bin/env python3
 """Programs at ports of 127.0.0.1 and ::1 that answer in some way, for the daemon that asks whether a kept row's program is
-still there; for tests/keep.sh.
+still there; for tests/kept_rows.py.
 
 answers.py WORD:PORT .. prints 'listening' once it listens at all of them, and answers until it is ended. A word is a netid
 and how it answers: `tcp-null` as procedure 0 does, `udp-garbage` by bytes that are no reply, `tcp6-silent` not at all.

@@ -1,5 +1,5 @@
 #!/usr/bin/env python3
-"""Asks a portmapper what no rpcinfo asks so, and prints what it tells; for tests/two-hosts.sh, tests/keep.sh and
+"""Asks a portmapper what no rpcinfo asks so, and prints what it tells; for tests/scenarios.py and
 tests/serving.sh. It is that at port 111, or at PORT of the environment.
 
 Each line of standard input is a question, NETID HOST WORDS, and the answer that is expected: it goes to this host over tcp,

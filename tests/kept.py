@@ -1,11 +1,8 @@
-#!/usr/bin/env python3
-"""The rows that a file of kept rows leaves: kept.py FILE prints the line of each, in their order.
+"""The rows that a file of kept rows leaves: the line of each, in their order.
 
 A line with a SET of version 4 adds its row, one with an UNSET takes the row of its program, version, netid and owner out,
 and what stands behind the last line feed is left out.
 """
-import sys
-
 SET, UNSET = "00000001", "00000002"
 
 
@@ -37,8 +34,3 @@ def lines_left(text):
         else:
             raise ValueError(line)
     return list(left.values())
-
-
-if __name__ == "__main__":
-    with open(sys.argv[1], newline="") as file:
-        sys.stdout.writelines(lines_left(file.read()))

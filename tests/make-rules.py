@@ -103,7 +103,7 @@ class Book:
                 self.read_edit(crate, file)
         for file in sorted([*ROOT.glob("tests/rows/*.events"), *ROOT.glob("tests/rows-rpcinfo/*.args")]):
             self.read_row(file)
-        for pattern in ("tests/crates/*/*.rs", "tests/*.sh", "tests/two_hosts.py", "tests/hostile/*.py"):
+        for pattern in ("tests/crates/*/*.rs", "tests/*.sh", "tests/*.py", "tests/hostile/*.py"):
             for file in sorted(ROOT.glob(pattern)):
                 self.read_tests(file)
         reasons = (line for line in NOT_SHOWN.read_text().splitlines() if not line.startswith("#"))

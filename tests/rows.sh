@@ -279,26 +279,50 @@ run_shortest_outputs_of_bytes() {
 
 # ---- inputs of rpcinfo that are made here
 
-# The reply to DUMP of version 2 with this many rows of program 7, as hexadecimal text of one fragment.
-long_dump() {
-    printf '%08x0000000100000001%032x' $((0x80000000 + 28 + 20 * $1)) 0
-    yes 0000000100000007000000010000001100000801 | head -n "$1"
-    printf '00000000'
+# A reply of one fragment, as hexadecimal text, with this many items of a list of these digits, and digits before and behind it.
+long_reply() {
+    printf '%08x0000000100000001%032x%s' $((0x80000000 + 28 + (${#3} + $1 * ${#2} + ${#4}) / 2)) 0 "$3"
+    yes "$2" | head -n "$1"
+    printf '00000000%s' "$4"
+}
+
+# A list is shown by these words: at most 4,096 items, of these digits, and the lines of `wanted`; of one more `wanted-of-more`
+# stands, and it is too many.
+run_rpcinfo_longest_list() {
+    local words=$1 item=$2 before=${3:-} behind=${4:-}
+    long_reply 4096 "$item" "$before" "$behind" > "$work/events"
+    run_rpcinfo "$work/events" "$words" -
+    as_wanted "$work/wanted" /dev/null 0
+    judge $? "rpcinfo $words: 4,096 items"
+    echo 'rpcinfo: too many rows' > "$work/wanted-said"
+    long_reply 4097 "$item" "$before" "$behind" > "$work/events"
+    run_rpcinfo "$work/events" "$words" -
+    as_wanted "$work/wanted-of-more" "$work/wanted-said" 1
+    judge $? "rpcinfo $words: 4,097 items"
 }
 
 # ITEM-1
-# At most 4,096 rows are shown: one more is too many, and the lines before it stand.
+# At most 4,096 rows are shown, and look-ups and forwarded calls of a version: one more is too many, and the lines before it
+# stand, of which a summary has none.
 run_rpcinfo_longest_lists() {
-    { echo '   program   vers proto  port'; yes '         7      1 udp    2049' | head -n 4096; } > "$work/table"
-    long_dump 4096 > "$work/events"
-    run_rpcinfo "$work/events" -p -
-    as_wanted "$work/table" /dev/null 0
-    judge $? "rpcinfo: 4,096 rows"
-    echo 'rpcinfo: too many rows' > "$work/wanted"
-    long_dump 4097 > "$work/events"
-    run_rpcinfo "$work/events" -p -
-    as_wanted "$work/table" "$work/wanted" 1
-    judge $? "rpcinfo: 4,097 rows"
+    local longest=tests/rows-rpcinfo/rpcinfo_json_longest_row row=000000010000000700000001 netid=0000000374637000 zeros numbers
+    zeros=$(printf '%0120d' 0)
+    numbers=$(printf 'info%s\nset 0 unset 0' "$(printf ' 0%.0s' {1..13})")
+    { echo '   program   vers proto  port'; yes '         7      1 udp    2049' | head -n 4096; } > "$work/wanted"
+    cp "$work/wanted" "$work/wanted-of-more"
+    run_rpcinfo_longest_list -p ${row}0000001100000801
+    printf '%s\n' '   program version(s) netid(s)                         service     owner' \
+        '         7  1         tcp                              -           -' > "$work/wanted"
+    : > "$work/wanted-of-more"
+    run_rpcinfo_longest_list --summary $row${netid}0000000000000000
+    { printf 'version 2\n%s\n' "$numbers"; yes 'addr 7 1 tcp 0 0' | head -n 4096; } > "$work/wanted-of-more"
+    { cat "$work/wanted-of-more"; printf 'version %s\n'"$numbers\n" 3 4; } > "$work/wanted"
+    run_rpcinfo_longest_list -m ${row}0000000000000000$netid "$zeros" "$(printf '%0280d' 0)"
+    sed -i 's/^addr 7 1 tcp 0 0/call 7 1 0 tcp 0 0 0/' "$work/wanted" "$work/wanted-of-more"
+    run_rpcinfo_longest_list -m ${row}00000000000000000000000000000000$netid "${zeros}00000000" "$(printf '%0272d' 0)"
+    row=$(tr -d '\n' < $longest.input) # behind its mark and its head, and before the end of the list
+    yes "$(cat $longest.expected)" | head -n 4096 | tee "$work/wanted" > "$work/wanted-of-more"
+    run_rpcinfo_longest_list --json "${row:56:-8}"
 }
 
 # HEX-2

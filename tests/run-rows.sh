@@ -1,18 +1,19 @@
 #!/usr/bin/env bash
 # Runs the built programs over their rows, over inputs that are made here and over sockets, and checks what must hold in the
 # repository. With two words these are the programs rpcbind and rpcinfo that it runs, built with checks: such a program
-# does not run in little memory, so that is said and not tried. Further words are the checks to run, as run_keep; the two
+# does not run in little memory, so that is said and not tried. Further words are the checks to run, as run_starts; the two
 # programs are then empty words for those that `make` built. With --of rpcinfo before all words it runs the checks that need
 # rpcinfo alone, and with --of others those that are left.
 #
-# What is run and checked stands in the files that are sourced here, and the first lines of each say what it is for:
+# What is run and checked stands in the files that are sourced here, and in two that are run for each of their scenarios. The
+# first lines of each say what it is for:
 #
 #     rows.sh        rows of tests/rows and tests/rows-rpcinfo, and inputs that no file can hold
 #     starts.sh      starts of the daemon, what it says of them, and help
-#     manager.sh     the daemon under a service manager, which hands over sockets and is told
+#     managed.py     the daemon under a service manager, which hands over sockets and is told
 #     records.sh     its records and logs, and its rest
 #     serving.sh     a daemon that is short of something, and who may call it
-#     keep.sh        a daemon that keeps its rows
+#     kept_rows.py   a daemon that keeps its rows
 #     asking.sh      forms of rpcinfo over sockets
 #     refused.sh     programs whose memory is refused
 #     releases.sh    the package, and what a release refuses
@@ -30,13 +31,13 @@ cd "$(dirname "$0")/.." || exit 1
 portless=()   # the checks that need no port
 checks=()     # those that need one, and then all
 of_rpcinfo=() # those that run no rpcbind
-waiting=      # those that wait for most of their time
+waiting=" missing_address_is_waited_for" # those that wait for most of their time
 
 # Those that take longest begin first.
 longest=(run_rpcinfo_endless_reply run_rpcinfo_long_reply_cut_off run_rpcinfo_longest_texts run_rpcbind_over_files
-    run_keep_of_a_long_journal run_rows_by_the_model run_starts run_refused_files_of_kept_rows
-    run_writes_of_kept_rows_that_fail run_many_events run_keep_of_most_rows run_records run_under_a_manager)
-for part in daemon rows keep starts asking records serving manager refused releases repository; do
+    long_journals_are_read run_rows_by_the_model run_starts other_lines_are_refused run_many_events most_rows_are_kept run_records)
+scenarios=(tests/kept_rows.py tests/managed.py)
+for part in daemon rows starts asking records serving refused releases repository; do
     . "tests/$part.sh"
 done
 
@@ -76,6 +77,7 @@ run_inside() {
     elif [[ " ${portless[*]} " != *" $1 "* ]]; then
         exec {ports}> "$work/ports" && flock "$ports" || exit 1
     fi
+    declare -F "$1" > /dev/null || RPCBIND=$program RPCINFO=$rpcinfo WORK=$work exec "$(grep -lx "def $1():" "${scenarios[@]}")" "$1"
     work=$work/$1
     mkdir "$work" || exit 1
     "$1"
@@ -116,6 +118,7 @@ if has_namespaces; then
     own_namespaces=1
     runner=("${namespaces[@]}" "${runner[@]}")
 fi
+checks+=($(for file in "${scenarios[@]}"; do RPCBIND= RPCINFO= WORK= "$file" --names; done))
 mapfile -t checks < <(in_order "${portless[@]}" "${checks[@]}")
 needed=("$program" "$rpcinfo")
 case $of in

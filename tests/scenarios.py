@@ -35,12 +35,36 @@ def lines(*texts):
     return "".join(f"{it}\n" for it in texts)
 
 
-def finished(words, **more):
-    """How a command ended, and what it wrote. Its status is 124 if it was not done within two minutes."""
+def read(path):
+    with open(path, encoding="utf-8", newline="") as file:
+        return file.read()
+
+
+def write(path, text):
+    with open(path, "w", encoding="utf-8") as file:
+        file.write(text)
+
+
+def finished(words, stdin=subprocess.DEVNULL, **more):
+    """How a command ended, and what it wrote. Its status is 124 if it was not done within five minutes."""
     try:
-        return subprocess.run(words, text=True, stdin=subprocess.DEVNULL, stdout=subprocess.PIPE, timeout=120, **more)
+        return subprocess.run(words, text=True, stdin=stdin, stdout=subprocess.PIPE, timeout=300, **more)
     except subprocess.TimeoutExpired:
         return subprocess.CompletedProcess(words, 124, "", "")
+
+
+def ended_as(done, stdout="", stderr="", status=0):
+    """Whether a command has ended so, and wrote this."""
+    return all([same(str(status), str(done.returncode), f"the status of '{' '.join(done.args)}'"),
+                same(stdout, done.stdout, "standard output"), same(stderr, done.stderr, "standard error")])
+
+
+def asked(questions, where=(), **environment):
+    """Questions of tests/ask.py, each with its answer, one a line; and what that tells which asks them from somewhere."""
+    wanted = lines(*(it.strip() for it in questions.strip().splitlines()))
+    told = subprocess.run([*where, "python3", "-B", "tests/ask.py"], input=wanted, text=True, stdout=subprocess.PIPE,
+                          env={**os.environ, **environment}).stdout
+    return wanted, told
 
 
 def output_of(*words):
@@ -61,8 +85,8 @@ def is_within(seconds, holds):
 class Background:
     """A program in the background, of which a file has what it says. It listens once that is entered, and ends behind it."""
 
-    def __init__(self, name, words):
-        self.path, self.words = f"{WORK}/{name}", words
+    def __init__(self, name, words, **more):
+        self.path, self.words, self.more = f"{WORK}/{name}", words, more
 
     def said(self):
         with open(self.path, encoding="utf-8", errors="replace") as file:
@@ -74,7 +98,7 @@ class Background:
     # A program with checks may take minutes, on a busy machine, for its memory and to set kept rows again.
     def __enter__(self):
         with open(self.path, "wb") as file:
-            self.process = subprocess.Popen(self.words, stdin=subprocess.DEVNULL, stdout=file, stderr=file)
+            self.process = subprocess.Popen(self.words, stdin=subprocess.DEVNULL, stdout=file, stderr=file, **self.more)
         is_within(300, lambda: "listening" in self.said() or self.process.poll() is not None)
         if "listening" not in self.said():
             self.stop()
@@ -94,7 +118,16 @@ def run_scenario(function):
     """Runs it, prints the counts, and gives the status."""
     try:
         function()
-    except Unfit as what:
+    except (Unfit, OSError) as what:
         judge(False, what)
     print(f"{counts['passed']} passed, {counts['failed']} failed")
     return counts["failed"] > 0
+
+
+def run_named(*scenarios):
+    """Runs the one that is named, or with --names prints the names of all."""
+    if sys.argv[1] == "--names":
+        print(*(it.__name__ for it in scenarios))
+        sys.exit()
+    os.mkdir(WORK)
+    sys.exit(run_scenario({it.__name__: it for it in scenarios}[sys.argv[1]]))

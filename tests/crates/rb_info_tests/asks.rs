@@ -25,6 +25,29 @@ fn write_call_has_memory(rt: HostRuntime) -> Result<(), Fail> {
     Ok(())
 }
 
+/// The greatest numbers of a call, its user's among them, and of a line that a program is ready.
+#[test]
+fn greatest_numbers_have_memory(rt: HostRuntime) -> Result<(), Fail> {
+    let ask = Ask {
+        question: Question::Null(u32::MAX, u32::MAX),
+        uid: Some(u32::MAX),
+    };
+    let mut datagram = Vec::new(rt.alloc());
+    write_call(rt.alloc(), &ask, 1, &mut datagram).map_err(|_| "refused")?;
+    let call =
+        b"\0\0\0\x01\0\0\0\0\0\0\0\x02\xff\xff\xff\xff\xff\xff\xff\xff\0\0\0\0\0\0\0\x01\0\0\0\x14\0\0\0\0\0\0\0\0\xff\xff\xff\xff\0\0\0\0\0\0\0\0\0\0\0\0\0\0\0\0";
+    assert_eq!(rt; datagram.as_slice(), call.as_slice());
+    let reply = b"\0\0\0\x01\0\0\0\x01\0\0\0\0\0\0\0\0\0\0\0\0\0\0\0\0".as_slice();
+    let mut shown = Vec::new(rt.alloc());
+    let result = show_datagram(rt.alloc(), &ask, Form::Plain, 1, reply, &mut shown);
+    assert!(rt; result == Ok(Shown::Null));
+    assert_eq!(rt;
+        shown.as_slice(),
+        b"program 4294967295 version 4294967295 ready\n".as_slice()
+    );
+    Ok(())
+}
+
 // DATA-6
 /// A datagram is a whole record: the port of a GETPORT is read, and a byte less is no reply.
 #[test]

@@ -1,4 +1,4 @@
-//! Rows whose programs are asked. One that answers is in tests/keep.sh, since here nobody would while it is asked.
+//! Rows whose programs are asked. One that answers is in tests/kept_rows.py, since here nobody would while it is asked.
 use rb_address::{Host, Netid, Owner};
 use rb_files::{Found, OwnHosts, ask_all};
 use rb_registry::Row;
