@@ -223,7 +223,7 @@ covers s id [] some = omega arith
 covers s id (byte ∷ bytes) some = cut_covers (length (byte ∷ bytes)) (first_piece s id) (byte ∷ bytes) (some (omega arith)) (most_first s id) (omega arith)
 
 two_events : (now id : ℕ) (pieces : List (List ℕ)) → length (piece_events now id pieces) ≡ 2 * length pieces
-two_events now id [] = refl
+two_events now id [] = omega arith
 two_events now id (piece ∷ pieces) = omega (arith, two_events now id pieces)
 
 pieces_wait : (s : State) (now id : ℕ) (pieces : List (List ℕ)) → waiting (after s (piece_events now id pieces)) ≤ waiting s

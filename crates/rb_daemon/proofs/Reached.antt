@@ -68,14 +68,14 @@ expired_state (expiries.ConnectionLost id, s) = refl
 -- ---- the core of the daemon, and its record
 
 -- what is written of a run that goes on
-more_recorded : (l : Limits) (h : Listener) (xid now : ℕ) (first more : List Event) (s : State) (before later : Tape) → s ≡ after (opening l h xid now) first → IsRecordOf (options_text l h xid now ∷ run_entries (opening l h xid now) first) before → Records (run_entries s more) before later → IsRecordOf (options_text l h xid now ∷ run_entries (opening l h xid now) (first ++ more)) later
+pub more_recorded : (l : Limits) (h : Listener) (xid now : ℕ) (first more : List Event) (s : State) (before later : Tape) → s ≡ after (opening l h xid now) first → IsRecordOf (options_text l h xid now ∷ run_entries (opening l h xid now) first) before → Records (run_entries s more) before later → IsRecordOf (options_text l h xid now ∷ run_entries (opening l h xid now) (first ++ more)) later
 more_recorded l h xid now first more s before later is was records =
     subst (λ (entries : List (List ℕ)). IsRecordOf (options_text l h xid now ∷ entries) later)
     (ap (λ (t : State). run_entries (opening l h xid now) first ++ run_entries t more) is ∙ sym (run_entries-append (opening l h xid now) first more))
     (record_goes_on (options_text l h xid now ∷ run_entries (opening l h xid now) first) (run_entries s more) before later was records)
 
 -- the lines of events after others
-lines_append : (xs ys : List Event) → AllByRecursion HasLine xs → AllByRecursion HasLine ys → AllByRecursion HasLine (xs ++ ys)
+pub lines_append : (xs ys : List Event) → AllByRecursion HasLine xs → AllByRecursion HasLine ys → AllByRecursion HasLine (xs ++ ys)
 lines_append [] ys a b = b
 lines_append (x ∷ xs) ys a b = (a.0, lines_append xs ys a.1 b)
 
@@ -120,7 +120,7 @@ pub good_from : {T : Type 0} (good : Bool) (made : T) → (IsTrue (not good) →
 good_from true made kept = refl
 good_from false made kept = let wrong = kept refl in absurd cc
 
-new_recorded : (l : Limits) (h : Listener) (xid now limit : ℕ) (empty tape : Tape) → empty ≡ empty_tape limit → Records (options_text l h xid now ∷ []) empty tape → IsRecordOf (options_text l h xid now ∷ run_entries (opening l h xid now) []) tape
+pub new_recorded : (l : Limits) (h : Listener) (xid now limit : ℕ) (empty tape : Tape) → empty ≡ empty_tape limit → Records (options_text l h xid now ∷ []) empty tape → IsRecordOf (options_text l h xid now ∷ run_entries (opening l h xid now) []) tape
 unfolding run_entries
 new_recorded l h xid now limit empty tape is records = record_goes_on [] (options_text l h xid now ∷ []) empty tape (subst (IsRecordOf []) (sym is) (new_record limit)) records
 

@@ -137,7 +137,7 @@ events_are_paid_ahead s reached good event = grind (arith, common_steps, event_p
 
 -- the sum over events after others
 pub total-append : (number : Event → Output → ℕ) (s : State) (xs ys : List Event) → total_of number (xs ++ ys) (run s (xs ++ ys)) ≡ total_of number xs (run s xs) + total_of number ys (run (after s xs) ys)
-total-append number s [] ys = refl
+total-append number s [] ys = omega arith
 total-append number s (x ∷ xs) ys = let rest = total-append number (step s x).1 xs ys in omega (arith, rest)
 
 pub paid_ahead : (s : State) → IsReached s → are_good s.setting.limits s.setting.listener ≡ true → (events : List Event)
