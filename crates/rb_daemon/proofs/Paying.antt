@@ -42,7 +42,7 @@ use Rattle.rb_core.specs.CallCosts.{deadline_cost, making_cost}
 use Rattle.rb_core.specs.HeldBytes.{IsListener}
 use Rattle.rb_core.specs.Looks.{slot_count}
 use Rattle.rb_core.specs.Metered.{Metered}
-use Rattle.rb_core.specs.MeteredCalls.{Priced, PricedGiving, reply_look}
+use Rattle.rb_core.specs.MeteredCalls.{Priced, reply_look}
 use Rattle.rb_core.specs.StandsFor.{CoreView, StandsFor}
 use Rattle.rb_core.proofs.Begun.{with_steps_before, stands_begun}
 use Rattle.rb_core.proofs.Spending.{connections_held, rows_held}
@@ -273,11 +273,6 @@ into_paid now id room n r old new a mid b count acts look pays s h reached good 
 -- no look was taken before
 pub none_paid : (meter : Meter) (most : ℕ) → PaysAtMost meter meter most
 none_paid meter most = record { rises = omega arith; steps = omega arith; tie = refl }
-
--- one was, which changed nothing
-pub priced_from : (id : ℕ) (looked : Metered) (old : CoreView) (new : Metered) (result : Result Given CoreFault) → looked.core ≡ old → PricedGiving id looked new result
-    → (s : State) → StandsFor old s → PaysAtMost looked.meter new.meter (write_into_cost (length s.connections.all) s.setting.limits.rows (given_in result) (live_connection id s.connections.all))
-priced_from id looked old new result same priced s h = priced s (subst (λ (held : CoreView). StandsFor held s) (sym same) h)
 
 -- as many bytes are in the room as the result says
 pub count_is : (room : List ℕ) (result : Result Given CoreFault) → given_in result ≤ length room → given_in result ≡ length (pending_bytes (bytes_given room result))

@@ -11,7 +11,7 @@ use Rattle.rb_connections.specs.Slots.{Acts}
 use Rattle.rb_core.specs.StandsFor.{CoreView, StandsFor}
 use Rattle.rb_daemon.specs.Recording.{give_events}
 use Rattle.rb_daemon.proofs.Pieces.{few_given, none_given, gives_records, gives_goes, off_pieces, no_pieces, all_pieces, first_some}
-use Rattle.rb_daemon.proofs.Paying.{served_of, paid_on, raised, none_paid, count_is, priced_from, into_paid}
+use Rattle.rb_daemon.proofs.Paying.{served_of, paid_on, raised, none_paid, count_is, into_paid}
 use Rattle.rb_daemon.proofs.engine.Engine.write_into.Goals as goal
 
 -- a step from a core that is the same acts as one from this
@@ -48,7 +48,7 @@ invariant_of-self-in-Break-1 c =
           (from_same c.args.self.now.moment c.args.id (length c.write_into-2.new.room) c.count_pending-first.new.core.core c.args.self.now.core.core c.write_into-2.new.self.core _ c.count_pending-first.ensures.stays c.in_err-given.ensures.acts)
           c.args.self.now.tape c.args.self.now.tape (no_pieces c.args.self.now.moment c.args.id [] c.args.self.now.core.core c.args.self.now.tape refl (served_of c.args.self.now.core c.args.self.now.tape c.args.self.now.looks.steps c.args.self.now.paid)) c.args.self.now.fits c.ranges.id.fits none_given)
           (raised _ _ _ c.raise.ensures)
-          (into_paid c.args.self.now.moment c.args.id (length c.write_into-2.new.room) _ _ c.args.self.now.core.core c.write_into-2.new.self.core c.args.self.now.core.meter c.count_pending-first.new.core.meter c.write_into-2.new.self.meter refl (from_same c.args.self.now.moment c.args.id (length c.write_into-2.new.room) c.count_pending-first.new.core.core c.args.self.now.core.core c.write_into-2.new.self.core _ c.count_pending-first.ensures.stays c.in_err-given.ensures.acts) c.count_pending-first.ensures.cost (priced_from _ _ _ _ _ c.count_pending-first.ensures.stays c.in_err-given.ensures.priced))
+          (into_paid c.args.self.now.moment c.args.id (length c.write_into-2.new.room) 0 _ c.args.self.now.core.core c.write_into-2.new.self.core c.args.self.now.core.meter c.count_pending-first.new.core.meter c.write_into-2.new.self.meter refl (from_same c.args.self.now.moment c.args.id (length c.write_into-2.new.room) c.count_pending-first.new.core.core c.args.self.now.core.core c.write_into-2.new.self.core _ c.count_pending-first.ensures.stays c.in_err-given.ensures.acts) c.count_pending-first.ensures.cost (λ s h. c.in_err-given.ensures.priced s (subst (λ (held : CoreView). StandsFor held s) (sym c.count_pending-first.ensures.stays) h)))
           c.args.self.now.paid;
       fits = c.args.self.now.fits;
     }
@@ -79,7 +79,7 @@ invariant_of-self-then-given-gt0 c =
           c.args.self.now.tape c.record_pieces.new.tape
           (all_pieces c.args.self.now.moment c.args.id c.count_pending-first.result bytes c.args.self.now.core.core c.args.self.now.tape c.record_pieces.new.tape c.count_pending-first.ensures.count c.record_pieces.ensures) c.args.self.now.fits c.ranges.id.fits (omega (arith, length-take c.in_ok-given.given.count c.write_into-2.new.room, c.write_into-2.auto.room, c.count_fits.ensures)))
           (raised _ _ _ c.raise.ensures)
-          (into_paid c.args.self.now.moment c.args.id (length c.write_into-2.new.room) _ (Ok bytes) c.args.self.now.core.core c.write_into-2.new.self.core c.args.self.now.core.meter c.count_pending-first.new.core.meter c.write_into-2.new.self.meter (omega (arith, c.in_ok-given.ensures.within, length-take c.in_ok-given.given.count c.write_into-2.new.room)) (from_same c.args.self.now.moment c.args.id (length c.write_into-2.new.room) c.count_pending-first.new.core.core c.args.self.now.core.core c.write_into-2.new.self.core (Ok bytes) c.count_pending-first.ensures.stays c.in_ok-given.ensures.acts) c.count_pending-first.ensures.cost (priced_from _ _ _ _ _ c.count_pending-first.ensures.stays c.in_ok-given.ensures.priced))
+          (into_paid c.args.self.now.moment c.args.id (length c.write_into-2.new.room) c.in_ok-given.given.count (Ok bytes) c.args.self.now.core.core c.write_into-2.new.self.core c.args.self.now.core.meter c.count_pending-first.new.core.meter c.write_into-2.new.self.meter (omega (arith, c.in_ok-given.ensures.within, length-take c.in_ok-given.given.count c.write_into-2.new.room)) (from_same c.args.self.now.moment c.args.id (length c.write_into-2.new.room) c.count_pending-first.new.core.core c.args.self.now.core.core c.write_into-2.new.self.core (Ok bytes) c.count_pending-first.ensures.stays c.in_ok-given.ensures.acts) c.count_pending-first.ensures.cost (λ s h. c.in_ok-given.ensures.priced s (subst (λ (held : CoreView). StandsFor held s) (sym c.count_pending-first.ensures.stays) h)))
           c.args.self.now.paid;
       fits = c.args.self.now.fits;
     }
@@ -94,7 +94,7 @@ invariant_of-self-else-given-gt0 c =
           c.args.self.now.tape c.args.self.now.tape
           (no_pieces c.args.self.now.moment c.args.id bytes c.args.self.now.core.core c.args.self.now.tape (nothing_taken c.in_ok-given.given.count c.write_into-2.new.room c.if-given-gt0.false) (served_of c.args.self.now.core c.args.self.now.tape c.args.self.now.looks.steps c.args.self.now.paid)) c.args.self.now.fits c.ranges.id.fits (omega (arith, length-take c.in_ok-given.given.count c.write_into-2.new.room, c.write_into-2.auto.room, c.count_fits.ensures)))
           (raised _ _ _ c.raise.ensures)
-          (into_paid c.args.self.now.moment c.args.id (length c.write_into-2.new.room) _ (Ok bytes) c.args.self.now.core.core c.write_into-2.new.self.core c.args.self.now.core.meter c.count_pending-first.new.core.meter c.write_into-2.new.self.meter (omega (arith, c.in_ok-given.ensures.within, length-take c.in_ok-given.given.count c.write_into-2.new.room)) (from_same c.args.self.now.moment c.args.id (length c.write_into-2.new.room) c.count_pending-first.new.core.core c.args.self.now.core.core c.write_into-2.new.self.core (Ok bytes) c.count_pending-first.ensures.stays c.in_ok-given.ensures.acts) c.count_pending-first.ensures.cost (priced_from _ _ _ _ _ c.count_pending-first.ensures.stays c.in_ok-given.ensures.priced))
+          (into_paid c.args.self.now.moment c.args.id (length c.write_into-2.new.room) c.in_ok-given.given.count (Ok bytes) c.args.self.now.core.core c.write_into-2.new.self.core c.args.self.now.core.meter c.count_pending-first.new.core.meter c.write_into-2.new.self.meter (omega (arith, c.in_ok-given.ensures.within, length-take c.in_ok-given.given.count c.write_into-2.new.room)) (from_same c.args.self.now.moment c.args.id (length c.write_into-2.new.room) c.count_pending-first.new.core.core c.args.self.now.core.core c.write_into-2.new.self.core (Ok bytes) c.count_pending-first.ensures.stays c.in_ok-given.ensures.acts) c.count_pending-first.ensures.cost (λ s h. c.in_ok-given.ensures.priced s (subst (λ (held : CoreView). StandsFor held s) (sym c.count_pending-first.ensures.stays) h)))
           c.args.self.now.paid;
       fits = c.args.self.now.fits;
     }
