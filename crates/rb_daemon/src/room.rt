@@ -1,6 +1,6 @@
 //! The memory with which connections and datagrams are served.
 use crate::held::Held;
-use rb_address::{Network, Source};
+use rb_address::Network;
 use rb_links::Places;
 use rb_policy::WaysBack;
 use rb_sockets::Table;
@@ -16,7 +16,6 @@ pub(crate) struct Room<H: Files> {
     /// The networks whose hosts may ask.
     pub(crate) networks: Vec<Network>,
     pub(crate) places: Places,
-    pub(crate) sources: Vec<Source>,
     pub(crate) datagram: Vec<u8>,
     pub(crate) ways_back: WaysBack,
     pub(crate) held: Held,
@@ -34,25 +33,17 @@ impl<H: Files> Room<H> {
         are_tables_read: bool,
     ) -> Result<Room<H>, AllocError> {
         let networks = networks.to_vec(alloc)?;
-        let datagram = filled(alloc, LONGEST_DATAGRAM, 0)?;
+        let mut datagram = Vec::with_capacity(alloc, LONGEST_DATAGRAM)?;
+        datagram.resize(LONGEST_DATAGRAM, 0)?;
         let ways_back = WaysBack::new(alloc, forwards)?;
-        let sources = filled(alloc, places, Source::Local)?;
         let table = Table::new(alloc, are_tables_read)?;
         Ok(Room {
             networks,
             places: Places::new(alloc, places)?,
-            sources,
             datagram,
             ways_back,
             held: Held::new(alloc)?,
             table,
         })
     }
-}
-
-/// So many times the same value. An error if the allocation is refused.
-fn filled<T: Copy>(alloc: Global, count: usize, value: T) -> Result<Vec<T>, AllocError> {
-    let mut values = Vec::with_capacity(alloc, count)?;
-    values.resize(count, value)?;
-    Ok(values)
 }

@@ -12,7 +12,7 @@ use crate::room::Room;
 use crate::steps::{Progress, serve, serve_kept};
 use mio::Registry;
 use mio::event::Event;
-use rb_address::{Family, Network, Peer, Source, Who};
+use rb_address::{Family, Network, Peer, Who};
 use rb_forward::sooner;
 use rb_links::{Places, Turn};
 use rb_model::Limits;
@@ -43,8 +43,6 @@ pub(crate) struct Serving<H: Files> {
     /// The networks whose hosts may ask.
     networks: Vec<Network>,
     places: Places,
-    /// Where the last connection at each place came from.
-    sources: Vec<Source>,
     /// How many rows may be set.
     most_rows: usize,
     /// As many things can be due at one moment: connections and forwarded calls.
@@ -101,7 +99,6 @@ impl<H: Files> Serving<H> {
         let Room {
             networks,
             places,
-            sources,
             datagram,
             ways_back,
             held,
@@ -113,7 +110,6 @@ impl<H: Files> Serving<H> {
             sockets,
             networks,
             places,
-            sources,
             most_rows: limits.rows,
             most_due: limits.conns.saturating_add(limits.forwards),
             datagram,
@@ -335,8 +331,8 @@ impl<H: Files> Serving<H> {
 
     /// Closes the connection at a place, which is given up, and tells the log so.
     fn give_up(&mut self, key: usize) {
-        if let Some(source) = self.sources.get(key) {
-            self.engine.tell_given_up(*source);
+        if let Some(arrival) = self.places.arrival(key) {
+            self.engine.tell_given_up(arrival.source());
         }
         self.close(key);
     }
@@ -650,8 +646,7 @@ impl<H: Files> Serving<H> {
     /// must show whose it is, it is nobody's known until a call needs more. One that the core does not take is closed at once,
     /// and so is one whose events can't be shown.
     fn open(&mut self, registry: &Registry, accepted: Accepted) {
-        let visitor = accepted.visitor;
-        let origin = match &visitor {
+        let origin = match &accepted.visitor {
             Visitor::Known(arrival) => origin_of(&arrival.who()),
             Visitor::Unknown(_) => Origin::New,
         };
@@ -664,9 +659,6 @@ impl<H: Files> Serving<H> {
             Admission::Close => return,
         };
         self.places.seat(key, accepted, origin, self.turn.moment);
-        if let Some(source) = self.sources.get_mut(key) {
-            *source = visitor.arrival().source();
-        }
         if !open_at(&mut self.places, &mut self.engine, registry, key) {
             self.close(key);
         }
