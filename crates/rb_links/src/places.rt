@@ -192,7 +192,8 @@ impl Places {
 
     /// How many connections a turn accepts, as the places are now.
     pub fn accept_count(&self) -> usize
-        ensures { result ≡ accept_count (vec_len self.now.links - self.now.taken) (vec_len self.now.links) }
+        ensures { result
+            ≡ accept_count (vec_len self.now.links - self.now.taken) (vec_len self.now.links) }
     {
         let count = self.links.len();
         accept_count(count.saturating_sub(self.taken), count)
