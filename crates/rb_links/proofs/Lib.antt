@@ -2,3 +2,4 @@ pub mod Outboxes
 pub mod Rests
 pub mod Readings
 pub mod Looks
+pub mod Holders

@@ -3,3 +3,5 @@ pub mod Shown
 pub mod Holding
 pub mod Numbers
 pub mod Tables
+pub mod Stands
+pub mod Served

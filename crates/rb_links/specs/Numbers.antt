@@ -1,5 +1,5 @@
 -- Whose the bytes are that a place has: it has the number under which its connection was opened.
-use Rattle.std.specs.Prelude.{◌≡◌, ℕ, List, drop, slice_get, Option}
+use Rattle.std.specs.Prelude.{◌≡◌, ℕ, List, ◌++◌, drop, slice_get, Option}
 use Rattle.std.specs.Option.{option_and_then}
 use Rattle.rb_sockets.specs.declared.arrival.Arrival.{Arrival}
 use Rattle.rb_links.specs.declared.link.Link.{Link}
@@ -14,6 +14,10 @@ pub record HasItsBytes (old new : Link) : Type 0 where
 -- without some of the first bytes
 abbrev pub IsRest : List ℕ → List ℕ → Type 0
 IsRest old new = (n : ℕ) × (new ≡ drop n old)
+
+-- with more bytes behind them
+abbrev pub HasMore : List ℕ → List ℕ → Type 0
+HasMore old new = (more : List ℕ) × (new ≡ old ++ more)
 
 -- the number of the connection at a place, if there is one and it is opened
 abbrev pub number_at : Places → ℕ → Option ℕ

@@ -1,11 +1,13 @@
 -- What walks through the kernel's tables look for at each place, and what is noted there.
-use Rattle.std.specs.Prelude.{◌≡◌, ◌≢◌, ℕ, Bool, List, slice_get, Option, Some, option_and_then}
+use Rattle.std.specs.Prelude.{◌≡◌, ◌≢◌, ℕ, Bool, List, slice_get, Option, Some, None, option_and_then}
 use Rattle.rb_address.specs.declared.host.Family.{Family}
 use Rattle.rb_evidence.specs.declared.sight.Sight.{Sight}
 use Rattle.rb_sockets.specs.declared.listener.Visitor.{Visitor}
 use Rattle.rb_links.specs.declared.link.Link.{Link}
 use Rattle.rb_links.specs.declared.places.Places.{Places}
 use Rattle.rb_links.specs.Shown.{IsSoughtBy, HasSeen, IsShown}
+use Rattle.rb_links.specs.Holding.{BeginsAnew}
+use Rattle.rb_policy.specs.declared.origin.Origin.{Origin}
 
 -- what a walk looks for at a place, if it does
 abbrev pub sight_at : Places → ℕ → Option Sight
@@ -14,8 +16,16 @@ sight_at places key = option_and_then (λ sight. sight) (slice_get places.sights
 -- The connection at a place is whose it was when it was accepted.
 -- TABLES-9: What the kernel's tables show of a connection is of the two ends of its own socket, as it was accepted; nothing
 -- that they showed of one that is closed is left.
-abbrev pub IsSeatedAt : ℕ → Visitor → Places → Type 0
-IsSeatedAt key visitor places = (link : Link) → slice_get places.links.items key ≡ Some link → link.visitor ≡ Some visitor
+pub record IsSeated (visitor : Visitor) (origin : Origin) (moment : ℕ) (link : Link) : Type 0 where
+  pub visitor_is : link.visitor ≡ Some visitor
+  pub number : link.id ≡ None
+  pub origin_is : link.origin ≡ origin
+  pub since : link.since ≡ moment
+  pub begins : BeginsAnew link
+
+abbrev pub IsSeatedAt : ℕ → Visitor → Origin → ℕ → Places → Type 0
+IsSeatedAt key visitor origin moment places =
+    (link : Link) → slice_get places.links.items key ≡ Some link → IsSeated visitor origin moment link
 
 -- It goes on as whoever the tables show.
 -- TRUST-14

@@ -1,10 +1,15 @@
 //! The place of an accepted connection: what is known of it, and its socket calls.
-ghost use Rattle.std.specs.Prelude.{◌≡◌, ◌≤◌, [], true, not, ◌&&◌, ◌||◌, length, drop, IfOk, IfSome, Some, None, option_map};
+ghost use Rattle.std.specs.Prelude.{◌≡◌, ◌≤◌, ◌==◌, [], true, false, not, ◌&&◌, ◌||◌, nat_lt, length, drop, IfOk, IfSome, IfNone, Some, None, option_map, if◌then◌else◌};
+ghost use Rattle.std.specs.Option.{is_some};
+ghost use Rattle.rb_model.specs.declared.types.Standing.TheVariants.{Owing, Awaiting};
 ghost use Rattle.rb_policy.specs.declared.evidence.Evidence.TheVariants.{NotFound};
+ghost use Rattle.rb_policy.specs.declared.outcome.Next.TheVariants.{AwaitEvent};
+ghost use Rattle.rb_policy.specs.Turns.{is_cut_off};
 ghost use Rattle.rb_links.specs.Holding.{BeginsAnew, is_between_records, must_wait, held_of, is_same_held};
-ghost use Rattle.rb_links.specs.Numbers.{HasItsBytes, IsRest};
+ghost use Rattle.rb_links.specs.Numbers.{HasItsBytes, IsRest, HasMore};
 ghost use Rattle.rb_links.specs.Outgoing.{nothing_in, own_room};
-ghost use Rattle.rb_links.specs.Shown.{arrival_in, unknown_ends, in_next_pass, IsSoughtBy, IsShownBy, HasSeen, IsShown};
+ghost use Rattle.rb_links.specs.Stands.{is_free, is_number, outer_standing, holder_of, stuck_of, round_in, is_reading, is_for_the_core, takes_more, holds_bytes, longer_first, begun, ended, HasWritten, IsLookedAt, IsOver};
+ghost use Rattle.rb_links.specs.Shown.{arrival_in, unknown_ends, is_held, when_asked, awaits_pass, in_next_pass, is_sought_in, IsSoughtBy, may_be_told_later, IsShownBy, HasSeen, IsShown, StaysUnknown};
 
 use crate::inbox::Inbox;
 use crate::outbox::{OWN_ROOM, Outbox};
@@ -142,12 +147,16 @@ impl Link {
     }
 
     /// Whether no connection has the place.
-    pub(crate) fn is_free(&self) -> bool {
+    pub(crate) fn is_free(&self) -> bool
+        ensures { result ≡ is_free self.now }
+    {
         self.stream.is_none()
     }
 
     /// Whether the connection of the number has the place.
-    pub(crate) fn is_of(&self, id: u64) -> bool {
+    pub(crate) fn is_of(&self, id: u64) -> bool
+        ensures { result ≡ is_number id self.now.id }
+    {
         self.id == Some(id)
     }
 
@@ -228,12 +237,17 @@ impl Link {
     }
 
     /// Whether some of its call is held back.
-    pub(crate) fn is_held(&self) -> bool {
+    pub(crate) fn is_held(&self) -> bool
+        ensures { result ≡ is_held self.now.held }
+    {
         self.held != Held::Nothing
     }
 
     /// The kernel's tables are to show whose it is, if they were not asked yet. Whether they are.
-    pub(crate) fn seek(&mut self) -> bool {
+    pub(crate) fn seek(&mut self) -> bool
+        ensures sought { self.new ≡ when_asked self.old }
+        ensures awaits { result ≡ awaits_pass self.new }
+    {
         let is_unknown = self.unknown_ends().is_some() && matches!(self.origin, Origin::New);
         if is_unknown && self.sought.is_none() {
             self.sought = Some(Sought::new());
@@ -242,23 +256,32 @@ impl Link {
     }
 
     /// Whether the kernel's tables are to show whose it is.
-    pub(crate) fn is_sought(&self) -> bool {
+    pub(crate) fn is_sought(&self) -> bool
+        ensures { result ≡ is_some self.now.sought }
+    {
         self.sought.is_some()
     }
 
     /// Whether it waits for a pass through the kernel's tables that has not begun.
-    pub(crate) fn awaits_pass(&self) -> bool {
+    pub(crate) fn awaits_pass(&self) -> bool
+        ensures { result ≡ awaits_pass self.now }
+    {
         self.sought.is_some_and(|sought| sought.passes == 0)
     }
 
     /// An event shows that its peer has ended what it sends, or has reset it.
-    pub(crate) fn note_ended(&mut self) {
+    pub(crate) fn note_ended(&mut self)
+        ensures { self.new ≡ record self.old { has_ended = true } }
+    {
         self.has_ended = true;
     }
 
     /// Notes whether its peer has ended what it sends, or has reset it, if it is of this host: that may have happened since
     /// its last event.
-    pub(crate) fn look_for_end(&mut self) {
+    pub(crate) fn look_for_end(&mut self)
+        ensures looked { IsLookedAt self.old self.new }
+        ensures stays { self.old.has_ended ≡ true → self.new.has_ended ≡ true }
+    {
         if let (true, Some(stream)) = (is_local(&self.origin), &self.stream) {
             self.has_ended |= stream.has_ended();
         }
@@ -266,8 +289,7 @@ impl Link {
 
     /// A pass through the kernel's tables begins, in which it takes part if they are to show whose it is.
     pub(crate) fn begin_pass(&mut self)
-        ensures visitor { self.new.visitor ≡ self.old.visitor }
-        ensures sought { self.new.sought ≡ option_map in_next_pass self.old.sought }
+        ensures { self.new ≡ record self.old { sought = option_map in_next_pass self.old.sought } }
     {
         if let Some(sought) = &mut self.sought {
             sought.passes = sought.passes.saturating_add(1);
@@ -278,7 +300,8 @@ impl Link {
     // TABLES-2
     /// What a walk through the table of a family looks for, if it must look for it.
     pub(crate) fn sight_in(&self, table: Family) -> Option<Sight>
-        ensures { IfSome result (IsSoughtBy table self.now) }
+        ensures sought { IfSome result (IsSoughtBy table self.now) }
+        ensures some { is_some result ≡ is_sought_in table self.now }
     {
         let ends = self.unknown_ends()?;
         let sought = self.sought?;
@@ -308,6 +331,7 @@ impl Link {
     /// if its call is held back, it goes on as who it is. It may wait for one more pass. Whether it goes on so.
     pub(crate) fn shown(&mut self, moment: u64) -> bool
         ensures shown { result ≡ true → IsShown moment self.old self.new }
+        ensures waits { result ≡ false → StaysUnknown self.old self.new }
     {
         let Some(arrival) = self.arrival_shown() else {
             return false;
@@ -327,7 +351,8 @@ impl Link {
     /// How whoever is there came in, by what the passes showed of its own two ends; none if there is one more, or it takes
     /// part in none.
     fn arrival_shown(&self) -> Option<Arrival>
-        ensures { IfSome result (IsShownBy self.now) }
+        ensures shown { IfSome result (IsShownBy self.now) }
+        ensures none { IfNone result (may_be_told_later self.now ≡ true) }
     {
         let ends = self.unknown_ends()?;
         let sought = self.sought?;
@@ -358,8 +383,7 @@ impl Link {
 
     /// It goes on under this number of the core's, and must be served though no event shows it.
     pub(crate) fn renumber(&mut self, id: u64)
-        ensures number { self.new.id ≡ Some id }
-        ensures bytes { HasItsBytes self.old self.new }
+        ensures { self.new ≡ record self.old { id = Some id; is_waiting = true } }
     {
         self.id = Some(id);
         self.is_waiting = true;
@@ -387,6 +411,7 @@ impl Link {
         ensures taken { result ≡ self.old.id }
         ensures number { self.new.id ≡ None }
         ensures outbox { self.new.outbox.bytes ≡ [] }
+        ensures over { IsOver self.new }
     {
         self.stream = None;
         self.visitor = None;
@@ -399,40 +424,54 @@ impl Link {
     }
 
     /// Whether it must be served though no event shows it.
-    pub(crate) fn is_waiting(&self) -> bool {
+    pub(crate) fn is_waiting(&self) -> bool
+        ensures { result ≡ self.now.is_waiting }
+    {
         self.is_waiting
     }
 
     /// It must be served though no event shows it: its forwarded call has ended. It counts as owing the reply, until the
     /// core says whether there is one.
-    pub(crate) fn wake(&mut self) {
+    pub(crate) fn wake(&mut self)
+        ensures { self.new ≡ record self.old { is_waiting = true; standing = Owing } }
+    {
         self.is_waiting = true;
         self.standing = Standing::Owing;
     }
 
     /// Whether this turn has served it.
-    pub(crate) fn was_served_in(&self, turn: Turn) -> bool {
+    pub(crate) fn was_served_in(&self, turn: Turn) -> bool
+        ensures { result ≡ (self.now.served_in == turn.number) }
+    {
         self.served_in == turn.number
     }
 
     /// Where it stands, as its client sees it: bytes are owed on it until its socket has taken them.
-    fn standing_outside(&self) -> Standing {
+    fn standing_outside(&self) -> Standing
+        ensures { result ≡ outer_standing self.now }
+    {
         standing_outside(self.standing, !self.outbox.is_empty(), self.is_held())
     }
 
     /// The round of a turn in which it is served.
-    pub(crate) fn round(&self) -> Round {
+    pub(crate) fn round(&self) -> Round
+        ensures { result ≡ round_in self.now }
+    {
         round_of(self.is_waiting, self.standing_outside())
     }
 
     /// It must be served though no event shows it again, if a connection has the place.
-    pub(crate) fn leave(&mut self) {
+    pub(crate) fn leave(&mut self)
+        ensures { self.new ≡ record self.old { is_waiting = not (is_free self.old) } }
+    {
         self.is_waiting = !self.is_free();
     }
 
     // DOOR-12
     /// What `admit` is decided by, of the connection that has the place.
-    pub(crate) fn holder(&self) -> Option<Holder> {
+    pub(crate) fn holder(&self) -> Option<Holder>
+        ensures { result ≡ holder_of self.now }
+    {
         if self.is_free() {
             return None;
         }
@@ -445,7 +484,9 @@ impl Link {
     }
 
     /// The moment, in milliseconds, at which it is given up, if its socket takes nothing of what waits for it until then.
-    pub(crate) fn stuck_at(&self) -> Option<u64> {
+    pub(crate) fn stuck_at(&self) -> Option<u64>
+        ensures { result ≡ stuck_of self.now }
+    {
         if self.outbox.is_empty() {
             None
         } else {
@@ -454,7 +495,11 @@ impl Link {
     }
 
     /// A turn serves it from here on. It has the long outbox meanwhile, if that is free.
-    pub fn begin(&mut self, turn: Turn, long_outbox: &mut Outbox) {
+    pub fn begin(&mut self, turn: Turn, long_outbox: &mut Outbox)
+        ensures begun { self.new ≡ begun turn.number self.new.outbox self.old }
+        ensures outbox { self.new.outbox ≡ (longer_first self.old.outbox long_outbox.old).0 }
+        ensures long { long_outbox.new ≡ (longer_first self.old.outbox long_outbox.old).1 }
+    {
         self.served_in = turn.number;
         self.is_waiting = false;
         self.read_was_short = false;
@@ -465,7 +510,11 @@ impl Link {
     }
 
     /// The turn has served it. The long outbox is for others, unless bytes are left in it.
-    pub fn end(&mut self, turn: Turn, long_outbox: &mut Outbox) {
+    pub fn end(&mut self, turn: Turn, long_outbox: &mut Outbox)
+        ensures ended { self.new ≡ ended turn.moment self.new.outbox self.old }
+        ensures outbox { self.new.outbox ≡ (longer_first long_outbox.old self.old.outbox).1 }
+        ensures long { long_outbox.new ≡ (longer_first long_outbox.old self.old.outbox).0 }
+    {
         long_outbox.take_longer(&mut self.outbox);
         if self.made_progress {
             self.since = turn.moment;
@@ -473,23 +522,31 @@ impl Link {
     }
 
     /// Whether it is left for the next turn, after this many socket calls for it in this one.
-    pub fn is_cut_off(&self, calls: usize) -> bool {
+    pub fn is_cut_off(&self, calls: usize) -> bool
+        ensures { result ≡ is_cut_off calls self.now.written }
+    {
         is_cut_off(calls, self.written)
     }
 
     /// Whether a socket call of this turn read or wrote bytes.
-    pub fn moved_some(&self) -> bool {
+    pub fn moved_some(&self) -> bool
+        ensures { result ≡ self.now.moved_some }
+    {
         self.moved_some
     }
 
     /// Where the core said last that it stands.
-    pub fn standing(&self) -> Standing {
+    pub fn standing(&self) -> Standing
+        ensures { result ≡ self.now.standing }
+    {
         self.standing
     }
 
     /// Whether the core must be called for it: bytes must be handed in, or a reply is owed, and its socket has taken
     /// all replies that were before.
-    pub fn is_for_the_core(&self) -> bool {
+    pub fn is_for_the_core(&self) -> bool
+        ensures { result ≡ is_for_the_core self.now }
+    {
         let has_some = !self.inbox.is_empty() || self.standing == Standing::Owing;
         has_some && self.outbox.is_empty()
     }
@@ -504,6 +561,9 @@ impl Link {
         ensures inbox { self.new.inbox ≡ drop count self.old.inbox }
         ensures outbox { self.new.outbox ≡ self.old.outbox }
         ensures number { self.new.id ≡ self.old.id }
+        ensures standing { self.new.standing ≡ standing }
+        ensures progress { self.new.made_progress ≡ (self.old.made_progress
+            || (nat_lt 0 count && not (is_reading standing))) }
     {
         self.inbox.take(count);
         self.is_between = is_between_records(standing);
@@ -515,13 +575,19 @@ impl Link {
     pub fn note_given(&mut self, count: usize, standing: Standing)
         ensures bytes { HasItsBytes self.old self.new }
         ensures number { self.new.id ≡ self.old.id }
+        ensures given { self.new ≡ record self.old {
+          standing = standing;
+          made_progress = self.old.made_progress || nat_lt 0 count;
+        } }
     {
         self.standing = standing;
         self.made_progress |= count > 0;
     }
 
     /// Its forwarded call was sent.
-    pub fn note_sent(&mut self) {
+    pub fn note_sent(&mut self)
+        ensures { self.new ≡ record self.old { standing = Awaiting } }
+    {
         self.standing = Standing::Awaiting;
     }
 
@@ -531,6 +597,12 @@ impl Link {
     pub fn call_socket(&mut self, may_end: bool) -> Next
         ensures rest { IsRest self.old.outbox.bytes self.new.outbox.bytes }
         ensures number { self.new.id ≡ self.old.id }
+        ensures wrote { (holds_bytes self.old.outbox && not (is_free self.old)) ≡ true
+            → HasWritten self.old self.new result }
+        ensures waits { holds_bytes self.old.outbox ≡ false
+            → (self.old.read_was_short || not (takes_more self.old)) ≡ true
+            → result ≡ AwaitEvent }
+        ensures inbox { HasMore self.old.inbox self.new.inbox }
     {
         if !self.outbox.is_empty() {
             return self.write();
@@ -544,7 +616,9 @@ impl Link {
     // ASK-4: The rest of a call that is held back is read meanwhile, as far as there is room: a call that needs no owner is
     // answered as soon as that shows.
     /// Whether more is read from it: if all that was read was taken, or the rest of what is held back is yet to come.
-    fn takes_more(&self) -> bool {
+    fn takes_more(&self) -> bool
+        ensures { result ≡ takes_more self.now }
+    {
         self.inbox.is_empty() || self.held == Held::Part && self.inbox.room() > 0
     }
 
@@ -552,6 +626,7 @@ impl Link {
     /// Writes what waits, once.
     pub fn write(&mut self) -> Next
         ensures rest { IsRest self.old.outbox.bytes self.new.outbox.bytes }
+        ensures wrote { is_free self.old ≡ false → HasWritten self.old self.new result }
         ensures inbox { self.new.inbox ≡ self.old.inbox }
         ensures number { self.new.id ≡ self.old.id }
     {
@@ -569,6 +644,7 @@ impl Link {
 
     fn read(&mut self, may_end: bool) -> Next
         ensures outbox { self.new.outbox ≡ self.old.outbox }
+        ensures inbox { HasMore self.old.inbox self.new.inbox }
         ensures number { self.new.id ≡ self.old.id }
     {
         let Some(stream) = &mut self.stream else {

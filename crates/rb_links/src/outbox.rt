@@ -42,6 +42,7 @@ impl Outbox {
     ghost use Rattle.std.specs.Prelude.{◌≡◌, ◌==◌, nat_le, length, drop, IfOk, OnErr};
     ghost use Rattle.std.specs.Io.KnownBytes.{WriteAppends};
     ghost use Rattle.rb_links.specs.Outgoing.{nothing_in, longest_fragment};
+    ghost use Rattle.rb_links.specs.Stands.{longer_first};
 
     /// An empty one with this room. It is written to, so that its memory is the process's from here on.
     pub(crate) fn new(alloc: Global, room: usize) -> Result<Outbox, AllocError>
@@ -85,6 +86,7 @@ impl Outbox {
     pub(crate) fn take_longer(&mut self, other: &mut Outbox)
         ensures stays { self.new.bytes ≡ self.old.bytes }
         ensures other { other.new.bytes ≡ other.old.bytes }
+        ensures longer { (self.new, other.new) ≡ longer_first self.old other.old }
     {
         if self.is_empty() && other.is_empty() && self.bytes.len() < other.bytes.len() {
             mem::swap(self, other);
