@@ -1,5 +1,6 @@
 -- What the keeper of rows makes of a core.
 use Rattle.std.specs.Prelude.{◌≡◌, ℕ, ◌+◌, ◌<◌, ◌==◌, nat_le, Bool, true, false, ◌||◌, IsTrue, if◌then◌else◌, List, [], ◌++◌, length, Option, Some, None}
+use Rattle.std.specs.declared.io.Error.{Error}
 use Rattle.rb_registry.specs.Rows.{rpcb_prog}
 use Rattle.rb_model.specs.State.{State}
 use Rattle.rb_model.specs.Step.{IsReached}
@@ -9,6 +10,8 @@ use Rattle.rb_keep.specs.Kept.{kept_text, change_text}
 use Rattle.rb_keep.specs.Writing.{NotesOwners}
 use Rattle.rb_files.specs.Kept.{Grows, WasWritten}
 use Rattle.rb_daemon.specs.declared.engine.Engine.{Engine}
+use Rattle.rb_daemon.specs.declared.keeping.KeepNews.{KeepNews}
+use Rattle.rb_daemon.specs.declared.keeping.KeepNews.TheVariants as told
 use Rattle.rb_daemon.specs.Served.{change_count}
 
 -- the most changes whose lines are added at once
@@ -66,8 +69,31 @@ pub data Keeps {J : Type 0} (old new : Option J) (has_failed : Bool) (is_written
   Failed : has_failed ≡ true → Keeps old new has_failed is_written
   Written : (before after : J) → old ≡ Some before → new ≡ Some after → is_written before after → Keeps old new has_failed is_written
 
+-- Nothing is to be kept; or as many changes were taken up as were made.
+-- KEEP-16
+pub data AreTaken {J : Type 0} (journal : Option J) (taken changes : ℕ) : Type 0 where
+  NotAsked : journal ≡ None → AreTaken journal taken changes
+  Taken : changes ≡ taken → AreTaken journal taken changes
+
 -- Nothing has changed but how many steps were counted.
 pub record SameEngine (old new : Engine) : Type 0 where
   pub core : new.core.core ≡ old.core.core
   pub tape : new.tape ≡ old.tape
   pub moment : new.moment ≡ old.moment
+
+-- ---- what is told of the file
+
+-- What is to be told after a write that went well: that it is written again, once a failure was told, and else that another
+-- file was in its place.
+-- KEEP-16
+abbrev pub news_if_written : Bool → Option KeepNews → Bool → Option KeepNews
+news_if_written true (Some untold) is_another = None
+news_if_written true None is_another = Some told.Written
+news_if_written false untold true = Some told.Another
+news_if_written false untold false = untold
+
+-- After one that failed: the failure, if it is the first.
+-- KEEP-16
+abbrev pub news_if_failed : Bool → Option KeepNews → Error → Option KeepNews
+news_if_failed true untold error = untold
+news_if_failed false untold error = Some (told.Failed error)

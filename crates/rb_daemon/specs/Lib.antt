@@ -8,5 +8,6 @@ pub mod Keeping
 pub mod Sending
 pub mod Links
 pub mod LogRates
+pub mod LoggedChanges
 pub mod Waiting
 pub mod Logs

@@ -138,8 +138,12 @@ pub(crate) struct HeldLinks {
 }
 
 impl HeldLinks {
+    ghost use Rattle.std.specs.Prelude.{◌≡◌, [], ◌∷◌, ◌++◌, IsTrue, IfOk, length, slice_get};
+
     /// None, with room for those that may wait.
-    pub(crate) fn new(alloc: Global) -> Result<HeldLinks, AllocError> {
+    pub(crate) fn new(alloc: Global) -> Result<HeldLinks, AllocError>
+        ensures { IfOk result (λ links. links.all.items ≡ []) }
+    {
         let mut all = Vec::with_capacity(alloc, MOST_HELD)?;
         let blank = HeldLink {
             key: 0,
@@ -157,7 +161,10 @@ impl HeldLinks {
     }
 
     /// Has the connection at a place wait behind the others, if there is room. Returns whether it waits.
-    pub(crate) fn hold(&mut self, key: usize, calls: usize, may_end: bool) -> bool {
+    pub(crate) fn hold(&mut self, key: usize, calls: usize, may_end: bool) -> bool
+        ensures { IsTrue result → self.new.all.items
+            ≡ self.old.all.items ++ (record { key = key; calls = calls; may_end = may_end }) ∷ [] }
+    {
         let link = HeldLink {
             key,
             calls,
@@ -167,17 +174,23 @@ impl HeldLinks {
     }
 
     /// How many wait.
-    pub(crate) fn count(&self) -> usize {
+    pub(crate) fn count(&self) -> usize
+        ensures { result ≡ length self.now.all.items }
+    {
         self.all.len()
     }
 
     /// The one of this number.
-    pub(crate) fn get(&self, i: usize) -> Option<HeldLink> {
+    pub(crate) fn get(&self, i: usize) -> Option<HeldLink>
+        ensures { result ≡ slice_get self.now.all.items i }
+    {
         self.all.get(i).copied()
     }
 
     /// None waits from here on.
-    pub(crate) fn clear(&mut self) {
+    pub(crate) fn clear(&mut self)
+        ensures { self.new.all.items ≡ [] }
+    {
         self.all.clear();
     }
 }

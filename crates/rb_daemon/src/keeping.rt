@@ -264,13 +264,19 @@ pub(crate) struct Keeper<H: Files> {
 }
 
 impl<H: Files> Keeper<H> {
+    ghost use Rattle.std.specs.Prelude.{false, None, IfOk, is_some};
+    ghost use Rattle.rb_daemon.specs.Keeping.{news_if_written, news_if_failed, AreTaken};
+
     /// A keeper of at most this many rows in the file at a path. Without a path nothing is kept. An error if an allocation is
     /// refused.
     pub(crate) fn new(
         alloc: Global,
         path: Option<&str>,
         rows: usize,
-    ) -> Result<Keeper<H>, AllocError> {
+    ) -> Result<Keeper<H>, AllocError>
+        ensures asked { IfOk result (λ keeper. is_some keeper.journal ≡ is_some path.entry) }
+        ensures news { IfOk result (λ keeper. keeper.news ≡ None) }
+    {
         let journal = match path {
             Some(path) => Some(Journal::new(alloc, path, rows)?),
             None => None,
@@ -285,8 +291,10 @@ impl<H: Files> Keeper<H> {
 
     /// That all changes of the core are taken up, if they are: none waits to be written.
     pub(crate) fn kept(&self, engine: &Engine) -> Option<Kept>
-        ensures { IfSome result
+        ensures changes { IfSome result
             (λ kept. Shows StandsFor change_count engine.now.core.core kept.changes) }
+        ensures taken { IfSome result
+            (λ kept. AreTaken self.now.journal self.now.changes kept.changes) }
     {
         let changes = engine.changes();
         if self.journal.is_none() || changes == self.changes {
@@ -365,7 +373,10 @@ impl<H: Files> Keeper<H> {
 
     /// A write went well. That must be told once after a failure that was told.
     fn note_written(&mut self, is_another: bool)
-        ensures { self.new.journal ≡ self.old.journal }
+        ensures journal { self.new.journal ≡ self.old.journal }
+        ensures news { self.new.news
+            ≡ news_if_written self.old.has_failed self.old.news is_another }
+        ensures failed { self.new.has_failed ≡ false }
     {
         if self.has_failed {
             self.news = match self.news.take() {
@@ -380,7 +391,8 @@ impl<H: Files> Keeper<H> {
 
     /// A write failed. The first one after a write that went well must be told.
     fn note_failure(&mut self, error: io::Error)
-        ensures { self.new.has_failed ≡ true }
+        ensures news { self.new.news ≡ news_if_failed self.old.has_failed self.old.news error }
+        ensures failed { self.new.has_failed ≡ true }
     {
         if !self.has_failed {
             self.news = Some(KeepNews::Failed(error));
@@ -394,7 +406,10 @@ impl<H: Files> Keeper<H> {
     }
 
     /// What is yet to be told.
-    pub(crate) fn take_news(&mut self) -> Option<KeepNews> {
+    pub(crate) fn take_news(&mut self) -> Option<KeepNews>
+        ensures news { result ≡ self.old.news }
+        ensures told { self.new.news ≡ None }
+    {
         self.news.take()
     }
 }

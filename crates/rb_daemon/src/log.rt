@@ -2,6 +2,7 @@
 //! the start.
 ghost use Rattle.std.specs.Prelude.{◌≡◌, false, None};
 ghost use Rattle.rb_daemon.specs.LogRates.{next_line_of};
+ghost use Rattle.rb_daemon.specs.LoggedChanges.{IsLineOf};
 
 use rb_address::Source;
 use rb_core::{ChangeAsked, ChangeKind, Seen};
@@ -167,7 +168,9 @@ impl Log {
 }
 
 /// The line of a SET or an UNSET.
-fn line_of(change: &ChangeAsked) -> ChangeLine<'_> {
+fn line_of(change: &ChangeAsked) -> ChangeLine<'_>
+    ensures { IsLineOf change.now result }
+{
     ChangeLine {
         adds: change.asked == ChangeKind::Set,
         prog: change.row.prog,

@@ -16,7 +16,9 @@ use rb_commands::Serve;
 use rb_daemon::{Daemon, DaemonFault, Handed, Settings};
 use rb_forward::sooner;
 use rb_lines::Ending;
-use rb_sockets::{Follower, HandedFault, MOST, lacks_loopback6, missing_host, take_handed};
+use rb_sockets::{
+    Follower, HandedFault, MOST, Shortage, lacks_loopback6, missing_host, take_handed,
+};
 use std::alloc::AllocError;
 use std::env::Env;
 use std::fs::{File, Files};
@@ -78,7 +80,7 @@ where
     }
 }
 
-/// Begins, and takes the turns, while the file of the kept rows is this daemon's.
+/// Finds the hosts, begins, and takes the turns, while the file of the kept rows is this daemon's.
 #[tactic(auto, using(crate::proofs::Endings::ends_by_start))]
 fn run_locked<R, E>(
     rt: &R,
@@ -92,8 +94,31 @@ where
     E: Write,
     ensures { EndsServe E.contents faults.new result }
 {
-    match begin(rt, serve, binds, manager, faults) {
-        Ok(mut daemon) => serve_until_the_end(rt, &mut daemon, serve, manager, faults),
+    let are_given = binds.are_given();
+    match find_hosts(rt, &mut serve.settings, binds, faults) {
+        Ok(mut follower) => run_at(rt, serve, are_given, &mut follower, manager, faults),
+        Err(_) => explain_start(&StartFault::NoMemory, &serve.settings, faults),
+    }
+}
+
+/// Begins, and takes the turns. What follows addresses is handed to a daemon that is lent, since each place that lets a daemon go
+/// is dear to prove.
+#[tactic(auto, using(crate::proofs::Endings::ends_by_start))]
+fn run_at<R, E>(
+    rt: &R,
+    serve: &mut Serve<'_>,
+    are_given: bool,
+    follower: &mut Option<Follower>,
+    manager: &mut Manager,
+    faults: &mut E,
+) -> Ending
+where
+    R: Net + Files + Clock + RandomSource + Wait + AllocGlobal + Print + Env,
+    E: Write,
+    ensures { EndsServe E.contents faults.new result }
+{
+    match begin(rt, serve, are_given, manager, faults) {
+        Ok(mut daemon) => serve_until_the_end(rt, &mut daemon, follower, serve, manager, faults),
         Err(fault) => explain_start(&fault, &serve.settings, faults),
     }
 }
@@ -154,7 +179,7 @@ where
 fn begin<'a, 's, R, E>(
     rt: &'a R,
     serve: &mut Serve<'s>,
-    binds: Binds,
+    are_given: bool,
     manager: &Manager,
     faults: &mut E,
 ) -> Result<Daemon<'a, R, R>, StartFault<'s>>
@@ -162,8 +187,6 @@ where
     R: Net + Files + Clock + RandomSource + AllocGlobal + Env,
     E: Write,
 {
-    let are_given = binds.are_given();
-    let follower = find_hosts(rt, &mut serve.settings, binds, faults)?;
     let handed = match take_sockets(rt, &mut serve.settings, are_given) {
         Ok(handed) => handed,
         Err(fault) => return Err(StartFault::Handed(fault)),
@@ -174,11 +197,8 @@ where
     }
     let rows = read_keep(rt, serve, faults)?;
     match Daemon::new(rt.alloc(), rt, rt, settings, &rows, handed) {
-        Ok(mut daemon) => {
+        Ok(daemon) => {
             say_left_out(settings, &rows, daemon.left_out(), faults);
-            if let Some(follower) = follower {
-                daemon.follow_by(follower)?;
-            }
             Ok(daemon)
         }
         Err(fault) => Err(StartFault::Daemon(fault)),
@@ -209,11 +229,12 @@ fn wait_for_hosts<R: Net + Clock, E: Write>(
     }
 }
 
-/// Makes the file of the record, says where the daemon listens, and takes its turns.
+/// Has addresses followed, makes the file of the record, says where the daemon listens, and takes its turns.
 #[tactic(auto, using(crate::proofs::Endings::ends_by_start, crate::proofs::Endings::ends_turned))]
 fn serve_until_the_end<R, E>(
     rt: &R,
     daemon: &mut Daemon<'_, R, R>,
+    follower: &mut Option<Follower>,
     serve: &Serve<'_>,
     manager: &mut Manager,
     faults: &mut E,
@@ -223,21 +244,26 @@ where
     E: Write,
     ensures { EndsServe E.contents faults.new result }
 {
-    match announce(rt, daemon, serve, faults) {
+    if let Some(follower) = follower.take() {
+        if daemon.follow_by(follower).is_err() {
+            return explain_start(&StartFault::NoMemory, &serve.settings, faults);
+        }
+    }
+    match announce(rt, daemon.shortage(), serve, faults) {
         Ok(recorder) => serve_on(rt, daemon, serve, recorder, manager, faults),
         Err(fault) => explain_start(&fault, &serve.settings, faults),
     }
 }
 
-/// Makes the file of the record, and says where the daemon listens.
+/// Makes the file of the record, and says where the daemon listens, and that descriptors are short, if they are.
 fn announce<'s, R, E>(
     rt: &R,
-    daemon: &Daemon<'_, R, R>,
+    shortage: Option<Shortage>,
     serve: &Serve<'s>,
     faults: &mut E,
 ) -> Result<Recorder<R::File>, StartFault<'s>>
 where
-    R: Files + Net + Clock + Print,
+    R: Files + Net + Print,
     E: Write,
 {
     let settings = &serve.settings;
@@ -247,7 +273,7 @@ where
         lacks_loopback6(rt),
         &mut Leveled::new(&mut *faults, Level::Warning),
     );
-    match say_start(rt, settings, daemon.shortage(), faults) {
+    match say_start(rt, settings, shortage, faults) {
         Ok(()) => Ok(recorder),
         Err(_) => Err(StartFault::Unsaid),
     }
