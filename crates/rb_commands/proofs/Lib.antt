@@ -1,2 +1,3 @@
 pub mod Binds
 pub mod Unrun
+pub mod Asked

@@ -1,6 +1,7 @@
 //! The words of the command line: two commands and their options.
-ghost use Rattle.std.specs.Prelude.{◌≡◌, IfErr};
+ghost use Rattle.std.specs.Prelude.{◌≡◌, IfOk, IfErr};
 ghost use Rattle.clap.specs.Words.{kind_of};
+ghost use Rattle.rb_commands.specs.Asked.{BeginsWell, AsksWell};
 ghost use Rattle.rb_commands.specs.Faults.{EndsWith, EndsUnrun};
 ghost use Rattle.rb_commands.specs.Wanted.{is_the_record};
 
@@ -41,7 +42,8 @@ pub fn read_words<'a, S: AsStr, O: Write, E: Write>(
     output: &mut O,
     faults: &mut E,
 ) -> Result<Words<'a>, Ending>
-    ensures { IfErr result
+    ensures asks { IfOk result AsksWell }
+    ensures unrun { IfErr result
         (EndsUnrun E.contents faults.old faults.new output.old output.new) }
 {
     let command = match command(alloc) {
@@ -76,7 +78,8 @@ fn show<O: Write, E: Write>(error: &Error, output: &mut O, faults: &mut E) -> En
 }
 
 fn read_matches<'a, E: Write>(matches: &ArgMatches<'a>, faults: &mut E) -> Result<Words<'a>, Ending>
-    ensures { IfErr result (λ ending. ending.status ≡ 2) }
+    ensures asks { IfOk result AsksWell }
+    ensures unread { IfErr result (λ ending. ending.status ≡ 2) }
 {
     match words_of(matches) {
         Ok(words) => Ok(words),
@@ -88,7 +91,9 @@ fn read_matches<'a, E: Write>(matches: &ArgMatches<'a>, faults: &mut E) -> Resul
 }
 
 /// What the matches ask for. `command` takes no words without one of its two commands, so the last case never comes.
-fn words_of<'a>(matches: &ArgMatches<'a>) -> Result<Words<'a>, BadValue<'a>> {
+fn words_of<'a>(matches: &ArgMatches<'a>) -> Result<Words<'a>, BadValue<'a>>
+    ensures { IfOk result AsksWell }
+{
     if let Some(serve) = matches.subcommand_matches("serve") {
         return match serve_of(serve) {
             Ok(serve) => Ok(Words::Serve(serve)),
@@ -106,7 +111,9 @@ fn words_of<'a>(matches: &ArgMatches<'a>) -> Result<Words<'a>, BadValue<'a>> {
 }
 
 /// What `replay` is asked for.
-fn replay_of<'a>(matches: &ArgMatches<'a>) -> Result<Words<'a>, BadValue<'a>> {
+fn replay_of<'a>(matches: &ArgMatches<'a>) -> Result<Words<'a>, BadValue<'a>>
+    ensures { IfOk result AsksWell }
+{
     let is_checked = matches.get_flag("check");
     match beginning_of(matches) {
         Ok(beginning) if is_checked => Ok(Words::Check(beginning)),
@@ -116,7 +123,10 @@ fn replay_of<'a>(matches: &ArgMatches<'a>) -> Result<Words<'a>, BadValue<'a>> {
 }
 
 /// What `serve` is asked for.
-fn serve_of<'a>(matches: &ArgMatches<'a>) -> Result<Serve<'a>, BadValue<'a>> {
+#[tactic(auto, using(crate::proofs::Asked::serve_begins_well))]
+fn serve_of<'a>(matches: &ArgMatches<'a>) -> Result<Serve<'a>, BadValue<'a>>
+    ensures { IfOk result BeginsWell }
+{
     let texts = ServeTexts {
         announce: matches.get_strs("announce").unwrap_or(&[]),
         bind: matches.get_strs("bind").unwrap_or(&[]),
@@ -147,7 +157,9 @@ fn serve_of<'a>(matches: &ArgMatches<'a>) -> Result<Serve<'a>, BadValue<'a>> {
 }
 
 /// What is asked for, unless the rows must be kept in the file of the record: a start would remove them.
-fn unless_kept_in_the_record<'a>(serve: Serve<'a>) -> Result<Serve<'a>, BadValue<'a>> {
+fn unless_kept_in_the_record<'a>(serve: Serve<'a>) -> Result<Serve<'a>, BadValue<'a>>
+    ensures { IfOk result (λ asked. asked ≡ serve.entry) }
+{
     match serve.settings.keep {
         Some(path) if is_the_record(path, serve.record_path) => Err(BadValue {
             option: "keep",

@@ -11,4 +11,5 @@ pub mod LineLaws
 pub mod LineGrammar
 pub mod OutputLines
 pub mod RecordLaws
+pub mod Starts
 pub mod Paths

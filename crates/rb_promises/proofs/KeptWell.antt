@@ -19,11 +19,12 @@ use Rattle.rb_model.specs.State.{State}
 use Rattle.rb_model.specs.Step.{IsReached}
 use Rattle.rb_laws.proofs.Ledgers.{are-own, ledgers_are_well_kept}
 use Rattle.rb_laws.proofs.Restoring.{rows_can_be_set}
+use Rattle.rb_lines.specs.Starts.{IsAtAddresses}
 use Rattle.rb_promises.specs.Addresses.{IsAddressOfV4, IsAddressOfV6, IsAddressOn}
 use Rattle.rb_promises.specs.Sets.{HasSameKey}
 use Rattle.rb_promises.specs.Unsets.{AreThePortmappers}
 use Rattle.rb_promises.specs.LookUps.{AreAtAddresses}
-use Rattle.rb_promises.specs.ReachedRows.{IsAtAddresses, HaveKeysOfTheirOwn, RowsAreWellKept}
+use Rattle.rb_promises.specs.ReachedRows.{HaveKeysOfTheirOwn, RowsAreWellKept}
 use Rattle.rb_promises.proofs.Addresses.{address_exactly}
 use Rattle.rb_promises.proofs.Keys.{no_key}
 use Rattle.rb_promises.proofs.Told.{every_v4, every_v6}

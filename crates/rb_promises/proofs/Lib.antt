@@ -31,6 +31,7 @@ pub mod ReservedValues
 pub mod ReadBeginnings
 pub mod ServeValues
 pub mod ReadServices
+pub mod MetLaws
 pub mod JsonSteps
 pub mod JsonRuns
 pub mod ReadTexts

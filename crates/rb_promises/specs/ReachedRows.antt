@@ -1,20 +1,13 @@
 -- What is so of the rows in each state that a run reaches, as the laws of UNSET and of look-ups presuppose it.
-use Rattle.std.specs.Prelude.{◌≡◌, ◌≢◌, ℕ, ◌^◌, ◌<◌, List, Contains, Some}
-use Rattle.rb_uaddr.specs.Grammar.{IsLocalText}
+use Rattle.std.specs.Prelude.{◌≡◌, List, Contains}
 use Rattle.rb_registry.specs.declared.row.Row.{Row}
-use Rattle.rb_proto.specs.declared.listener.Listener.{Listener}
 use Rattle.rb_proto.specs.Ledger.{rows_in}
 use Rattle.rb_model.specs.State.{State}
 use Rattle.rb_model.specs.Step.{IsReached}
+use Rattle.rb_lines.specs.Starts.{IsAtAddresses}
 use Rattle.rb_promises.specs.Sets.{HasSameKey}
 use Rattle.rb_promises.specs.Unsets.{AreThePortmappers}
 use Rattle.rb_promises.specs.LookUps.{AreAtAddresses}
-
--- The listener's port is one of 16 bits and not 0, and its path, if there is one, may name a local socket.
-pub record IsAtAddresses (listener : Listener) : Type 0 where
-  pub some : listener.port ≢ 0
-  pub few : listener.port < 2 ^ 16
-  pub local : (path : List ℕ) → listener.local ≡ Some path → IsLocalText path
 
 -- two rows of one program, version and netid are one row
 abbrev pub HaveKeysOfTheirOwn : List Row → Type 0

@@ -1,11 +1,13 @@
 -- What the values of the options of `serve` ask for.
-use Rattle.std.specs.Prelude.{◌≡◌, ◌≢◌, ◌↔◌, ⊤, ℕ, ◌<◌, ◌≤◌, List, length, Option, Some, None, option_map, Ok}
+use Rattle.std.specs.Prelude.{◌≡◌, ◌≢◌, ◌↔◌, ⊤, ℕ, ◌<◌, ◌≤◌, false, List, length, codes, Option, Some, None, option_map, Ok}
 use Rattle.std.specs.Borrow.{Bor}
 use Rattle.rb_words.specs.Services.{borrowed_texts}
 use Rattle.rb_proto.specs.declared.listener.Forwarding.TheVariants.{Anywhere}
 use Rattle.rb_policy.specs.declared.log_choice.Logged.{Logged}
 use Rattle.rb_policy.specs.declared.log_choice.Logged.TheVariants.{Nothing}
+use Rattle.rb_lines.specs.Starts.{MeetsLaws}
 use Rattle.rb_sockets.specs.declared.settings.Settings.{Settings}
+use Rattle.rb_sockets.specs.Settings.{listener_of}
 use Rattle.rb_commands.specs.declared.serving.ServeTexts.{ServeTexts}
 use Rattle.rb_commands.specs.declared.serving.Serve.{Serve}
 use Rattle.rb_commands.specs.Serving.{serve_of}
@@ -59,6 +61,11 @@ pub record AreSettings (open_files : ℕ) (texts : ServeTexts) (settings : Setti
   pub log : IsLog settings.log texts.log
   pub of_files : settings.open_files ≡ open_files
 
+-- What laws of a daemon presuppose of how it begins, and of its terms.
+pub record AreMet (texts : ServeTexts) (settings : Settings) : Type 0 where
+  pub begins : MeetsLaws (listener_of settings) settings.record_limit
+  pub short_replies : texts.udp_lists.now ≡ codes "local" → settings.terms.long_replies ≡ false
+
 -- What is beside the settings is asked for in the same way.
 pub record IsServe (open_files : ℕ) (texts : ServeTexts) (serve : Serve) : Type 0 where
   pub settings : AreSettings open_files texts serve.settings
@@ -71,3 +78,9 @@ abbrev pub ServicesAreSpelled : Type 0
 ServicesAreSpelled =
     (open_files : ℕ) (texts : ServeTexts) (serve : Serve)
     → (serve_of open_files texts ≡ Ok serve) ↔ IsServe open_files texts serve
+
+-- Whatever the values of its options are, what `serve` is asked for is as these laws presuppose.
+abbrev pub SettingsMeetLaws : Type 0
+SettingsMeetLaws =
+    (open_files : ℕ) (texts : ServeTexts) (serve : Serve)
+    → serve_of open_files texts ≡ Ok serve → AreMet texts serve.settings

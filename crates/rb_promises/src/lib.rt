@@ -34,7 +34,7 @@ pub use json_objects::{objects_have_their_members, texts_are_utf8, worked_texts}
 pub use listed_rows::lists_are_of_rows;
 pub use live_rows::live_rows_are_shown;
 pub use look_ups::{getaddr_answers, getport_answers, getversaddr_answers};
-pub use options::{beginnings_are_spelled, services_are_spelled};
+pub use options::{beginnings_are_spelled, services_are_spelled, settings_meet_laws};
 pub use pieces::pieces_end_at_records;
 pub use reached_rows::rows_are_well_kept;
 pub use refusals::refusals_are_the_named_ones;
