@@ -11,5 +11,5 @@ returns c = λ told. record {
   was = subst (λ (r : Option ℕ). IfSome r (λ id. number_at c.args.places.now c.args.key ≡ Some id)) c.in-Some-take_id.is c.take_id.ensures;
   id = c.in-Ok.id;
   acts = opened_behind c.args.engine.now c.closed.new.self c.open.new.self c.in-Some-take_id.id _ c.closed.ensures.acts c.closed.ensures.moment (opened_as c.closed.new.self c.open.new.self c.of.ensures c.in-Ok.is c.open.ensures.acts);
-  is = c.renumber.ensures told;
+  is = c.renumber.ensures.number told;
 }
