@@ -21,8 +21,7 @@ use Rattle.rb_model.specs.Exchanges.{count_now, without_front, exchange, fits_at
 use Rattle.rb_core.specs.StandsFor.{CoreView, StandsFor}
 use Rattle.rb_lines.specs.RecordLaws.{Fits, AreBytes, HasLine}
 use Rattle.rb_daemon.specs.Recording.{given_events, exchange_events, output_or_refusal, given_entries, taken_entries}
-use Rattle.rb_daemon.specs.Served.{IsServed}
-use Rattle.rb_daemon.proofs.Reached.{output_state, output_given, look_state, look_output, gave_output, given_state, served_on}
+use Rattle.rb_daemon.proofs.Reached.{output_state, output_given, look_state, look_output, gave_output, given_state, GoesOn, goes}
 
 -- ---- what is given at once is all that is pending
 
@@ -101,7 +100,7 @@ given_is s now id given is =
     ap (λ (x : Output). entry_text (Pending id) x ∷ entry_text (Gave now id (length given)) (step (step s (Pending id)).1 (Gave now id (length given))).0 ∷ []) look
     ∙ ap (λ (x : Output). entry_text (Pending id) (IsPending given) ∷ entry_text (Gave now id (length given)) x ∷ []) done
 
-bytes_state : (s : State) (now id : ℕ) (piece : List ℕ) → (step s (Bytes now id piece)).1 ≡ (bytes s now id piece).1
+pub bytes_state : (s : State) (now id : ℕ) (piece : List ℕ) → (step s (Bytes now id piece)).1 ≡ (bytes s now id piece).1
 unfolding step
 bytes_state s now id piece = output_state show_taken (bytes s now id piece)
 
@@ -109,7 +108,7 @@ bytes_output : (s : State) (now id : ℕ) (piece : List ℕ) → output_or_refus
 unfolding step
 bytes_output s now id piece = output_given show_taken (bytes s now id piece)
 
-nonzero : (n : ℕ) → 0 < n → eqb n 0 ≡ false
+pub nonzero : (n : ℕ) → 0 < n → eqb n 0 ≡ false
 nonzero n some = ne_eqb n 0 (λ e. omega (arith, e, some))
 
 given_are : (s t : State) (now id n : ℕ) (given : List ℕ) → t ≡ s → GivenAtOnce s now id n given → cond (eqb (length given) 0) [] (given_entries now id given) ≡ run_entries t (cond (eqb n 0) [] (given_events now id n))
@@ -147,7 +146,7 @@ pub record Exchanged (now id room n : ℕ) (piece given : List ℕ) (r : Result 
   pub acts : Acts StandsFor (exchange now id piece room) old new (r, given)
 
 module _ (now id room n : ℕ) (piece given : List ℕ) (r : Result Taken CoreFault) (old new : CoreView) (h : Exchanged now id room n piece given r old new) where
-  given_of : (s : State) → StandsFor old s → GivenAtOnce (bytes s now id piece).1 now id n given
+  pub given_of : (s : State) → StandsFor old s → GivenAtOnce (bytes s now id piece).1 now id n given
   given_of s stands =
       let count = h.at_once s stands in
       given_at_once s now id room n piece given h.count count
@@ -161,8 +160,8 @@ module _ (now id room n : ℕ) (piece given : List ℕ) (r : Result Taken CoreFa
   exchange_lines now_fits id_fits small n_fits true = ((now_fits, id_fits, small), tt)
   exchange_lines now_fits id_fits small n_fits false = ((now_fits, id_fits, small), (id_fits, ((now_fits, id_fits, n_fits), tt)))
 
-  pub exchange_served : (before later : Tape) → Records (taken_entries now id piece (output_or_refusal show_taken r) given) before later → Fits now → Fits id → AreBytes piece → Fits n → ∥ IsServed old before ∥₁ → ∥ IsServed new later ∥₁
-  exchange_served before later records now_fits id_fits small n_fits =
-      served_on old new before later (λ s. exchange_events now id piece n) (λ s h. exchange_lines now_fits id_fits small n_fits (eqb n 0))
+  pub exchange_goes : (before later : Tape) → Records (taken_entries now id piece (output_or_refusal show_taken r) given) before later → Fits now → Fits id → AreBytes piece → Fits n → ∥ GoesOn old new before later (λ s. exchange_events now id piece n) ∥₁
+  exchange_goes before later records now_fits id_fits small n_fits =
+      goes old new before later (λ s. exchange_events now id piece n) (λ s h. exchange_lines now_fits id_fits small n_fits (eqb n 0))
       (λ s stands. subst (StandsFor new) (ap (λ (k : ℕ). without_front now k id (bytes s now id piece).1) (sym (h.at_once s stands)) ∙ exchange_state s now id n piece given (given_of s stands)) (h.acts.stands s stands))
       (exchange_records before later records)

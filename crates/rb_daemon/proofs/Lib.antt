@@ -10,3 +10,4 @@ pub mod Sendings
 pub mod Postings
 pub mod Takings
 pub mod Openings
+pub mod Paying

@@ -25,12 +25,12 @@ use Rattle.rb_connections.specs.Slots.{Acts, Shows}
 use Rattle.rb_core.specs.StandsFor.{CoreView, StandsFor}
 use Rattle.rb_lines.specs.RecordLaws.{Fits, HasLine}
 use Rattle.rb_daemon.specs.Served.{IsServed}
-use Rattle.rb_daemon.proofs.Reached.{none_recorded, off_recorded, served_on}
+use Rattle.rb_daemon.proofs.Reached.{none_recorded, off_recorded, GoesOn, goes}
 use Rattle.rb_daemon.specs.Recording.{given_entries, pieces_entries, give_events}
 
 -- ---- pieces
 
-some_fits : 0 < longest_fragment
+pub some_fits : 0 < longest_fragment
 unfolding longest_fragment
 some_fits = lit< tt
 
@@ -226,9 +226,9 @@ module _ (now id room : ℕ) (r : Result (List ℕ) CoreFault) (old new : CoreVi
   gives_records before later records s h =
       subst (λ (entries : List (List ℕ)). Records entries before later) (entries_are s now id room r (acts.gives s h)) (records s h)
 
-  pub gives_served : (before later : Tape) → RecordsPieces now id (pending_bytes r) old before later → Fits now → Fits id → Fits (length (pending_bytes r)) → ∥ IsServed old before ∥₁ → ∥ IsServed new later ∥₁
-  gives_served before later records now_fits id_fits few =
-      served_on old new before later (λ s. give_events now id (pending_bytes r) s) (λ s h. give_lines now id (pending_bytes r) s now_fits id_fits few)
+  pub gives_goes : (before later : Tape) → RecordsPieces now id (pending_bytes r) old before later → Fits now → Fits id → Fits (length (pending_bytes r)) → ∥ GoesOn old new before later (λ s. give_events now id (pending_bytes r) s) ∥₁
+  gives_goes before later records now_fits id_fits few =
+      goes old new before later (λ s. give_events now id (pending_bytes r) s) (λ s h. give_lines now id (pending_bytes r) s now_fits id_fits few)
       (λ s h. subst (StandsFor new) (state_after s now id room r (acts.gives s h)) (acts.stands s h))
       (gives_records before later records)
 

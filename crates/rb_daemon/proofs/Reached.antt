@@ -1,5 +1,5 @@
 -- A state that a run reaches goes on by each event, and so does its record.
-use Rattle.std.specs.Prelude.{OnOk, OnErr, IsTrue, IsErrOf, not}
+use Rattle.std.specs.Prelude.{IsTrue, IsErrOf, not}
 use Rattle.std.specs.List.{AllByRecursion}
 use Rattle.std.proofs.Common.{◌≡◌, ◌<◌, ◌≤◌, ℕ, suc, Bool, true, false, cond, List, [], ◌∷◌, ◌++◌, length, append-nil, slice_index_or, Option, Some, None, Result, Ok, Err, refl, sym, ap, subst, ◌∙◌, inl, inr, ◌⊎◌}
 use Rattle.std.proofs.Math.Bridge.{le_prop}
@@ -68,14 +68,14 @@ expired_state (expiries.ConnectionLost id, s) = refl
 -- ---- the core of the daemon, and its record
 
 -- what is written of a run that goes on
-more_recorded : (l : Limits) (h : Listener) (xid now : ℕ) (first more : List Event) (s : State) (before later : Tape) → s ≡ after (opening l h xid now) first → IsRecordOf (options_text l h xid now ∷ run_entries (opening l h xid now) first) before → Records (run_entries s more) before later → IsRecordOf (options_text l h xid now ∷ run_entries (opening l h xid now) (first ++ more)) later
+pub more_recorded : (l : Limits) (h : Listener) (xid now : ℕ) (first more : List Event) (s : State) (before later : Tape) → s ≡ after (opening l h xid now) first → IsRecordOf (options_text l h xid now ∷ run_entries (opening l h xid now) first) before → Records (run_entries s more) before later → IsRecordOf (options_text l h xid now ∷ run_entries (opening l h xid now) (first ++ more)) later
 more_recorded l h xid now first more s before later is was records =
     subst (λ (entries : List (List ℕ)). IsRecordOf (options_text l h xid now ∷ entries) later)
     (ap (λ (t : State). run_entries (opening l h xid now) first ++ run_entries t more) is ∙ sym (run_entries-append (opening l h xid now) first more))
     (record_goes_on (options_text l h xid now ∷ run_entries (opening l h xid now) first) (run_entries s more) before later was records)
 
 -- the lines of events after others
-lines_append : (xs ys : List Event) → AllByRecursion HasLine xs → AllByRecursion HasLine ys → AllByRecursion HasLine (xs ++ ys)
+pub lines_append : (xs ys : List Event) → AllByRecursion HasLine xs → AllByRecursion HasLine ys → AllByRecursion HasLine (xs ++ ys)
 lines_append [] ys a b = b
 lines_append (x ∷ xs) ys a b = (a.0, lines_append xs ys a.1 b)
 
@@ -84,15 +84,23 @@ pub bytes_are : (xs : List ℕ) → ((i : ℕ) → slice_index_or xs i 0 < 256) 
 bytes_are [] small = tt
 bytes_are (x ∷ xs) small = (small 0, bytes_are xs (λ i. small (suc i)))
 
--- a core that stands for a reached state goes on by events to one that does, as they are recorded
-pub served_on : (old new : CoreView) (before later : Tape) (events : State → List Event) → ((s : State) → StandsFor old s → AllByRecursion HasLine (events s)) → ((s : State) → StandsFor old s → StandsFor new (after s (events s))) → ((s : State) → StandsFor old s → Records (run_entries s (events s)) before later) → ∥ IsServed old before ∥₁ → ∥ IsServed new later ∥₁
-served_on old new before later events lines stands records held =
-    ∥∥₁_elim held squash₁ (λ h.
+-- From each state that the core stood for, it stands for the one after these events, which have lines and are recorded.
+pub record GoesOn (old new : CoreView) (before later : Tape) (events : State → List Event) : Type 0 where
+  pub lines : (s : State) → StandsFor old s → AllByRecursion HasLine (events s)
+  pub stands : (s : State) → StandsFor old s → StandsFor new (after s (events s))
+  pub records : (s : State) → StandsFor old s → Records (run_entries s (events s)) before later
+
+pub goes : (old new : CoreView) (before later : Tape) (events : State → List Event) → ((s : State) → StandsFor old s → AllByRecursion HasLine (events s)) → ((s : State) → StandsFor old s → StandsFor new (after s (events s))) → ((s : State) → StandsFor old s → Records (run_entries s (events s)) before later) → ∥ GoesOn old new before later events ∥₁
+goes old new before later events lines stands records = ∣ record { lines = lines; stands = stands; records = records } ∣₁
+
+-- so a core that stands for a reached state goes on by events to one that does
+abbrev pub served_on : (old new : CoreView) (before later : Tape) (events : State → List Event) → GoesOn old new before later events → IsServed old before → IsServed new later
+served_on old new before later events on h =
     let r = h.reached in
     let first = opening r.limits r.listener r.first_xid r.now in
-    ∣ record {
+    record {
       state = after h.state (events h.state);
-      stands = stands h.state h.stands;
+      stands = on.stands h.state h.stands;
       reached = record {
         limits = r.limits;
         listener = r.listener;
@@ -103,37 +111,34 @@ served_on old new before later events lines stands records held =
       };
       good = subst (λ (x : Setting). are_good x.limits x.listener ≡ true) (sym (after-setting h.state (events h.state))) h.good;
       listener = subst (λ (x : Setting). IsListener x.listener) (sym (after-setting h.state (events h.state))) h.listener;
-      lines = lines_append r.events (events h.state) h.lines (lines h.state h.stands);
-      recorded = more_recorded r.limits r.listener r.first_xid r.now r.events (events h.state) h.state before later r.is h.recorded (records h.state h.stands);
-    } ∣₁)
+      lines = lines_append r.events (events h.state) h.lines (on.lines h.state h.stands);
+      recorded = more_recorded r.limits r.listener r.first_xid r.now r.events (events h.state) h.state before later r.is h.recorded (on.records h.state h.stands);
+    }
 
 -- limits that are not refused are good
 pub good_from : {T : Type 0} (good : Bool) (made : T) → (IsTrue (not good) → IsErrOf (Ok made) BadLimits) → good ≡ true
 good_from true made kept = refl
 good_from false made kept = let wrong = kept refl in absurd cc
 
-pub new_served : (core : CoreView) (l : Limits) (h : Listener) (xid now limit : ℕ) (empty tape : Tape) → empty ≡ empty_tape limit → Records (options_text l h xid now ∷ []) empty tape → StandsFor core (opening l h xid now) → are_good l h ≡ true → IsListener h → ∥ IsServed core tape ∥₁
+pub new_recorded : (l : Limits) (h : Listener) (xid now limit : ℕ) (empty tape : Tape) → empty ≡ empty_tape limit → Records (options_text l h xid now ∷ []) empty tape → IsRecordOf (options_text l h xid now ∷ run_entries (opening l h xid now) []) tape
 unfolding run_entries
-new_served core l h xid now limit empty tape is records stands good listener = ∣ record {
+new_recorded l h xid now limit empty tape is records = record_goes_on [] (options_text l h xid now ∷ []) empty tape (subst (IsRecordOf []) (sym is) (new_record limit)) records
+
+abbrev pub new_served : (core : CoreView) (l : Limits) (h : Listener) (xid now limit : ℕ) (empty tape : Tape) → empty ≡ empty_tape limit → Records (options_text l h xid now ∷ []) empty tape → StandsFor core (opening l h xid now) → are_good l h ≡ true → IsListener h → IsServed core tape
+new_served core l h xid now limit empty tape is records stands good listener = record {
   state = opening l h xid now;
   stands = stands;
   reached = record { limits = l; listener = h; first_xid = xid; now = now; events = []; is = refl };
   good = good;
   listener = listener;
   lines = tt;
-  recorded = record_goes_on [] (options_text l h xid now ∷ []) empty tape (subst (IsRecordOf []) (sym is) (new_record limit)) records;
-} ∣₁
+  recorded = new_recorded l h xid now limit empty tape is records;
+}
 
-still_served : (core : CoreView) (before later : Tape) → later.text ≡ before.text → later.limit ≡ before.limit → (later.is_on ≡ true → before.is_on ≡ true) → ∥ IsServed core before ∥₁ → ∥ IsServed core later ∥₁
-still_served core before later text limit on held =
-    ∥∥₁_elim held squash₁ (λ h. ∣ record { state = h.state; stands = h.stands; reached = h.reached; good = h.good; listener = h.listener; lines = h.lines; recorded = record_stays _ before later text limit on h.recorded } ∣₁)
-
--- what was recorded was written out, or that failed
-pub written_served : {E : Type 0} (core : CoreView) (before later : Tape) (n : ℕ) (r : Result (Unit {0}) E) → OnOk r (later ≡ record before { written = n }) → OnErr r (later ≡ record before { is_on = false }) → ∥ IsServed core before ∥₁ → ∥ IsServed core later ∥₁
-written_served core before later n (Ok done) same failed =
-    still_served core before later (ap (λ (t : Tape). t.text) same) (ap (λ (t : Tape). t.limit) same) (λ on. sym (ap (λ (t : Tape). t.is_on) same) ∙ on)
-written_served core before later n (Err error) written same =
-    still_served core before later (ap (λ (t : Tape). t.text) same) (ap (λ (t : Tape). t.limit) same) (λ on. absurd (true≢false (sym on ∙ ap (λ (t : Tape). t.is_on) same)))
+-- another tape with the same text, whose limit stays, and that is on only if it was
+abbrev pub still_served : (core : CoreView) (before later : Tape) → later.text ≡ before.text → later.limit ≡ before.limit → (later.is_on ≡ true → before.is_on ≡ true) → IsServed core before → IsServed core later
+still_served core before later text limit on h =
+    record { state = h.state; stands = h.stands; reached = h.reached; good = h.good; listener = h.listener; lines = h.lines; recorded = record_stays _ before later text limit on h.recorded }
 
 -- if nothing is recorded
 pub none_recorded : (core : CoreView) (tape : Tape) → ∥ IsServed core tape ∥₁ → Records [] tape tape
@@ -166,30 +171,30 @@ unfolding step
 open_records old new now who r before later acts records s h =
     one_recorded s (Open now who) (output_or_refusal Opened r) before later (ap (output_or_refusal Opened) (acts.gives s h) ∙ output_given Opened (open_connection s now who)) records
 
-pub open_served : (old new : CoreView) (now : ℕ) (who : Who) (r : Result ℕ CoreFault) (before later : Tape) → Acts StandsFor (λ s. open_connection s now who) old new r → Records (entry_text (Open now who) (output_or_refusal Opened r) ∷ []) before later → Fits now → ∥ IsWho who ∥₁ → ∥ IsServed old before ∥₁ → ∥ IsServed new later ∥₁
+pub open_goes : (old new : CoreView) (now : ℕ) (who : Who) (r : Result ℕ CoreFault) (before later : Tape) → Acts StandsFor (λ s. open_connection s now who) old new r → Records (entry_text (Open now who) (output_or_refusal Opened r) ∷ []) before later → Fits now → ∥ IsWho who ∥₁ → ∥ GoesOn old new before later (λ s. Open now who ∷ []) ∥₁
 unfolding step
-open_served old new now who r before later acts records fits is_who =
-    λ held. ∥∥₁_elim is_who squash₁ (λ w.
-    served_on old new before later (λ s. Open now who ∷ []) (λ s h. ((fits, w), tt)) (λ s h. subst (StandsFor new) (sym (output_state Opened (open_connection s now who))) (acts.stands s h)) (open_records old new now who r before later acts records) held)
+open_goes old new now who r before later acts records fits is_who =
+    ∥∥₁_elim is_who squash₁ (λ w.
+    goes old new before later (λ s. Open now who ∷ []) (λ s h. ((fits, w), tt)) (λ s h. subst (StandsFor new) (sym (output_state Opened (open_connection s now who))) (acts.stands s h)) (open_records old new now who r before later acts records))
 
 pub closed_records : (old new : CoreView) (id : ℕ) (r : Result (Unit {0}) CoreFault) (before later : Tape) → Acts StandsFor (λ s. close_connection s id) old new r → Records (entry_text (Closed id) (output_or_refusal show_done r) ∷ []) before later → (s : State) → StandsFor old s → Records (run_entries s (Closed id ∷ [])) before later
 unfolding step
 closed_records old new id r before later acts records s h =
     one_recorded s (Closed id) (output_or_refusal show_done r) before later (ap (output_or_refusal show_done) (acts.gives s h) ∙ output_given show_done (close_connection s id)) records
 
-pub closed_served : (old new : CoreView) (id : ℕ) (r : Result (Unit {0}) CoreFault) (before later : Tape) → Acts StandsFor (λ s. close_connection s id) old new r → Records (entry_text (Closed id) (output_or_refusal show_done r) ∷ []) before later → Fits id → ∥ IsServed old before ∥₁ → ∥ IsServed new later ∥₁
+pub closed_goes : (old new : CoreView) (id : ℕ) (r : Result (Unit {0}) CoreFault) (before later : Tape) → Acts StandsFor (λ s. close_connection s id) old new r → Records (entry_text (Closed id) (output_or_refusal show_done r) ∷ []) before later → Fits id → ∥ GoesOn old new before later (λ s. Closed id ∷ []) ∥₁
 unfolding step
-closed_served old new id r before later acts records fits =
-    served_on old new before later (λ s. Closed id ∷ []) (λ s h. (fits, tt)) (λ s h. subst (StandsFor new) (sym (output_state show_done (close_connection s id))) (acts.stands s h)) (closed_records old new id r before later acts records)
+closed_goes old new id r before later acts records fits =
+    goes old new before later (λ s. Closed id ∷ []) (λ s h. (fits, tt)) (λ s h. subst (StandsFor new) (sym (output_state show_done (close_connection s id))) (acts.stands s h)) (closed_records old new id r before later acts records)
 
 pub lost_records : (old : CoreView) (lost : Option ℕ) (before later : Tape) → Shows StandsFor next_lost old lost → Records (entry_text NextLost (LostIs lost) ∷ []) before later → (s : State) → StandsFor old s → Records (run_entries s (NextLost ∷ [])) before later
 unfolding step
 lost_records old lost before later shows records s h = one_recorded s NextLost (LostIs lost) before later (ap LostIs (shows s h)) records
 
-pub lost_served : (old new : CoreView) (n : ℕ) (lost : Option ℕ) (before later : Tape) → new ≡ with_steps_before old n → Shows StandsFor next_lost old lost → Records (entry_text NextLost (LostIs lost) ∷ []) before later → ∥ IsServed old before ∥₁ → ∥ IsServed new later ∥₁
+pub lost_goes : (old new : CoreView) (n : ℕ) (lost : Option ℕ) (before later : Tape) → new ≡ with_steps_before old n → Shows StandsFor next_lost old lost → Records (entry_text NextLost (LostIs lost) ∷ []) before later → ∥ GoesOn old new before later (λ s. NextLost ∷ []) ∥₁
 unfolding step
-lost_served old new n lost before later is shows records =
-    served_on old new before later (λ s. NextLost ∷ []) (λ s h. (tt, tt)) (stands_begun old new n is) (lost_records old lost before later shows records)
+lost_goes old new n lost before later is shows records =
+    goes old new before later (λ s. NextLost ∷ []) (λ s h. (tt, tt)) (stands_begun old new n is) (lost_records old lost before later shows records)
 
 -- ---- a datagram
 
@@ -216,27 +221,27 @@ datagram_records old new now who content given before later acts records s h =
     one_recorded s (Datagram now who content) (answer_shown given new.reply) before later (answer_is given new.reply (datagram s now who content) (acts.gives s h)) records
 
 -- with a look at the reply after it
-pub datagram_served : (old new after_look : CoreView) (n now : ℕ) (who : Who) (content : List ℕ) (given : outcome.Response) (before later : Tape) → after_look ≡ with_steps_before new n → ActsWithReply (λ s. datagram s now who content) old new given → Records (entry_text (Datagram now who content) (answer_shown given new.reply) ∷ []) before later → Fits now → ∥ IsWho who ∥₁ → AreBytes content → ∥ IsServed old before ∥₁ → ∥ IsServed after_look later ∥₁
+pub datagram_goes : (old new after_look : CoreView) (n now : ℕ) (who : Who) (content : List ℕ) (given : outcome.Response) (before later : Tape) → after_look ≡ with_steps_before new n → ActsWithReply (λ s. datagram s now who content) old new given → Records (entry_text (Datagram now who content) (answer_shown given new.reply) ∷ []) before later → Fits now → ∥ IsWho who ∥₁ → AreBytes content → ∥ GoesOn old after_look before later (λ s. Datagram now who content ∷ []) ∥₁
 unfolding step
-datagram_served old new after_look n now who content given before later is acts records fits is_who small =
-    λ held. ∥∥₁_elim is_who squash₁ (λ w.
-    served_on old after_look before later (λ s. Datagram now who content ∷ []) (λ s h. ((fits, w, small), tt))
+datagram_goes old new after_look n now who content given before later is acts records fits is_who small =
+    ∥∥₁_elim is_who squash₁ (λ w.
+    goes old after_look before later (λ s. Datagram now who content ∷ []) (λ s h. ((fits, w, small), tt))
     (λ s h. stands_begun new after_look n is _ (subst (StandsFor new) (sym (outcome_state (datagram s now who content))) (acts.stands s h)))
-    (datagram_records old new now who content given before later acts records) held)
+    (datagram_records old new now who content given before later acts records))
 
 -- a look at the core changes nothing that is served
-pub looked_served : (old new : CoreView) (n : ℕ) (tape : Tape) → new ≡ with_steps_before old n → ∥ IsServed old tape ∥₁ → ∥ IsServed new tape ∥₁
-looked_served old new n tape is held =
-    ∥∥₁_elim held squash₁ (λ h. ∣ record { state = h.state; stands = stands_begun old new n is h.state h.stands; reached = h.reached; good = h.good; listener = h.listener; lines = h.lines; recorded = h.recorded } ∣₁)
+pub looked_goes : (old new : CoreView) (n : ℕ) (tape : Tape) → new ≡ with_steps_before old n → ∥ IsServed old tape ∥₁ → ∥ GoesOn old new tape tape (λ s. []) ∥₁
+unfolding run_entries
+looked_goes old new n tape is held = goes old new tape tape (λ s. []) (λ s h. tt) (stands_begun old new n is) (λ s h. none_recorded old tape held)
 
 -- so of one that is no call, or is not answered
 pub silent_records : (old new : CoreView) (now : ℕ) (who : Who) (content : List ℕ) (given : outcome.Response) (before later : Tape) → (given ≡ outcome_kinds.NoCall) ⊎ (given ≡ outcome_kinds.Silent) → ActsWithReply (λ s. datagram s now who content) old new given → Records (entry_text (Datagram now who content) Silent ∷ []) before later → (s : State) → StandsFor old s → Records (run_entries s (Datagram now who content ∷ [])) before later
 silent_records old new now who content given before later is acts records =
     datagram_records old new now who content given before later acts (subst (λ (x : Output). Records (entry_text (Datagram now who content) x ∷ []) before later) (answer_silent given new.reply is) records)
 
-pub silent_served : (old new : CoreView) (now : ℕ) (who : Who) (content : List ℕ) (given : outcome.Response) (before later : Tape) → (given ≡ outcome_kinds.NoCall) ⊎ (given ≡ outcome_kinds.Silent) → ActsWithReply (λ s. datagram s now who content) old new given → Records (entry_text (Datagram now who content) Silent ∷ []) before later → Fits now → ∥ IsWho who ∥₁ → AreBytes content → ∥ IsServed old before ∥₁ → ∥ IsServed new later ∥₁
-silent_served old new now who content given before later is acts records =
-    datagram_served old new new new.steps_before now who content given before later refl acts (subst (λ (x : Output). Records (entry_text (Datagram now who content) x ∷ []) before later) (answer_silent given new.reply is) records)
+pub silent_goes : (old new : CoreView) (now : ℕ) (who : Who) (content : List ℕ) (given : outcome.Response) (before later : Tape) → (given ≡ outcome_kinds.NoCall) ⊎ (given ≡ outcome_kinds.Silent) → ActsWithReply (λ s. datagram s now who content) old new given → Records (entry_text (Datagram now who content) Silent ∷ []) before later → Fits now → ∥ IsWho who ∥₁ → AreBytes content → ∥ GoesOn old new before later (λ s. Datagram now who content ∷ []) ∥₁
+silent_goes old new now who content given before later is acts records =
+    datagram_goes old new new new.steps_before now who content given before later refl acts (subst (λ (x : Output). Records (entry_text (Datagram now who content) x ∷ []) before later) (answer_silent given new.reply is) records)
 
 -- ---- statistics begin anew
 
@@ -244,10 +249,10 @@ pub zeroed_records : (old : CoreView) (before later : Tape) → Records (entry_t
 unfolding step
 zeroed_records old before later records s h = one_recorded s ZeroStats Done before later refl records
 
-pub zeroed_served : (old new : CoreView) (before later : Tape) → Acts StandsFor (λ s. (tt {0}, zero_stats s)) old new (tt {0}) → Records (entry_text ZeroStats Done ∷ []) before later → ∥ IsServed old before ∥₁ → ∥ IsServed new later ∥₁
+pub zeroed_goes : (old new : CoreView) (before later : Tape) → Acts StandsFor (λ s. (tt {0}, zero_stats s)) old new (tt {0}) → Records (entry_text ZeroStats Done ∷ []) before later → ∥ GoesOn old new before later (λ s. ZeroStats ∷ []) ∥₁
 unfolding step
-zeroed_served old new before later acts records =
-    served_on old new before later (λ s. ZeroStats ∷ []) (λ s h. (tt, tt)) (λ s h. acts.stands s h) (zeroed_records old before later records)
+zeroed_goes old new before later acts records =
+    goes old new before later (λ s. ZeroStats ∷ []) (λ s h. (tt, tt)) (λ s h. acts.stands s h) (zeroed_records old before later records)
 
 -- ---- the end of a forwarded call
 
@@ -273,15 +278,15 @@ unfolding step
 forward_stands old new after_look n now from message r is acts s h =
     stands_begun new after_look n is _ (subst (StandsFor new) (sym (end_state (forward_reply s now from message))) (acts.stands s h))
 
-pub ignored_served : (old new : CoreView) (now : ℕ) (from : Peer) (message : List ℕ) (before later : Tape) → Acts StandsFor (λ s. forward_reply s now from message) old new None → Records (entry_text (Forward now from message) Ignored ∷ []) before later → Fits now → ∥ IsPeer from ∥₁ → AreBytes message → ∥ IsServed old before ∥₁ → ∥ IsServed new later ∥₁
-ignored_served old new now from message before later acts records fits is_peer small =
-    λ held. ∥∥₁_elim is_peer squash₁ (λ w.
-    served_on old new before later (λ s. Forward now from message ∷ []) (λ s h. ((fits, w, small), tt)) (forward_stands old new new new.steps_before now from message None refl acts) (ignored_records old new now from message before later acts records) held)
+pub ignored_goes : (old new : CoreView) (now : ℕ) (from : Peer) (message : List ℕ) (before later : Tape) → Acts StandsFor (λ s. forward_reply s now from message) old new None → Records (entry_text (Forward now from message) Ignored ∷ []) before later → Fits now → ∥ IsPeer from ∥₁ → AreBytes message → ∥ GoesOn old new before later (λ s. Forward now from message ∷ []) ∥₁
+ignored_goes old new now from message before later acts records fits is_peer small =
+    ∥∥₁_elim is_peer squash₁ (λ w.
+    goes old new before later (λ s. Forward now from message ∷ []) (λ s h. ((fits, w, small), tt)) (forward_stands old new new new.steps_before now from message None refl acts) (ignored_records old new now from message before later acts records))
 
-pub forward_served : (old new after_look : CoreView) (n now : ℕ) (from : Peer) (message : List ℕ) (told : Told) (before later : Tape) → after_look ≡ with_steps_before new n → Acts StandsFor (λ s. forward_reply s now from message) old new (Some told) → Records (entry_text (Forward now from message) (show_told new.reply told) ∷ []) before later → Fits now → ∥ IsPeer from ∥₁ → AreBytes message → ∥ IsServed old before ∥₁ → ∥ IsServed after_look later ∥₁
-forward_served old new after_look n now from message told before later is acts records fits is_peer small =
-    λ held. ∥∥₁_elim is_peer squash₁ (λ w.
-    served_on old after_look before later (λ s. Forward now from message ∷ []) (λ s h. ((fits, w, small), tt)) (forward_stands old new after_look n now from message (Some told) is acts) (forward_records old new now from message told before later acts records) held)
+pub forward_goes : (old new after_look : CoreView) (n now : ℕ) (from : Peer) (message : List ℕ) (told : Told) (before later : Tape) → after_look ≡ with_steps_before new n → Acts StandsFor (λ s. forward_reply s now from message) old new (Some told) → Records (entry_text (Forward now from message) (show_told new.reply told) ∷ []) before later → Fits now → ∥ IsPeer from ∥₁ → AreBytes message → ∥ GoesOn old after_look before later (λ s. Forward now from message ∷ []) ∥₁
+forward_goes old new after_look n now from message told before later is acts records fits is_peer small =
+    ∥∥₁_elim is_peer squash₁ (λ w.
+    goes old after_look before later (λ s. Forward now from message ∷ []) (λ s h. ((fits, w, small), tt)) (forward_stands old new after_look n now from message (Some told) is acts) (forward_records old new now from message told before later acts records))
 
 -- ---- what is due
 
@@ -302,10 +307,10 @@ expire_records old new now due before later acts records s h =
     one_recorded s (Expire now) (due_shown due new.reply) before later (due_is new.reply due (expire s now) (acts.gives s h) (acts.stands s h).reply) records
 
 -- with a look at the reply after it
-pub expire_served : (old new after_look : CoreView) (n now : ℕ) (due : Expired) (before later : Tape) → after_look ≡ with_steps_before new n → Acts StandsFor (λ s. expire s now) old new due → Records (entry_text (Expire now) (due_shown due new.reply) ∷ []) before later → Fits now → ∥ IsServed old before ∥₁ → ∥ IsServed after_look later ∥₁
+pub expire_goes : (old new after_look : CoreView) (n now : ℕ) (due : Expired) (before later : Tape) → after_look ≡ with_steps_before new n → Acts StandsFor (λ s. expire s now) old new due → Records (entry_text (Expire now) (due_shown due new.reply) ∷ []) before later → Fits now → ∥ GoesOn old after_look before later (λ s. Expire now ∷ []) ∥₁
 unfolding step
-expire_served old new after_look n now due before later is acts records fits =
-    served_on old after_look before later (λ s. Expire now ∷ []) (λ s h. (fits, tt))
+expire_goes old new after_look n now due before later is acts records fits =
+    goes old after_look before later (λ s. Expire now ∷ []) (λ s h. (fits, tt))
     (λ s h. stands_begun new after_look n is _ (subst (StandsFor new) (sym (expired_state (expire s now))) (acts.stands s h)))
     (expire_records old new now due before later acts records)
 
@@ -351,10 +356,10 @@ pub none_records : (old : CoreView) (before later : Tape) → Shows StandsFor un
 none_records old before later shows records s h =
     subst (λ (u : Option UnsentCall). Records (run_entries s (send_events_of u)) before later) (shows s h) (unsent_records old None before later shows records s h)
 
-pub none_served : (old new : CoreView) (n : ℕ) (before later : Tape) → new ≡ with_steps_before old n → Shows StandsFor unsent_call old None → Records (entry_text Unsent (UnsentIs None) ∷ []) before later → ∥ IsServed old before ∥₁ → ∥ IsServed new later ∥₁
+pub none_goes : (old new : CoreView) (n : ℕ) (before later : Tape) → new ≡ with_steps_before old n → Shows StandsFor unsent_call old None → Records (entry_text Unsent (UnsentIs None) ∷ []) before later → ∥ GoesOn old new before later (λ s. Unsent ∷ []) ∥₁
 unfolding step
-none_served old new n before later is shows records =
-    served_on old new before later (λ s. Unsent ∷ []) (λ s h. (tt, tt)) (stands_begun old new n is) (unsent_records old None before later shows records)
+none_goes old new n before later is shows records =
+    goes old new before later (λ s. Unsent ∷ []) (λ s h. (tt, tt)) (stands_begun old new n is) (unsent_records old None before later shows records)
 
 pub sent_records : (old mid new : CoreView) (n : ℕ) (unsent : UnsentCall) (r : Result (Unit {0}) CoreFault) (before between later : Tape) → mid ≡ with_steps_before old n → Shows StandsFor unsent_call old (Some unsent) → Acts StandsFor (λ s. sent_call s unsent.number) mid new r → Records (entry_text Unsent (UnsentIs (Some unsent)) ∷ []) before between → Records (entry_text (Sent unsent.number) (output_or_refusal show_done r) ∷ []) between later → (s : State) → StandsFor old s → Records (run_entries s (send_events s)) before later
 unfolding step
@@ -363,9 +368,9 @@ sent_records old mid new n unsent r before between later is shows acts one two s
     (two_recorded s Unsent (Sent unsent.number) (UnsentIs (Some unsent)) (output_or_refusal show_done r) before between later (ap UnsentIs (shows s h))
     (ap (output_or_refusal show_done) (acts.gives s (stands_begun old mid n is s h)) ∙ output_given show_done (sent_call s unsent.number)) one two)
 
-pub sent_served : (old mid new : CoreView) (n : ℕ) (unsent : UnsentCall) (r : Result (Unit {0}) CoreFault) (before between later : Tape) → mid ≡ with_steps_before old n → Shows StandsFor unsent_call old (Some unsent) → Acts StandsFor (λ s. sent_call s unsent.number) mid new r → Records (entry_text Unsent (UnsentIs (Some unsent)) ∷ []) before between → Records (entry_text (Sent unsent.number) (output_or_refusal show_done r) ∷ []) between later → Fits unsent.number → ∥ IsServed old before ∥₁ → ∥ IsServed new later ∥₁
+pub sent_goes : (old mid new : CoreView) (n : ℕ) (unsent : UnsentCall) (r : Result (Unit {0}) CoreFault) (before between later : Tape) → mid ≡ with_steps_before old n → Shows StandsFor unsent_call old (Some unsent) → Acts StandsFor (λ s. sent_call s unsent.number) mid new r → Records (entry_text Unsent (UnsentIs (Some unsent)) ∷ []) before between → Records (entry_text (Sent unsent.number) (output_or_refusal show_done r) ∷ []) between later → Fits unsent.number → ∥ GoesOn old new before later send_events ∥₁
 unfolding step
-sent_served old mid new n unsent r before between later is shows acts one two fits =
-    served_on old new before later send_events (λ s h. subst (λ (u : Option UnsentCall). AllByRecursion HasLine (send_events_of u)) (shows s h) (tt, (fits, tt)))
+sent_goes old mid new n unsent r before between later is shows acts one two fits =
+    goes old new before later send_events (λ s h. subst (λ (u : Option UnsentCall). AllByRecursion HasLine (send_events_of u)) (shows s h) (tt, (fits, tt)))
     (λ s h. subst (λ (u : Option UnsentCall). StandsFor new (after s (send_events_of u))) (shows s h) (subst (StandsFor new) (sym (output_state show_done (sent_call s unsent.number))) (acts.stands s (stands_begun old mid n is s h))))
     (sent_records old mid new n unsent r before between later is shows acts one two)

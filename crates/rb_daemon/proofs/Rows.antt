@@ -1,5 +1,5 @@
 -- The rows of a core are counted one after another.
-use Rattle.std.proofs.Common.{◌≡◌, ◌<◌, ◌≤◌, ◌+◌, ◌-◌, ℕ, true, length, Some, Option, refl, sym, ap, subst, ◌∙◌, arith}
+use Rattle.std.proofs.Common.{◌≡◌, ◌<◌, ◌≤◌, ◌+◌, ◌-◌, ◌*◌, ℕ, true, length, Some, Option, refl, sym, ap, subst, ◌∙◌, arith}
 use Rattle.std.specs.Borrow.{Bor}
 use Rattle.std.proofs.Math.Bridge.{le_prop}
 use Rattle.std.proofs.Math.Logic.{∥∥₁_elim}
@@ -11,7 +11,7 @@ use Rattle.rb_model.specs.declared.types.Limits.{Limits}
 use Rattle.rb_model.specs.State.{are_good}
 use Rattle.rb_lines.specs.Tapes.{Tape}
 use Rattle.rb_core.specs.StandsFor.{CoreView}
-use Rattle.rb_core.specs.Looks.{rows_held, rows_shown, StandsAmong, IsAtStart, IsAtEnd, row_behind, PassesOne}
+use Rattle.rb_core.specs.Looks.{rows_held, rows_shown, StandsAmong, IsAtStart, IsAtEnd, row_behind, PassesOne, slots_behind, slot_count}
 use Rattle.rb_core.specs.Metered.{Metered}
 use Rattle.rb_core.specs.Lending.{HasLentRow}
 use Rattle.rb_daemon.specs.Served.{IsServed}
@@ -19,14 +19,17 @@ use Rattle.rb_daemon.specs.Served.{IsServed}
 abbrev pub passed : CoreView → Option ℕ → ℕ
 passed core cursor = rows_passed (rows_held core) (rows_held core).stamp cursor
 
--- those that a cursor has passed are counted
+-- those that a cursor has passed are counted, and paid for
 pub record Counting (first core : Metered) (cursor : Option ℕ) (count : ℕ) : Type 0 where
   pub stays : core.core ≡ first.core
   pub place : StandsAmong core.core cursor
   pub is : count ≡ passed core.core cursor
+  pub tie : core.meter.tie ≡ first.meter.tie
+  pub rises : first.meter.steps ≤ core.meter.steps
+  pub steps : core.meter.steps + 2 * slots_behind core.core cursor ≤ first.meter.steps + 2 * slot_count core.core
 
-pub none_counted : (core : Metered) (cursor : Option ℕ) → StandsAmong core.core cursor → IsAtStart core.core cursor → Counting core core cursor 0
-none_counted core cursor place start = record { stays = refl; place = place; is = sym start }
+pub none_counted : (core : Metered) (cursor : Option ℕ) → StandsAmong core.core cursor → IsAtStart core.core cursor → slots_behind core.core cursor ≡ slot_count core.core → Counting core core cursor 0
+none_counted core cursor place start all = record { stays = refl; place = place; is = sym start; tie = refl; rises = omega arith; steps = omega (arith, all) }
 
 module _ (first core : Metered) (cursor : Option ℕ) (count : ℕ) (k : Counting first core cursor count) (row : Row) (here : row_behind core.core cursor ≡ Some row) where
   pub one_there : count < length (rows_shown first.core)
@@ -40,6 +43,11 @@ module _ (first core : Metered) (cursor : Option ℕ) (count : ℕ) (k : Countin
       stays = looked.stays ∙ k.stays;
       place = subst (λ (held : CoreView). StandsAmong held next) (sym looked.stays) place;
       is = ap (λ (n : ℕ). n + 1) k.is ∙ sym one ∙ ap (λ (held : CoreView). passed held next) (sym looked.stays);
+      tie = looked.cost.tie ∙ k.tie;
+      rises = omega (arith, k.rises, looked.cost.rises);
+      steps =
+          subst (λ (held : CoreView). paid.meter.steps + 2 * slots_behind held next ≤ first.meter.steps + 2 * slot_count held) (sym looked.stays)
+          (omega (arith, k.steps, looked.cost_row));
     }
 
     pub fewer_left : length (rows_shown paid.core) - passed paid.core next < length (rows_shown core.core) - passed core.core cursor

@@ -1,5 +1,5 @@
 -- A served core has good limits and a listener as it should be, so the bounds of the model are its own.
-use Rattle.std.proofs.Common.{◌≡◌, ◌≤◌, true, sym, subst, ◌∙◌}
+use Rattle.std.proofs.Common.{◌≡◌, ◌≤◌, true, sym, subst, ◌∙◌, arith}
 use Rattle.std.proofs.Math.Bool.{Bool-set}
 use Rattle.std.proofs.Math.Bridge.{le_prop}
 use Rattle.std.proofs.Math.Logic.{∥∥₁_elim}
@@ -12,7 +12,7 @@ use Rattle.rb_core.proofs.HeldBytes.{never_passes}
 use Rattle.rb_laws.proofs.StepBounds.{steps_are_bounded}
 use Rattle.rb_laws.proofs.WholeRuns.{whole_runs_are_bounded}
 use Rattle.rb_daemon.specs.Served.{IsServed}
-use Rattle.rb_daemon.specs.ServedLaws.{ServedBytesAreBounded, ServedStepsAreBounded, ServedRunsAreBounded}
+use Rattle.rb_daemon.specs.ServedLaws.{ServedBytesAreBounded, ServedStepsAreBounded, ServedRunsAreBounded, ServedMetersAreBounded}
 
 -- each state that the core stands for has its setting
 good_of : (core : CoreView) (tape : Tape) (s : State) → StandsFor core s → IsServed core tape → are_good s.setting.limits s.setting.listener ≡ true
@@ -33,3 +33,6 @@ served_steps_are_bounded core tape served s stands reached = steps_are_bounded s
 
 pub served_runs_are_bounded : ServedRunsAreBounded
 served_runs_are_bounded core tape served s stands reached = whole_runs_are_bounded s reached (served_good core tape s stands served)
+
+pub served_meters_are_bounded : ServedMetersAreBounded
+served_meters_are_bounded core tape looks counted = omega (arith, counted.paid)

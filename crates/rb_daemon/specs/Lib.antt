@@ -1,4 +1,5 @@
 pub mod Served
+pub mod Counting
 pub mod Moves
 pub mod Recording
 pub mod ServedLaws

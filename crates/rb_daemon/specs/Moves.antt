@@ -1,5 +1,5 @@
 -- What a call of the engine does, at the engine's moment.
-use Rattle.std.specs.Prelude.{◌≡◌, ℕ, List, [], ◌∷◌, ◌++◌, length, Option, Result}
+use Rattle.std.specs.Prelude.{◌≡◌, ℕ, ◌+◌, List, [], ◌∷◌, ◌++◌, length, Option, Result}
 use Rattle.rb_proto.specs.declared.listener.Listener.{Listener}
 use Rattle.rb_model.specs.declared.types.Limits.{Limits}
 use Rattle.rb_model.specs.State.{State, opening}
@@ -28,6 +28,11 @@ IsNewEngine first_xid moment limits listener engine = StandsFor engine.core.core
 -- Whatever state its core stood for, it stands for the next one.
 abbrev pub Moves : (State → ℕ → State) → Engine → Engine → Type 0
 Moves next old new = (s : State) → StandsFor old.core.core s → StandsFor new.core.core (next s old.moment)
+
+-- One look of the daemon was taken.
+-- STEPS-8
+abbrev pub LooksOnce : Engine → Engine → Type 0
+LooksOnce old new = new.looks.steps ≡ old.looks.steps + 1
 
 -- The same, and its result is that of the step.
 abbrev pub ActsNow : {R : Type 0} → (State → ℕ → R × State) → Engine → Engine → R → Type 0

@@ -11,6 +11,7 @@ use Rattle.rb_model.specs.WholeRuns.{args_waiting, whole_bound}
 use Rattle.rb_lines.specs.Tapes.{Tape, EndsWithin}
 use Rattle.rb_core.specs.StandsFor.{CoreView, StandsFor}
 use Rattle.rb_core.specs.HeldBytes.{held}
+use Rattle.rb_core.specs.Metered.{Metered}
 use Rattle.rb_lines.specs.Lines.{longest_input}
 use Rattle.rb_lines.specs.RecordLaws.{HasPath, ReadsAs}
 use Rattle.rb_keep.specs.Reading.{read as read_kept}
@@ -18,6 +19,7 @@ use Rattle.rb_keep.specs.KeptLaws.{CanBeKept}
 use Rattle.rb_daemon.specs.Keeping.{AreLinesOfRows}
 use Rattle.rb_daemon.specs.Recording.{entries_of}
 use Rattle.rb_daemon.specs.Served.{IsServed}
+use Rattle.rb_daemon.specs.Counting.{most_counted, IsPaid}
 
 -- ---- bounds
 
@@ -37,6 +39,14 @@ ServedRunsAreBounded =
     (core : CoreView) (tape : Tape) → ∥ IsServed core tape ∥₁ → (s : State) → StandsFor core s → IsReached s
     → (events : List Event)
     → run_cost s events ≤ whole_bound s.setting.limits (args_waiting s.connections.all) events (run s events)
+
+-- All that its meter counted is at most what the making of the core costs, the whole bound of the run that was handed in, and
+-- for each look of the daemon what a look may take.
+-- STEPS-8
+abbrev pub ServedMetersAreBounded : Type 0
+ServedMetersAreBounded =
+    (core : Metered) (tape : Tape) (looks : ℕ) (counted : IsPaid core tape looks)
+    → core.meter.steps ≤ most_counted counted.served.reached looks
 
 -- ---- the rows that are kept
 

@@ -1,18 +1,20 @@
 //! Where events go to the core: in the order in which they happen, each by one function.
-ghost use Rattle.std.specs.Prelude.{◌≡◌, ◌<◌, ◌^◌, [], ◌∷◌, length, IfOk, IfErr};
+ghost use Rattle.std.specs.Prelude.{◌≡◌, ◌<◌, ◌+◌, ◌*◌, ◌^◌, [], ◌∷◌, length, IfOk, IfErr};
 ghost use Rattle.rb_model.specs.Gives.{first_piece};
+ghost use Rattle.rb_connections.specs.Costs.{look_cost};
 ghost use Rattle.rb_connections.specs.Slots.{Shows};
 ghost use Rattle.rb_core.specs.Events.{OnlyBegins};
 ghost use Rattle.rb_core.specs.HeldBytes.{IsListener};
-ghost use Rattle.rb_core.specs.Looks.{rows_shown};
+ghost use Rattle.rb_core.specs.Looks.{rows_shown, slot_count};
 ghost use Rattle.rb_core.specs.MeteredCalls.{StepsAtMost, reply_look};
 ghost use Rattle.rb_core.specs.StandsFor.{StandsFor};
 ghost use Rattle.rb_lines.specs.Entries.{options_of};
 ghost use Rattle.rb_lines.specs.Tapes.{Records, empty_tape};
 ghost use Rattle.rb_sockets.specs.Dispatches.{Hands};
+ghost use Rattle.rb_daemon.specs.Counting.{IsPaid};
 ghost use Rattle.rb_daemon.specs.Recording.{end_entry};
 ghost use Rattle.rb_daemon.specs.Sending.{reply_told, ways_told};
-ghost use Rattle.rb_daemon.specs.Served.{IsServed, ready_of};
+ghost use Rattle.rb_daemon.specs.Served.{ready_of};
 
 use crate::callers::{Asked, Caller, Sender};
 use crate::held::Replies;
@@ -31,6 +33,7 @@ use rb_model::{Event, Output};
 use rb_policy::WaysBack;
 use rb_registry::Row;
 use rb_sockets::{Datagrams, Logged, reply_to_forwarded};
+use rb_xdr::Tally;
 use std::alloc::Global;
 use std::io;
 use std::io::Write;
@@ -46,7 +49,9 @@ pub(crate) struct Engine {
     tape: Tape,
     /// What is told of the calls.
     log: Log,
-    ghost served: { ∥ IsServed core.core tape ∥₁ },
+    /// How many looks the daemon took, in proofs alone.
+    looks: Tally,
+    ghost paid: { ∥ IsPaid core tape looks.steps ∥₁ },
     ghost fits: { moment < 2 ^ 64 },
 }
 
@@ -115,6 +120,7 @@ fn tell<S: Datagrams>(
 fn count_pending(core: &mut Metered, id: u64) -> usize
     ensures count { Shows StandsFor (λ s. first_piece s id) core.old.core result }
     ensures stays { core.new.core ≡ core.old.core }
+    ensures cost { StepsAtMost (look_cost core.old.core.connections + 1) core.old core.new }
 {
     match core.pending_len(id) {
         Ok(count) => count,
@@ -127,6 +133,7 @@ fn count_rows(core: &mut Metered) -> usize
     requires { length (rows_shown core.old.core) < 2 ^ 64 }
     ensures count { result ≡ length (rows_shown core.old.core) }
     ensures stays { core.new.core ≡ core.old.core }
+    ensures cost { StepsAtMost (2 * slot_count core.old.core + 1) core.old core.new }
 {
     let mut cursor = core.first_place();
     let mut count = 0;
@@ -190,7 +197,7 @@ impl Engine {
     ghost use Rattle.rb_model.specs.Gives.{given_in, bytes_given};
     ghost use Rattle.rb_core.specs.Standings.{StandsAfterPiece, StandsThen};
     ghost use Rattle.rb_daemon.specs.Served.{answer_datagram, change_count, row_count, set_again, ready_of, take_forward_reply, expire_due, send_forward};
-    ghost use Rattle.rb_daemon.specs.Moves.{IsNewEngine, Moves, ActsNow, PricedNow, PricedExchangeNow, RecordsEvent, RecordsEvents, RecordsExchange, RecordsGiven, ExchangesNow, WritesInto, CountsGiven, HandsNow, ShowsNow};
+    ghost use Rattle.rb_daemon.specs.Moves.{IsNewEngine, Moves, LooksOnce, ActsNow, PricedNow, PricedExchangeNow, RecordsEvent, RecordsEvents, RecordsExchange, RecordsGiven, ExchangesNow, WritesInto, CountsGiven, HandsNow, ShowsNow};
     ghost use Rattle.rb_sockets.specs.Dispatches.Dispatch.{Reply};
     ghost use Rattle.rb_model.specs.Step.{unsent_call};
     ghost use Rattle.rb_model.specs.Ending.{forward_reply, expire};
@@ -211,6 +218,7 @@ impl Engine {
     ) -> Result<Engine, CoreFault>
         ensures made { IfOk result (IsNewEngine first_xid moment limits listener) }
         ensures record { IfOk result (λ engine. engine.tape.limit ≡ record_limit) }
+        ensures looks { IfOk result (λ engine. engine.looks.steps ≡ 0) }
         ensures bad { IsErrOf result CoreFault.BadLimits ↔ IsTrue (not (are_good limits listener)) }
     {
         check_listener(&listener);
@@ -232,6 +240,7 @@ impl Engine {
             moment,
             tape,
             log,
+            looks: Tally::new(),
         })
     }
 
@@ -240,6 +249,7 @@ impl Engine {
         ensures core { self.new.core ≡ self.old.core }
         ensures moment { self.new.moment ≡ moment }
         ensures tape { self.new.tape ≡ self.old.tape }
+        ensures looks { self.new.looks ≡ self.old.looks }
     {
         self.moment = moment;
     }
@@ -252,6 +262,7 @@ impl Engine {
         ensures err { OnErr result (self.new.tape ≡ record self.old.tape { is_on = false }) }
         ensures core { self.new.core ≡ self.old.core }
         ensures moment { self.new.moment ≡ self.old.moment }
+        ensures looks { self.new.looks ≡ self.old.looks }
     {
         self.tape.write_out(writer)
     }
@@ -261,6 +272,7 @@ impl Engine {
         ensures core { self.new.core ≡ self.old.core }
         ensures moment { self.new.moment ≡ self.old.moment }
         ensures tape { self.new.tape ≡ self.old.tape }
+        ensures looks { self.new.looks ≡ self.old.looks }
     {
         if let Some(seen) = self.core.seen() {
             self.log.note_call(self.moment, seen);
@@ -272,6 +284,7 @@ impl Engine {
         ensures core { self.new.core ≡ self.old.core }
         ensures moment { self.new.moment ≡ self.old.moment }
         ensures tape { self.new.tape ≡ self.old.tape }
+        ensures looks { self.new.looks ≡ self.old.looks }
     {
         self.log.note_given_up(self.moment, source);
     }
@@ -288,6 +301,7 @@ impl Engine {
         ensures core { self.new.core ≡ self.old.core }
         ensures moment { self.new.moment ≡ self.old.moment }
         ensures tape { self.new.tape ≡ self.old.tape }
+        ensures looks { self.new.looks ≡ self.old.looks }
     {
         self.log.write(self.moment, writer)
     }
@@ -299,6 +313,7 @@ impl Engine {
         ensures recorded { RecordsEvent (λ now. Open now caller.who) self.old self.new }
         ensures priced { PricedNow (λ now. Open now caller.who) self.old self.new }
         ensures moment { self.new.moment ≡ self.old.moment }
+        ensures looks { self.new.looks ≡ self.old.looks }
     {
         let who = caller.who;
         let opened = self.core.open(self.moment, who);
@@ -324,6 +339,7 @@ impl Engine {
         ensures recorded { RecordsExchange id piece.now (count_given result) self.old self.new }
         ensures priced { PricedExchangeNow id piece.now (length room.old) self.old self.new result }
         ensures moment { self.new.moment ≡ self.old.moment }
+        ensures looks { self.new.looks ≡ self.old.looks }
     {
         count_fits(room);
         let done = self.core.exchange(self.moment, id, piece, room);
@@ -341,8 +357,10 @@ impl Engine {
         ensures fits { given_in result ≤ length room.new }
         ensures recorded { RecordsGiven id (bytes_given room.new result) self.old self.new }
         ensures moment { self.new.moment ≡ self.old.moment }
+        ensures looks { LooksOnce self.old self.new }
     {
         count_fits(room);
+        self.looks.raise(1);
         if !self.tape.is_on() {
             return self.core.write_into(self.moment, id, room);
         }
@@ -360,6 +378,7 @@ impl Engine {
         ensures recorded { RecordsEvent (λ now. Closed id) self.old self.new }
         ensures priced { PricedNow (λ now. Closed id) self.old self.new }
         ensures moment { self.new.moment ≡ self.old.moment }
+        ensures looks { self.new.looks ≡ self.old.looks }
     {
         let done = self.core.closed(id);
         self.tape.record(&Event::Closed(id), &show_done(done));
@@ -372,6 +391,7 @@ impl Engine {
         ensures recorded { RecordsEvent (λ now. NextLost) self.old self.new }
         ensures priced { PricedNow (λ now. NextLost) self.old self.new }
         ensures moment { self.new.moment ≡ self.old.moment }
+        ensures looks { self.new.looks ≡ self.old.looks }
     {
         let lost = self.core.next_lost();
         self.tape.record(&Event::NextLost, &Output::Lost(lost));
@@ -386,7 +406,9 @@ impl Engine {
         ensures stays { Moves (λ s now. s) self.old self.new }
         ensures tape { self.new.tape ≡ self.old.tape }
         ensures moment { self.new.moment ≡ self.old.moment }
+        ensures looks { LooksOnce self.old self.new }
     {
+        self.looks.raise(1);
         self.core.next_deadline()
     }
 
@@ -398,6 +420,7 @@ impl Engine {
         ensures recorded { RecordsEvent (λ now. Datagram now caller.who content.now) self.old self.new }
         ensures priced { PricedNow (λ now. Datagram now caller.who content.now) self.old self.new }
         ensures moment { self.new.moment ≡ self.old.moment }
+        ensures looks { self.new.looks ≡ self.old.looks }
     {
         let who = caller.who;
         let event = Event::Datagram(self.moment, who, content);
@@ -430,7 +453,9 @@ impl Engine {
         ensures stays { Moves (λ s now. s) self.old self.new }
         ensures tape { self.new.tape ≡ self.old.tape }
         ensures moment { self.new.moment ≡ self.old.moment }
+        ensures looks { LooksOnce self.old self.new }
     {
+        self.looks.raise(1);
         let reply = self.core.udp_reply();
         sockets.reply(asked.socket, asked.caller.who.source, reply);
     }
@@ -444,7 +469,9 @@ impl Engine {
         ensures core { OnlyBegins self.old.core.core self.new.core.core }
         ensures tape { self.new.tape ≡ self.old.tape }
         ensures moment { self.new.moment ≡ self.old.moment }
+        ensures looks { LooksOnce self.old self.new }
     {
+        self.looks.raise(1);
         let reply = self.core.udp_reply();
         replies.hold(asked.socket, asked.caller.who.source, reply)
     }
@@ -455,6 +482,7 @@ impl Engine {
         ensures recorded { RecordsEvent (λ now. set_call now row.now) self.old self.new }
         ensures priced { PricedNow (λ now. set_call now row.now) self.old self.new }
         ensures moment { self.new.moment ≡ self.old.moment }
+        ensures looks { self.new.looks ≡ self.old.looks }
     {
         let before = self.core.changes();
         let call = set_call(row);
@@ -468,6 +496,7 @@ impl Engine {
         ensures recorded { RecordsEvent (λ now. ZeroStats) self.old self.new }
         ensures priced { PricedNow (λ now. ZeroStats) self.old self.new }
         ensures moment { self.new.moment ≡ self.old.moment }
+        ensures looks { self.new.looks ≡ self.old.looks }
     {
         self.core.zero_stats();
         self.tape.record(&Event::ZeroStats, &Output::Done);
@@ -496,7 +525,9 @@ impl Engine {
         ensures core { self.new.core.core ≡ self.old.core.core }
         ensures tape { self.new.tape ≡ self.old.tape }
         ensures moment { self.new.moment ≡ self.old.moment }
+        ensures looks { LooksOnce self.old self.new }
     {
+        self.looks.raise(1);
         count_rows(&mut self.core)
     }
 
@@ -510,7 +541,9 @@ impl Engine {
         ensures core { self.new.core.core ≡ self.old.core.core }
         ensures tape { self.new.tape ≡ self.old.tape }
         ensures moment { self.new.moment ≡ self.old.moment }
+        ensures looks { LooksOnce self.old self.new }
     {
+        self.looks.raise(1);
         number_fits(self.core.clock());
         write_rows(&mut self.core, writer)
     }
@@ -531,7 +564,9 @@ impl Engine {
         ensures core { self.new.core.core ≡ self.old.core.core }
         ensures tape { self.new.tape ≡ self.old.tape }
         ensures moment { self.new.moment ≡ self.old.moment }
+        ensures looks { LooksOnce self.old self.new }
     {
+        self.looks.raise(1);
         write_change(&mut self.core, owners, prog, vers, writer)
     }
 
@@ -558,6 +593,7 @@ impl Engine {
         ensures recorded { RecordsEvent (λ now. Forward now sender.peer content.now) self.old self.new }
         ensures priced { PricedNow (λ now. Forward now sender.peer content.now) self.old self.new }
         ensures moment { self.new.moment ≡ self.old.moment }
+        ensures looks { self.new.looks ≡ self.old.looks }
     {
         let from = sender.peer;
         let event = Event::Forward(self.moment, from, content);
@@ -584,6 +620,7 @@ impl Engine {
         ensures recorded { RecordsEvent (λ now. Expire now) self.old self.new }
         ensures priced { PricedNow (λ now. Expire now) self.old self.new }
         ensures moment { self.new.moment ≡ self.old.moment }
+        ensures looks { self.new.looks ≡ self.old.looks }
     {
         let event = Event::Expire(self.moment);
         let told = match self.core.expire(self.moment) {
@@ -612,6 +649,7 @@ impl Engine {
         ensures acts { ActsNow send_forward self.old self.new result }
         ensures recorded { RecordsEvents (λ s now. send_events s) self.old self.new }
         ensures moment { self.new.moment ≡ self.old.moment }
+        ensures looks { self.new.looks ≡ self.old.looks }
     {
         let Some(unsent) = self.core.unsent() else {
             self.tape.record(&Event::Unsent, &Output::Unsent(None));

@@ -1,5 +1,5 @@
 //! What holds of the core of a running daemon.
-ghost use Rattle.rb_daemon.specs.ServedLaws.{ServedBytesAreBounded, ServedStepsAreBounded, ServedRunsAreBounded, ServedRowsAreKept, ServedRowsMayChange, ServedRecordsAreRead, ServedRecordsEndFull};
+ghost use Rattle.rb_daemon.specs.ServedLaws.{ServedBytesAreBounded, ServedStepsAreBounded, ServedRunsAreBounded, ServedMetersAreBounded, ServedRowsAreKept, ServedRowsMayChange, ServedRecordsAreRead, ServedRecordsEndFull};
 
 /// Between two events of the daemon, whatever it is asked for and whatever limits and listener it was given: what its core
 /// holds is at most the bound of its limits. From each state that a run reaches and that the core stands for, an event
@@ -8,6 +8,14 @@ pub fn served_cores_are_bounded()
     ensures bytes { ServedBytesAreBounded }
     ensures events { ServedStepsAreBounded }
     ensures runs { ServedRunsAreBounded }
+{}
+
+/// Between two calls of the daemon: all that the meter of its core counted since its start is at most what the making of the
+/// core costs, the whole bound of the run that it handed in, and for each look of its own what a look may take. The looks
+/// are counted in proofs alone, as `Engine` takes them: at the next deadline, at a reply that is sent or held, at what may
+/// be given on a connection, and at the rows that it counts or writes.
+pub fn served_meters_are_bounded()
+    ensures { ServedMetersAreBounded }
 {}
 
 /// Between two events of the daemon, whatever bytes came in: the lines of all its rows are read as the rows that were set, in

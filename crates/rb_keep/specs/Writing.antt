@@ -1,11 +1,13 @@
 -- What is written of a core.
-use Rattle.std.specs.Prelude.{◌≡◌, ℕ, ◌==◌, false, if◌then◌else◌, List, [], Option}
+use Rattle.std.specs.Prelude.{◌≡◌, ℕ, ◌+◌, ◌==◌, false, if◌then◌else◌, List, [], Option}
+use Rattle.rb_xdr.specs.Ordered.{looks}
 use Rattle.rb_registry.specs.declared.row.Row.{Row}
 use Rattle.rb_registry.specs.Rows.{rpcb_prog}
 use Rattle.rb_model.specs.State.{State}
 use Rattle.rb_model.specs.Step.{IsReached}
 use Rattle.rb_lines.specs.Printing.{Writes}
 use Rattle.rb_core.specs.StandsFor.{CoreView, StandsFor}
+use Rattle.rb_core.specs.Looks.{rows_held}
 use Rattle.rb_keep.specs.Kept.{row_line, kept_text, change_text, owners_after}
 
 -- What a writer holds has grown by what is kept of each state that a run reaches and that the core stands for.
@@ -28,3 +30,7 @@ WritesChange core prog vers owners contents old new =
 abbrev pub NotesOwners : CoreView → ℕ → ℕ → List (ℕ × ℕ) → List (ℕ × ℕ) → Type 0
 NotesOwners core prog vers old new =
     (s : State) → StandsFor core s → (prog == rpcb_prog) ≡ false → new ≡ owners_after s prog vers old
+
+-- what it costs to look up one row
+abbrev pub row_look : CoreView → ℕ
+row_look core = looks (rows_held core).limit + 1

@@ -1,5 +1,5 @@
 //! The rows that were set are written as the lines of kept rows, and so is what changed of them.
-ghost use Rattle.std.specs.Prelude.{◌≡◌, ◌+◌, ◌*◌, List, OnOk};
+ghost use Rattle.std.specs.Prelude.{◌≡◌, ◌+◌, ◌*◌, List, length, OnOk};
 ghost use Rattle.rb_xdr.specs.Meter.{PaysAtMost};
 ghost use Rattle.rb_xdr.specs.Pool.{value_at};
 ghost use Rattle.rb_registry.specs.Rows.{find_exact};
@@ -7,7 +7,7 @@ ghost use Rattle.rb_registry.specs.Index.{rank};
 ghost use Rattle.rb_lines.specs.Printing.{Writes};
 ghost use Rattle.rb_core.specs.Looks.{slot_count, rows_shown};
 ghost use Rattle.rb_keep.specs.Kept.{row_line, gone_line, named_row, line_on, owners_on, lines_on, owners_on_each, all_netids};
-ghost use Rattle.rb_keep.specs.Writing.{line_where_set, WritesKept, WritesChange, NotesOwners};
+ghost use Rattle.rb_keep.specs.Writing.{line_where_set, row_look, WritesKept, WritesChange, NotesOwners};
 
 use crate::call::{set_call, this_machine, unset_call};
 use crate::owners::{Owners, owner_numbered};
@@ -109,6 +109,7 @@ fn write_on<W: Write>(
     ensures owners { OnOk result (owners.new
         ≡ owners_on prog vers (rows_shown core.old.core) netid owners.old) }
     ensures stays { core.new.core ≡ core.old.core }
+    ensures cost { PaysAtMost core.old.meter core.new.meter (row_look core.old.core) }
 {
     let number = rank(prog, netid, vers);
     let before = owners.find(number);
@@ -147,6 +148,8 @@ fn write_on_each<W: Write>(
     ensures owners { OnOk result (owners.new
         ≡ owners_on_each prog vers (rows_shown core.old.core) netids.now owners.old) }
     ensures stays { core.new.core ≡ core.old.core }
+    ensures cost { PaysAtMost core.old.meter core.new.meter
+        (length netids.now * row_look core.old.core) }
 {
     for netid in netids {
         write_on(core, owners, now, prog, vers, *netid, writer)?;
@@ -158,7 +161,7 @@ fn write_on_each<W: Write>(
 /// last event: for each of its rows that is set no more that of the event that removes it, and for each that came that of
 /// the event that sets it. The owners are those of the rows that are there then. The program is not the portmapper's. An
 /// error if the writer fails, or there is no room for an owner: what the writer has then, and whose the rows are, is not
-/// known.
+/// known. It costs at most what it costs to look up five rows.
 pub fn write_change<W: Write>(
     core: &mut Metered,
     owners: &mut Owners,
@@ -170,6 +173,7 @@ pub fn write_change<W: Write>(
         core.old.core prog vers owners.old W.contents writer.old writer.new) }
     ensures owners { OnOk result (NotesOwners core.old.core prog vers owners.old owners.new) }
     ensures stays { core.new.core ≡ core.old.core }
+    ensures cost { PaysAtMost core.old.meter core.new.meter (5 * row_look core.old.core) }
 {
     let now = core.clock();
     write_on_each(core, owners, now, prog, vers, &NETIDS, writer)?;

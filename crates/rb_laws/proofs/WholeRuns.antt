@@ -17,7 +17,7 @@ use Rattle.rb_model.specs.Step.{Event, Output, with_count, when_taken, bytes_to,
 use Rattle.rb_model.specs.Step.Event.{Open, Bytes, Pending, Gave, Closed, NextLost, Datagram, Unsent, Sent, Forward, Expire, ZeroStats}
 use Rattle.rb_model.specs.Bounds.{count_in, bytes_in, bytes_out}
 use Rattle.rb_model.specs.Costs.{sizes_in, asks_for_rows, sizes_for, answer_cost, count_taken, record_cost, bytes_cost, find_cost, event_cost, run_cost}
-use Rattle.rb_model.specs.WholeRuns.{args_in, args_waiting, total_in, total_out, bytes_reported, event_allowance, EventsArePaidAhead, WholeRunsAreBounded}
+use Rattle.rb_model.specs.WholeRuns.{args_in, args_waiting, total_of, total_in, total_out, bytes_reported, event_allowance, EventsArePaidAhead, WholeRunsAreBounded}
 use Rattle.rb_model.specs.Losses.{stamp_in}
 use Rattle.rb_model.proofs.CostBounds.{answer_most, gave_most}
 use Rattle.rb_laws.proofs.ExactTaking.{fed-none}
@@ -84,11 +84,11 @@ module _ (s : State) (reached : IsReached s) (good : are_good s.setting.limits s
     ended_most : (may : Bool) (content : List ℕ) → answer_cost (sizes_for may (message_of content) (sizes_in s)) (length (kept_of content)) ≤ answer_cost (sizes_in s) (length (kept_of content))
     ended_most may content = answer_most (asks_for_rows may (message_of content)) (sizes_in s) (length (kept_of content))
 
-    -- by the connection that there is
+    -- by the connection that there is, and two steps more
     abbrev IsPaid : Option Connection → Type 0
     IsPaid m =
         let end : Output × State = output_or show_taken (bytes_to s now id piece m) in
-        bytes_cost s.setting.listener.announced (sizes_in s) piece m + 2 * waiting end.1 ≤ 2 * waiting s + 16 * count_in end.0 + event_allowance s.setting.limits
+        bytes_cost s.setting.listener.announced (sizes_in s) piece m + 2 + 2 * waiting end.1 ≤ 2 * waiting s + 16 * count_in end.0 + event_allowance s.setting.limits
 
     piece_paid : (m : Option Connection) → live_connection id s.connections.all ≡ m → IsPaid m
     unfolding live_connection longest_reply
@@ -98,9 +98,15 @@ module _ (s : State) (reached : IsReached s) (good : are_good s.setting.limits s
         (shows s reached good now id piece (when_taken (at_moment now s) id piece c (taking_of c.phase piece)).0 ∙ taken-counts (at_moment now s) id piece c (taking_of c.phase piece))
       where
         by_taking : (t : Taking) → taking_of c.phase piece ≡ t → IsWithin c.phase piece t → count_in (show_taken (when_taken (at_moment now s) id piece c t).0) ≡ count_taken piece t
-            → find_cost (length s.connections.all) + (count_taken piece t + 1) + 4 + record_cost (may_register s.setting.listener.announced c.who) (sizes_in s) t + 2 * waiting (when_taken (at_moment now s) id piece c t).1
+            → find_cost (length s.connections.all) + (count_taken piece t + 1) + 4 + record_cost (may_register s.setting.listener.announced c.who) (sizes_in s) t + 2 + 2 * waiting (when_taken (at_moment now s) id piece c t).1
             ≤ 2 * waiting s + 16 * count_in (show_taken (when_taken (at_moment now s) id piece c t).0) + event_allowance s.setting.limits
         by_taking bb is within k = grind (arith, common_steps, few, few_looks, ended_most, found-waiting, read_args, answering-waits, no_list, counted)
+
+    -- with the look whether the reply can be given at once
+    pub bytes_paid : event_cost s (Bytes now id piece) + 2 + 2 * args_waiting (step s (Bytes now id piece)).1.connections.all
+        ≤ 2 * args_waiting s.connections.all + 16 * count_in (step s (Bytes now id piece)).0 + event_allowance s.setting.limits
+    unfolding step bytes
+    bytes_paid = piece_paid (live_connection id s.connections.all) refl
 
   -- ---- every event
 
@@ -129,7 +135,12 @@ events_are_paid_ahead s reached good event = grind (arith, common_steps, event_p
 
 -- ---- runs
 
-paid_ahead : (s : State) → IsReached s → are_good s.setting.limits s.setting.listener ≡ true → (events : List Event)
+-- the sum over events after others
+pub total-append : (number : Event → Output → ℕ) (s : State) (xs ys : List Event) → total_of number (xs ++ ys) (run s (xs ++ ys)) ≡ total_of number xs (run s xs) + total_of number ys (run (after s xs) ys)
+total-append number s [] ys = omega arith
+total-append number s (x ∷ xs) ys = let rest = total-append number (step s x).1 xs ys in omega (arith, rest)
+
+pub paid_ahead : (s : State) → IsReached s → are_good s.setting.limits s.setting.listener ≡ true → (events : List Event)
     → run_cost s events + 2 * waiting (after s events)
     ≤ 2 * waiting s + 16 * (total_in events (run s events) + total_out events (run s events)) + length events * event_allowance s.setting.limits
 paid_ahead s reached good [] = omega arith

@@ -2,24 +2,25 @@ use Rattle.rb_model.specs.Step.Event.{Expire}
 use Rattle.rb_core.specs.MeteredCalls.{reply_look}
 use Rattle.rb_core.proofs.WithLooks.{no_look, then_look}
 use Rattle.std.proofs.Common.{refl}
-use Rattle.rb_daemon.proofs.Reached.{expire_records, expire_served}
+use Rattle.rb_daemon.proofs.Reached.{expire_records, expire_goes}
 use Rattle.rb_daemon.proofs.Sendings.{due_sends, due_ways}
+use Rattle.rb_daemon.proofs.Paying.{paid_event}
 use Rattle.rb_daemon.proofs.engine.Engine.expire.Goals as goal
 
 pub invariant_of-self : goal.invariant_of-self
-invariant_of-self g c = record { served = expire_served _ c.expire.new.self.core _ c.expire.new.self.core.steps_before c.args.self.now.moment _ _ _ refl c.in-Nothing.ensures.acts c.«record».ensures c.args.self.now.fits c.args.self.now.served; fits = c.args.self.now.fits }
+invariant_of-self g c = record { paid = paid_event (Expire c.args.self.now.moment) c.args.self.now.core _ _ _ c.args.self.now.looks.steps (expire_goes _ c.expire.new.self.core _ c.expire.new.self.core.steps_before c.args.self.now.moment _ _ _ refl c.in-Nothing.ensures.acts c.«record».ensures c.args.self.now.fits) (no_look (Expire c.args.self.now.moment) (reply_look c.expire.new.self) c.args.self.now.core c.expire.new.self c.in-Nothing.ensures.bound.rises c.in-Nothing.ensures.priced) c.args.self.now.paid; fits = c.args.self.now.fits }
 
 pub returns-in-Nothing-clause-recorded : goal.returns-in-Nothing-clause-recorded
 returns-in-Nothing-clause-recorded g c = expire_records _ c.expire.new.self.core c.args.self.now.moment _ _ _ c.in-Nothing.ensures.acts c.«record».ensures
 
 pub invariant_of-self-in-ConnectionLost : goal.invariant_of-self-in-ConnectionLost
-invariant_of-self-in-ConnectionLost g c = record { served = expire_served _ c.expire.new.self.core _ c.expire.new.self.core.steps_before c.args.self.now.moment _ _ _ refl c.in-ConnectionLost.ensures.acts c.record-in-ConnectionLost.ensures c.args.self.now.fits c.args.self.now.served; fits = c.args.self.now.fits }
+invariant_of-self-in-ConnectionLost g c = record { paid = paid_event (Expire c.args.self.now.moment) c.args.self.now.core _ _ _ c.args.self.now.looks.steps (expire_goes _ c.expire.new.self.core _ c.expire.new.self.core.steps_before c.args.self.now.moment _ _ _ refl c.in-ConnectionLost.ensures.acts c.record-in-ConnectionLost.ensures c.args.self.now.fits) (no_look (Expire c.args.self.now.moment) (reply_look c.expire.new.self) c.args.self.now.core c.expire.new.self c.in-ConnectionLost.ensures.bound.rises c.in-ConnectionLost.ensures.priced) c.args.self.now.paid; fits = c.args.self.now.fits }
 
 pub returns-in-ConnectionLost-clause-recorded : goal.returns-in-ConnectionLost-clause-recorded
 returns-in-ConnectionLost-clause-recorded g c = expire_records _ c.expire.new.self.core c.args.self.now.moment _ _ _ c.in-ConnectionLost.ensures.acts c.record-in-ConnectionLost.ensures
 
 pub invariant_of-self-2 : goal.invariant_of-self-2
-invariant_of-self-2 g c = record { served = expire_served _ c.expire.new.self.core _ _ c.args.self.now.moment _ _ _ c.tell-goes_on.ensures.core c.in-Ended.ensures.acts c.tell-goes_on.ensures.recorded c.args.self.now.fits c.args.self.now.served; fits = c.args.self.now.fits }
+invariant_of-self-2 g c = record { paid = paid_event (Expire c.args.self.now.moment) c.args.self.now.core _ _ _ c.args.self.now.looks.steps (expire_goes _ c.expire.new.self.core _ _ c.args.self.now.moment _ _ _ c.tell-goes_on.ensures.core c.in-Ended.ensures.acts c.tell-goes_on.ensures.recorded c.args.self.now.fits) (then_look (Expire c.args.self.now.moment) (reply_look c.expire.new.self) c.args.self.now.core c.expire.new.self _ c.in-Ended.ensures.bound.rises c.in-Ended.ensures.priced c.tell-goes_on.ensures.cost) c.args.self.now.paid; fits = c.args.self.now.fits }
 
 pub returns-in-Some-clause-recorded : goal.returns-in-Some-clause-recorded
 returns-in-Some-clause-recorded g c = expire_records _ c.expire.new.self.core c.args.self.now.moment _ _ _ c.in-Ended.ensures.acts c.tell-goes_on.ensures.recorded
