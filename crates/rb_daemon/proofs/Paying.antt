@@ -25,7 +25,6 @@ use Rattle.rb_model.specs.Gives.{given_in, bytes_given, write_into, written_into
 use Rattle.rb_model.specs.Sessions.{pending_bytes}
 use Rattle.rb_model.specs.Step.{Event, Output, bytes, pending, pending_on, step, run, after, unsent_call, IsReached}
 use Rattle.rb_model.specs.Step.Event.{Bytes, Pending, Gave, Unsent, Sent}
-use Rattle.rb_model.specs.Step.Output.{IsPending}
 use Rattle.rb_model.specs.WholeRuns.{args_waiting, total_in, total_out, bytes_reported, event_allowance}
 use Rattle.rb_model.proofs.Gives.{count_pending}
 use Rattle.rb_laws.proofs.EntriesKept.{after-setting}

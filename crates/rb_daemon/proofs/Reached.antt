@@ -1,5 +1,5 @@
 -- A state that a run reaches goes on by each event, and so does its record.
-use Rattle.std.specs.Prelude.{OnOk, OnErr, IsTrue, IsErrOf, not}
+use Rattle.std.specs.Prelude.{IsTrue, IsErrOf, not}
 use Rattle.std.specs.List.{AllByRecursion}
 use Rattle.std.proofs.Common.{◌≡◌, ◌<◌, ◌≤◌, ℕ, suc, Bool, true, false, cond, List, [], ◌∷◌, ◌++◌, length, append-nil, slice_index_or, Option, Some, None, Result, Ok, Err, refl, sym, ap, subst, ◌∙◌, inl, inr, ◌⊎◌}
 use Rattle.std.proofs.Math.Bridge.{le_prop}
