@@ -374,7 +374,8 @@ impl<H: Files> Keeper<H> {
     /// A write went well. That must be told once after a failure that was told.
     fn note_written(&mut self, is_another: bool)
         ensures journal { self.new.journal ≡ self.old.journal }
-        ensures news { self.new.news ≡ news_if_written self.old.has_failed self.old.news is_another }
+        ensures news { self.new.news
+            ≡ news_if_written self.old.has_failed self.old.news is_another }
         ensures failed { self.new.has_failed ≡ false }
     {
         if self.has_failed {
