@@ -7,6 +7,7 @@ pub mod PlainCallers
 pub mod Keeping
 pub mod Sending
 pub mod Links
+pub mod FirstFaults
 pub mod LogRates
 pub mod LoggedChanges
 pub mod Waiting

@@ -173,12 +173,16 @@ impl<'a, R: Clock, H: Files> Daemon<'a, R, H> {
 
     /// What there is to tell of the rows that are kept, once: that they could not be written, and the daemon tries again
     /// at the next change; that they are written again; that another file was in their place.
-    pub fn take_keep_news(&mut self) -> Option<KeepNews> {
+    pub fn take_keep_news(&mut self) -> Option<KeepNews>
+        ensures { result ≡ self.old.serving.keeper.news }
+    {
         self.serving.take_keep_news()
     }
 
     /// The first fault of one of the kernel's tables, once: while they can't be read whole, nobody registers over TCP.
-    pub fn take_table_fault(&mut self) -> Option<TableFault> {
+    pub fn take_table_fault(&mut self) -> Option<TableFault>
+        ensures { result ≡ self.old.serving.table_fault }
+    {
         self.serving.take_table_fault()
     }
 

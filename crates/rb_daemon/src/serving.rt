@@ -80,11 +80,12 @@ fn passes(brake: &mut Option<Brake>, now: u64, who: &Who) -> bool {
 }
 
 impl<H: Files> Serving<H> {
-    ghost use Rattle.std.specs.Prelude.{◌≡◌, vec_len, OnOk};
+    ghost use Rattle.std.specs.Prelude.{◌≡◌, vec_len, OnOk, true, None};
     ghost use Rattle.rb_connections.specs.Slots.{Shows};
     ghost use Rattle.rb_core.specs.StandsFor.{StandsFor};
     ghost use Rattle.rb_daemon.specs.Served.{row_count};
     ghost use Rattle.rb_daemon.specs.Recording.{WritesRecord};
+    ghost use Rattle.rb_daemon.specs.FirstFaults.{first_fault};
 
     /// A core of these limits, what keeps its rows, and the sockets around it, which are served with this memory; and
     /// what drops datagrams of strangers, if they are limited.
@@ -154,7 +155,9 @@ impl<H: Files> Serving<H> {
     }
 
     /// What is yet to be told of the kept rows.
-    pub(crate) fn take_keep_news(&mut self) -> Option<KeepNews> {
+    pub(crate) fn take_keep_news(&mut self) -> Option<KeepNews>
+        ensures { result ≡ self.old.keeper.news }
+    {
         self.keeper.take_news()
     }
 
@@ -612,7 +615,10 @@ impl<H: Files> Serving<H> {
     }
 
     /// The first fault of one of the kernel's tables, if it is yet to be told.
-    pub(crate) fn take_table_fault(&mut self) -> Option<TableFault> {
+    pub(crate) fn take_table_fault(&mut self) -> Option<TableFault>
+        ensures fault { result ≡ self.old.table_fault }
+        ensures told { self.new.table_fault ≡ None }
+    {
         self.table_fault.take()
     }
 
@@ -746,7 +752,11 @@ impl<H: Files> Serving<H> {
     }
 
     /// A table could not be read whole, which must be told if it is the first time.
-    fn note_table_fault(&mut self, fault: TableFault) {
+    fn note_table_fault(&mut self, fault: TableFault)
+        ensures fault { self.new.table_fault
+            ≡ first_fault self.old.has_table_failed self.old.table_fault fault }
+        ensures failed { self.new.has_table_failed ≡ true }
+    {
         if !self.has_table_failed {
             self.has_table_failed = true;
             self.table_fault = Some(fault);

@@ -23,7 +23,8 @@ pub(crate) struct Waiting {
 }
 
 impl Waiting {
-    ghost use Rattle.std.specs.Prelude.{IsErrOf, IsTrue, false};
+    ghost use Rattle.std.specs.Prelude.{◌≡◌, IsErrOf, IsTrue, true, false, None};
+    ghost use Rattle.rb_daemon.specs.FirstFaults.{first_fault, wait_fault};
 
     /// No wait was made. `Socket` if the system has no room for it, `Memory` if an allocation is refused.
     pub(crate) fn new<H: Net>(alloc: Global, host: &H) -> Result<Waiting, DaemonFault>
@@ -80,14 +81,24 @@ impl Waiting {
     }
 
     /// The fault of the first wait that failed, once.
-    pub(crate) fn take_fault(&mut self) -> Option<SocketFault> {
+    pub(crate) fn take_fault(&mut self) -> Option<SocketFault>
+        ensures fault { result ≡ self.old.fault }
+        ensures told { self.new.fault ≡ None }
+    {
         self.fault.take()
     }
 
-    fn note_fault(&mut self, error: io::Error) {
+    fn note_fault(&mut self, error: io::Error)
+        ensures fault { self.new.fault
+            ≡ first_fault self.old.has_failed self.old.fault (wait_fault error) }
+        ensures failed { self.new.has_failed ≡ true }
+    {
         if !self.has_failed {
             self.has_failed = true;
-            self.fault = Some(Step::Wait.failed(error));
+            self.fault = Some(SocketFault {
+                step: Step::Wait,
+                error,
+            });
         }
     }
 }
