@@ -152,17 +152,24 @@ none_recorded core tape held = record {
   within = ∥∥₁_elim held le_prop (λ h. h.recorded.within);
 }
 
+-- what was recorded is within the limit
+pub within_limit : (core : CoreView) (tape : Tape) → ∥ IsServed core tape ∥₁ → length tape.text ≤ tape.limit
+within_limit core tape held = ∥∥₁_elim held le_prop (λ h. h.recorded.within)
+
 -- if the recording is over
-pub off_recorded : (entries : List (List ℕ)) (core : CoreView) (tape : Tape) → tape.is_on ≡ false → ∥ IsServed core tape ∥₁ → Records entries tape tape
-off_recorded entries core tape off held = record {
+pub off_records : (entries : List (List ℕ)) (tape : Tape) → tape.is_on ≡ false → length tape.text ≤ tape.limit → Records entries tape tape
+off_records entries tape off few = record {
   on = λ is. is;
   grows = λ is. absurd (true≢false (sym is ∙ off));
   ends = λ was is. absurd (true≢false (sym was ∙ off));
   stays = λ is. refl;
   written = refl;
   limit = refl;
-  within = ∥∥₁_elim held le_prop (λ h. h.recorded.within);
+  within = few;
 }
+
+pub off_recorded : (entries : List (List ℕ)) (core : CoreView) (tape : Tape) → tape.is_on ≡ false → ∥ IsServed core tape ∥₁ → Records entries tape tape
+off_recorded entries core tape off held = off_records entries tape off (within_limit core tape held)
 
 -- ---- one event
 

@@ -1,5 +1,5 @@
 //! What calls of the core gave, as the outputs that are recorded.
-ghost use Rattle.std.specs.Prelude.{◌≡◌, ◌<◌, [], ◌∷◌, length};
+ghost use Rattle.std.specs.Prelude.{◌≡◌, ◌<◌, ◌≤◌, [], ◌∷◌, length};
 ghost use Rattle.rb_model.specs.Step.Output.{Opened};
 ghost use Rattle.rb_model.specs.Plain.{lent_output};
 ghost use Rattle.rb_model.specs.Step.{show_done};
@@ -56,7 +56,7 @@ pub(crate) fn count_given(done: &Result<Exchanged, CoreFault>) -> usize
 
 // TAPE-4
 /// Records that bytes came on a connection, and, if some were given at once, the look at them and that they were
-/// given.
+/// given. It makes no lines if nothing is recorded, since each call over TCP comes by here.
 pub(crate) fn record_exchange(
     tape: &mut Tape,
     now: u64,
@@ -65,8 +65,12 @@ pub(crate) fn record_exchange(
     given: &[u8],
     done: &Result<Exchanged, CoreFault>,
 )
+    requires within { length tape.old.text ≤ tape.old.limit }
     ensures { Records (exchange_entries now id piece.now done.now given.now) tape.old tape.new }
 {
+    if !tape.is_on() {
+        return;
+    }
     tape.record(&Event::Bytes(now, id, piece), &show_taken(done));
     if !given.is_empty() {
         record_given(tape, now, id, given);

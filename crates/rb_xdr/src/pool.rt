@@ -20,7 +20,7 @@ use std::snapshot::Snapshot;
 /// A table of at most `cap` values, each under a key of its own, in order of insertion. `new` or `written` takes all
 /// of its memory, and no later call changes how much it has. What the values themselves own is not counted in it.
 ///
-/// Each call costs 1 step, but for `entry_after` and `find_key`, and needs the meter that the table was made with.
+/// Each call costs 1 step, but for `entry_after`, `entry_next` and `find_key`, and needs the meter that it was made with.
 #[derive(Drop)]
 pub struct Pool<T> {
     values: Slab<T>,

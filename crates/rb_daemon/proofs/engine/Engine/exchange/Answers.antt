@@ -2,9 +2,9 @@ use Rattle.std.proofs.Common.{take, length, arith}
 use Rattle.std.proofs.lemmas.List.{length-take}
 use Rattle.rb_model.specs.Exchanges.{count_given, taken_in}
 use Rattle.rb_daemon.specs.Recording.{exchange_events}
-use Rattle.rb_daemon.proofs.Reached.{bytes_are}
+use Rattle.rb_daemon.proofs.Reached.{bytes_are, within_limit}
 use Rattle.rb_daemon.proofs.Exchanges.{Exchanged, exchange_records, exchange_goes}
-use Rattle.rb_daemon.proofs.Paying.{paid_on, exchange_paid}
+use Rattle.rb_daemon.proofs.Paying.{served_of, paid_on, exchange_paid}
 use Rattle.rb_daemon.proofs.engine.Engine.exchange.Goals as goal
 
 pub invariant_of-self : goal.invariant_of-self
@@ -28,6 +28,9 @@ invariant_of-self c =
           c.args.self.now.paid;
       fits = c.args.self.now.fits;
     }
+
+pub record_exchange-requires : goal.record_exchange-requires
+record_exchange-requires c = record { within = within_limit _ _ (served_of _ _ _ c.args.self.now.paid) }
 
 pub returns-clause-recorded : goal.returns-clause-recorded
 returns-clause-recorded c =
