@@ -111,20 +111,23 @@ copied items s e before within =
     ap (λ (n : ℕ). take n (copy_within items s e 0)) (sym len) ∙ take-append_seam (take (e - s) (drop s items)) (drop (0 + (e - s)) items) in
     front ∙ moved items s (e - s) ∙ ap (λ (n : ℕ). drop s (take n items)) (omega (arith, before))
 
+pub came_behind : (old items buffer rest : List ℕ) (s e n : ℕ) → drop s (take e items) ≡ old → s ≤ e → e ≤ length items → n ≤ length buffer
+    → drop s (take (e + n) (take e items ++ (buffer ++ rest))) ≡ old ++ take n buffer
+came_behind old items buffer rest s e n is before within few =
+    let front : length (take e items) ≡ e = length-take-le e items within in
+    ap (λ (m : ℕ). drop s (take (m + n) (take e items ++ (buffer ++ rest)))) (sym front)
+    ∙ ap (drop s) (take-append-add (take e items) (buffer ++ rest) n)
+    ∙ ap (λ (t : List ℕ). drop s (take e items ++ t)) (take-append-le n buffer rest few)
+    ∙ drop-append-le s (take e items) (take n buffer) (omega (arith, front, before))
+    ∙ ap (λ (t : List ℕ). t ++ take n buffer) is
+
 pub read_behind : (old items buffer rest : List ℕ) (s e n : ℕ) → drop s (take e items) ≡ old → s ≤ e → e ≤ length items → n ≤ length buffer
     → IsReadBehind old (drop s (take (e + n) (take e items ++ (buffer ++ rest)))) n
-read_behind old items buffer rest s e n is before within few =
-    let front : length (take e items) ≡ e = length-take-le e items within in
-    record {
-      slice = take n buffer;
-      count_is = length-take-le n buffer few;
-      behind =
-          ap (λ (m : ℕ). drop s (take (m + n) (take e items ++ (buffer ++ rest)))) (sym front)
-          ∙ ap (drop s) (take-append-add (take e items) (buffer ++ rest) n)
-          ∙ ap (λ (t : List ℕ). drop s (take e items ++ t)) (take-append-le n buffer rest few)
-          ∙ drop-append-le s (take e items) (take n buffer) (omega (arith, front, before))
-          ∙ ap (λ (t : List ℕ). t ++ take n buffer) is;
-    }
+read_behind old items buffer rest s e n is before within few = record {
+  slice = take n buffer;
+  count_is = length-take-le n buffer few;
+  behind = came_behind old items buffer rest s e n is before within few;
+}
 
 -- the room keeps its length if the part of it behind a place is written
 pub whole_stays : (end k : ℕ) (held new : List ℕ) → end ≤ length held → length new ≡ length (take k (drop end held)) → length (take end held ++ (new ++ post_of end k held)) ≡ length held

@@ -29,7 +29,8 @@ impl Model for Lines {
 }
 
 impl Lines {
-    ghost use Rattle.std.specs.Prelude.{◌≡◌, ℕ, List, [], true, false, IfOk};
+    ghost use Rattle.std.specs.Prelude.{◌≡◌, ℕ, List, [], true, false, length, drop, IfOk, OnOk, OnErr};
+    ghost use Rattle.std.specs.Io.KnownBytes.{Consumes};
     ghost use Rattle.rb_evidence.specs.Table.{IsWithout, IsCutAt};
     ghost use Rattle.rb_evidence.specs.Walks.{after_line_of_all, IsReadBehind, HasWalked};
 
@@ -59,7 +60,10 @@ impl Lines {
     /// Reads once, behind what is left, and says how many bytes came; 0 at the end of the table. An error if that is one
     /// of the reader, and `InvalidData` if what is left is a line that has no more room.
     pub fn read<R: Read>(&mut self, reader: &mut R) -> io::Result<usize>
-        ensures { IfOk result (IsReadBehind self.old self.new) }
+        ensures read { IfOk result (IsReadBehind self.old self.new) }
+        ensures came { OnOk result (Consumes (R.remaining reader.old) (R.remaining reader.new)
+            (drop (length self.old) self.new)) }
+        ensures none { OnErr result (self.new ≡ self.old) }
     {
         self.move_to_front();
         let room = &mut self.room.as_mut_slice()[self.end..];

@@ -505,7 +505,7 @@ impl Places {
 
     /// The number of the connection at a place, which is its own no longer.
     pub fn take_id(&mut self, key: usize) -> Option<u64>
-        ensures { IfSome result (λ id. number_at self.old key ≡ Some id) }
+        ensures { result ≡ number_at self.old key }
     {
         self.links.get_mut(key)?.take_id()
     }

@@ -1,5 +1,5 @@
 -- How callers came in, and who they are by that.
-use Rattle.std.specs.Prelude.{◌≡◌, ◌≤◌, ℕ, List, length, if◌then◌else◌, Option, Result, IfOk, IfSome}
+use Rattle.std.specs.Prelude.{◌≡◌, ◌≤◌, ◌+◌, ◌%◌, ◌^◌, ◌==◌, ℕ, Bool, true, false, List, length, if◌then◌else◌, Option, Some, None, is_none, Result, IfOk, IfSome}
 use Rattle.rb_address.specs.declared.peer.Peer.{Peer}
 use Rattle.rb_address.specs.declared.who.Source.{Source}
 use Rattle.rb_address.specs.declared.who.Source.TheVariants.{Inet, Local}
@@ -14,6 +14,13 @@ use Rattle.rb_policy.specs.Evidence.{is_shown}
 use Rattle.rb_sockets.specs.declared.arrival.Ends.{Ends}
 use Rattle.rb_sockets.specs.declared.calls.Asker.{Asker}
 use Rattle.rb_sockets.specs.declared.calls.CallSocket.{CallSocket}
+use Rattle.rb_address.specs.declared.host.Host.TheVariants.{V4}
+use Rattle.rb_policy.specs.Addresses.{every_inet}
+use Rattle.rb_policy.specs.LocalFile.{next_try}
+use Rattle.rb_sockets.specs.declared.listener.Listener.{Listener}
+use Rattle.rb_sockets.specs.declared.listener.Listener.TheVariants as listeners
+use Rattle.rb_sockets.specs.declared.local.LocalListener.{LocalListener}
+use Rattle.rb_sockets.specs.declared.local.AbstractName.{AbstractName}
 use Rattle.rb_sockets.specs.declared.listener.Visitor.{Visitor}
 use Rattle.rb_sockets.specs.declared.listener.Visitor.TheVariants.{Known, Unknown}
 
@@ -50,3 +57,38 @@ datagram_arrival calls peer = record { beliefs = calls.beliefs; entrance = Udp c
 -- What was received on the socket of this number fits the room, and was asked there.
 abbrev pub IsReceived : {E : Type 0} → ℕ → List ℕ → Result (ℕ × Option Asker) E → Type 0
 IsReceived socket room received = IfOk received (λ r. (r.0 ≤ length room) × IfSome r.1 (λ asker. asker.socket ≡ socket))
+
+-- ---- who is let in
+
+-- whoever came on the local socket
+-- TRUST-1
+abbrev pub local_arrival : LocalListener → Arrival
+local_arrival local = record { beliefs = local.beliefs; entrance = local.entrance; asked = V4 every_inet }
+
+-- Whoever a listener let in is known by its two ends over TCP, and on the local socket by that alone.
+-- TRUST-14
+abbrev pub IsLetIn : Listener → Visitor → Type 0
+IsLetIn (listeners.Tcp listener beliefs) visitor = (ends : Ends) × (ends.beliefs ≡ beliefs) × (visitor ≡ visitor_of ends)
+IsLetIn (listeners.Local local) visitor = visitor ≡ Known (local_arrival local)
+IsLetIn listeners.Closed visitor = ⊥
+
+abbrev pub is_root_socket : Entrance → Bool
+is_root_socket RootSocket = true
+is_root_socket OpenSocket = false
+is_root_socket (Tcp peer evidence) = false
+is_root_socket (Udp bound peer) = false
+
+-- A look at the file of the local socket changes where its callers come in only if that was root's.
+-- TRUST-1
+pub record IsLookedAt (old new : LocalListener) : Type 0 where
+  pub beliefs : new.beliefs ≡ old.beliefs
+  pub stays : is_root_socket old.entrance ≡ false → new ≡ old
+
+-- the moment at which the abstract name is tried again, if it is not held
+abbrev pub next_name_try : AbstractName → Option ℕ
+next_name_try name = if is_none name.held then Some (next_try name.last_try) else None
+
+-- the number of the listener that comes at a place in a turn, of so many
+-- ACCEPT-4
+abbrev pub nth_of : ℕ → ℕ → ℕ → ℕ
+nth_of count turn place = if count == 0 then 0 else (turn % count + place) % 2 ^ 64 % count

@@ -7,3 +7,4 @@ pub mod Dispatches
 pub mod Arrivals
 pub mod Handed
 pub mod Watching
+pub mod Following

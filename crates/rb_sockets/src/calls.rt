@@ -1,6 +1,6 @@
 //! The sockets of datagrams: where calls come in, and where forwarded calls go out. They are two types, so that nothing goes
 //! out on the wrong one.
-ghost use Rattle.std.specs.Prelude.{IfOk, IfSome, ◌≡◌, ◌≤◌, length};
+ghost use Rattle.std.specs.Prelude.{IfOk, IfSome, None, is_none, ◌≡◌, ◌≤◌, length};
 ghost use Rattle.rb_sockets.specs.Arrivals.{datagram_arrival, IsReceived};
 ghost use Rattle.rb_sockets.specs.Watching.{is_at_once, is_after_wait, holds_of, of_calls, of_forwards};
 
@@ -65,17 +65,23 @@ impl CallSocket {
     }
 
     /// The host to which it is bound.
-    pub(crate) fn bound(&self) -> Host {
+    pub(crate) fn bound(&self) -> Host
+        ensures { result ≡ self.now.bound }
+    {
         self.bound
     }
 
     /// Its host is listened on no more.
-    pub(crate) fn close(&mut self) {
+    pub(crate) fn close(&mut self)
+        ensures { self.new ≡ record self.old { socket = None } }
+    {
         self.socket = None;
     }
 
     /// Whether its host is listened on no more, so that another one may have its place.
-    pub(crate) fn is_closed(&self) -> bool {
+    pub(crate) fn is_closed(&self) -> bool
+        ensures { result ≡ is_none self.now.socket }
+    {
         self.socket.is_none()
     }
 

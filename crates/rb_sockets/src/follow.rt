@@ -1,4 +1,7 @@
 //! The addresses of this machine or of its interfaces, which are followed: those that come are listened on, those that go are not.
+ghost use Rattle.std.specs.Prelude.{◌≡◌};
+ghost use Rattle.rb_sockets.specs.Following.{put_behind, all_but};
+
 use crate::faults::{BindFault, SocketFault};
 use crate::few::{Few, MOST};
 use crate::hosts::is_missing;
@@ -82,14 +85,18 @@ fn interface_of(name: &str) -> Option<&[u8]> {
 }
 
 /// Puts one behind the others, if there is room.
-fn put(hosts: &mut Few<Host>, host: Host) {
+fn put(hosts: &mut Few<Host>, host: Host)
+    ensures { hosts.new ≡ put_behind host hosts.old }
+{
     if hosts.len() < MOST {
         hosts.push(host);
     }
 }
 
 /// The same hosts without this one.
-fn without(hosts: &[Host], other: Option<Host>) -> Few<Host> {
+fn without(hosts: &[Host], other: Option<Host>) -> Few<Host>
+    ensures { result ≡ all_but other hosts.now }
+{
     let mut left = Few::new(Host::V4(ANY));
     for host in hosts {
         if Some(*host) != other {
@@ -140,6 +147,11 @@ fn search_about<R: Files>(
 }
 
 impl Follower {
+    ghost use Rattle.std.specs.Prelude.{◌≡◌, ◌<◌, length, None, Some};
+    ghost use Rattle.rb_policy.specs.LocalFile.{next_try};
+    ghost use Rattle.rb_policy.specs.Machine.{next_change};
+    ghost use Rattle.rb_sockets.specs.Following.{put_behind, all_but, news_of, without_news, first_left_out, first_fault, IsReadIfDue, IsFirstFailure, ListensFrom};
+
     /// Of these names of interfaces, or `all`, and beside these hosts. It takes its memory here.
     pub fn new(alloc: Global, names: Vec<String>, given: &[Host]) -> Result<Follower, AllocError> {
         let text = Vec::with_capacity(alloc, LONGEST)?;
@@ -162,10 +174,13 @@ impl Follower {
 
     /// The hosts to begin with: those that were given, and those that the machine has and that can be bound, the loopback's
     /// last; 127.0.0.1 if there are none.
-    pub fn begin<R: Files + Net>(&mut self, rt: &R) -> Few<Host> {
+    pub fn begin<R: Files + Net>(&mut self, rt: &R) -> Few<Host>
+        ensures bound { result ≡ all_but None self.new.bound }
+        ensures some { 0 < length self.new.bound }
+    {
         self.look(rt);
-        for is_loopback in [false, true] {
-            for host in self.found.as_slice() {
+        'kinds: for is_loopback in [false, true] {
+            'hosts: for host in self.found.as_slice() {
                 let is_given = has_host(self.given.as_slice(), *host);
                 if host.is_loopback() == is_loopback && !is_given && !is_missing(rt, *host) {
                     put(&mut self.bound, *host);
@@ -187,7 +202,10 @@ impl Follower {
     }
 
     /// What is to be told of the last reading, once: the first fault, and the first address without room.
-    pub fn take_news(&mut self) -> Option<AddressNews> {
+    pub fn take_news(&mut self) -> Option<AddressNews>
+        ensures news { result ≡ news_of self.old.fault self.old.left_out }
+        ensures told { self.new ≡ without_news self.old }
+    {
         if let Some(fault) = self.fault.take() {
             return Some(AddressNews::Unread(fault));
         }
@@ -198,7 +216,11 @@ impl Follower {
     }
 
     /// Finds out which addresses there are. If the system does not tell, those that are listened on stay.
-    fn look<R: Files>(&mut self, rt: &R) {
+    fn look<R: Files>(&mut self, rt: &R)
+        ensures bound { self.new.bound ≡ self.old.bound }
+        ensures read { self.new.last_read ≡ self.old.last_read }
+        ensures left { self.new.left ≡ self.old.left }
+    {
         match self.search(rt) {
             Ok(
                 Search {
@@ -217,25 +239,31 @@ impl Follower {
         }
     }
 
-    fn note_left_out(&mut self, left_out: Option<Host>) {
+    fn note_left_out(&mut self, left_out: Option<Host>)
+        ensures { self.new ≡ first_left_out left_out self.old }
+    {
         if left_out.is_some() && !self.has_left_out {
             self.has_left_out = true;
             self.left_out = left_out;
         }
     }
 
-    fn note_fault(&mut self, fault: TableFault) {
+    fn note_fault(&mut self, fault: TableFault)
+        ensures { self.new ≡ first_fault fault self.old }
+    {
         if !self.has_fault {
             self.has_fault = true;
             self.fault = Some(fault);
         }
     }
 
-    fn search<R: Files>(&mut self, rt: &R) -> Result<Search, TableFault> {
+    fn search<R: Files>(&mut self, rt: &R) -> Result<Search, TableFault>
+        ensures { self.new ≡ record self.old { text = self.new.text; silent = self.new.silent } }
+    {
         let mut search = Search::new(without(self.given.as_slice(), None));
         self.silent = None;
         search_about(rt, interface_of(LO), &mut self.text, &mut search)?;
-        for (place, name) in self.names.iter().enumerate() {
+        'names: for (place, name) in self.names.iter().enumerate() {
             let before = search.hosts.len();
             search_about(rt, interface_of(name.as_str()), &mut self.text, &mut search)?;
             let is_silent = search.hosts.len() == before && name.as_str() != LO;
@@ -247,12 +275,18 @@ impl Follower {
     }
 
     /// The moment of the next reading, in milliseconds.
-    pub(crate) fn next_look(&self) -> u64 {
+    pub(crate) fn next_look(&self) -> u64
+        ensures { result ≡ next_try self.now.last_read }
+    {
         next_try(self.last_read)
     }
 
     /// What is done next at this moment, in milliseconds, so that all addresses are listened on which the machine has.
-    pub(crate) fn next_change<R: Files>(&mut self, rt: &R, now: u64) -> Option<AddressChange> {
+    pub(crate) fn next_change<R: Files>(&mut self, rt: &R, now: u64) -> Option<AddressChange>
+        ensures next { result ≡ next_change self.new.bound self.new.found }
+        ensures bound { self.new.bound ≡ self.old.bound }
+        ensures read { IsReadIfDue now self.old self.new }
+    {
         if self.next_look() <= now {
             self.last_read = now;
             self.left = Few::new(Host::V4(ANY));
@@ -262,13 +296,18 @@ impl Follower {
     }
 
     /// It is listened on no more.
-    pub(crate) fn note_gone(&mut self, host: Host) {
+    pub(crate) fn note_gone(&mut self, host: Host)
+        ensures left { self.new.left ≡ put_behind host self.old.left }
+        ensures bound { self.new.bound ≡ all_but (Some host) self.old.bound }
+    {
         self.bound = without(self.bound.as_slice(), Some(host));
         put(&mut self.left, host);
     }
 
     /// Those that were left after the last reading, so that calls which came there and were forwarded may still wait.
-    pub(crate) fn left(&self) -> &[Host] {
+    pub(crate) fn left(&self) -> &[Host]
+        ensures { result.now ≡ self.now.left }
+    {
         self.left.as_slice()
     }
 
@@ -278,7 +317,9 @@ impl Follower {
         &mut self,
         host: Host,
         listening: Result<(), BindFault>,
-    ) -> Option<AddressNews> {
+    ) -> Option<AddressNews>
+        ensures { ListensFrom host listening self.old self.new result }
+    {
         match listening {
             Ok(()) => {
                 put(&mut self.bound, host);
@@ -291,7 +332,9 @@ impl Follower {
         }
     }
 
-    fn first_failure(&mut self, fault: BindFault) -> Option<AddressNews> {
+    fn first_failure(&mut self, fault: BindFault) -> Option<AddressNews>
+        ensures { IsFirstFailure fault self.old self.new result }
+    {
         let BindFault::Socket(fault) = fault else {
             return None;
         };

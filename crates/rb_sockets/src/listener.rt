@@ -1,6 +1,6 @@
 //! Where connections come in, and who comes there.
-ghost use Rattle.std.specs.Prelude.{◌≡◌};
-ghost use Rattle.rb_sockets.specs.Arrivals.{visitor_of, first_arrival};
+ghost use Rattle.std.specs.Prelude.{◌≡◌, IfOk, IfSome};
+ghost use Rattle.rb_sockets.specs.Arrivals.{visitor_of, first_arrival, IsLetIn};
 
 use crate::arrival::{Arrival, Ends};
 use crate::faults::{BindFault, Step};
@@ -79,11 +79,9 @@ impl Listener {
 
     // ASKED-2
     /// A connection, if it is somebody's when these networks are served. Another one is closed.
-    pub fn accept<R: Files>(
-        &mut self,
-        rt: &R,
-        networks: &[Network],
-    ) -> io::Result<Option<Accepted>> {
+    pub fn accept<R: Files>(&mut self, rt: &R, networks: &[Network]) -> io::Result<Option<Accepted>>
+        ensures { IfOk result (λ came. IfSome came (λ one. IsLetIn self.new one.visitor)) }
+    {
         match self {
             Listener::Tcp(listener, beliefs) => {
                 let (stream, from) = listener.accept()?;

@@ -1,5 +1,6 @@
 //! The local socket: its start, whether it is root's, and its abstract name.
-ghost use Rattle.std.specs.Prelude.{IfOk};
+ghost use Rattle.std.specs.Prelude.{◌≡◌, false, IfOk};
+ghost use Rattle.rb_sockets.specs.Arrivals.{local_arrival, IsLookedAt, next_name_try};
 ghost use Rattle.rb_policy.specs.LocalFile.{IsRootsByMode};
 
 use crate::arrival::Arrival;
@@ -63,7 +64,10 @@ impl LocalListener {
 
     /// A connection, and how its caller came in. The file is looked at after the accept: whoever came while it was another
     /// one, or open to others, is not root.
-    pub(crate) fn accept<R: Files>(&mut self, rt: &R) -> io::Result<(UnixStream, Arrival)> {
+    pub(crate) fn accept<R: Files>(&mut self, rt: &R) -> io::Result<(UnixStream, Arrival)>
+        ensures came { IfOk result (λ came. came.1 ≡ local_arrival self.new) }
+        ensures looked { IsLookedAt self.old self.new }
+    {
         let (stream, _) = self.listener.accept()?;
         self.look(rt);
         let arrival = Arrival {
@@ -75,7 +79,9 @@ impl LocalListener {
     }
 
     /// Looks at the file, if the socket is root's by it.
-    fn look<R: Files>(&mut self, rt: &R) {
+    fn look<R: Files>(&mut self, rt: &R)
+        ensures { IsLookedAt self.old self.new }
+    {
         if let (Entrance::RootSocket, Some(made)) = (self.entrance, self.made) {
             self.entrance = entrance_now(self.entrance, made, seen_at(rt, &self.path));
             self.is_change_untold = matches!(self.entrance, Entrance::OpenSocket);
@@ -88,7 +94,10 @@ impl LocalListener {
     }
 
     /// Whether it was found in a look since the last question that the socket is root's no longer, which counts for good.
-    pub(crate) fn take_change(&mut self) -> bool {
+    pub(crate) fn take_change(&mut self) -> bool
+        ensures untold { result ≡ self.old.is_change_untold }
+        ensures told { self.new ≡ record self.old { is_change_untold = false } }
+    {
         let is_untold = self.is_change_untold;
         self.is_change_untold = false;
         is_untold
@@ -207,7 +216,9 @@ impl AbstractName {
     }
 
     /// The moment at which it is tried again, in milliseconds, if it is not held.
-    pub(crate) fn next_try(&self) -> Option<u64> {
+    pub(crate) fn next_try(&self) -> Option<u64>
+        ensures { result ≡ next_name_try self.now }
+    {
         match &self.held {
             Some(_) => None,
             None => Some(next_try(self.last_try)),

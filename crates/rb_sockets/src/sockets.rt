@@ -1,5 +1,6 @@
 //! The daemon's own sockets. Each kind is a type of its own, so that nothing goes out on the wrong one.
-ghost use Rattle.std.specs.Prelude.{◌≡◌, ⊤};
+ghost use Rattle.std.specs.Prelude.{◌≡◌, ⊤, vec_len};
+ghost use Rattle.rb_sockets.specs.Arrivals.{nth_of};
 ghost use Rattle.rb_sockets.specs.Events.{shown_by, family_at, MayBeShown};
 ghost use Rattle.rb_sockets.specs.Watching.{is_at_once, is_after_wait, of_datagrams, of_listeners, of_all};
 
@@ -348,7 +349,9 @@ impl Sockets {
 
     // ACCEPT-4: Each turn begins to accept at another listener.
     /// The number of the listener that comes at this place in a turn.
-    pub fn nth_listener(&self, turn: u64, place: usize) -> usize {
+    pub fn nth_listener(&self, turn: u64, place: usize) -> usize
+        ensures { result ≡ nth_of (vec_len self.now.listeners) turn place }
+    {
         match self.listeners.len() {
             0 => 0,
             count => {

@@ -1,5 +1,4 @@
-use Rattle.std.proofs.Common.{◌≡◌, ◌∙◌, sym, subst, ℕ, Option, Some, IfSome}
-use Rattle.rb_links.specs.Numbers.{number_at}
+use Rattle.std.proofs.Common.{◌∙◌, sym}
 use Rattle.rb_daemon.proofs.Openings.{opened_as, opened_behind}
 use Rattle.rb_daemon.proofs.opening.open_again.Goals as goal
 
@@ -8,7 +7,7 @@ returns c = λ told. record {
   arrival = c.in-Some.arrival;
   came = sym c.arrival.ensures ∙ c.in-Some.is;
   closed = c.in-Some-take_id.id;
-  was = subst (λ (r : Option ℕ). IfSome r (λ id. number_at c.args.places.now c.args.key ≡ Some id)) c.in-Some-take_id.is c.take_id.ensures;
+  was = sym c.take_id.ensures ∙ c.in-Some-take_id.is;
   id = c.in-Ok.id;
   acts = opened_behind c.args.engine.now c.closed.new.self c.open.new.self c.in-Some-take_id.id _ c.closed.ensures.acts c.closed.ensures.moment (opened_as c.closed.new.self c.open.new.self c.of.ensures c.in-Ok.is c.open.ensures.acts);
   is = c.renumber.ensures.number told;
