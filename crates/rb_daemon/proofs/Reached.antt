@@ -38,6 +38,7 @@ use Rattle.rb_core.specs.HeldBytes.{IsListener}
 use Rattle.rb_core.specs.StandsFor.{CoreView, StandsFor}
 use Rattle.rb_core.proofs.Begun.{with_steps_before, stands_begun}
 use Rattle.rb_lines.specs.RecordLaws.{Fits, AreBytes, HasLine}
+use Rattle.rb_lines.specs.Starts.{MeetsLaws}
 use Rattle.rb_daemon.specs.Recording.{given_events, send_events_of, send_events, output_or_refusal}
 use Rattle.rb_daemon.specs.Served.{IsServed}
 use mathlib.Core.Bool.{true≢false}
@@ -104,6 +105,8 @@ served_on old new before later events lines stands records held =
       good = subst (λ (x : Setting). are_good x.limits x.listener ≡ true) (sym (after-setting h.state (events h.state))) h.good;
       listener = subst (λ (x : Setting). IsListener x.listener) (sym (after-setting h.state (events h.state))) h.listener;
       lines = lines_append r.events (events h.state) h.lines (lines h.state h.stands);
+      begins = subst (MeetsLaws (after h.state (events h.state)).setting.listener) (sym (records h.state h.stands).limit)
+          (subst (λ (x : Setting). MeetsLaws x.listener before.limit) (sym (after-setting h.state (events h.state))) h.begins);
       recorded = more_recorded r.limits r.listener r.first_xid r.now r.events (events h.state) h.state before later r.is h.recorded (records h.state h.stands);
     } ∣₁)
 
@@ -112,21 +115,22 @@ pub good_from : {T : Type 0} (good : Bool) (made : T) → (IsTrue (not good) →
 good_from true made kept = refl
 good_from false made kept = let wrong = kept refl in absurd cc
 
-pub new_served : (core : CoreView) (l : Limits) (h : Listener) (xid now limit : ℕ) (empty tape : Tape) → empty ≡ empty_tape limit → Records (options_text l h xid now ∷ []) empty tape → StandsFor core (opening l h xid now) → are_good l h ≡ true → IsListener h → ∥ IsServed core tape ∥₁
+pub new_served : (core : CoreView) (l : Limits) (h : Listener) (xid now limit : ℕ) (empty tape : Tape) → empty ≡ empty_tape limit → Records (options_text l h xid now ∷ []) empty tape → StandsFor core (opening l h xid now) → are_good l h ≡ true → IsListener h → MeetsLaws h limit → ∥ IsServed core tape ∥₁
 unfolding run_entries
-new_served core l h xid now limit empty tape is records stands good listener = ∣ record {
+new_served core l h xid now limit empty tape is records stands good listener begins = ∣ record {
   state = opening l h xid now;
   stands = stands;
   reached = record { limits = l; listener = h; first_xid = xid; now = now; events = []; is = refl };
   good = good;
   listener = listener;
   lines = tt;
+  begins = subst (MeetsLaws h) (sym (records.limit ∙ ap (λ (t : Tape). t.limit) is)) begins;
   recorded = record_goes_on [] (options_text l h xid now ∷ []) empty tape (subst (IsRecordOf []) (sym is) (new_record limit)) records;
 } ∣₁
 
 still_served : (core : CoreView) (before later : Tape) → later.text ≡ before.text → later.limit ≡ before.limit → (later.is_on ≡ true → before.is_on ≡ true) → ∥ IsServed core before ∥₁ → ∥ IsServed core later ∥₁
 still_served core before later text limit on held =
-    ∥∥₁_elim held squash₁ (λ h. ∣ record { state = h.state; stands = h.stands; reached = h.reached; good = h.good; listener = h.listener; lines = h.lines; recorded = record_stays _ before later text limit on h.recorded } ∣₁)
+    ∥∥₁_elim held squash₁ (λ h. ∣ record { state = h.state; stands = h.stands; reached = h.reached; good = h.good; listener = h.listener; lines = h.lines; begins = subst (MeetsLaws _) (sym limit) h.begins; recorded = record_stays _ before later text limit on h.recorded } ∣₁)
 
 -- what was recorded was written out, or that failed
 pub written_served : {E : Type 0} (core : CoreView) (before later : Tape) (n : ℕ) (r : Result (Unit {0}) E) → OnOk r (later ≡ record before { written = n }) → OnErr r (later ≡ record before { is_on = false }) → ∥ IsServed core before ∥₁ → ∥ IsServed core later ∥₁
@@ -227,7 +231,7 @@ datagram_served old new after_look n now who content given before later is acts 
 -- a look at the core changes nothing that is served
 pub looked_served : (old new : CoreView) (n : ℕ) (tape : Tape) → new ≡ with_steps_before old n → ∥ IsServed old tape ∥₁ → ∥ IsServed new tape ∥₁
 looked_served old new n tape is held =
-    ∥∥₁_elim held squash₁ (λ h. ∣ record { state = h.state; stands = stands_begun old new n is h.state h.stands; reached = h.reached; good = h.good; listener = h.listener; lines = h.lines; recorded = h.recorded } ∣₁)
+    ∥∥₁_elim held squash₁ (λ h. ∣ record { state = h.state; stands = stands_begun old new n is h.state h.stands; reached = h.reached; good = h.good; listener = h.listener; lines = h.lines; begins = h.begins; recorded = h.recorded } ∣₁)
 
 -- so of one that is no call, or is not answered
 pub silent_records : (old new : CoreView) (now : ℕ) (who : Who) (content : List ℕ) (given : outcome.Response) (before later : Tape) → (given ≡ outcome_kinds.NoCall) ⊎ (given ≡ outcome_kinds.Silent) → ActsWithReply (λ s. datagram s now who content) old new given → Records (entry_text (Datagram now who content) Silent ∷ []) before later → (s : State) → StandsFor old s → Records (run_entries s (Datagram now who content ∷ [])) before later

@@ -8,6 +8,7 @@ ghost use Rattle.rb_core.specs.Looks.{rows_shown};
 ghost use Rattle.rb_core.specs.MeteredCalls.{StepsAtMost, reply_look};
 ghost use Rattle.rb_core.specs.StandsFor.{StandsFor};
 ghost use Rattle.rb_lines.specs.Entries.{options_of};
+ghost use Rattle.rb_lines.specs.Starts.{MeetsLaws};
 ghost use Rattle.rb_lines.specs.Tapes.{Records, empty_tape};
 ghost use Rattle.rb_sockets.specs.Dispatches.{Hands};
 ghost use Rattle.rb_daemon.specs.Recording.{end_entry};
@@ -209,6 +210,7 @@ impl Engine {
         record_limit: usize,
         logged: Logged,
     ) -> Result<Engine, CoreFault>
+        requires { MeetsLaws listener record_limit }
         ensures made { IfOk result (IsNewEngine first_xid moment limits listener) }
         ensures record { IfOk result (λ engine. engine.tape.limit ≡ record_limit) }
         ensures bad { IsErrOf result CoreFault.BadLimits ↔ IsTrue (not (are_good limits listener)) }
