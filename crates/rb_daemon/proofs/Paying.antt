@@ -33,6 +33,7 @@ use Rattle.rb_laws.proofs.StepBounds.{conns_few, rows_looks}
 use Rattle.rb_laws.proofs.Waiting.{waiting, give-waits, pending-waits}
 use Rattle.rb_laws.proofs.WholeRuns.{bytes_paid, events_are_paid_ahead, paid_ahead, total-append}
 use Rattle.rb_lines.specs.Entries.{options_text}
+use Rattle.rb_lines.specs.Starts.{MeetsLaws}
 use Rattle.rb_lines.specs.Tapes.{Tape, Records, empty_tape}
 use Rattle.rb_connections.specs.Costs.{look_cost}
 use Rattle.rb_connections.specs.Giving.{whole_cost}
@@ -108,10 +109,10 @@ module _ (old new : Metered) (before later : Tape) (looks more : ℕ) (events : 
 
 -- ---- at the start, and as what was recorded is written
 
-pub new_paid : (core : Metered) (l : Limits) (h : Listener) (xid now limit looks : ℕ) (empty tape : Tape) → empty ≡ empty_tape limit → Records (options_text l h xid now ∷ []) empty tape → StandsFor core.core (opening l h xid now) → are_good l h ≡ true → IsListener h
+pub new_paid : (core : Metered) (l : Limits) (h : Listener) (xid now limit looks : ℕ) (empty tape : Tape) → empty ≡ empty_tape limit → Records (options_text l h xid now ∷ []) empty tape → StandsFor core.core (opening l h xid now) → are_good l h ≡ true → IsListener h → MeetsLaws h limit
     → core.meter.steps ≤ making_cost l h → ∥ IsPaid core tape looks ∥₁
-new_paid core l h xid now limit looks empty tape is records stands good listener few =
-    ∣ record { served = new_served core.core l h xid now limit empty tape is records stands good listener; paid = omega (arith, few) } ∣₁
+new_paid core l h xid now limit looks empty tape is records stands good listener begins few =
+    ∣ record { served = new_served core.core l h xid now limit empty tape is records stands good listener begins; paid = omega (arith, few) } ∣₁
 
 still_paid : (core : Metered) (before later : Tape) (looks : ℕ) → later.text ≡ before.text → later.limit ≡ before.limit → (later.is_on ≡ true → before.is_on ≡ true) → ∥ IsPaid core before looks ∥₁ → ∥ IsPaid core later looks ∥₁
 still_paid core before later looks text limit on held =

@@ -38,6 +38,7 @@ use Rattle.rb_core.specs.HeldBytes.{IsListener}
 use Rattle.rb_core.specs.StandsFor.{CoreView, StandsFor}
 use Rattle.rb_core.proofs.Begun.{with_steps_before, stands_begun}
 use Rattle.rb_lines.specs.RecordLaws.{Fits, AreBytes, HasLine}
+use Rattle.rb_lines.specs.Starts.{MeetsLaws}
 use Rattle.rb_daemon.specs.Recording.{given_events, send_events_of, send_events, output_or_refusal}
 use Rattle.rb_daemon.specs.Served.{IsServed}
 use mathlib.Core.Bool.{true≢false}
@@ -112,6 +113,8 @@ served_on old new before later events on h =
       good = subst (λ (x : Setting). are_good x.limits x.listener ≡ true) (sym (after-setting h.state (events h.state))) h.good;
       listener = subst (λ (x : Setting). IsListener x.listener) (sym (after-setting h.state (events h.state))) h.listener;
       lines = lines_append r.events (events h.state) h.lines (on.lines h.state h.stands);
+      begins = subst (MeetsLaws (after h.state (events h.state)).setting.listener) (sym (on.records h.state h.stands).limit)
+          (subst (λ (x : Setting). MeetsLaws x.listener before.limit) (sym (after-setting h.state (events h.state))) h.begins);
       recorded = more_recorded r.limits r.listener r.first_xid r.now r.events (events h.state) h.state before later r.is h.recorded (on.records h.state h.stands);
     }
 
@@ -124,21 +127,22 @@ pub new_recorded : (l : Limits) (h : Listener) (xid now limit : ℕ) (empty tape
 unfolding run_entries
 new_recorded l h xid now limit empty tape is records = record_goes_on [] (options_text l h xid now ∷ []) empty tape (subst (IsRecordOf []) (sym is) (new_record limit)) records
 
-abbrev pub new_served : (core : CoreView) (l : Limits) (h : Listener) (xid now limit : ℕ) (empty tape : Tape) → empty ≡ empty_tape limit → Records (options_text l h xid now ∷ []) empty tape → StandsFor core (opening l h xid now) → are_good l h ≡ true → IsListener h → IsServed core tape
-new_served core l h xid now limit empty tape is records stands good listener = record {
+abbrev pub new_served : (core : CoreView) (l : Limits) (h : Listener) (xid now limit : ℕ) (empty tape : Tape) → empty ≡ empty_tape limit → Records (options_text l h xid now ∷ []) empty tape → StandsFor core (opening l h xid now) → are_good l h ≡ true → IsListener h → MeetsLaws h limit → IsServed core tape
+new_served core l h xid now limit empty tape is records stands good listener begins = record {
   state = opening l h xid now;
   stands = stands;
   reached = record { limits = l; listener = h; first_xid = xid; now = now; events = []; is = refl };
   good = good;
   listener = listener;
   lines = tt;
+  begins = subst (MeetsLaws h) (sym (records.limit ∙ ap (λ (t : Tape). t.limit) is)) begins;
   recorded = new_recorded l h xid now limit empty tape is records;
 }
 
 -- another tape with the same text, whose limit stays, and that is on only if it was
 abbrev pub still_served : (core : CoreView) (before later : Tape) → later.text ≡ before.text → later.limit ≡ before.limit → (later.is_on ≡ true → before.is_on ≡ true) → IsServed core before → IsServed core later
 still_served core before later text limit on h =
-    record { state = h.state; stands = h.stands; reached = h.reached; good = h.good; listener = h.listener; lines = h.lines; recorded = record_stays _ before later text limit on h.recorded }
+    record { state = h.state; stands = h.stands; reached = h.reached; good = h.good; listener = h.listener; lines = h.lines; begins = subst (MeetsLaws _) (sym limit) h.begins; recorded = record_stays _ before later text limit on h.recorded }
 
 -- if nothing is recorded
 pub none_recorded : (core : CoreView) (tape : Tape) → ∥ IsServed core tape ∥₁ → Records [] tape tape

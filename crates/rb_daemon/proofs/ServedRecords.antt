@@ -2,8 +2,9 @@
 use Rattle.std.specs.List.{concat, AllByRecursion}
 use Rattle.std.proofs.Common.{◌≡◌, ◌≤◌, ℕ, zero, suc, Bool, true, false, List, [], ◌∷◌, ◌++◌, length, take, arith, refl, sym, ap, subst, ◌∙◌, ◌⊎◌, inl, inr, append-nil}
 use Rattle.std.proofs.lemmas.List.{take_all}
-use Rattle.rb_model.specs.State.{State, opening}
+use Rattle.rb_model.specs.State.{Setting, State, opening}
 use Rattle.rb_model.specs.Step.{Event, step, run, IsReached}
+use Rattle.rb_laws.proofs.EntriesKept.{after-setting}
 use Rattle.rb_lines.specs.Entries.{run_entries, options_text}
 use Rattle.rb_lines.specs.Tapes.{Tape, last_line, IsFull, EndsWithin, HasFirst}
 use Rattle.rb_lines.specs.Lines.{longest_input}
@@ -56,9 +57,13 @@ module _ (s : State) (r : IsReached s) (tape : Tape) (recorded : HasRecorded r t
       by_flag false is = first_read is recorded.first recorded.first.count refl
 
 pub served_records_are_read : ServedRecordsAreRead
-served_records_are_read core tape served path few =
+served_records_are_read core tape served =
     let within = served.recorded.within in
-    reads_back served.state served.reached tape served.recorded path served.lines (omega (arith, within, few))
+    let few = served.begins.record_fits in
+    let r = served.reached in
+    let stays : served.state.setting.listener ≡ r.listener =
+        ap (λ (s : State). s.setting.listener) r.is ∙ ap (λ (x : Setting). x.listener) (after-setting (opening r.limits r.listener r.first_xid r.now) r.events) in
+    reads_back served.state r tape served.recorded (subst HasPath stays served.begins.path) served.lines (omega (arith, within, few))
 
 -- ---- where a record ends
 

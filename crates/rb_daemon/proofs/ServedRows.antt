@@ -21,7 +21,7 @@ use Rattle.rb_keep.specs.Reading.{read as read_kept}
 use Rattle.rb_keep.specs.KeptLaws.{CanBeKept}
 use Rattle.rb_keep.proofs.Leads.{kept_text_is_read}
 use Rattle.rb_daemon.specs.Served.{IsServed}
-use Rattle.rb_daemon.specs.ServedLaws.{ServedRowsAreKept, ServedRowsMayChange}
+use Rattle.rb_daemon.specs.ServedLaws.{ServedPremisesAreMet, ServedRowsAreKept, ServedRowsMayChange}
 use Rattle.rb_daemon.proofs.Rows.{few_of}
 
 -- ---- each event brings bytes
@@ -63,6 +63,9 @@ by_bytes core tape served = record {
   reached = served.reached;
   bytes = All-from_recursion BringsBytes served.reached.events (bring served.reached.events served.lines);
 }
+
+pub served_premises_are_met : ServedPremisesAreMet
+served_premises_are_met core tape served = record { bytes = by_bytes core tape served; good = served.good; begins = served.begins }
 
 -- ---- what is kept
 

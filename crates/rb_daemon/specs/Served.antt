@@ -20,6 +20,7 @@ use Rattle.rb_lines.specs.Tapes.{Tape}
 use Rattle.rb_core.specs.StandsFor.{CoreView, StandsFor}
 use Rattle.rb_core.specs.HeldBytes.{IsListener}
 use Rattle.rb_lines.specs.RecordLaws.{HasLine}
+use Rattle.rb_lines.specs.Starts.{MeetsLaws}
 use Rattle.rb_sockets.specs.declared.settings.Settings.{Settings}
 use Rattle.rb_sockets.specs.Settings.{listener_of}
 use Rattle.rb_daemon.specs.declared.engine.Answer.{Answer}
@@ -29,7 +30,7 @@ use Rattle.rb_daemon.specs.Recording.{HasRecorded}
 use Rattle.rb_daemon.specs.declared.engine.Due.TheVariants as dues
 
 -- The core stands for a state that a run of events reaches from an opening, and the tape is a record of that run. Its limits
--- are good, its listener has a port of 16 bits and a short path, and each of its events has a line.
+-- are good, its listener has a port of 16 bits and a short path, each of its events has a line, and it began as laws presuppose.
 -- EVENT-1: Each event happens at the moment of its turn, and is one step of the model.
 pub record IsServed (core : CoreView) (tape : Tape) : Type 0 where
   pub state : State
@@ -38,6 +39,7 @@ pub record IsServed (core : CoreView) (tape : Tape) : Type 0 where
   pub good : are_good state.setting.limits state.setting.listener ≡ true
   pub listener : IsListener state.setting.listener
   pub lines : AllByRecursion HasLine reached.events
+  pub begins : MeetsLaws state.setting.listener tape.limit
   pub recorded : HasRecorded reached tape
 
 -- the limits of the settings are in their ranges, with their listener

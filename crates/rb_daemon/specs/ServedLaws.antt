@@ -2,8 +2,8 @@
 use Rattle.std.specs.Prelude.{◌≡◌, ◌≤◌, ◌<◌, ℕ, ◌^◌, true, List, [], length, take, ◌⊎◌, Ok}
 use Rattle.std.specs.List.{concat}
 use Rattle.rb_proto.specs.Ledger.{rows_in}
-use Rattle.rb_model.specs.ChangeLaws.{set_rows, restored}
-use Rattle.rb_model.specs.State.{State, opening}
+use Rattle.rb_model.specs.ChangeLaws.{set_rows, restored, IsReachedByBytes}
+use Rattle.rb_model.specs.State.{State, opening, are_good}
 use Rattle.rb_model.specs.Bounds.{bytes_bound, bound_at}
 use Rattle.rb_model.specs.Costs.{event_cost, run_cost}
 use Rattle.rb_model.specs.Step.{Event, run, IsReached}
@@ -12,8 +12,8 @@ use Rattle.rb_lines.specs.Tapes.{Tape, EndsWithin}
 use Rattle.rb_core.specs.StandsFor.{CoreView, StandsFor}
 use Rattle.rb_core.specs.HeldBytes.{held}
 use Rattle.rb_core.specs.Metered.{Metered}
-use Rattle.rb_lines.specs.Lines.{longest_input}
-use Rattle.rb_lines.specs.RecordLaws.{HasPath, ReadsAs}
+use Rattle.rb_lines.specs.RecordLaws.{ReadsAs}
+use Rattle.rb_lines.specs.Starts.{MeetsLaws}
 use Rattle.rb_keep.specs.Reading.{read as read_kept}
 use Rattle.rb_keep.specs.KeptLaws.{CanBeKept}
 use Rattle.rb_daemon.specs.Keeping.{AreLinesOfRows}
@@ -48,6 +48,17 @@ ServedMetersAreBounded =
     (core : Metered) (tape : Tape) (looks : ℕ) (counted : IsPaid core tape looks)
     → core.meter.steps ≤ most_counted counted.served.reached looks
 
+-- ---- what laws of a run presuppose
+
+-- The run brought bytes alone, its limits are good, and it began as it should.
+pub record AreMet (s : State) (tape : Tape) : Type 0 where
+  pub bytes : IsReachedByBytes s
+  pub good : are_good s.setting.limits s.setting.listener ≡ true
+  pub begins : MeetsLaws s.setting.listener tape.limit
+
+abbrev pub ServedPremisesAreMet : Type 0
+ServedPremisesAreMet = (core : CoreView) (tape : Tape) (served : IsServed core tape) → AreMet served.state tape
+
 -- ---- the rows that are kept
 
 -- A text is read as the rows that were set. Their SETs bring back all live rows, in their order, and are in no statistics.
@@ -77,12 +88,10 @@ pub record ReadsBack (s : State) (r : IsReached s) (tape : Tape) : Type 0 where
   pub all : tape.is_on ≡ true → count ≡ length r.events
   pub reads : ReadsAs tape.text (take count r.events) (run (opening r.limits r.listener r.first_xid r.now) (take count r.events))
 
--- So does the record of the daemon, if it may be no longer than an input, and the path of the local socket is as
--- `--local` takes it. Its first line has the options of the run, so `replay --check` finds no difference.
+-- So does the record of the daemon. Its first line has the options of the run, so `replay --check` finds no difference.
 abbrev pub ServedRecordsAreRead : Type 0
 ServedRecordsAreRead =
     (core : CoreView) (tape : Tape) (served : IsServed core tape)
-    → HasPath served.reached.listener → tape.limit ≤ longest_input
     → ReadsBack served.state served.reached tape
 
 -- a text has the first of these entries, and nothing else

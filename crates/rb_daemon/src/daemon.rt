@@ -1,6 +1,9 @@
 //! The daemon and its turns.
 ghost use Rattle.std.specs.Prelude.{◌≡◌, ◌↔◌, IsTrue, IsErrOf, IfOk, OnOk, false, not};
+ghost use Rattle.rb_lines.specs.Starts.{MeetsLaws};
+ghost use Rattle.rb_sockets.specs.Settings.{listener_of};
 ghost use Rattle.rb_daemon.specs.Served.{has_good_limits};
+ghost use Rattle.rb_daemon.specs.Moves.{IsNewEngine};
 ghost use Rattle.rb_daemon.specs.Recording.{WritesRecord};
 
 use crate::engine::Engine;
@@ -54,6 +57,7 @@ impl<'a, R: Clock, H: Files> Daemon<'a, R, H> {
         kept: &[Row],
         handed: Handed,
     ) -> Result<Daemon<'a, R, H>, DaemonFault>
+        requires { MeetsLaws (listener_of settings.now) settings.now.record_limit }
         ensures bad { IsErrOf result DaemonFault.Limits
             ↔ IsTrue (not (has_good_limits settings.now)) }
         ensures good { OnOk result (IsTrue (has_good_limits settings.now)) }
@@ -374,7 +378,10 @@ fn engine_of(
     xid: u32,
     moment: u64,
 ) -> Result<Engine, DaemonFault>
+    requires { MeetsLaws (listener_of settings.now) settings.now.record_limit }
     ensures others { IsErrOf result DaemonFault.Limits → IsTrue false }
+    ensures made { IfOk result
+        (IsNewEngine xid moment settings.now.limits (listener_of settings.now)) }
     ensures record { IfOk result (λ engine. engine.tape.limit ≡ settings.now.record_limit) }
 {
     let made = Engine::new(
@@ -401,6 +408,7 @@ fn begin<H: Files>(
     moment: u64,
     kept: &[Row],
 ) -> Result<Inner<H>, DaemonFault>
+    requires { MeetsLaws (listener_of settings.now) settings.now.record_limit }
     ensures others { IsErrOf result DaemonFault.Limits → IsTrue false }
 {
     let mut engine = engine_of(alloc, settings, xid, moment)?;

@@ -9,6 +9,7 @@ ghost use Rattle.rb_core.specs.Looks.{rows_shown, slot_count};
 ghost use Rattle.rb_core.specs.MeteredCalls.{StepsAtMost, reply_look};
 ghost use Rattle.rb_core.specs.StandsFor.{StandsFor};
 ghost use Rattle.rb_lines.specs.Entries.{options_of};
+ghost use Rattle.rb_lines.specs.Starts.{MeetsLaws};
 ghost use Rattle.rb_lines.specs.Tapes.{Records, empty_tape};
 ghost use Rattle.rb_sockets.specs.Dispatches.{Hands};
 ghost use Rattle.rb_daemon.specs.Counting.{IsPaid};
@@ -216,6 +217,7 @@ impl Engine {
         record_limit: usize,
         logged: Logged,
     ) -> Result<Engine, CoreFault>
+        requires { MeetsLaws listener record_limit }
         ensures made { IfOk result (IsNewEngine first_xid moment limits listener) }
         ensures record { IfOk result (λ engine. engine.tape.limit ≡ record_limit) }
         ensures looks { IfOk result (λ engine. engine.looks.steps ≡ 0) }

@@ -1,5 +1,5 @@
 //! What holds of the core of a running daemon.
-ghost use Rattle.rb_daemon.specs.ServedLaws.{ServedBytesAreBounded, ServedStepsAreBounded, ServedRunsAreBounded, ServedMetersAreBounded, ServedRowsAreKept, ServedRowsMayChange, ServedRecordsAreRead, ServedRecordsEndFull};
+ghost use Rattle.rb_daemon.specs.ServedLaws.{ServedBytesAreBounded, ServedStepsAreBounded, ServedRunsAreBounded, ServedMetersAreBounded, ServedPremisesAreMet, ServedRowsAreKept, ServedRowsMayChange, ServedRecordsAreRead, ServedRecordsEndFull};
 
 /// Between two events of the daemon, whatever it is asked for and whatever limits and listener it was given: what its core
 /// holds is at most the bound of its limits. From each state that a run reaches and that the core stands for, an event
@@ -18,6 +18,13 @@ pub fn served_meters_are_bounded()
     ensures { ServedMetersAreBounded }
 {}
 
+/// Between two events of the daemon, what laws of a run presuppose is so: its events brought bytes alone, its limits are good,
+/// its listener has a port other than 0, and a path that may name a local socket and stand in a line, or none; and the record
+/// may be no longer than an input.
+pub fn served_premises_are_met()
+    ensures { ServedPremisesAreMet }
+{}
+
 /// Between two events of the daemon, whatever bytes came in: the lines of all its rows are read as the rows that were set, in
 /// their order. Their SETs bring all live rows back, from an opening with the same options, and are in no statistics. The
 /// lines of later changes may follow them (`changes_are_read`). The clock is a number of 64 bits, as the code's is.
@@ -28,8 +35,7 @@ pub fn served_rows_are_kept()
 
 /// Between two events of the daemon, the text of its record reads as the first events of the run that brought the core where
 /// it is, all of them while the recording goes on, and says what they gave: so `replay --check` of it finds no difference.
-/// It does if the record may be no longer than an input, and the path of the local socket is as `--local` takes it. If the
-/// record has its last line, it is full: the next entry of the run does not fit.
+/// If the record has its last line, it is full: the next entry of the run does not fit.
 pub fn served_records_are_read()
     ensures read { ServedRecordsAreRead }
     ensures full { ServedRecordsEndFull }

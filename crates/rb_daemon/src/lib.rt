@@ -22,8 +22,8 @@ mod waiting;
 pub use daemon::Daemon;
 pub use keeping::KeepNews;
 pub use laws::{
-    served_cores_are_bounded, served_meters_are_bounded, served_records_are_read,
-    served_rows_are_kept,
+    served_cores_are_bounded, served_meters_are_bounded, served_premises_are_met,
+    served_records_are_read, served_rows_are_kept,
 };
 pub use load::Load;
 pub use rb_model::Limits;

@@ -1,4 +1,6 @@
 //! The command `serve`.
+ghost use Rattle.std.specs.Prelude.{◌≡◌};
+ghost use Rattle.rb_commands.specs.Asked.{BeginsWell};
 ghost use Rattle.rpcbind.specs.Faults.{EndsServe, EndsAfterTurns};
 
 use crate::ending::StartFault;
@@ -48,6 +50,7 @@ pub fn run_service<R, E>(rt: &R, mut serve: Serve<'_>, binds: Binds, faults: &mu
 where
     R: Net + Files<File = File> + Clock + RandomSource + Wait + AllocGlobal + Print + Env,
     E: Write,
+    requires { BeginsWell serve }
     ensures { EndsServe E.contents faults.new result }
 {
     let mut manager = Manager::of(rt);
@@ -68,6 +71,7 @@ fn lock_and_run<R, E>(
 where
     R: Net + Files<File = File> + Clock + RandomSource + Wait + AllocGlobal + Print + Env,
     E: Write,
+    requires { BeginsWell serve.old }
     ensures { EndsServe E.contents faults.new result }
 {
     match lock_keep(rt, &serve.settings, faults) {
@@ -92,6 +96,7 @@ fn run_locked<R, E>(
 where
     R: Net + Files + Clock + RandomSource + Wait + AllocGlobal + Print + Env,
     E: Write,
+    requires { BeginsWell serve.old }
     ensures { EndsServe E.contents faults.new result }
 {
     let are_given = binds.are_given();
@@ -129,7 +134,9 @@ fn take_sockets<R: Env + AllocGlobal>(
     rt: &R,
     settings: &mut Settings<'_>,
     is_bind_given: bool,
-) -> Result<Handed, HandedFault> {
+) -> Result<Handed, HandedFault>
+    ensures { settings.new ≡ record settings.old { bind = settings.new.bind } }
+{
     let handed = take_handed(rt.alloc(), rt)?;
     match handed.hosts() {
         Some(hosts) if !is_bind_given => settings.bind = hosts,
@@ -149,6 +156,7 @@ fn find_hosts<R, E>(
 where
     R: Net + Files + AllocGlobal,
     E: Write,
+    ensures { settings.new ≡ record settings.old { bind = settings.new.bind } }
 {
     let Binds {
         interfaces,
@@ -186,6 +194,7 @@ fn begin<'a, 's, R, E>(
 where
     R: Net + Files + Clock + RandomSource + AllocGlobal + Env,
     E: Write,
+    requires { BeginsWell serve.old }
 {
     let handed = match take_sockets(rt, &mut serve.settings, are_given) {
         Ok(handed) => handed,
