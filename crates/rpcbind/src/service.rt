@@ -120,6 +120,7 @@ fn run_at<R, E>(
 where
     R: Net + Files + Clock + RandomSource + Wait + AllocGlobal + Print + Env,
     E: Write,
+    requires { BeginsWell serve.old }
     ensures { EndsServe E.contents faults.new result }
 {
     match begin(rt, serve, are_given, manager, faults) {
