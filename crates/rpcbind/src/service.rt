@@ -85,7 +85,7 @@ where
 }
 
 /// Finds the hosts, begins, and takes the turns, while the file of the kept rows is this daemon's.
-#[tactic(auto, using(crate::proofs::Endings::ends_by_start))]
+#[tactic(auto, using(crate::proofs::Endings::ends_by_start, crate::proofs::Begins::still_begins))]
 fn run_locked<R, E>(
     rt: &R,
     serve: &mut Serve<'_>,
@@ -185,6 +185,7 @@ where
 // KEEP-10: Kept rows are read, and asked, before anything listens.
 /// A daemon that has the rows that were kept, which are read before anything listens; those that it has not are said. It has the
 /// sockets that were handed over.
+#[tactic(auto, using(crate::proofs::Begins::still_begins))]
 fn begin<'a, 's, R, E>(
     rt: &'a R,
     serve: &mut Serve<'s>,
