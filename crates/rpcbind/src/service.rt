@@ -240,7 +240,7 @@ fn wait_for_hosts<R: Net + Clock, E: Write>(
     }
 }
 
-/// Has addresses followed, makes the file of the record, says where the daemon listens, and takes its turns.
+/// Begins to serve, and takes the turns.
 #[tactic(auto, using(crate::proofs::Endings::ends_by_start, crate::proofs::Endings::ends_turned))]
 fn serve_until_the_end<R, E>(
     rt: &R,
@@ -255,15 +255,28 @@ where
     E: Write,
     ensures { EndsServe E.contents faults.new result }
 {
-    if let Some(follower) = follower.take() {
-        if daemon.follow_by(follower).is_err() {
-            return explain_start(&StartFault::NoMemory, &serve.settings, faults);
-        }
-    }
-    match announce(rt, daemon.shortage(), serve, faults) {
+    match prepare(rt, daemon, follower, serve, faults) {
         Ok(recorder) => serve_on(rt, daemon, serve, recorder, manager, faults),
         Err(fault) => explain_start(&fault, &serve.settings, faults),
     }
+}
+
+/// Has addresses followed, makes the file of the record, and says where the daemon listens.
+fn prepare<'s, R, E>(
+    rt: &R,
+    daemon: &mut Daemon<'_, R, R>,
+    follower: &mut Option<Follower>,
+    serve: &Serve<'s>,
+    faults: &mut E,
+) -> Result<Recorder<R::File>, StartFault<'s>>
+where
+    R: Files + Net + Clock + Print,
+    E: Write,
+{
+    if let Some(follower) = follower.take() {
+        daemon.follow_by(follower)?;
+    }
+    announce(rt, daemon.shortage(), serve, faults)
 }
 
 /// Makes the file of the record, and says where the daemon listens, and that descriptors are short, if they are.
