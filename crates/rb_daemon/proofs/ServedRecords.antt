@@ -62,7 +62,7 @@ served_records_are_read core tape served =
     let few = served.begins.record_fits in
     let r = served.reached in
     let stays : served.state.setting.listener ≡ r.listener =
-        ap (λ (s : State). s.setting.listener) r.is ∙ ap (λ (x : Setting). x.listener) (after-setting (opening r.limits r.listener r.first_xid r.now) r.events) in
+    ap (λ (s : State). s.setting.listener) r.is ∙ ap (λ (x : Setting). x.listener) (after-setting (opening r.limits r.listener r.first_xid r.now) r.events) in
     reads_back served.state r tape served.recorded (subst HasPath stays served.begins.path) served.lines (omega (arith, within, few))
 
 -- ---- where a record ends
