@@ -102,7 +102,7 @@ where
     let are_given = binds.are_given();
     match find_hosts(rt, &mut serve.settings, binds, faults) {
         Ok(mut follower) => run_at(rt, serve, are_given, &mut follower, manager, faults),
-        Err(_) => explain_start(&StartFault::NoMemory, &serve.settings, faults),
+        Err(error) => explain_start(&StartFault::from(error), &serve.settings, faults),
     }
 }
 
