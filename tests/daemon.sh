@@ -27,6 +27,17 @@ await_listening() {
     return 1
 }
 
+# Lets calls of the daemon fail, by strace, until that is ended; the status is 1 if it could not be attached.
+inject() {
+    strace -qq -o /dev/null -e "trace=${1%%:*}" -e "inject=$1" -p "$daemon" > /dev/null 2>&1 &
+    tracer=$!
+    for _ in $(seq 600); do
+        ! grep -q "^TracerPid:[[:space:]]*$tracer$" "/proc/$daemon/status" || return 0
+        sleep 0.1
+    done
+    return 1
+}
+
 # Runs the events of a daemon's record again, by the command in its first line. The status is 0 if all outputs agree.
 check_record() {
     local words

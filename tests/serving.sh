@@ -79,6 +79,21 @@ END
     wait "$daemon" 2> /dev/null
 }
 
+# CLOSE-1
+# A client whose events can't be shown is closed, for the core too: the one connection that it may have is there for the next.
+run_unshown_client() {
+    local daemon tracer
+    strace -D -o /dev/null true 2> /dev/null || { echo "a client whose events can't be shown is not tried: that wants strace"; return; }
+    start_daemon "$work/listening" --port 20112 --conns 1
+    inject epoll_ctl:error=ENOSPC:when=1
+    printf '%s\n' 'a closed' 'b answered' > "$work/wanted"
+    printf 'open %s 127.0.0.1\n' a b | python3 -B tests/crowd.py 127.0.0.1 20112 > "$work/stdout"
+    same "$work/wanted" "$work/stdout" "what became of connections"
+    judge $? "a client whose events can't be shown"
+    kill "$tracer" "$daemon"
+    wait "$tracer" "$daemon" 2> /dev/null
+}
+
 # A socket at the path of the local one whose queue is full answers: it stays, and the daemon does not start.
 run_full_queue_in_the_way() {
     local path=$work/full.sock listener before
@@ -211,6 +226,7 @@ run_callers_of_networks() {
 run_serving() {
     run_without_descriptors
     run_connections_at_once
+    run_unshown_client
     run_full_queue_in_the_way
     run_local_socket
     run_growing_table
