@@ -33,6 +33,7 @@ inject() {
     tracer=$!
     for _ in $(seq 600); do
         ! grep -q "^TracerPid:[[:space:]]*$tracer$" "/proc/$daemon/status" || return 0
+        kill -0 "$tracer" 2> /dev/null || break
         sleep 0.1
     done
     return 1

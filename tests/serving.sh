@@ -83,14 +83,16 @@ END
 # A client whose events can't be shown is closed, for the core too: the one connection that it may have is there for the next.
 run_unshown_client() {
     local daemon tracer
-    strace -D -o /dev/null true 2> /dev/null || { echo "a client whose events can't be shown is not tried: that wants strace"; return; }
     start_daemon "$work/listening" --port 20112 --conns 1
-    inject epoll_ctl:error=ENOSPC:when=1
-    printf '%s\n' 'a closed' 'b answered' > "$work/wanted"
-    printf 'open %s 127.0.0.1\n' a b | python3 -B tests/crowd.py 127.0.0.1 20112 > "$work/stdout"
-    same "$work/wanted" "$work/stdout" "what became of connections"
-    judge $? "a client whose events can't be shown"
-    kill "$tracer" "$daemon"
+    if inject epoll_ctl:error=ENOSPC:when=1; then
+        printf '%s\n' 'a closed' 'b answered' > "$work/wanted"
+        printf 'open %s 127.0.0.1\n' a b | python3 -B tests/crowd.py 127.0.0.1 20112 > "$work/stdout"
+        same "$work/wanted" "$work/stdout" "what became of connections"
+        judge $? "a client whose events can't be shown"
+    else
+        echo "a client whose events can't be shown is not tried: that wants strace, which may attach to a daemon"
+    fi
+    kill "$tracer" "$daemon" 2> /dev/null
     wait "$tracer" "$daemon" 2> /dev/null
 }
 
