@@ -3,8 +3,8 @@
 # makes calls over UDP and over TCP, a connection for each. A line for each attack says how many calls were answered
 # of how many, the longest wait, and what of the daemon's own memory is resident before and after. An attack fails
 # if fewer than 99 of 100 calls were answered, memory grew by a page, or one waited over 50 milliseconds and over 16
-# times as long as any in the two seconds before the attack, and so in a second run of the attack. Time in which the
-# machine had no processor for daemon or client is no wait.
+# times as long as any in the two seconds before the attack, and so in a second run of the attack, since the machine may
+# have stood still in the first.
 # tests/hostile/attacks.py has them. A daemon beside them stands still for 34 seconds, and must answer all 200 calls then
 # that were half sent before and whole in time.
 #

@@ -17,22 +17,11 @@ RATIO = 16
 CALM = 2.0
 
 
-def queued(pid):
-    """The seconds for which a process was ready and had no processor, so far; 0 if the system does not tell."""
-    try:
-        with open(f"/proc/{pid}/schedstat") as told:
-            return int(told.read().split()[1]) / 1e9
-    except (OSError, IndexError):
-        return 0.0
-
-
 class Good:
-    """A good client in a process of its own, that calls a daemon until it is told to stop. What the machine made it wait, as it
-    had no processor for the daemon or for the client, is not counted."""
+    """A good client in a process of its own, that calls until it is told to stop."""
 
-    def __init__(self, ask, daemon, pause=PAUSE):
+    def __init__(self, ask, pause=PAUSE):
         self.pause = pause
-        self.daemon = daemon.process.pid
         self.stop_read, self.stop_write = os.pipe()
         self.result_read, self.result_write = os.pipe()
         self.pid = os.fork()
@@ -46,9 +35,9 @@ class Good:
         asked, served, longest = 0, 0, 0.0
         while not select.select([self.stop_read], [], [], self.pause)[0]:
             asked += 1
-            begin = time.monotonic() - queued(self.daemon) - queued("self")
+            begin = time.monotonic()
             served += ask(asked)
-            longest = max(longest, time.monotonic() - queued(self.daemon) - queued("self") - begin)
+            longest = max(longest, time.monotonic() - begin)
         os.write(self.result_write, struct.pack("iid", asked, served, longest))
 
     def end(self):
@@ -60,9 +49,9 @@ class Good:
         return result
 
 
-def waits_in_calm(asks, hosts, daemon, pause=PAUSE):
+def waits_in_calm(asks, hosts, pause=PAUSE):
     """The longest wait of each of these clients while there is no attack."""
-    clients = {name: Good(ask(hosts), daemon, pause) for name, ask in asks.items()}
+    clients = {name: Good(ask(hosts), pause) for name, ask in asks.items()}
     time.sleep(CALM)
     return {name: client.end()[2] for name, client in clients.items()}
 
