@@ -12,19 +12,20 @@ use Rattle.rb_registry.specs.declared.row.Row.{Row}
 use Rattle.rb_registry.specs.declared.slot.Slot.{Slot}
 use Rattle.rb_registry.specs.Slots.{is_live_at}
 use Rattle.rb_registry.specs.Registry.{table_at, Registry, slots_of}
+use Rattle.rb_registry.specs.declared.versions.Version.{Version}
 use Rattle.rb_registry.specs.Cursors.{StandsIn, slots_left}
 use Rattle.rb_proto.specs.declared.list_reply.ListReply.{ListReply}
 use Rattle.rb_proto.specs.Results.{row_bytes, rows_bytes}
 use Rattle.rb_proto.specs.ListReplies.{longest_row, head_unless, rows_behind, bytes_behind}
 use Rattle.rb_proto.specs.ListParts.{Fills, IsShort}
-use Rattle.rb_proto.specs.Searching.{IsSought, rows_left, steps_left, PassesRow}
+use Rattle.rb_proto.specs.Searching.{IsSought, rows_left, sought_cost, steps_left, PassesRow}
 use Rattle.rb_proto.proofs.Lists.{left}
-use Rattle.rb_proto.proofs.Searching.{bytes_left, row_adds, none_adds, few_steps}
+use Rattle.rb_proto.proofs.Searching.{bytes_left, row_adds, none_adds, few_steps, sought_few}
 
 -- ---- filling
 
 -- The buffer has what stands before the cursor, and it is paid for.
-pub record Filling (sought : Option (ℕ × ℕ)) (kept : Registry) (old now : ListReply) (most base : ℕ) (began out : Kept) (first meter : Meter) : Type 0 where
+pub record Filling (sought : Option Version) (kept : Registry) (old now : ListReply) (most base : ℕ) (began out : Kept) (first meter : Meter) : Type 0 where
   pub moved : now ≡ record old { cursor = now.cursor }
   pub place : StandsIn kept now.stamp now.cursor
   pub is : IsSought now.list kept now.stamp sought
@@ -65,8 +66,8 @@ rows_left_fit kept stamp cursor = omega (arith, table_fits stamp kept.entries, l
 -- ---- its begin, its steps and its ends
 
 -- the head stands before the first row, and nothing before a later one
-pub filling_begins : (sought : Option (ℕ × ℕ)) (kept : Registry) (r : ListReply) (most base : ℕ) (began out : Kept) (first meter : Meter) → StandsIn kept r.stamp r.cursor → IsSought r.list kept r.stamp sought
-    → out.bytes ≡ head_unless r.begun r.xid → out.cap ≡ began.cap → out.tie ≡ began.tie → base ≡ length out.bytes → base ≤ most → PaysAtMost first meter (length out.bytes + 4)
+pub filling_begins : (sought : Option Version) (kept : Registry) (r : ListReply) (most base : ℕ) (began out : Kept) (first meter : Meter) → StandsIn kept r.stamp r.cursor → IsSought r.list kept r.stamp sought
+    → out.bytes ≡ head_unless r.begun r.xid → out.cap ≡ began.cap → out.tie ≡ began.tie → base ≡ length out.bytes → base ≤ most → PaysAtMost first meter (length out.bytes + sought_cost sought kept + 4)
     → Filling sought kept r r most base began out first meter
 filling_begins sought kept r most base began out first meter place is head cap out_tie base_is before cost = record {
   moved = refl;
@@ -79,10 +80,10 @@ filling_begins sought kept r most base began out first meter place is head cap o
   out_tie = out_tie;
   tie = cost.tie;
   rises = cost.rises;
-  steps = omega (arith, cost.steps, few_steps r.list kept r.stamp sought is r.cursor (slots_left_fit kept r.cursor), rows_left_fit kept r.stamp r.cursor);
+  steps = omega (arith, cost.steps, few_steps r.list kept r.stamp sought is r.cursor (slots_left_fit kept r.cursor), sought_few r.list kept r.stamp sought is, rows_left_fit kept r.stamp r.cursor);
 }
 
-module _ (sought : Option (ℕ × ℕ)) (kept : Registry) (old now : ListReply) (most base : ℕ) (began out : Kept) (first meter : Meter) (f : Filling sought kept old now most base began out first meter) where
+module _ (sought : Option Version) (kept : Registry) (old now : ListReply) (most base : ℕ) (began out : Kept) (first meter : Meter) (f : Filling sought kept old now most base began out first meter) where
   -- what stands at the cursor is after what is shown
   at_cursor : drop base (bytes_behind kept old) ≡ rows_bytes (rows_behind kept now.stamp now.cursor) now.list
   at_cursor =

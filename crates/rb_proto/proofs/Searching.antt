@@ -14,11 +14,12 @@ use Rattle.rb_registry.specs.Rows.{is_of_version}
 use Rattle.rb_registry.specs.Registry.{Registry, rows_at, slots_of, rows_passed}
 use Rattle.rb_registry.specs.Table.{PaysFor}
 use Rattle.rb_registry.specs.Cursors.{StandsIn, slots_left}
-use Rattle.rb_registry.specs.Versions.{versions_left, version_cost, PassesMore}
+use Rattle.rb_registry.specs.declared.versions.Version.{Version}
+use Rattle.rb_registry.specs.Versions.{rows_after, next_cost, IsFoundIn, PassesMore}
 use Rattle.rb_proto.specs.declared.answers.Listing.{Listing}
 use Rattle.rb_proto.specs.Results.{is_shown, row_bytes}
 use Rattle.rb_proto.specs.ListReplies.{rows_behind}
-use Rattle.rb_proto.specs.Searching.{IsSought, rows_left, steps_left, PassesRow}
+use Rattle.rb_proto.specs.Searching.{IsSought, rows_left, sought_cost, walk_cost, steps_left, PassesRow}
 
 -- what the rows after a cursor add to a list
 abbrev pub bytes_left : Listing → Registry → ℕ → Option ℕ → List ℕ
@@ -43,12 +44,12 @@ walked kept stamp cursor row next here place passed within =
 pub walked_all : (kept : Registry) (stamp : ℕ) (cursor : Option ℕ) → rows_passed kept stamp cursor ≡ length (rows_at kept stamp) → rows_left None kept stamp cursor ≡ []
 walked_all kept stamp cursor end = rw (end, drop-length (rows_at kept stamp)) refl
 
-pub found : (kept : Registry) (stamp prog vers : ℕ) (cursor : Option ℕ) (row : Row) (next : Option ℕ) → stamp ≡ kept.stamp → versions_left prog vers kept cursor ≡ row ∷ versions_left prog vers kept next
-    → StandsIn kept kept.stamp next → PassesMore kept cursor next → rows_passed kept kept.stamp next ≤ length (rows_at kept kept.stamp) → PassesRow (Some (prog, vers)) kept stamp cursor row next
-found kept stamp prog vers cursor row next now first place passed within = rw now (record { place = place; first = first; passed = passed; within = within })
+pub found : (kept : Registry) (stamp : ℕ) (version : Version) (cursor : Option ℕ) (row : Row) (next : Option ℕ) → stamp ≡ kept.stamp → rows_after version kept cursor ≡ row ∷ rows_after version kept next
+    → StandsIn kept kept.stamp next → PassesMore kept cursor next → rows_passed kept kept.stamp next ≤ length (rows_at kept kept.stamp) → PassesRow (Some version) kept stamp cursor row next
+found kept stamp version cursor row next now first place passed within = rw now (record { place = place; first = first; passed = passed; within = within })
 
-pub found_all : (kept : Registry) (stamp prog vers : ℕ) (cursor : Option ℕ) → stamp ≡ kept.stamp → versions_left prog vers kept cursor ≡ [] → rows_left (Some (prog, vers)) kept stamp cursor ≡ []
-found_all kept stamp prog vers cursor now end = rw now end
+pub found_all : (kept : Registry) (stamp : ℕ) (version : Version) (cursor : Option ℕ) → stamp ≡ kept.stamp → rows_after version kept cursor ≡ [] → rows_left (Some version) kept stamp cursor ≡ []
+found_all kept stamp version cursor now end = rw now end
 
 pub walked_cost : (kept : Registry) (cursor next : Option ℕ) (old new : Meter) → PaysFor kept.entries cursor next old new → new.steps + steps_left None kept next ≤ old.steps + steps_left None kept cursor
 unfolding steps_left
@@ -61,20 +62,20 @@ walked_most kept cursor old new paid = paid
 searches : (cost left old new : ℕ) → new ≤ old + cost → new + (cost * left + (cost - 1)) ≤ old + (cost * (left + 1) + (cost - 1))
 searches cost left old new le = omega (arith, le)
 
-pub found_cost : (kept : Registry) (prog vers : ℕ) (cursor next : Option ℕ) (row : Row) (old new : Meter) → versions_left prog vers kept cursor ≡ row ∷ versions_left prog vers kept next
-    → PaysAtMost old new (version_cost kept) → new.steps + steps_left (Some (prog, vers)) kept next ≤ old.steps + steps_left (Some (prog, vers)) kept cursor
+pub found_cost : (kept : Registry) (version : Version) (cursor next : Option ℕ) (row : Row) (old new : Meter) → rows_after version kept cursor ≡ row ∷ rows_after version kept next
+    → PaysAtMost old new next_cost → new.steps + steps_left (Some version) kept next ≤ old.steps + steps_left (Some version) kept cursor
 unfolding steps_left
-found_cost kept prog vers cursor next row old new first paid =
-    let longer : length (versions_left prog vers kept cursor) ≡ length (versions_left prog vers kept next) + 1 = ap (λ (rows : List Row). length rows) first ∙ sym (add-one (length (versions_left prog vers kept next))) in
-    rw longer (searches (version_cost kept) (length (versions_left prog vers kept next)) old.steps new.steps paid.steps)
+found_cost kept version cursor next row old new first paid =
+    let longer : length (rows_after version kept cursor) ≡ length (rows_after version kept next) + 1 = ap (λ (rows : List Row). length rows) first ∙ sym (add-one (length (rows_after version kept next))) in
+    rw longer (searches next_cost (length (rows_after version kept next)) old.steps new.steps paid.steps)
 
 more_searches : (cost left : ℕ) → 0 < cost → cost ≤ cost * left + (cost - 1) + 1
 more_searches cost left some = omega (arith, some)
 
-pub found_most : (kept : Registry) (prog vers : ℕ) (cursor : Option ℕ) (old new : Meter) → PaysAtMost old new (version_cost kept) → PaysAtMost old new (steps_left (Some (prog, vers)) kept cursor + 1)
+pub found_most : (kept : Registry) (version : Version) (cursor : Option ℕ) (old new : Meter) → PaysAtMost old new next_cost → PaysAtMost old new (steps_left (Some version) kept cursor + 1)
 unfolding steps_left
-found_most kept prog vers cursor old new paid =
-    let most = more_searches (version_cost kept) (length (versions_left prog vers kept cursor)) (omega arith) in
+found_most kept version cursor old new paid =
+    let most = more_searches next_cost (length (rows_after version kept cursor)) (omega arith) in
     record { rises = paid.rises; steps = omega (arith, paid.steps, most); tie = paid.tie }
 
 -- ---- the step that is taken, if there is one
@@ -90,10 +91,10 @@ pub walked_costs : (kept : Registry) (cursor : Option ℕ) (result : Option (Opt
 walked_costs kept cursor None old new paid = tt
 walked_costs kept cursor (Some n) old new paid = walked_cost kept cursor n.0 old new paid
 
-pub found_costs : (kept : Registry) (prog vers : ℕ) (cursor : Option ℕ) (result : Option (Option ℕ × Bor Row)) (old new : Meter) → IfSome result (λ n. versions_left prog vers kept cursor ≡ n.1.now ∷ versions_left prog vers kept n.0)
-    → PaysAtMost old new (version_cost kept) → IfSome result (λ n. new.steps + steps_left (Some (prog, vers)) kept n.0 ≤ old.steps + steps_left (Some (prog, vers)) kept cursor)
-found_costs kept prog vers cursor None old new first paid = tt
-found_costs kept prog vers cursor (Some n) old new first paid = found_cost kept prog vers cursor n.0 n.1.now old new first paid
+pub found_costs : (kept : Registry) (version : Version) (cursor : Option ℕ) (result : Option (Option ℕ × Bor Row)) (old new : Meter) → IfSome result (λ n. rows_after version kept cursor ≡ n.1.now ∷ rows_after version kept n.0)
+    → PaysAtMost old new next_cost → IfSome result (λ n. new.steps + steps_left (Some version) kept n.0 ≤ old.steps + steps_left (Some version) kept cursor)
+found_costs kept version cursor None old new first paid = tt
+found_costs kept version cursor (Some n) old new first paid = found_cost kept version cursor n.0 n.1.now old new first paid
 
 -- ---- what the rows add
 
@@ -108,16 +109,16 @@ only_shown list prog vers shows (row ∷ rows) = by_test (is_of_version prog ver
     by_test true t further = ap (λ (xs : List ℕ). row_bytes list row ++ xs) further
     by_test false t further = let hidden : is_shown list row ≡ false = shows row ∙ t in rw hidden further
 
-few_searches : (cost left slots : ℕ) → left ≤ 5 → 6 * cost ≤ 2 * slots + 1 → cost * left + (cost - 1) ≤ 2 * slots
-few_searches cost left slots few long = let product = mul-le-mul_left cost few in omega (arith, product, long)
+few_searches : (cost left : ℕ) → left ≤ 5 → cost * left + (cost - 1) ≤ 6 * cost
+few_searches cost left few = let product = mul-le-mul_left cost few in omega (arith, product)
 
-module _ (list : Listing) (kept : Registry) (stamp : ℕ) (sought : Option (ℕ × ℕ)) (is : IsSought list kept stamp sought) where
+module _ (list : Listing) (kept : Registry) (stamp : ℕ) (sought : Option Version) (is : IsSought list kept stamp sought) where
   bytes_sought : (cursor : Option ℕ) → flat_map (row_bytes list) (rows_left sought kept stamp cursor) ≡ bytes_left list kept stamp cursor
   bytes_sought cursor = by_sought sought is
     where
-      by_sought : (o : Option (ℕ × ℕ)) → IsSought list kept stamp o → flat_map (row_bytes list) (rows_left o kept stamp cursor) ≡ bytes_left list kept stamp cursor
+      by_sought : (o : Option Version) → IsSought list kept stamp o → flat_map (row_bytes list) (rows_left o kept stamp cursor) ≡ bytes_left list kept stamp cursor
       by_sought None is = refl
-      by_sought (Some version) is = only_shown list version.0 version.1 is.shows (rows_behind kept stamp cursor)
+      by_sought (Some version) is = only_shown list version.prog version.vers is.shows (rows_behind kept stamp cursor)
 
   pub row_adds : (cursor : Option ℕ) (row : Row) (next : Option ℕ) → PassesRow sought kept stamp cursor row next → bytes_left list kept stamp cursor ≡ row_bytes list row ++ bytes_left list kept stamp next
   row_adds cursor row next passes =
@@ -126,33 +127,42 @@ module _ (list : Listing) (kept : Registry) (stamp : ℕ) (sought : Option (ℕ 
   pub none_adds : (cursor : Option ℕ) → rows_left sought kept stamp cursor ≡ [] → bytes_left list kept stamp cursor ≡ []
   none_adds cursor end = sym (bytes_sought cursor) ∙ ap (flat_map (row_bytes list)) end
 
-  -- to come to the rows costs no more than a walk over all of them
-  pub few_steps : (cursor : Option ℕ) → slots_left kept cursor ≤ length (slots_of kept) → steps_left sought kept cursor ≤ 2 * length (slots_of kept)
+  -- to come to the rows after a cursor costs no more than to come to all of them
+  pub few_steps : (cursor : Option ℕ) → slots_left kept cursor ≤ length (slots_of kept) → steps_left sought kept cursor ≤ walk_cost sought kept
   unfolding steps_left
   few_steps cursor fits = by_sought sought is
     where
-      by_sought : (o : Option (ℕ × ℕ)) → IsSought list kept stamp o → steps_left o kept cursor ≤ 2 * length (slots_of kept)
+      by_sought : (o : Option Version) → IsSought list kept stamp o → steps_left o kept cursor ≤ walk_cost o kept
       by_sought None is = omega (arith, fits)
-      by_sought (Some version) is = few_searches (version_cost kept) (length (versions_left version.0 version.1 kept cursor)) (length (slots_of kept)) (is.few version.0 version.1 cursor is.small) is.long
+      by_sought (Some version) is = few_searches next_cost (length (rows_after version kept cursor)) (is.few version.prog version.vers cursor is.found.small)
 
-pub sought_now : (list : Listing) (kept : Registry) (stamp : ℕ) (sought : Option (ℕ × ℕ)) → IsSought list kept stamp sought → IfSome sought (λ version. stamp ≡ kept.stamp)
+-- and with what it costs to find them no more than a walk over all rows
+pub sought_few : (list : Listing) (kept : Registry) (stamp : ℕ) (sought : Option Version) → IsSought list kept stamp sought → sought_cost sought kept + walk_cost sought kept ≤ 2 * length (slots_of kept)
+sought_few list kept stamp None is = omega arith
+sought_few list kept stamp (Some version) is = is.long
+
+pub sought_found : (list : Listing) (kept : Registry) (stamp : ℕ) (sought : Option Version) → IsSought list kept stamp sought → IfSome sought (λ version. IsFoundIn kept version)
+sought_found list kept stamp None is = tt
+sought_found list kept stamp (Some version) is = is.found
+
+pub sought_now : (list : Listing) (kept : Registry) (stamp : ℕ) (sought : Option Version) → IsSought list kept stamp sought → IfSome sought (λ version. stamp ≡ kept.stamp)
 sought_now list kept stamp None is = tt
 sought_now list kept stamp (Some version) is = is.now
 
 -- ---- the walk for the room
 
 -- what the rows after the cursor add fits, if this much room is left after the others, and these are paid for
-pub record Measuring (list : Listing) (sought : Option (ℕ × ℕ)) (kept : Registry) (stamp : ℕ) (cursor : Option ℕ) (room behind : ℕ) (first meter : Meter) : Type 0 where
+pub record Measuring (list : Listing) (sought : Option Version) (kept : Registry) (stamp : ℕ) (cursor : Option ℕ) (room behind : ℕ) (first meter : Meter) : Type 0 where
   pub place : StandsIn kept stamp cursor
   pub fits : behind + length (flat_map (row_bytes list) (rows_at kept stamp)) ≡ room + length (bytes_left list kept stamp cursor)
   pub tie : meter.tie ≡ first.tie
   pub rises : first.steps ≤ meter.steps
-  pub steps : meter.steps + steps_left sought kept cursor ≤ first.steps + 2 * length (slots_of kept)
+  pub steps : meter.steps + steps_left sought kept cursor ≤ first.steps + walk_cost sought kept
 
 all_left : (list : Listing) (kept : Registry) (stamp : ℕ) (cursor : Option ℕ) → rows_passed kept stamp cursor ≡ 0 → bytes_left list kept stamp cursor ≡ flat_map (row_bytes list) (rows_at kept stamp)
 all_left list kept stamp cursor none = ap (λ (n : ℕ). flat_map (row_bytes list) (drop n (rows_at kept stamp))) none
 
-module _ (list : Listing) (sought : Option (ℕ × ℕ)) (kept : Registry) (stamp : ℕ) (is : IsSought list kept stamp sought) (cursor : Option ℕ) where
+module _ (list : Listing) (sought : Option Version) (kept : Registry) (stamp : ℕ) (is : IsSought list kept stamp sought) (cursor : Option ℕ) where
   pub nothing_measured : (room : ℕ) (first : Meter) → StandsIn kept stamp cursor → rows_passed kept stamp cursor ≡ 0 → slots_left kept cursor ≡ length (slots_of kept) → Measuring list sought kept stamp cursor room room first first
   nothing_measured room first place none all = record {
     place = place;
@@ -192,15 +202,15 @@ module _ (list : Listing) (sought : Option (ℕ × ℕ)) (kept : Registry) (stam
 -- ---- the walk that writes
 
 -- what the rows before the cursor add is written and paid for
-pub record Writing (list : Listing) (sought : Option (ℕ × ℕ)) (kept : Registry) (stamp : ℕ) (cursor : Option ℕ) (began out : Kept) (first meter : Meter) : Type 0 where
+pub record Writing (list : Listing) (sought : Option Version) (kept : Registry) (stamp : ℕ) (cursor : Option ℕ) (began out : Kept) (first meter : Meter) : Type 0 where
   pub place : StandsIn kept stamp cursor
   pub same : out ≡ record began { bytes = out.bytes }
   pub written : out.bytes ++ bytes_left list kept stamp cursor ≡ began.bytes ++ flat_map (row_bytes list) (rows_at kept stamp)
   pub tie : meter.tie ≡ first.tie
   pub rises : first.steps ≤ meter.steps
-  pub steps : meter.steps + steps_left sought kept cursor + length began.bytes ≤ first.steps + 2 * length (slots_of kept) + length out.bytes
+  pub steps : meter.steps + steps_left sought kept cursor + length began.bytes ≤ first.steps + walk_cost sought kept + length out.bytes
 
-module _ (list : Listing) (sought : Option (ℕ × ℕ)) (kept : Registry) (stamp : ℕ) (is : IsSought list kept stamp sought) (cursor : Option ℕ) where
+module _ (list : Listing) (sought : Option Version) (kept : Registry) (stamp : ℕ) (is : IsSought list kept stamp sought) (cursor : Option ℕ) where
   pub nothing_written : (began : Kept) (first : Meter) → StandsIn kept stamp cursor → rows_passed kept stamp cursor ≡ 0 → slots_left kept cursor ≡ length (slots_of kept) → Writing list sought kept stamp cursor began began first first
   nothing_written began first place none all = record {
     place = place;

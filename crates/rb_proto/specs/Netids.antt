@@ -1,5 +1,5 @@
 -- What is known of each netid (RFC 5665 section 5.1, RFC 1833 section 2.1).
-use Rattle.std.specs.Prelude.{ℕ, ◌==◌, Bool, false, not, List, [], ◌∷◌, Option, Some, None, option_map, codes}
+use Rattle.std.specs.Prelude.{ℕ, ◌==◌, Bool, false, not, List, [], ◌∷◌, ◌++◌, Option, Some, None, option_map, codes}
 use Rattle.std.specs.Option.{option_map_or}
 use Rattle.rb_uaddr.specs.declared.address.Uaddr.{Uaddr}
 use Rattle.rb_uaddr.specs.Uaddr.{port_of, parse_ipv4, parse_ipv6, is_local_text}
@@ -8,7 +8,8 @@ use Rattle.rb_address.specs.declared.netid.Netid.{Netid}
 use Rattle.rb_address.specs.declared.netid.Netid.TheVariants.{Tcp, Udp, Tcp6, Udp6, Local}
 use Rattle.rb_registry.specs.declared.row.Which.{Which}
 use Rattle.rb_registry.specs.declared.row.Which.TheVariants.{All, One}
-use Rattle.rb_address.specs.Netids.{netid_named, protocol_of}
+use Rattle.rb_address.specs.Netids.{netid_named, netid_text, protocol_of}
+use Rattle.rb_xdr.specs.Xdr.{number, opaque}
 
 -- UNSET-4: UNSET with an empty netid means every netid; with an unknown one it is FALSE.
 unfoldable pub which_of : List ℕ → Option Which
@@ -50,6 +51,10 @@ proto_text Udp = codes "udp"
 proto_text Tcp6 = codes "tcp"
 proto_text Udp6 = codes "udp"
 proto_text Local = codes "-"
+
+-- what an entry has after the address
+abbrev pub entry_end : Netid → List ℕ
+entry_end netid = opaque (netid_text netid) ++ (number (semantics_of netid) ++ (opaque (family_text netid) ++ opaque (proto_text netid)))
 
 -- ---- addresses
 

@@ -6,6 +6,7 @@ use Rattle.rb_xdr.specs.Ordered.{looks}
 use Rattle.rb_registry.specs.declared.row.Which.{Which}
 use Rattle.rb_registry.specs.declared.row.Which.TheVariants.{Inet}
 use Rattle.rb_registry.specs.Registry.{Registry, slots_of}
+use Rattle.rb_registry.specs.declared.versions.Version.{Version}
 use Rattle.rb_registry.specs.Costs.{set_cost, unset_cost}
 use Rattle.rb_forward.specs.Costs.{end_cost, unsent_cost}
 use Rattle.rb_arguments.specs.declared.procedure.VoidProcedure.TheVariants as voids
@@ -24,14 +25,15 @@ use Rattle.rb_proto.specs.Answers.{comes_from_here}
 use Rattle.rb_proto.specs.Netids.{which_of}
 use Rattle.rb_proto.specs.Costs.{note_cost, forward_cost, statistics_cost}
 use Rattle.rb_proto.specs.ListReplies.{part_room}
+use Rattle.rb_proto.specs.Searching.{walk_cost}
 
 -- one step for the length, and one for each byte that was put
 abbrev pub put_cost : Kept → Kept → ℕ
 put_cost old new = 1 + (length new.bytes - length old.bytes)
 
--- a walk over the rows, live or retained, and one step for each byte that was put
-abbrev pub write_cost : Registry → Kept → Kept → ℕ
-write_cost kept old new = 2 * length (slots_of kept) + 2 + (length new.bytes - length old.bytes)
+-- a walk over the rows, live or retained, or those of a version, and one step for each byte that was put
+abbrev pub write_cost : Option Version → Registry → Kept → Kept → ℕ
+write_cost sought kept old new = walk_cost sought kept + 2 + (length new.bytes - length old.bytes)
 
 -- two walks over the rows beside it
 abbrev pub list_cost : Registry → Kept → Kept → ℕ

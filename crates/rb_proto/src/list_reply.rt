@@ -10,7 +10,7 @@ ghost use Rattle.rb_proto.specs.ListParts.{ListsRows, IsNextPart, IsBehindPart, 
 ghost use Rattle.rb_proto.specs.Puts.{fill_cost, part_cost};
 
 use crate::answers::Listing;
-use crate::rows::{next_row, version_sought, write_row};
+use crate::rows::{next_row, seek_version, write_row};
 use rb_registry::{Cursor, Registry};
 use rb_rpc::{FRAGMENT_SIZE, ReplyHead, ReplyStatus, put_reply};
 use rb_xdr::{Kept, Meter, Xdr};
@@ -148,8 +148,9 @@ impl ListReply {
         out.clear(meter);
         self.put_head(out, meter);
         let mut base = out.len(meter);
-        let sought = version_sought(self.list, registry, self.stamp, meter);
-        'rows: while let Some(found) = next_row(sought, registry, self.stamp, self.cursor, meter) {
+        let mut sought = None;
+        seek_version(self.list, registry, self.stamp, &mut sought, meter);
+        'rows: while let Some(found) = next_row(&sought, registry, self.stamp, self.cursor, meter) {
             let (next, row) = found;
             write_row(self.list, row, out, meter);
             let len = out.len(meter);

@@ -15,7 +15,7 @@ ghost use Rattle.rb_proto.specs.Results.{value_bytes, results_at, rows_bytes, sh
 use crate::answers::{Listing, Results, Value};
 use crate::books::Books;
 use crate::forwarding::uaddr_at;
-use crate::rows::{room_after_rows, version_sought, write_rows};
+use crate::rows::{room_after_rows, seek_version, write_rows};
 use rb_forward::{Forward, LONGEST_RESULTS};
 use rb_registry::Registry;
 use rb_rpc::Kind;
@@ -63,6 +63,7 @@ fn put_value(value: &Value, limit: usize, out: &mut Kept, meter: &mut Meter) -> 
 
 // PUT-1: Results that would be longer than the limit are refused whole, and nothing is put.
 /// Puts the rows that a list shows, and its end: all or nothing.
+#[tactic(auto, using(crate::proofs::Searching::sought_few))]
 fn put_rows(
     list: Listing,
     registry: &Registry,
@@ -80,11 +81,12 @@ fn put_rows(
         return Err(Full { value: () });
     };
     let stamp = registry.stamp();
-    let sought = version_sought(list, registry, stamp, meter);
-    if room_after_rows(list, sought, registry, stamp, room, meter).is_none() {
+    let mut sought = None;
+    seek_version(list, registry, stamp, &mut sought, meter);
+    if room_after_rows(list, &sought, registry, stamp, room, meter).is_none() {
         return Err(Full { value: () });
     }
-    write_rows(list, sought, registry, stamp, out, meter);
+    write_rows(list, &sought, registry, stamp, out, meter);
     Ok(())
 }
 

@@ -1,17 +1,20 @@
 //! Rows as a list shows them: the room that they need, and their bytes.
-ghost use Rattle.std.specs.Prelude.{◌≡◌, ◌+◌, ◌*◌, ◌≤◌, [], length, IfSome, IfNone};
+ghost use Rattle.std.specs.Prelude.{◌≡◌, ◌+◌, ◌≤◌, [], length, None, IfSome, IfNone};
 ghost use Rattle.rb_xdr.specs.Meter.{Pays, PaysAtMost};
-ghost use Rattle.rb_registry.specs.Registry.{Reaches, rows_at, slots_of};
+ghost use Rattle.rb_registry.specs.Registry.{Reaches, rows_at};
+ghost use Rattle.rb_registry.specs.Versions.{IsFoundIn};
 ghost use Rattle.rb_registry.specs.Cursors.{StandsIn};
 ghost use Rattle.rb_xdr.specs.Puts.{Appends, HasRoom, Leaves};
 ghost use Rattle.rb_proto.specs.ListParts.{IsShort, FitsIfShort};
-ghost use Rattle.rb_proto.specs.Searching.{IsSought, rows_left, steps_left, PassesRow};
+ghost use Rattle.rb_proto.specs.Searching.{IsSought, rows_left, steps_left, sought_cost, walk_cost, PassesRow};
 ghost use Rattle.rb_proto.specs.Puts.{write_cost};
 ghost use Rattle.rb_proto.specs.Results.{mapping_item, entry_item, is_shown, row_bytes, rows_bytes};
 
 use crate::answers::Listing;
 use crate::items::{entry_of, mapping_of};
-use rb_registry::{Cursor, ListedRow, Registry, Row, Which};
+use crate::lookups::shown_text;
+use crate::netids::entry_end;
+use rb_registry::{Cursor, ListedRow, Registry, Row, Version, Which};
 use rb_uaddr::Hosts;
 use rb_xdr::{Kept, Meter, Xdr};
 
@@ -68,10 +71,11 @@ fn write_entry(hosts: &Hosts, row: &Row, out: &mut Kept, meter: &mut Meter)
     ensures written { Appends (entry_item hosts.now row.now) out.old out.new }
     ensures cost { Pays meter.old meter.new (length (entry_item hosts.now row.now)) }
 {
-    let entry = entry_of(hosts, row);
-    entry.within_limits();
+    let maddr = shown_text(hosts, row);
+    let _content = maddr.as_slice();
     true.write(out, meter);
-    entry.write(out, meter);
+    maddr.write(out, meter);
+    let _ = out.extend(entry_end(row.netid), meter);
 }
 
 /// Writes what a row adds to a list: TRUE and the item, or nothing if the list doesn't show the row. It is short, and
@@ -101,27 +105,26 @@ pub(crate) fn write_row(list: Listing, listed: &ListedRow, out: &mut Kept, meter
 }
 
 // LOOKUP-4
-/// The program and version whose rows are searched for, if the list shows those alone, nothing changed since this many
-/// changes, and they are among many.
-pub(crate) fn version_sought(
+/// Finds the version whose rows are searched for, if the list shows those alone, nothing changed since this many changes, and
+/// they are among many. It is inlined, as `next_row`: most lists have none, and then nothing is written.
+#[inline(always)]
+pub(crate) fn seek_version(
     list: Listing,
     registry: &Registry,
     stamp: u64,
+    sought: &mut Option<Version>,
     meter: &mut Meter,
-) -> Option<(u32, u32)>
+)
     requires tie { meter.old.tie ≡ registry.now.tie }
-    ensures sought { IsSought list registry.now stamp result }
-    ensures cost { PaysAtMost meter.old meter.new 1 }
+    requires none { sought.old ≡ None }
+    ensures sought { IsSought list registry.now stamp sought.new }
+    ensures cost { PaysAtMost meter.old meter.new (sought_cost sought.new registry.now + 1) }
 {
-    match list {
-        Listing::Mappings | Listing::Rpcbs => None,
-        Listing::Entries(prog, vers, _) => {
-            if stamp == registry.stamp() && registry.is_long(meter) {
-                Some((prog, vers))
-            } else {
-                None
-            }
-        }
+    let Listing::Entries(prog, vers, _) = list else {
+        return;
+    };
+    if stamp == registry.stamp() && registry.is_long(meter) {
+        *sought = Some(registry.version(prog, vers, meter));
     }
 }
 
@@ -129,23 +132,25 @@ pub(crate) fn version_sought(
 /// most lists are walked, and each row of one comes by here.
 #[inline(always)]
 pub(crate) fn next_row<'a>(
-    sought: Option<(u32, u32)>,
+    sought: &Option<Version>,
     registry: &'a Registry,
     stamp: u64,
     cursor: Cursor,
     meter: &mut Meter,
 ) -> Option<(Cursor, &'a ListedRow)>
     requires tie { meter.old.tie ≡ registry.now.tie }
-    requires now { IfSome sought (λ version. stamp ≡ registry.now.stamp) }
+    requires now { IfSome sought.now (λ version. stamp ≡ registry.now.stamp) }
+    requires found { IfSome sought.now (λ version. IsFoundIn registry.now version) }
     requires place { StandsIn registry.now stamp cursor }
-    ensures row { IfSome result (λ n. PassesRow sought registry.now stamp cursor n.1.now n.0) }
-    ensures end { IfNone result (rows_left sought registry.now stamp cursor ≡ []) }
-    ensures cost { PaysAtMost meter.old meter.new (steps_left sought registry.now cursor + 1) }
-    ensures cost_row { IfSome result (λ n. meter.new.steps + steps_left sought registry.now n.0
-        ≤ meter.old.steps + steps_left sought registry.now cursor) }
+    ensures row { IfSome result
+        (λ n. PassesRow sought.now registry.now stamp cursor n.1.now n.0) }
+    ensures end { IfNone result (rows_left sought.now registry.now stamp cursor ≡ []) }
+    ensures cost { PaysAtMost meter.old meter.new (steps_left sought.now registry.now cursor + 1) }
+    ensures cost_row { IfSome result (λ n. meter.new.steps + steps_left sought.now registry.now n.0
+        ≤ meter.old.steps + steps_left sought.now registry.now cursor) }
 {
     match sought {
-        Some((prog, vers)) => registry.next_of(prog, vers, cursor, meter),
+        Some(version) => registry.next_of(version, cursor, meter),
         None => registry.next_row(stamp, cursor, meter),
     }
 }
@@ -154,17 +159,17 @@ pub(crate) fn next_row<'a>(
 /// end, if they fit.
 pub(crate) fn room_after_rows(
     list: Listing,
-    sought: Option<(u32, u32)>,
+    sought: &Option<Version>,
     registry: &Registry,
     stamp: u64,
     room: usize,
     meter: &mut Meter,
 ) -> Option<usize>
     requires registry { meter.old.tie ≡ registry.now.tie }
-    requires sought { IsSought list registry.now stamp sought }
+    requires sought { IsSought list registry.now stamp sought.now }
     requires stamp { Reaches registry.now stamp }
     ensures room { Leaves (rows_bytes (rows_at registry.now stamp) list) room result }
-    ensures cost { PaysAtMost meter.old meter.new (2 * length (slots_of registry.now) + 1) }
+    ensures cost { PaysAtMost meter.old meter.new (walk_cost sought.now registry.now + 1) }
 {
     let mut cursor = Cursor::start();
     let mut left = room;
@@ -179,19 +184,20 @@ pub(crate) fn room_after_rows(
 /// Writes the rows that a list shows, as they were after this many changes, and its end.
 pub(crate) fn write_rows(
     list: Listing,
-    sought: Option<(u32, u32)>,
+    sought: &Option<Version>,
     registry: &Registry,
     stamp: u64,
     out: &mut Kept,
     meter: &mut Meter,
 )
     requires registry { meter.old.tie ≡ registry.now.tie }
-    requires sought { IsSought list registry.now stamp sought }
+    requires sought { IsSought list registry.now stamp sought.now }
     requires tie { meter.old.tie ≡ out.old.tie }
     requires stamp { Reaches registry.now stamp }
     requires room { HasRoom (rows_bytes (rows_at registry.now stamp) list) out.old }
     ensures written { Appends (rows_bytes (rows_at registry.now stamp) list) out.old out.new }
-    ensures cost { PaysAtMost meter.old meter.new (write_cost registry.now out.old out.new) }
+    ensures cost { PaysAtMost meter.old meter.new
+        (write_cost sought.now registry.now out.old out.new) }
 {
     let mut cursor = Cursor::start();
     'rows: while let Some(found) = next_row(sought, registry, stamp, cursor, meter) {

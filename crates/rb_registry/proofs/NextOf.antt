@@ -1,23 +1,26 @@
 -- The rows of one version, and how the index leads from one to the next.
-use Rattle.std.proofs.Common.{◌≡◌, ℕ, zero, suc, ◌+◌, ◌≤◌, ◌<◌, Bool, true, false, cond, eqb, ◌&&◌, ◌||◌, List, [], ◌∷◌, ◌++◌, Option, Some, None, refl, sym, ap, ◌∙◌, eq-eqb, arith}
-use Rattle.std.specs.Prelude.{filter, find, is_none, nat_lt, option_map, ◌^◌}
+use Rattle.std.proofs.Common.{◌≡◌, ℕ, zero, suc, ◌+◌, ◌≤◌, ◌<◌, Bool, true, false, cond, eqb, ◌&&◌, ◌||◌, List, [], ◌∷◌, ◌++◌, length, get_or, Option, Some, None, refl, sym, ap, ◌∙◌, eq-eqb, arith}
+use Rattle.std.specs.Prelude.{filter, find, map, is_none, nat_lt, option_map, ◌^◌}
 use Rattle.std.specs.List.{list_any}
 use Rattle.std.specs.Map.{values_of}
 use Rattle.std.proofs.lemmas.Bool.{eqb-true}
+use Rattle.std.proofs.lemmas.List.{get_or-map}
 use Rattle.std.proofs.lemmas.Bool.Decides.{nat_tests}
 use Rattle.rb_xdr.specs.Pool.{value_at, HasDistinctKeys}
 use Rattle.rb_xdr.specs.Places.{behind, to_come}
 use Rattle.rb_xdr.specs.Search.{key_of}
 use Rattle.rb_address.specs.declared.netid.Netid.{Netid}
+use Rattle.rb_address.specs.declared.netid.Netid.TheVariants.{Tcp}
 use Rattle.rb_address.specs.Netids.{is_netid}
 use Rattle.rb_registry.specs.declared.row.Row.{Row}
 use Rattle.rb_registry.specs.declared.slot.Slot.{Slot}
+use Rattle.rb_registry.specs.declared.versions.Version.{Version}
 use Rattle.rb_registry.specs.Rows.{is_on, is_row, is_of_version}
 use Rattle.rb_registry.specs.Registry.{table_at}
 use Rattle.rb_registry.specs.Table.{AreStamped}
-use Rattle.rb_registry.specs.Index.{rank, rank_of, ranks, AreRanked, IsIndexed}
+use Rattle.rb_registry.specs.Index.{rank, rank_of, ranks, AreRanked}
 use Rattle.rb_registry.specs.Order.{number_after, AreInOrder}
-use Rattle.rb_registry.specs.Versions.{is_version_now, versions_in, is_own_version, is_later_version, is_later_on, place_of, first_place, later_at, earlier_of, added_at}
+use Rattle.rb_registry.specs.Versions.{is_version_now, versions_in, is_own_version, is_later_version, is_later_on, place_of, first_place, place_on, later_of, later_at, later_than, earlier_of, added_at}
 use Rattle.rb_registry.proofs.InOrder.{after_more}
 use Rattle.rb_xdr.proofs.Walks.{apart, nothing_behind}
 use Rattle.rb_registry.proofs.Tables.{live_has_none}
@@ -84,6 +87,19 @@ module _ (prog vers : ℕ) where
 
 -- ---- a row on a netid, by its rank
 
+-- what was added later than a change, of what any change added
+later_found : (after : ℕ) (entries : List (ℕ × Slot)) (found : Option ℕ) → later_than after (later_at 0 entries found) ≡ later_at after entries found
+later_found after entries None = refl
+later_found after entries (Some key) = by_value (value_at entries key)
+  where
+    by_number : (n : ℕ) → later_than after (cond (nat_lt 0 n) (Some (n, key)) None) ≡ cond (nat_lt after n) (Some (n, key)) None
+    by_number zero = let no : nat_lt after 0 ≡ false = grind (arith, nat_tests) in rw no refl
+    by_number (suc n) = let yes : nat_lt 0 (suc n) ≡ true = grind (arith, nat_tests) in rw yes refl
+
+    by_value : (o : Option Slot) → later_than after (later_of 0 key o) ≡ later_of after key o
+    by_value None = refl
+    by_value (Some slot) = by_number slot.added
+
 module _ (prog vers after : ℕ) (netid : Netid) (small : vers < 2 ^ 32) where
   test_is : (slot : Slot) → slot.row.vers < 2 ^ 32
       → is_later_on prog vers after netid slot ≡ ((is_none slot.removed && eqb (rank_of slot.row) (rank prog netid vers)) && nat_lt after slot.added)
@@ -136,10 +152,17 @@ module _ (prog vers after : ℕ) (netid : Netid) (small : vers < 2 ^ 32) where
       by_tests true s false t is keys further = rw (is, t) (further keys.1 ∙ sym (further_on refl))
       by_tests false s b t is keys further = rw is (further keys ∙ sym (further_on refl))
 
-  pub later_indexed : (entries : List (ℕ × Slot)) (index : List (ℕ × ℕ)) (found : Option ℕ) → HasDistinctKeys entries → IsIndexed entries index
-      → found ≡ value_at index (rank prog netid vers) → first_place (is_later_on prog vers after netid) entries ≡ later_at after entries found
-  later_indexed entries index found d indexed is =
-      later_under entries indexed.ranked d indexed.distinct ∙ ap (later_at after entries) (sym (is ∙ indexed.same (rank prog netid vers)))
+  -- the place that was found, if its row was added later
+  pub place_later : (entries : List (ℕ × Slot)) → AreRanked entries → HasDistinctKeys entries → HasDistinctKeys (ranks entries)
+      → later_than after (place_on prog vers entries netid) ≡ first_place (is_later_on prog vers after netid) entries
+  place_later entries ranked d keys =
+      later_found after entries (value_at (ranks entries) (rank prog netid vers)) ∙ sym (later_under entries ranked d keys)
+
+-- the place on a netid, of those that were found
+pub found_on : (version : Version) (entries : List (ℕ × Slot)) (i : ℕ) → version.places ≡ map (place_on version.prog version.vers entries) netids → i < length netids
+    → get_or version.places i None ≡ place_on version.prog version.vers entries (get_or netids i Tcp)
+found_on version entries i found within =
+    ap (λ (places : List (Option (ℕ × ℕ))). get_or places i None) found ∙ get_or-map (place_on version.prog version.vers entries) netids i Tcp None within
 
 -- ---- the earlier of two
 

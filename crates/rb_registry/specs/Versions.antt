@@ -1,5 +1,5 @@
 -- The rows of one version of a program, and how the index leads from one to the next.
-use Rattle.std.specs.Prelude.{◌≡◌, ◌≤◌, ◌<◌, ℕ, ◌+◌, ◌*◌, ◌^◌, ◌==◌, nat_lt, Bool, false, ◌&&◌, is_none, if◌then◌else◌, List, [], ◌∷◌, length, drop, filter, find, Option, Some, None, option_map}
+use Rattle.std.specs.Prelude.{◌≡◌, ◌≤◌, ◌<◌, ℕ, ◌+◌, ◌*◌, ◌^◌, ◌==◌, nat_lt, Bool, false, ◌&&◌, is_none, if◌then◌else◌, List, [], ◌∷◌, length, drop, map, filter, find, Option, Some, None, option_map}
 use Rattle.std.specs.Borrow.{Bor}
 use Rattle.std.specs.List.{list_any}
 use Rattle.std.specs.Map.{values_of}
@@ -7,11 +7,14 @@ use Rattle.rb_xdr.specs.Ordered.{looks}
 use Rattle.rb_xdr.specs.Pool.{value_at}
 use Rattle.rb_xdr.specs.Places.{to_come}
 use Rattle.rb_address.specs.declared.netid.Netid.{Netid}
+use Rattle.rb_address.specs.declared.netid.Netid.TheVariants.{Tcp, Udp, Tcp6, Udp6, Local}
 use Rattle.rb_address.specs.Netids.{is_netid}
 use Rattle.rb_registry.specs.declared.row.Row.{Row}
 use Rattle.rb_registry.specs.declared.slot.Slot.{Slot}
+use Rattle.rb_registry.specs.declared.versions.Version.{Version}
 use Rattle.rb_registry.specs.Rows.{is_of_version}
 use Rattle.rb_registry.specs.Registry.{Registry, rows_of, rows_passed}
+use Rattle.rb_registry.specs.Index.{rank, ranks}
 
 -- the live rows of the version after a cursor
 abbrev pub versions_left : ℕ → ℕ → Registry → Option ℕ → List Row
@@ -22,13 +25,24 @@ versions_left prog vers kept cursor =
 abbrev pub VersionsAreFew : Registry → Type 0
 VersionsAreFew kept = (prog vers : ℕ) (cursor : Option ℕ) → vers < 2 ^ 32 → length (versions_left prog vers kept cursor) ≤ 5
 
--- what it costs to come from one to the next: the own rows, of which there are 12 at most, are walked, and a search for
--- each netid finds the others
+-- those of a version that was found
+abbrev pub rows_after : Version → Registry → Option ℕ → List Row
+rows_after version kept cursor = versions_left version.prog version.vers kept cursor
+
+-- what it costs to find them: a search for each netid, and a look at what it finds
 -- LOOKUP-4: The rows of one version are searched for, in a list of the rows as they are now among
--- 256 live or retained ones or more: a search for each netid finds the next of them. Other lists
--- walk the rows.
+-- 256 live or retained ones or more: a search for each netid finds them. Other lists walk the
+-- rows.
 abbrev pub version_cost : Registry → ℕ
-version_cost kept = 5 * looks (length (rows_of kept)) + 33
+version_cost kept = 5 * looks (length (rows_of kept)) + 5
+
+-- what it costs to come from one to the next: the own rows, of which there are 12 at most, are walked
+abbrev pub next_cost : ℕ
+next_cost = 28
+
+-- and to come to five and to the end
+abbrev pub most_next : ℕ
+most_next = 6 * next_cost
 
 -- the cursor has passed more rows
 abbrev pub PassesMore : Registry → Option ℕ → Option ℕ → Type 0
@@ -84,6 +98,20 @@ later_of after key (Some slot) = if nat_lt after slot.added then Some (slot.adde
 abbrev pub later_at : ℕ → List (ℕ × Slot) → Option ℕ → Option (ℕ × ℕ)
 later_at after entries None = None
 later_at after entries (Some key) = later_of after key (value_at entries key)
+
+-- the change that added the live row on a netid, and its key, if a change did
+abbrev pub place_on : ℕ → ℕ → List (ℕ × Slot) → Netid → Option (ℕ × ℕ)
+place_on prog vers entries netid = later_at 0 entries (value_at (ranks entries) (rank prog netid vers))
+
+-- the version has these of the rows that are there
+pub record IsFoundIn (kept : Registry) (version : Version) : Type 0 where
+  pub places : version.places ≡ map (place_on version.prog version.vers kept.entries) (Tcp ∷ Udp ∷ Tcp6 ∷ Udp6 ∷ Local ∷ [])
+  pub small : version.vers < 2 ^ 32
+
+-- a place, if the row there was added by a later change than that one
+abbrev pub later_than : ℕ → Option (ℕ × ℕ) → Option (ℕ × ℕ)
+later_than after None = None
+later_than after (Some place) = if nat_lt after place.0 then Some place else None
 
 -- the one of two that was added by the earlier change
 abbrev pub earlier_of : Option (ℕ × ℕ) → Option (ℕ × ℕ) → Option (ℕ × ℕ)

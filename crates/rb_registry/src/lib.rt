@@ -19,4 +19,5 @@ pub use laws::row_laws;
 pub use listed::ListedRow;
 pub use registry::{MOST_OWN_ROWS, Registry};
 pub use row::{ROW_CHARGE, RPCB_PROG, Row, Which, rank};
+pub use versions::Version;
 pub use worked::worked_examples;

@@ -8,6 +8,7 @@ use crate::listed::ListedRow;
 use crate::removal::Removal;
 use crate::row::{Row, Which, rank};
 use crate::slot::Slot;
+use crate::versions::Version;
 use crate::walk::{
     NETIDS, drop_retained, has_key, key_of, least_removal, live_after, mark_on, row_under,
 };
@@ -97,7 +98,7 @@ impl Registry {
     ghost use Rattle.rb_registry.specs.Table.{takes, floor_raised, StandsForMore, StandsForSame, later_than, IsLeast, PaysFor};
     ghost use Rattle.rb_registry.specs.Removals.{takes_removal};
     ghost use Rattle.rb_registry.specs.Costs.{set_cost, unset_cost};
-    ghost use Rattle.rb_registry.specs.Versions.{versions_left, version_cost, PassesMore, VersionsAreFew};
+    ghost use Rattle.rb_registry.specs.Versions.{rows_after, version_cost, next_cost, most_next, IsFoundIn, PassesMore, VersionsAreFew};
     ghost use Rattle.rb_registry.specs.Cursors.{RowsAreLive, StandsIn, PassesOne, IsWithin, IsAtEnd, row_behind, slots_left, GoesOn};
     ghost use Rattle.rb_registry.specs.Slots.{held_in, row_charge};
 
@@ -385,28 +386,28 @@ impl Registry {
     /// were set, in the order of the changes that added them.
     ///
     /// A version has five rows at most, one for each netid. From a cursor among the rows as they are now it costs a
-    /// search for each netid, a walk over the own rows, and 9. It is not inlined: a version has few rows.
+    /// walk over the own rows, and 4. It is not inlined: a version has few rows.
     #[inline(never)]
     pub fn next_of(
         &self,
-        prog: u32,
-        vers: u32,
+        version: &Version,
         cursor: Cursor,
         meter: &mut Meter,
     ) -> Option<(Cursor, &ListedRow)>
         requires tie { meter.old.tie ≡ self.now.tie }
+        requires found { IsFoundIn self.now version.now }
         requires place { StandsIn self.now self.now.stamp cursor }
-        ensures row { IfSome result (λ next. versions_left prog vers self.now cursor
-            ≡ next.1.now ∷ versions_left prog vers self.now next.0) }
+        ensures row { IfSome result (λ next. rows_after version.now self.now cursor
+            ≡ next.1.now ∷ rows_after version.now self.now next.0) }
         ensures place { IfSome result (λ next. StandsIn self.now self.now.stamp next.0) }
         ensures passed { IfSome result (λ next. PassesMore self.now cursor next.0) }
         ensures within { IfSome result (λ next. IsWithin self.now self.now.stamp next.0) }
-        ensures end { IfNone result (versions_left prog vers self.now cursor ≡ []) }
-        ensures cost { PaysAtMost meter.old meter.new (version_cost self.now) }
+        ensures end { IfNone result (rows_after version.now self.now cursor ≡ []) }
+        ensures cost { PaysAtMost meter.old meter.new next_cost }
     {
         // The place needs what the table is between two calls.
         let _ = &self.slots;
-        match self.version_after(prog, vers, cursor.key(), meter) {
+        match self.version_after(version, cursor.key(), meter) {
             Some((key, row)) => Some((Cursor::behind(key), row)),
             None => None,
         }
@@ -419,7 +420,7 @@ impl Registry {
         requires { meter.old.tie ≡ self.now.tie }
         ensures long { result ≡ nat_le 256 (length (slots_of self.now)) }
         ensures searched { IsTrue result
-            → 6 * version_cost self.now ≤ 2 * length (slots_of self.now) + 1 }
+            → version_cost self.now + most_next ≤ 2 * length (slots_of self.now) }
         ensures few { VersionsAreFew self.now }
         ensures cost { PaysAtMost meter.old meter.new 1 }
     {

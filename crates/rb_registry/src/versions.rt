@@ -1,51 +1,99 @@
 //! The rows of one version of a program, found by the index.
-ghost use Rattle.std.specs.Prelude.{◌≡◌, ◌≤◌, ◌+◌, ◌*◌, length, IfSome, IfNone, Some};
+ghost use Rattle.std.specs.Prelude.{◌≡◌, ◌≤◌, ◌+◌, length, IfSome, IfNone, Some};
 ghost use Rattle.rb_xdr.specs.Meter.{PaysAtMost};
 ghost use Rattle.rb_xdr.specs.Ordered.{looks};
 ghost use Rattle.rb_xdr.specs.Search.{key_of};
 ghost use Rattle.rb_registry.specs.Registry.{rows_of};
 ghost use Rattle.rb_registry.specs.Order.{AreInOrder, count_own};
-ghost use Rattle.rb_registry.specs.Versions.{version_cost, is_later_version, IsNextOf, later_at, earlier_of, added_at, HasNoOwn};
+ghost use Rattle.rb_registry.specs.Versions.{version_cost, next_cost, is_later_version, IsNextOf, IsFoundIn, place_on, later_at, later_than, earlier_of, added_at, HasNoOwn};
 
 use crate::listed::ListedRow;
 use crate::registry::Registry;
 use crate::row::rank;
 use crate::slot::Slot;
-use crate::walk::NETIDS;
+use rb_address::Netid;
 use rb_xdr::{Meter, Pool};
 
+/// A version of a program, and its rows that changes added, as the index finds them: for each netid the change that added
+/// the row there, and its key.
+#[derive(Clone, Copy)]
+pub struct Version {
+    /// The program.
+    pub prog: u32,
+    /// The version.
+    pub vers: u32,
+    places: [Option<(u64, usize)>; 5],
+}
+
 impl Registry {
-    /// The next live row of the version after the place, with its key: an own row, or that of the earliest change.
-    pub(crate) fn version_after(
+    // LOOKUP-4
+    /// The rows of a version, found by a search for each netid. It costs these searches, and a step for each.
+    #[inline(never)]
+    pub fn version(&self, prog: u32, vers: u32, meter: &mut Meter) -> Version
+        requires { meter.old.tie ≡ self.now.tie }
+        ensures prog { result.prog ≡ prog }
+        ensures vers { result.vers ≡ vers }
+        ensures found { IsFoundIn self.now result }
+        ensures cost { PaysAtMost meter.old meter.new (version_cost self.now) }
+    {
+        let places = [
+            self.place_on(prog, vers, Netid::Tcp, meter),
+            self.place_on(prog, vers, Netid::Udp, meter),
+            self.place_on(prog, vers, Netid::Tcp6, meter),
+            self.place_on(prog, vers, Netid::Udp6, meter),
+            self.place_on(prog, vers, Netid::Local, meter),
+        ];
+        Version { prog, vers, places }
+    }
+
+    /// The change that added the live row of the version on a netid, and its key, if a change did.
+    fn place_on(
         &self,
         prog: u32,
         vers: u32,
+        netid: Netid,
+        meter: &mut Meter,
+    ) -> Option<(u64, usize)>
+        requires { meter.old.tie ≡ self.now.tie }
+        ensures place { result ≡ place_on prog vers self.now.entries netid }
+        ensures cost { PaysAtMost meter.old meter.new (looks (length (rows_of self.now)) + 1) }
+    {
+        let key = self.index.find(rank(prog, netid, vers), meter);
+        place_under(&self.slots, key, meter)
+    }
+
+    /// The next live row of the version after the place, with its key: an own row, or that of the earliest change.
+    pub(crate) fn version_after(
+        &self,
+        version: &Version,
         start: Option<usize>,
         meter: &mut Meter,
     ) -> Option<(usize, &ListedRow)>
-        requires { meter.old.tie ≡ self.now.tie }
-        ensures next { IsNextOf prog vers self.now.entries start result }
-        ensures cost { PaysAtMost meter.old meter.new (version_cost self.now) }
+        requires tie { meter.old.tie ≡ self.now.tie }
+        requires found { IsFoundIn self.now version.now }
+        ensures next { IsNextOf version.now.prog version.now.vers self.now.entries start result }
+        ensures cost { PaysAtMost meter.old meter.new next_cost }
     {
-        if let Some(found) = own_after(&self.slots, prog, vers, start, meter) {
+        if let Some(found) = own_after(&self.slots, version.prog, version.vers, start, meter) {
             return Some(found);
         }
         let after = added_at(&self.slots, start, meter)?;
-        let key = self.earliest_after(prog, vers, after, meter)?;
+        let key = self.earliest_after(version, after)?;
         let slot = self.slots.get(key, meter)?;
         Some((key, &slot.row))
     }
 
     /// The key of the row of the version that was added first, of those that a later change than this one added.
-    fn earliest_after(&self, prog: u32, vers: u32, after: u64, meter: &mut Meter) -> Option<usize>
-        requires { meter.old.tie ≡ self.now.tie }
-        ensures key { result ≡ key_of (is_later_version prog vers after) self.now.entries }
-        ensures cost { PaysAtMost meter.old meter.new (5 * looks (length (rows_of self.now)) + 5) }
+    fn earliest_after(&self, version: &Version, after: u64) -> Option<usize>
+        requires { IsFoundIn self.now version.now }
+        ensures key { result
+            ≡ key_of (is_later_version version.now.prog version.now.vers after) self.now.entries }
     {
+        // The places need what the table is between two calls.
+        let _ = &self.slots;
         let mut best = None;
-        'netids: for netid in NETIDS {
-            let key = self.index.find(rank(prog, netid, vers), meter);
-            best = earlier(best, later_at(&self.slots, key, after, meter));
+        'places: for place in version.places {
+            best = earlier(best, later(place, after));
         }
         match best {
             Some((_, key)) => Some(key),
@@ -97,23 +145,28 @@ fn added_at(slots: &Pool<Slot>, place: Option<usize>, meter: &mut Meter) -> Opti
     }
 }
 
-/// The change that added the row under a key, and the key, if it came after that change.
-fn later_at(
-    slots: &Pool<Slot>,
-    key: Option<usize>,
-    after: u64,
-    meter: &mut Meter,
-) -> Option<(u64, usize)>
+/// The change that added the row under a key, and the key, if a change did.
+fn place_under(slots: &Pool<Slot>, key: Option<usize>, meter: &mut Meter) -> Option<(u64, usize)>
     requires { meter.old.tie ≡ slots.now.tie }
-    ensures place { result ≡ later_at after slots.now.entries key }
+    ensures place { result ≡ later_at 0 slots.now.entries key }
     ensures cost { PaysAtMost meter.old meter.new 1 }
 {
     let key = key?;
     let slot = slots.get(key, meter)?;
-    if slot.added <= after {
+    if slot.added == 0 {
         return None;
     }
     Some((slot.added, key))
+}
+
+/// The place, if the row there came after that change.
+fn later(place: Option<(u64, usize)>, after: u64) -> Option<(u64, usize)>
+    ensures { result ≡ later_than after place }
+{
+    match place {
+        Some((added, _)) if after < added => place,
+        _ => None,
+    }
 }
 
 fn earlier(best: Option<(u64, usize)>, other: Option<(u64, usize)>) -> Option<(u64, usize)>

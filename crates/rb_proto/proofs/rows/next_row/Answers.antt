@@ -3,11 +3,11 @@ use Rattle.rb_proto.proofs.rows.next_row.Goals as goal
 
 pub returns-in-Some-clause-cost : goal.returns-in-Some-clause-cost
 returns-in-Some-clause-cost c =
-    rw c.in-Some.is (found_most c.args.registry.now c.in-Some.prog c.in-Some.vers c.args.cursor c.args.meter.now c.next_of.new.meter c.next_of.ensures.cost)
+    rw c.in-Some.is (found_most c.args.registry.now c.in-Some.version c.args.cursor c.args.meter.now c.next_of.new.meter c.next_of.ensures.cost)
 
 pub returns-in-Some-clause-cost_row : goal.returns-in-Some-clause-cost_row
 returns-in-Some-clause-cost_row c =
-    rw c.in-Some.is (found_costs c.args.registry.now c.in-Some.prog c.in-Some.vers c.args.cursor c.next_of.result c.args.meter.now c.next_of.new.meter c.next_of.ensures.row c.next_of.ensures.cost)
+    rw c.in-Some.is (found_costs c.args.registry.now c.in-Some.version c.args.cursor c.next_of.result c.args.meter.now c.next_of.new.meter c.next_of.ensures.row c.next_of.ensures.cost)
 
 pub returns-in-None-clause-row : goal.returns-in-None-clause-row
 returns-in-None-clause-row c =

@@ -1,12 +1,15 @@
 use Rattle.std.specs.Prelude.{false}
 use Rattle.rb_xdr.specs.Xdr.{boolean}
-use Rattle.rb_proto.proofs.Searching.{nothing_written, row_written, row_fits, end_fits, all_written, sought_now}
+use Rattle.rb_proto.proofs.Searching.{nothing_written, row_written, row_fits, end_fits, all_written, sought_now, sought_found}
 use Rattle.rb_proto.proofs.rows.write_rows.Goals as goal
 
 pub rows-init : goal.rows-init
 rows-init c =
     nothing_written _ _ c.args.registry.now _ c.requires.sought _ _ _ (c.start-cursor.ensures.place c.args.registry.now c.args.stamp c.requires.stamp)
     (c.start-cursor.ensures.passed c.args.registry.now c.args.stamp) (c.start-cursor.ensures.slots c.args.registry.now)
+
+pub next_row-requires-clause-found : goal.next_row-requires-clause-found
+next_row-requires-clause-found c = sought_found _ _ _ _ c.requires.sought
 
 pub next_row-requires-clause-now : goal.next_row-requires-clause-now
 next_row-requires-clause-now c = sought_now _ _ _ _ c.requires.sought

@@ -1,14 +1,17 @@
 use Rattle.std.proofs.Common.{ap, arith, rules}
 use Rattle.rb_xdr.specs.Kept.{Kept}
-use Rattle.rb_proto.proofs.Searching.{sought_now}
+use Rattle.rb_proto.proofs.Searching.{sought_now, sought_found}
 use Rattle.rb_proto.proofs.Filling.{filling_begins, row_passed, row_crosses, end_fits, list_ends}
 use Rattle.rb_proto.proofs.list_reply.ListReply.fill.Goals as goal
 
 pub rows-init : goal.rows-init
 rows-init c =
     let written = rw c.clear.ensures.empty at c.put_head.ensures.written in
-    filling_begins _ _ _ _ _ _ _ _ _ c.requires.place c.version_sought-sought.ensures.sought (ap (λ (k : Kept). k.bytes) written) (ap (λ (k : Kept). k.cap) written) (ap (λ (k : Kept). k.tie) written) c.len-base.ensures.len
+    filling_begins _ _ _ _ _ _ _ _ _ c.requires.place c.seek_version.ensures.sought (ap (λ (k : Kept). k.bytes) written) (ap (λ (k : Kept). k.cap) written) (ap (λ (k : Kept). k.tie) written) c.len-base.ensures.len
     (omega (arith, c.len-base.ensures.len, c.put_head.ensures.short, c.requires.most)) (search rules)
+
+pub next_row-requires-clause-found : goal.next_row-requires-clause-found
+next_row-requires-clause-found c = sought_found _ _ _ _ c.rows.invariant.is
 
 pub next_row-requires-clause-now : goal.next_row-requires-clause-now
 next_row-requires-clause-now c = sought_now _ _ _ _ c.rows.invariant.is
