@@ -18,19 +18,6 @@ pub struct Entry {
     pub proto: Text<32>,
 }
 
-impl Entry {
-    /// Each text is within its limit. This does nothing.
-    pub fn within_limits(&self)
-        ensures { IsEntry self.now }
-    {
-        let _maddr = self.maddr.as_slice();
-        let _netid = self.netid.as_slice();
-        let _semantics = self.semantics;
-        let _protofmly = self.protofmly.as_slice();
-        let _proto = self.proto.as_slice();
-    }
-}
-
 impl Xdr for Entry {
     ghost is_value = { IsEntry };
 

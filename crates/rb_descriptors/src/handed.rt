@@ -20,8 +20,15 @@ pub struct Descriptors {
 }
 
 impl Descriptors {
+    ghost use Rattle.std.specs.Prelude.{◌≡◌, ◌+◌, ◌-◌, ◌^◌, min, nat_lt, IfSome, IfNone};
+    ghost use Rattle.std.specs.Option.{is_some};
+    ghost use Rattle.rb_descriptors.specs.Handed.{IsTaken};
+
     /// This many, from number 3 on. The environment of this process says how many there are, and the caller asks it once.
-    pub fn new(count: u16) -> Descriptors {
+    pub fn new(count: u16) -> Descriptors
+        ensures next { result.next ≡ FIRST }
+        ensures end { result.end ≡ min (FIRST + count) (2 ^ 16 - 1) }
+    {
         Descriptors {
             next: FIRST,
             end: FIRST.saturating_add(count),
@@ -29,7 +36,11 @@ impl Descriptors {
     }
 
     /// The next one, and its number: from here on it is the caller's, and closed where it goes.
-    pub fn take(&mut self) -> Option<(u16, OwnedFd)> {
+    pub fn take(&mut self) -> Option<(u16, OwnedFd)>
+        ensures some { IfSome result (λ taken. IsTaken taken.0 self.old self.new) }
+        ensures none { IfNone result (self.new ≡ self.old) }
+        ensures left { is_some result ≡ nat_lt self.old.next self.old.end }
+    {
         if self.next >= self.end {
             return None;
         }

@@ -2,7 +2,7 @@
 //! service manager hands over, and what it is told. All unsafe code of the repository is here.
 #![tactic(auto)]
 
-ghost use Rattle.std.specs.Prelude.{◌≡◌, ◌↔◌, ◌≤◌, ◌+◌, pos, ◌≤ℤ◌, List, ℕ, ◌++◌, length, IsOk};
+ghost use Rattle.std.specs.Prelude.{◌≡◌, ◌↔◌, ◌≤◌, ◌+◌, pos, ◌≤ℤ◌, if◌then◌else◌, List, ℕ, ◌∷◌, ◌++◌, length, replicate, IsOk};
 ghost use Rattle.std.specs.Int.{w16, to_le_bytes};
 ghost use Rattle.std.specs.Net.SockAddr.{family_and_port, sockaddr_in, sockaddr_in6, sockaddr, sockaddr_len, in_storage};
 ghost use Rattle.libc.specs.Net.{Kind};
@@ -102,7 +102,9 @@ fn check(status: i32) -> io::Result<()>
 }
 
 /// A C int that is 1 or 0.
-fn flag(is_on: bool) -> [u8; 16] {
+fn flag(is_on: bool) -> [u8; 16]
+    ensures { result ≡ (if is_on then 1 else 0) ∷ replicate 15 0 }
+{
     let mut value = [0; 16];
     value[..4].copy_from_slice(&i32::from(is_on).to_ne_bytes());
     value

@@ -1,8 +1,7 @@
 //! What a service manager is told of this process (sd_notify(3)).
-ghost use Rattle.std.specs.Prelude.{◌≡◌, ◌≤◌, ◌+◌, ◌++◌, length};
-ghost use Rattle.std.specs.Int.{w16, to_le_bytes};
+ghost use Rattle.std.specs.Prelude.{◌≡◌, ◌≤◌, ◌+◌, length};
 ghost use Rattle.std.specs.Net.SockAddr.{in_storage};
-ghost use Rattle.rb_descriptors.specs.Notify.{unix_name};
+ghost use Rattle.rb_descriptors.specs.Notify.{unix_address};
 
 use crate::{family_alone, owned, put};
 use libc::net as c;
@@ -23,9 +22,14 @@ pub struct Notifier {
 }
 
 impl Notifier {
+    ghost use Rattle.std.specs.Prelude.{IfSome};
+    ghost use Rattle.rb_descriptors.specs.Notify.{IsNotifierOf};
+
     /// One that tells the socket of this address, which is the value of NOTIFY_SOCKET: a path from the root on, or a name after
     /// an `@`. None if it is neither of at most 107 bytes, or the system gives no socket.
-    pub fn new(_net: &impl Net, address: &[u8]) -> Option<Notifier> {
+    pub fn new(_net: &impl Net, address: &[u8]) -> Option<Notifier>
+        ensures { IfSome result (IsNotifierOf address.now) }
+    {
         let first = address.first()?;
         if (*first != b'/' && *first != b'@') || address.len() > LONGEST {
             return None;
@@ -53,7 +57,7 @@ impl Notifier {
 /// The address as C has it, and how many bytes that has: of a name a zero in the place of its `@`.
 fn encode(address: &[u8]) -> ([u8; 128], u32)
     requires { length address.now ≤ 107 }
-    ensures bytes { result.0 ≡ in_storage (to_le_bytes w16 1 ++ unix_name address.now) }
+    ensures bytes { result.0 ≡ in_storage (unix_address address.now) }
     ensures len { result.1 ≡ 2 + length address.now }
 {
     let mut raw = family_alone(c::AF_UNIX as u16);

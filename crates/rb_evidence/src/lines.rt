@@ -30,7 +30,7 @@ impl Model for Lines {
 
 impl Lines {
     ghost use Rattle.std.specs.Prelude.{◌≡◌, ℕ, List, [], true, false, length, drop, IfOk, OnOk, OnErr};
-    ghost use Rattle.std.specs.Io.KnownBytes.{Consumes};
+    ghost use Rattle.std.specs.Io.KnownBytes.{Consumes, IsAtEnd};
     ghost use Rattle.rb_evidence.specs.Table.{IsWithout, IsCutAt};
     ghost use Rattle.rb_evidence.specs.Walks.{after_line_of_all, IsReadBehind, HasWalked};
 
@@ -63,6 +63,7 @@ impl Lines {
         ensures read { IfOk result (IsReadBehind self.old self.new) }
         ensures came { OnOk result (Consumes (R.remaining reader.old) (R.remaining reader.new)
             (drop (length self.old) self.new)) }
+        ensures end { IfOk result (λ count. count ≡ 0 → IsAtEnd (R.remaining reader.new)) }
         ensures none { OnErr result (self.new ≡ self.old) }
     {
         self.move_to_front();

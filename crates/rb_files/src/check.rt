@@ -32,8 +32,13 @@ pub enum Found {
 }
 
 impl Found {
+    ghost use Rattle.std.specs.Prelude.{◌≡◌};
+    ghost use Rattle.rb_files.specs.Asked.{is_nobody};
+
     /// Whether nobody answers there.
-    pub fn is_nobody(self) -> bool {
+    pub fn is_nobody(self) -> bool
+        ensures { result ≡ is_nobody self }
+    {
         match self {
             Found::Silent | Found::NobodyThere => true,
             Found::NotKnown | Found::Answered => false,

@@ -1,4 +1,7 @@
 //! A file whose lock says that a process has something for itself.
+ghost use Rattle.std.specs.Prelude.{◌≡◌, true};
+ghost use Rattle.std.specs.Fs.{new_options, with_write};
+
 use crate::new::new_file;
 use rb_policy::is_nothing_there;
 use std::fs::{File, Files, OpenOptions, TryLockError};
@@ -29,15 +32,18 @@ pub fn lock_file<R: Files<File = File>>(rt: &R, path: &str) -> Result<File, Lock
 /// The plain file at the path; a new one if nothing is there. No link is followed.
 fn open_or_make<R: Files<File = File>>(rt: &R, path: &str) -> io::Result<File> {
     match fs::symlink_metadata(rt, path) {
-        Ok(found) if found.is_file() => open_there(rt, path),
+        Ok(found) if found.is_file() => there_options().open(rt, path),
         Ok(_) => Err(io::Error::new(ErrorKind::AlreadyExists, "what is there is no plain file")),
         Err(error) if is_nothing_there(&error) => new_file(rt, path),
         Err(error) => Err(error),
     }
 }
 
-fn open_there<R: Files<File = File>>(rt: &R, path: &str) -> io::Result<File> {
+/// How a file that is there is opened: it stays as it is, and none is made.
+fn there_options() -> OpenOptions
+    ensures { result ≡ with_write new_options true }
+{
     let mut options = OpenOptions::new();
     options.write(true);
-    options.open(rt, path)
+    options
 }

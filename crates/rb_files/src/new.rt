@@ -1,5 +1,6 @@
 //! New files.
-ghost use Rattle.std.specs.Fs.{file_type};
+ghost use Rattle.std.specs.Prelude.{◌≡◌, true};
+ghost use Rattle.std.specs.Fs.{file_type, asks_write, asks_create_new};
 ghost use Rattle.rb_files.specs.Found.{IsRecordState};
 
 use rb_policy::{RecordAction, RecordState, is_nothing_there, record_action};
@@ -24,11 +25,20 @@ pub fn new_file<R: Files>(rt: &R, path: &str) -> io::Result<R::File> {
             ));
         }
     }
+    new_options().open(rt, path)
+}
+
+// FILE-3
+/// How a new file is opened: its owner alone may read it, and nothing that came there after a look is opened.
+fn new_options() -> OpenOptions
+    ensures made { asks_create_new result ≡ true }
+    ensures written { asks_write result ≡ true }
+{
     let mut options = OpenOptions::new();
+    options.mode(MODE);
     options.write(true);
     options.create_new(true);
-    options.mode(MODE);
-    options.open(rt, path)
+    options
 }
 
 /// What is at the path.

@@ -1,10 +1,15 @@
 //! A program that is asked.
+ghost use Rattle.std.specs.Prelude.{◌≡◌};
+ghost use Rattle.std.specs.IoError.{error_kind};
+ghost use Rattle.rb_files.specs.Asked.{found_by, found_after};
+
 use crate::call::{MARK, null_call};
 use crate::check::Found;
 use crate::target::Target;
 use mio::net::{TcpStream, UdpSocket};
 use mio::{Interest, Registry, Token};
 use rb_address::Transport;
+use rb_policy::ip_of;
 use rb_registry::Row;
 use std::io;
 use std::io::{ErrorKind, Read, Write};
@@ -46,15 +51,16 @@ impl Probe {
         target: Target,
     ) -> io::Result<Probe> {
         let call = null_call(row.prog, row.vers);
+        let address = SocketAddr::new(ip_of(target.host), target.port);
         let socket = match target.transport {
             Transport::Udp => {
-                let mut socket = socket_to(net, target.address)?;
+                let mut socket = socket_to(net, address)?;
                 registry.register(&mut socket, token, Interest::READABLE)?;
                 socket.send(&call[MARK..])?;
                 Socket::Udp(socket)
             }
             Transport::Tcp => {
-                let mut stream = TcpStream::connect(net, target.address)?;
+                let mut stream = TcpStream::connect(net, address)?;
                 let interest = Interest::READABLE | Interest::WRITABLE;
                 registry.register(&mut stream, token, interest)?;
                 Socket::Tcp(stream, false)
@@ -65,11 +71,7 @@ impl Probe {
 
     /// What an event shows: `Answered` if something came, and none if nothing did so far.
     pub fn look(&mut self) -> Option<Found> {
-        match self.receive() {
-            Ok(0) => Some(Found::NotKnown),
-            Ok(_) => Some(Found::Answered),
-            Err(error) => found_by(&error),
-        }
+        found_after(&self.receive())
     }
 
     /// How many bytes came. The call goes out first, if it has not yet: once the connection is made.
@@ -98,8 +100,21 @@ impl Probe {
     }
 }
 
+/// What is known once so many bytes came, or by an error. Nothing is by the end of a connection.
+fn found_after(came: &io::Result<usize>) -> Option<Found>
+    ensures { result ≡ found_after came.now }
+{
+    match came {
+        Ok(0) => Some(Found::NotKnown),
+        Ok(_) => Some(Found::Answered),
+        Err(error) => found_by(error),
+    }
+}
+
 /// What is known by an error: that nobody listens, if the system says so; none if it says to wait.
-pub fn found_by(error: &io::Error) -> Option<Found> {
+pub fn found_by(error: &io::Error) -> Option<Found>
+    ensures { result ≡ found_by (error_kind error.now) }
+{
     match error.kind() {
         ErrorKind::ConnectionRefused => Some(Found::NobodyThere),
         ErrorKind::WouldBlock | ErrorKind::Interrupted => None,
