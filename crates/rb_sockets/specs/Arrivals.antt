@@ -1,5 +1,5 @@
 -- How callers came in, and who they are by that.
-use Rattle.std.specs.Prelude.{◌≡◌, ◌≤◌, ◌+◌, ◌%◌, ◌^◌, ◌==◌, ℕ, Bool, true, false, List, length, if◌then◌else◌, Option, Some, None, is_none, Result, IfOk, IfSome}
+use Rattle.std.specs.Prelude.{◌≡◌, ◌≤◌, ◌+◌, ◌%◌, ◌^◌, ◌==◌, ℕ, Bool, true, false, List, length, slice_get, if◌then◌else◌, Option, Some, None, is_none, Result, IfOk, IfSome}
 use Rattle.rb_address.specs.declared.peer.Peer.{Peer}
 use Rattle.rb_address.specs.declared.who.Source.{Source}
 use Rattle.rb_address.specs.declared.who.Source.TheVariants.{Inet, Local}
@@ -14,6 +14,7 @@ use Rattle.rb_policy.specs.Evidence.{is_shown}
 use Rattle.rb_sockets.specs.declared.arrival.Ends.{Ends}
 use Rattle.rb_sockets.specs.declared.calls.Asker.{Asker}
 use Rattle.rb_sockets.specs.declared.calls.CallSocket.{CallSocket}
+use Rattle.rb_sockets.specs.declared.watched.Watched.{Watched}
 use Rattle.rb_address.specs.declared.host.Host.TheVariants.{V4}
 use Rattle.rb_policy.specs.Addresses.{every_inet}
 use Rattle.rb_policy.specs.LocalFile.{next_try}
@@ -37,7 +38,7 @@ who_of a = record { source = source_of a.entrance; asked = a.asked; trust = trus
 -- Whoever is at the other end of a connection over TCP, of which the kernel's tables show this, asked the host of our end.
 -- ASKED-2
 abbrev pub arrival_of : Ends → Evidence → Arrival
-arrival_of ends evidence = record { beliefs = ends.beliefs; entrance = Tcp ends.theirs evidence; asked = ends.ours.host }
+arrival_of ends evidence = record { beliefs = ends.beliefs; entrance = Tcp ends.theirs evidence; asked = ends.ours.address.host }
 
 -- Whoever came over TCP: of a connection of this host the kernel's tables show whose it is.
 -- TABLES-1
@@ -53,6 +54,18 @@ first_arrival (Unknown ends) = arrival_of ends NotFound
 -- ASKED-1
 abbrev pub datagram_arrival : CallSocket → Peer → Arrival
 datagram_arrival calls peer = record { beliefs = calls.beliefs; entrance = Udp calls.bound peer; asked = calls.bound }
+
+-- It came in as a datagram on this socket, from some peer.
+-- TRUST-14
+abbrev pub CameOn : CallSocket → Arrival → Type 0
+CameOn calls arrival = (peer : Peer) × (arrival ≡ datagram_arrival calls peer)
+
+-- So did whoever asked on the one of this number.
+-- TRUST-14
+abbrev pub AskedOn : {E : Type 0} → List (Watched CallSocket) → ℕ → Result (ℕ × Option Asker) E → Type 0
+AskedOn all socket received =
+    (calls : Watched CallSocket) → slice_get all socket ≡ Some calls
+    → IfOk received (λ r. IfSome r.1 (λ asker. CameOn calls.socket asker.arrival))
 
 -- What was received on the socket of this number fits the room, and was asked there.
 abbrev pub IsReceived : {E : Type 0} → ℕ → List ℕ → Result (ℕ × Option Asker) E → Type 0

@@ -1,11 +1,16 @@
 -- When sockets of the daemon are served again.
-use Rattle.std.specs.Prelude.{Bool, true, false, ◌||◌, Option, Some, None}
+use Rattle.std.specs.Prelude.{Bool, true, false, not, ◌||◌, Option, Some, None, ◌≡◌, ℕ, List, slice_get, option_map}
 use Rattle.std.specs.List.{list_any}
+use Rattle.rb_address.specs.declared.host.Family.{Family}
+use Rattle.rb_address.specs.declared.host.Family.TheVariants.{Inet, Inet6}
+use Rattle.rb_policy.specs.Rounds.{StayBut}
 use Rattle.rb_policy.specs.declared.turns.Again.{Again}
 use Rattle.rb_policy.specs.declared.turns.Again.TheVariants.{AtEvent, AtOnce, AfterWait}
 use Rattle.rb_sockets.specs.declared.calls.CallSockets.{CallSockets}
 use Rattle.rb_sockets.specs.declared.calls.ForwardSocket.{ForwardSocket}
 use Rattle.rb_sockets.specs.declared.calls.ForwardSockets.{ForwardSockets}
+use Rattle.rb_sockets.specs.declared.sockets.Shown.{Shown}
+use Rattle.rb_sockets.specs.declared.sockets.Shown.TheVariants.{Connection, Forwards, Calls, Listener}
 use Rattle.rb_sockets.specs.declared.sockets.Sockets.{Sockets}
 use Rattle.rb_sockets.specs.declared.watched.Watched.{Watched}
 
@@ -23,6 +28,10 @@ abbrev pub is_after_wait : Again → Bool
 is_after_wait AfterWait = true
 is_after_wait AtEvent = false
 is_after_wait AtOnce = false
+
+-- one that no event showed yet, and that was not served
+abbrev pub unserved : {S : Type 0} → S → Watched S
+unserved socket = record { socket = socket; again = AtEvent; is_shown = false; has_failed = false }
 
 -- ---- of several sockets
 
@@ -47,3 +56,29 @@ of_listeners p sockets = list_any (λ watched. p watched.again) sockets.listener
 -- whether it holds of one of all
 abbrev pub of_all : (Again → Bool) → Sockets → Bool
 of_all p sockets = of_datagrams p sockets || of_listeners p sockets
+
+abbrev pub are_listeners_ready : Sockets → Bool
+are_listeners_ready sockets =
+    list_any (λ watched. watched.is_shown || not (is_at_event watched.again)) sockets.listeners.items
+
+-- ---- what an event shows
+
+abbrev pub shown_now : {S : Type 0} → Watched S → Watched S
+shown_now watched = record watched { is_shown = true }
+
+-- One of these is shown, and the others are as they were.
+pub record IsShownAt {S : Type 0} (number : ℕ) (old new : List (Watched S)) : Type 0 where
+  pub here : slice_get new number ≡ option_map shown_now (slice_get old number)
+  pub others : StayBut number old new
+
+abbrev pub forwards_shown : Family → ForwardSockets → ForwardSockets
+forwards_shown Inet forwards = record forwards { inet = option_map shown_now forwards.inet }
+forwards_shown Inet6 forwards = record forwards { inet6 = option_map shown_now forwards.inet6 }
+
+-- The socket that an event shows is noted, and is served in this turn.
+-- TURN-7
+abbrev pub NotesShown : Shown → Sockets → Sockets → Type 0
+NotesShown (Connection place) old new = new ≡ old
+NotesShown (Forwards family) old new = new ≡ record old { forwards = forwards_shown family old.forwards }
+NotesShown (Calls number) old new = IsShownAt number old.calls.all.items new.calls.all.items
+NotesShown (Listener number) old new = IsShownAt number old.listeners.items new.listeners.items

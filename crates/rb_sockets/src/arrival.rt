@@ -14,13 +14,20 @@ pub struct Arrival {
     pub(crate) asked: Host,
 }
 
+/// Our own end of a connection over TCP: no peer, so that neither end is taken for the other.
+#[derive(Clone, Copy)]
+pub struct OwnEnd {
+    /// The host that was asked, and its port.
+    pub address: Peer,
+}
+
 /// The two ends of a connection over TCP.
 #[derive(Clone, Copy)]
 pub struct Ends {
     /// Who is at the other end.
     pub theirs: Peer,
-    /// Our own end: the host that was asked, and its port.
-    pub ours: Peer,
+    /// Our own end.
+    pub ours: OwnEnd,
     /// What is believed.
     pub beliefs: Beliefs,
 }
@@ -71,7 +78,7 @@ impl Ends {
         Arrival {
             beliefs: self.beliefs,
             entrance: Entrance::Tcp(self.theirs, evidence),
-            asked: self.ours.host(),
+            asked: self.ours.address.host(),
         }
     }
 }

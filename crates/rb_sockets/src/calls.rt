@@ -1,8 +1,9 @@
 //! The sockets of datagrams: where calls come in, and where forwarded calls go out. They are two types, so that nothing goes
 //! out on the wrong one.
-ghost use Rattle.std.specs.Prelude.{IfOk, IfSome, None, is_none, ◌≡◌, ◌≤◌, length};
-ghost use Rattle.rb_sockets.specs.Arrivals.{datagram_arrival, IsReceived};
-ghost use Rattle.rb_sockets.specs.Watching.{is_at_once, is_after_wait, holds_of, of_calls, of_forwards};
+ghost use Rattle.std.specs.Prelude.{IfOk, IfSome, None, is_none, option_map, ◌≡◌, ◌≤◌, length};
+ghost use Rattle.rb_sockets.specs.Arrivals.{datagram_arrival, IsReceived, CameOn};
+ghost use Rattle.rb_sockets.specs.Room.{is_free_beside, IsBoundAt};
+ghost use Rattle.rb_sockets.specs.Watching.{is_at_once, is_after_wait, holds_of, of_calls, of_forwards, shown_now, forwards_shown};
 
 use crate::arrival::Arrival;
 use crate::faults::{BindFault, Step};
@@ -44,7 +45,9 @@ impl CallSocket {
         port: u16,
         shares: bool,
         beliefs: Beliefs,
-    ) -> Result<CallSocket, BindFault> {
+    ) -> Result<CallSocket, BindFault>
+        ensures { IfOk result (IsBoundAt host beliefs) }
+    {
         let socket = match handed {
             Some(socket) => socket,
             None => bind_udp(net, host, port, shares)?,
@@ -78,16 +81,17 @@ impl CallSocket {
         self.socket = None;
     }
 
-    /// Whether its host is listened on no more, so that another one may have its place.
-    pub(crate) fn is_closed(&self) -> bool
-        ensures { result ≡ is_none self.now.socket }
+    /// Whether its host is listened on no more, and is none of these, so that another one may have its place.
+    pub(crate) fn is_free_beside(&self, others: &[Host]) -> bool
+        ensures { result ≡ is_free_beside others.now self.now }
     {
-        self.socket.is_none()
+        self.socket.is_none() && !has_host(others, self.bound)
     }
 
     /// A datagram, how long it is, and how its caller came in, if that may call when these networks are served.
     fn receive(&self, networks: &[Network], room: &mut [u8]) -> io::Result<(usize, Option<Arrival>)>
-        ensures { IfOk result (λ r. r.0 ≤ length room.new) }
+        ensures fits { IfOk result (λ r. r.0 ≤ length room.new) }
+        ensures came { IfOk result (λ r. IfSome r.1 (CameOn self.now)) }
     {
         let Some(socket) = &self.socket else {
             return Err(io::Error::from(ErrorKind::WouldBlock));
@@ -127,7 +131,10 @@ impl CallSocket {
         }
     }
 
-    pub(crate) fn register(&mut self, registry: &Registry, token: Token) -> io::Result<()> {
+    pub(crate) fn register(&mut self, registry: &Registry, token: Token) -> io::Result<()>
+        ensures kept { self.new ≡ record self.old { socket = self.new.socket } }
+        ensures open { is_none self.new.socket ≡ is_none self.old.socket }
+    {
         match &mut self.socket {
             Some(socket) => registry.register(socket, token, Interest::READABLE),
             None => Ok(()),
@@ -169,7 +176,8 @@ pub struct CallSockets {
 
 impl CallSockets {
     ghost use Rattle.std.specs.Prelude.{IfSome};
-    ghost use Rattle.rb_sockets.specs.Arrivals.{IsReceived};
+    ghost use Rattle.rb_sockets.specs.Arrivals.{IsReceived, AskedOn};
+    ghost use Rattle.rb_sockets.specs.Room.{closed_place, free_place};
 
     /// A datagram on the socket of this number, how long it is, and who asked by it, if that caller may call when these
     /// networks are served. None if there is no such socket.
@@ -179,7 +187,8 @@ impl CallSockets {
         networks: &[Network],
         room: &mut [u8],
     ) -> Option<io::Result<(usize, Option<Asker>)>>
-        ensures { IfSome result (IsReceived socket room.new) }
+        ensures fits { IfSome result (IsReceived socket room.new) }
+        ensures came { IfSome result (AskedOn self.now.all.items socket) }
     {
         let calls = self.all.get(socket)?;
         Some(match calls.socket.receive(networks, room) {
@@ -190,13 +199,21 @@ impl CallSockets {
     }
 
     /// The place of one whose host is listened on no more, and is none of these, or the next one.
-    pub(crate) fn free_place(&self, others: &[Host]) -> usize {
-        for (i, calls) in self.all.iter().enumerate() {
-            if calls.socket.is_closed() && !has_host(others, calls.socket.bound()) {
-                return i;
-            }
+    pub(crate) fn free_place(&self, others: &[Host]) -> usize
+        ensures { result ≡ free_place others.now self.now }
+    {
+        match self.closed_place(others) {
+            Some(place) => place,
+            None => self.all.len(),
         }
-        self.all.len()
+    }
+
+    fn closed_place(&self, others: &[Host]) -> Option<usize>
+        ensures { result ≡ closed_place others.now self.now }
+    {
+        self.all
+            .iter()
+            .position(|calls| calls.socket.is_free_beside(others))
     }
 
     pub(crate) fn is_left(&self) -> bool
@@ -256,6 +273,15 @@ impl ForwardSocket {
     }
 }
 
+/// An event showed the socket, if there is one.
+fn note_ready(forwards: &mut Option<Watched<ForwardSocket>>)
+    ensures { forwards.new ≡ option_map shown_now forwards.old }
+{
+    if let Some(forwards) = forwards {
+        forwards.note_ready();
+    }
+}
+
 /// Whether the socket, if there is one, must be served at once.
 fn is_left(forwards: &Option<Watched<ForwardSocket>>) -> bool
     ensures { result ≡ holds_of is_at_once forwards.now }
@@ -299,6 +325,16 @@ impl ForwardSockets {
         match family {
             Family::Inet => self.inet.as_mut(),
             Family::Inet6 => self.inet6.as_mut(),
+        }
+    }
+
+    /// An event showed that for targets of a family.
+    pub(crate) fn note_ready(&mut self, family: Family)
+        ensures { self.new ≡ forwards_shown family self.old }
+    {
+        match family {
+            Family::Inet => note_ready(&mut self.inet),
+            Family::Inet6 => note_ready(&mut self.inet6),
         }
     }
 

@@ -62,8 +62,12 @@ pub enum Step {
 }
 
 impl Step {
+    ghost use Rattle.std.specs.Prelude.{◌≡◌};
+
     /// The fault of this step.
-    pub fn failed(self, error: io::Error) -> SocketFault {
+    pub fn failed(self, error: io::Error) -> SocketFault
+        ensures { result ≡ record { step = self; error = error } }
+    {
         SocketFault { step: self, error }
     }
 }

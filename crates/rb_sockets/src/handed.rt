@@ -1,5 +1,5 @@
 //! Sockets that a service manager handed over, and what the daemon has each of them for.
-ghost use Rattle.std.specs.Prelude.{◌≡◌};
+ghost use Rattle.std.specs.Prelude.{◌≡◌, [], None};
 ghost use Rattle.std.specs.List.{list_any};
 ghost use Rattle.rb_address.specs.Hosts.{is_same_host};
 ghost use Rattle.rb_sockets.specs.Handed.{has_all_of};
@@ -174,7 +174,11 @@ pub struct Handed {
 
 impl Handed {
     /// None was handed over.
-    pub fn none(alloc: Global) -> Handed {
+    pub fn none(alloc: Global) -> Handed
+        ensures tcp { result.tcp.items ≡ [] }
+        ensures udp { result.udp.items ≡ [] }
+        ensures local { result.local ≡ None }
+    {
         Handed {
             tcp: Vec::new(alloc),
             udp: Vec::new(alloc),

@@ -23,7 +23,7 @@ mod tables;
 mod user_namespace;
 mod watched;
 
-pub use arrival::{Arrival, Ends};
+pub use arrival::{Arrival, Ends, OwnEnd};
 pub use calls::{Asker, CallSocket, CallSockets, ForwardSocket, ForwardSockets};
 pub use datagrams::{Datagrams, reply_to_forwarded};
 pub use descriptors::{Shortage, open_files};

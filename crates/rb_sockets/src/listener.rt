@@ -1,6 +1,8 @@
 //! Where connections come in, and who comes there.
-ghost use Rattle.std.specs.Prelude.{◌≡◌, IfOk, IfSome};
+ghost use Rattle.std.specs.Prelude.{◌≡◌, Some, IfOk, IfSome};
 ghost use Rattle.rb_sockets.specs.Arrivals.{visitor_of, first_arrival, IsLetIn};
+ghost use Rattle.rb_sockets.specs.News.{is_changed, when_told};
+ghost use Rattle.rb_sockets.specs.Room.{is_closed, beliefs_of};
 
 use crate::arrival::{Arrival, Ends};
 use crate::faults::{BindFault, Step};
@@ -66,7 +68,9 @@ impl Listener {
         host: Host,
         port: u16,
         beliefs: Beliefs,
-    ) -> Result<Listener, BindFault> {
+    ) -> Result<Listener, BindFault>
+        ensures { IfOk result (λ listener. beliefs_of listener ≡ Some beliefs) }
+    {
         if let Some(listener) = handed {
             return Ok(Listener::Tcp(listener, beliefs));
         }
@@ -123,12 +127,16 @@ impl Listener {
     }
 
     /// Whether its host is listened on no more.
-    pub(crate) fn is_closed(&self) -> bool {
+    pub(crate) fn is_closed(&self) -> bool
+        ensures { result ≡ is_closed self.now }
+    {
         matches!(self, Listener::Closed)
     }
 
     /// Whether it is the local socket, and it is yet to be told that it is root's no longer.
-    pub(crate) fn is_changed(&self) -> bool {
+    pub(crate) fn is_changed(&self) -> bool
+        ensures { result ≡ is_changed self.now }
+    {
         match self {
             Listener::Tcp(_, _) | Listener::Closed => false,
             Listener::Local(local) => local.is_changed(),
@@ -136,7 +144,10 @@ impl Listener {
     }
 
     /// Whether it was found since the last question that it is the local socket, and root's no longer.
-    pub(crate) fn take_change(&mut self) -> bool {
+    pub(crate) fn take_change(&mut self) -> bool
+        ensures untold { result ≡ is_changed self.old }
+        ensures told { self.new ≡ when_told self.old }
+    {
         match self {
             Listener::Tcp(_, _) | Listener::Closed => false,
             Listener::Local(local) => local.take_change(),
@@ -151,7 +162,9 @@ impl Listener {
         }
     }
 
-    pub(crate) fn register(&mut self, registry: &Registry, token: Token) -> io::Result<()> {
+    pub(crate) fn register(&mut self, registry: &Registry, token: Token) -> io::Result<()>
+        ensures { beliefs_of self.new ≡ beliefs_of self.old }
+    {
         match self {
             Listener::Tcp(listener, _) => registry.register(listener, token, Interest::READABLE),
             Listener::Local(local) => {

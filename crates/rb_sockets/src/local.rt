@@ -2,6 +2,7 @@
 ghost use Rattle.std.specs.Prelude.{◌≡◌, false, IfOk};
 ghost use Rattle.rb_sockets.specs.Arrivals.{local_arrival, IsLookedAt, next_name_try};
 ghost use Rattle.rb_policy.specs.LocalFile.{IsRootsByMode};
+ghost use Rattle.rb_sockets.specs.News.{is_due, has_name_news, HasTried};
 
 use crate::arrival::Arrival;
 use crate::settings::LocalSocket;
@@ -89,7 +90,9 @@ impl LocalListener {
     }
 
     /// Whether it is yet to be told that the socket is root's no longer.
-    pub(crate) fn is_changed(&self) -> bool {
+    pub(crate) fn is_changed(&self) -> bool
+        ensures { result ≡ self.now.is_change_untold }
+    {
         self.is_change_untold
     }
 
@@ -226,17 +229,28 @@ impl AbstractName {
     }
 
     /// Whether there is something to tell, or this moment, in milliseconds, is the one to try again.
-    pub(crate) fn has_news(&self, now: u64) -> bool {
-        self.fault.is_some() || self.next_try().is_some_and(|next| next <= now)
+    pub(crate) fn has_news(&self, now: u64) -> bool
+        ensures { result ≡ has_name_news now self.now }
+    {
+        self.fault.is_some() || self.is_due(now)
+    }
+
+    /// Whether this moment, in milliseconds, is the one to try again.
+    fn is_due(&self, now: u64) -> bool
+        ensures { result ≡ is_due now (next_name_try self.now) }
+    {
+        self.next_try().is_some_and(|next| next <= now)
     }
 
     /// Tries again to take it, if it is not held, and this moment is the one for it. What is to be told: why the first try
     /// failed, or that it was taken after that.
-    pub(crate) fn take<R: Files + Net>(&mut self, rt: &R, now: u64) -> Option<io::Result<()>> {
+    pub(crate) fn take<R: Files + Net>(&mut self, rt: &R, now: u64) -> Option<io::Result<()>>
+        ensures { HasTried now self.old self.new result }
+    {
         if let Some(error) = self.fault.take() {
             return Some(Err(error));
         }
-        if self.next_try()? > now {
+        if !self.is_due(now) {
             return None;
         }
         self.last_try = now;

@@ -1,8 +1,11 @@
 //! The daemon's own sockets. Each kind is a type of its own, so that nothing goes out on the wrong one.
-ghost use Rattle.std.specs.Prelude.{◌≡◌, ⊤, vec_len};
-ghost use Rattle.rb_sockets.specs.Arrivals.{nth_of};
+ghost use Rattle.std.specs.Prelude.{◌≡◌, ⊤, vec_len, map, [], ◌∷◌, ◌++◌, Some, IfOk};
+ghost use Rattle.std.specs.Option.{option_and_then};
+ghost use Rattle.rb_sockets.specs.Arrivals.{nth_of, next_name_try};
 ghost use Rattle.rb_sockets.specs.Events.{shown_by, family_at, MayBeShown};
-ghost use Rattle.rb_sockets.specs.Watching.{is_at_once, is_after_wait, of_datagrams, of_listeners, of_all};
+ghost use Rattle.rb_sockets.specs.News.{is_local_changed, has_news_of, next_look, has_news, told_of, HasTriedIfAny};
+ghost use Rattle.rb_sockets.specs.Room.{closed_door, free_door, free_place_in, put_in, TakesCallsAt, TakesConnections};
+ghost use Rattle.rb_sockets.specs.Watching.{is_at_once, is_after_wait, of_datagrams, of_listeners, of_all, unserved, are_listeners_ready, NotesShown};
 
 use crate::calls::{CallSocket, CallSockets, ForwardSocket, ForwardSockets};
 use crate::datagrams::Datagrams;
@@ -143,18 +146,27 @@ impl Sockets {
     }
 
     /// The moment at which the abstract name is tried again, in milliseconds, if it is to be held and is not.
-    pub fn next_name_try(&self) -> Option<u64> {
+    pub fn next_name_try(&self) -> Option<u64>
+        ensures { result ≡ option_and_then next_name_try self.now.abstract_name }
+    {
         self.abstract_name.as_ref()?.next_try()
     }
 
     /// Tries again to take the abstract name, if that is due at this moment, in milliseconds. What is to be told of it, once each:
     /// why the try at the start failed, and that it was taken after that.
-    pub fn take_name<R: Files + Net>(&mut self, rt: &R, now: u64) -> Option<io::Result<()>> {
-        self.abstract_name.as_mut()?.take(rt, now)
+    pub fn take_name<R: Files + Net>(&mut self, rt: &R, now: u64) -> Option<io::Result<()>>
+        ensures { HasTriedIfAny now self.old.abstract_name self.new.abstract_name result }
+    {
+        match &mut self.abstract_name {
+            Some(name) => name.take(rt, now),
+            None => None,
+        }
     }
 
     /// Addresses are followed from here on, for which places are taken. An error if an allocation is refused.
-    pub fn follow_by(&mut self, follower: Follower) -> Result<(), AllocError> {
+    pub fn follow_by(&mut self, follower: Follower) -> Result<(), AllocError>
+        ensures { IfOk result (λ done. self.new.follower ≡ Some follower) }
+    {
         self.calls.all.reserve(2 * MOST)?;
         self.listeners.reserve(MOST)?;
         self.follower = Some(follower);
@@ -162,7 +174,9 @@ impl Sockets {
     }
 
     /// The moment at which is next found out which addresses there are, in milliseconds, if they are followed.
-    pub fn next_look(&self) -> Option<u64> {
+    pub fn next_look(&self) -> Option<u64>
+        ensures { result ≡ next_look self.now }
+    {
         match &self.follower {
             Some(follower) => Some(follower.next_look()),
             None => None,
@@ -239,7 +253,10 @@ impl Sockets {
     }
 
     /// Listens on a host too, in the place of one that is listened on no more, if there is one.
-    fn listen<R: Net>(&mut self, rt: &R, registry: &Registry, host: Host) -> Result<(), BindFault> {
+    fn listen<R: Net>(&mut self, rt: &R, registry: &Registry, host: Host) -> Result<(), BindFault>
+        ensures calls { IfOk result (λ done. TakesCallsAt host self.old self.new) }
+        ensures listener { IfOk result (λ done. TakesConnections self.old self.new) }
+    {
         let mut listener = Listener::bind_tcp(rt, None, host, self.port, self.beliefs)?;
         let mut calls = CallSocket::bind(rt, None, host, self.port, false, self.beliefs)?;
         let place = self.free_place();
@@ -247,12 +264,15 @@ impl Sockets {
         check_shown(calls.register(registry, token_of(Shown::Calls(place))))?;
         check_shown(listener.register(registry, token_of(Shown::Listener(door))))?;
         put_at(&mut self.calls.all, place, calls)?;
-        put_at(&mut self.listeners, door, listener)
+        put_at(&mut self.listeners, door, listener)?;
+        Ok(())
     }
 
     /// The place of a socket whose host was left before the last reading, or the next one: by that time no call that came on it
     /// and was forwarded waits any more, whose reply would go out on the new one.
-    fn free_place(&self) -> usize {
+    fn free_place(&self) -> usize
+        ensures { result ≡ free_place_in self.now }
+    {
         match &self.follower {
             Some(follower) => self.calls.free_place(follower.left()),
             None => self.calls.all.len(),
@@ -260,28 +280,35 @@ impl Sockets {
     }
 
     /// Whether it was found since the last question that the local socket is root's no longer.
-    pub fn take_local_change(&mut self) -> bool {
-        let mut is_changed = false;
-        for listener in &mut self.listeners {
-            is_changed |= listener.socket.take_change();
-        }
+    pub fn take_local_change(&mut self) -> bool
+        ensures untold { result ≡ is_local_changed self.old }
+        ensures told { self.new.listeners.items ≡ map told_of self.old.listeners.items }
+    {
+        let is_changed = self.is_local_changed();
+        note_all_told(self.listeners.as_mut_slice());
         is_changed
     }
 
     /// Whether `take_local_change`, or at this moment, in milliseconds, `take_name` or `follow` has something to tell or to do.
-    pub fn has_news(&self, now: u64) -> bool {
+    pub fn has_news(&self, now: u64) -> bool
+        ensures { result ≡ has_news now self.now }
+    {
         let is_read = self.next_look().is_some_and(|next| next <= now);
         is_read || self.has_name_news(now) || self.is_local_changed()
     }
 
-    fn has_name_news(&self, now: u64) -> bool {
+    fn has_name_news(&self, now: u64) -> bool
+        ensures { result ≡ has_news_of now self.now.abstract_name }
+    {
         match &self.abstract_name {
             Some(name) => name.has_news(now),
             None => false,
         }
     }
 
-    fn is_local_changed(&self) -> bool {
+    fn is_local_changed(&self) -> bool
+        ensures { result ≡ is_local_changed self.now }
+    {
         self.listeners
             .iter()
             .any(|listener| listener.socket.is_changed())
@@ -326,14 +353,12 @@ impl Sockets {
     }
 
     /// Notes what an event with this token shows, if that is one of these sockets.
-    pub fn note_ready(&mut self, token: Token) {
+    pub fn note_ready(&mut self, token: Token)
+        ensures { NotesShown (shown_by token.0) self.old self.new }
+    {
         match Sockets::shown_by(token) {
             Shown::Connection(_) => {}
-            Shown::Forwards(family) => {
-                if let Some(forwards) = self.forwards.of_mut(family) {
-                    forwards.note_ready();
-                }
-            }
+            Shown::Forwards(family) => self.forwards.note_ready(family),
             Shown::Calls(i) => {
                 if let Some(calls) = self.calls.all.get_mut(i) {
                     calls.note_ready();
@@ -362,7 +387,9 @@ impl Sockets {
     }
 
     /// Whether one of the listeners must be served in this turn.
-    pub fn are_listeners_ready(&self) -> bool {
+    pub fn are_listeners_ready(&self) -> bool
+        ensures { result ≡ are_listeners_ready self.now }
+    {
         self.listeners.iter().any(|listener| listener.is_ready())
     }
 
@@ -625,14 +652,37 @@ fn bind_local<R: Files + Net>(
     }
 }
 
-/// The place of a listener whose host is listened on no more, or the next one.
-fn free_door(listeners: &[Watched<Listener>]) -> usize {
-    for (i, listener) in listeners.iter().enumerate() {
-        if listener.socket.is_closed() {
-            return i;
-        }
+/// What one of them found is told.
+fn note_all_told(listeners: &mut [Watched<Listener>])
+    ensures { listeners.new ≡ map told_of listeners.old }
+{
+    for listener in listeners.iter_mut() {
+        note_told(listener);
     }
-    listeners.len()
+}
+
+fn note_told(listener: &mut Watched<Listener>)
+    ensures { listener.new ≡ told_of listener.old }
+{
+    let _ = listener.socket.take_change();
+}
+
+/// The place of a listener whose host is listened on no more, or the next one.
+fn free_door(listeners: &[Watched<Listener>]) -> usize
+    ensures { result ≡ free_door listeners.now }
+{
+    match closed_door(listeners) {
+        Some(door) => door,
+        None => listeners.len(),
+    }
+}
+
+fn closed_door(listeners: &[Watched<Listener>]) -> Option<usize>
+    ensures { result ≡ closed_door listeners.now }
+{
+    listeners
+        .iter()
+        .position(|listener| listener.socket.is_closed())
 }
 
 /// Whether the events of a socket are shown.
@@ -644,7 +694,9 @@ fn check_shown(registered: io::Result<()>) -> Result<(), BindFault> {
 }
 
 /// Puts a socket at a place, or after the others.
-fn put_at<S: Drop>(all: &mut Vec<Watched<S>>, place: usize, socket: S) -> Result<(), BindFault> {
+fn put_at<S: Drop>(all: &mut Vec<Watched<S>>, place: usize, socket: S) -> Result<(), BindFault>
+    ensures { IfOk result (λ done. all.new.items ≡ put_in place (unserved socket) all.old.items) }
+{
     match all.get_mut(place) {
         Some(watched) => {
             *watched = Watched::new(socket);
@@ -655,7 +707,9 @@ fn put_at<S: Drop>(all: &mut Vec<Watched<S>>, place: usize, socket: S) -> Result
 }
 
 /// Puts a socket after the others.
-fn put<S: Drop>(all: &mut Vec<Watched<S>>, socket: S) -> Result<(), BindFault> {
+fn put<S: Drop>(all: &mut Vec<Watched<S>>, socket: S) -> Result<(), BindFault>
+    ensures { IfOk result (λ done. all.new.items ≡ all.old.items ++ unserved socket ∷ []) }
+{
     match all.push(Watched::new(socket)) {
         Ok(()) => Ok(()),
         Err(error) => Err(BindFault::Memory(AllocError::from(error))),

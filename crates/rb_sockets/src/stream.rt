@@ -1,4 +1,5 @@
 //! Connections that were accepted, each of its own kind.
+use crate::arrival::OwnEnd;
 use mio::net::{TcpStream, UnixStream};
 use mio::{Interest, Registry, Token};
 use rb_address::{Host, Peer};
@@ -28,15 +29,16 @@ impl Stream {
 
     /// Our own end of a connection over TCP: the host that was asked, and its port. If the system does not tell, and on
     /// the local socket, 0.0.0.0 and port 0.
-    pub(crate) fn own_end(&self) -> Peer {
+    pub(crate) fn own_end(&self) -> OwnEnd {
         let nowhere = Peer::new(Host::V4(ANY), 0);
-        match self {
+        let address = match self {
             Stream::Tcp(stream) => match stream.local_addr() {
                 Ok(address) => Peer::of(address),
                 Err(_) => nowhere,
             },
             Stream::Local(_) => nowhere,
-        }
+        };
+        OwnEnd { address }
     }
 
     /// Whether it is connected still. As long as it is, no other connection has its two ends.

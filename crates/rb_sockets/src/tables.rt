@@ -1,5 +1,6 @@
 //! The kernel's tables of connections, read in slices.
-ghost use Rattle.std.specs.Prelude.{◌≡◌, []};
+ghost use Rattle.std.specs.Prelude.{◌≡◌, [], IfOk};
+ghost use Rattle.rb_sockets.specs.Tables.{HasReadOnce, HasReadSlice};
 
 use rb_address::Family;
 use rb_evidence::{Lines, SLICE, Sight};
@@ -48,7 +49,9 @@ pub struct Table<H: Files> {
 
 impl<H: Files> Table<H> {
     /// None is open. There is room for a slice, if tables are read at all. An error if the allocation is refused.
-    pub fn new(alloc: Global, are_read: bool) -> Result<Table<H>, AllocError> {
+    pub fn new(alloc: Global, are_read: bool) -> Result<Table<H>, AllocError>
+        ensures { IfOk result (λ table. table.lines ≡ []) }
+    {
         Ok(Table {
             family: Family::Inet,
             file: None,
@@ -76,7 +79,10 @@ impl<H: Files> Table<H> {
 
     /// Reads the next slice, and looks at the lines that are whole then, for all of the connections that are looked
     /// for. At the end it looks at the last line, and the table is closed; and so it is if it can't be read.
-    pub fn read(&mut self, sights: &mut [Option<Sight>]) -> Result<Slice, TableFault> {
+    pub fn read(&mut self, sights: &mut [Option<Sight>]) -> Result<Slice, TableFault>
+        ensures { IfOk result (λ slice. HasReadSlice slice
+            self.old.lines self.new.lines sights.old sights.new) }
+    {
         let mut count = 0usize;
         for _ in 0..READS {
             let came = self.read_once(sights)?;
@@ -92,7 +98,10 @@ impl<H: Files> Table<H> {
     }
 
     /// Reads once, and says how many bytes came.
-    fn read_once(&mut self, sights: &mut [Option<Sight>]) -> Result<usize, TableFault> {
+    fn read_once(&mut self, sights: &mut [Option<Sight>]) -> Result<usize, TableFault>
+        ensures { IfOk result (λ count. HasReadOnce count
+            self.old.lines self.new.lines sights.old sights.new) }
+    {
         let Some(file) = &mut self.file else {
             return Err(self.fault(io::Error::new(ErrorKind::NotFound, "it is not open")));
         };

@@ -1,7 +1,7 @@
 //! When one of the daemon's own sockets is served again.
 ghost use Rattle.std.specs.Prelude.{◌≡◌, true, false, not, ◌||◌};
+ghost use Rattle.rb_sockets.specs.Watching.{is_at_event, is_at_once, is_after_wait, unserved, shown_now};
 ghost use Rattle.rb_policy.specs.declared.turns.Again.TheVariants.{AtEvent};
-ghost use Rattle.rb_sockets.specs.Watching.{is_at_event, is_at_once, is_after_wait};
 
 use rb_policy::Again;
 
@@ -17,9 +17,7 @@ pub struct Watched<S> {
 
 impl<S> Watched<S> {
     pub(crate) fn new(socket: S) -> Watched<S>
-        ensures again { result.again ≡ AtEvent }
-        ensures shown { result.is_shown ≡ false }
-        ensures failed { result.has_failed ≡ false }
+        ensures { result ≡ unserved socket }
     {
         Watched {
             socket,
@@ -31,8 +29,7 @@ impl<S> Watched<S> {
 
     /// An event showed it.
     pub fn note_ready(&mut self)
-        ensures shown { self.new.is_shown ≡ true }
-        ensures again { self.new.again ≡ self.old.again }
+        ensures { self.new ≡ shown_now self.old }
     {
         self.is_shown = true;
     }
