@@ -9,3 +9,5 @@ mod WayLaws
 mod LogLaws
 mod AskLaws
 mod ShareLaws
+mod RoundSearch
+mod DrainCalls

@@ -1,5 +1,7 @@
 pub mod Outcomes
 pub mod Turns
+pub mod Rounds
+pub mod Drains
 pub mod Deadlines
 pub mod Peers
 pub mod Networks
