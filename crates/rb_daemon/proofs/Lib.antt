@@ -11,3 +11,6 @@ pub mod Postings
 pub mod Takings
 pub mod Openings
 pub mod Paying
+pub mod Restorings
+pub mod LastRounds
+pub mod Leavings

@@ -39,7 +39,7 @@ use Rattle.rb_core.specs.StandsFor.{CoreView, StandsFor}
 use Rattle.rb_core.proofs.Begun.{with_steps_before, stands_begun}
 use Rattle.rb_lines.specs.RecordLaws.{Fits, AreBytes, HasLine}
 use Rattle.rb_lines.specs.Starts.{MeetsLaws}
-use Rattle.rb_daemon.specs.Recording.{given_events, send_events_of, send_events, output_or_refusal}
+use Rattle.rb_daemon.specs.Recording.{given_events, send_events_of, send_events, output_or_refusal, answer_shown}
 use Rattle.rb_daemon.specs.Served.{IsServed}
 use mathlib.Core.Bool.{true≢false}
 
@@ -208,13 +208,6 @@ lost_goes old new n lost before later is shows records =
     goes old new before later (λ s. NextLost ∷ []) (λ s h. (tt, tt)) (stands_begun old new n is) (lost_records old lost before later shows records)
 
 -- ---- a datagram
-
--- what is shown of a datagram, with the reply that is held
-abbrev pub answer_shown : outcome.Response → List ℕ → Output
-answer_shown outcome_kinds.NoCall reply = Silent
-answer_shown outcome_kinds.Reply reply = Replied reply
-answer_shown outcome_kinds.Forwarded reply = OutForwarded
-answer_shown outcome_kinds.Silent reply = Silent
 
 answer_silent : (given : outcome.Response) (reply : List ℕ) → (given ≡ outcome_kinds.NoCall) ⊎ (given ≡ outcome_kinds.Silent) → Silent ≡ answer_shown given reply
 answer_silent given reply (inl is) = rw is refl

@@ -1,6 +1,8 @@
 -- What is told of faults that may come again and again.
-use Rattle.std.specs.Prelude.{Bool, true, false, Option, Some}
+use Rattle.std.specs.Prelude.{Bool, true, false, Option, Some, None, Result, Ok, Err}
 use Rattle.std.specs.declared.io.Error.{Error}
+use Rattle.rb_sockets.specs.declared.faults.DaemonFault.{DaemonFault}
+use Rattle.rb_sockets.specs.declared.faults.DaemonFault.TheVariants.{Socket}
 use Rattle.rb_sockets.specs.declared.faults.SocketFault.{SocketFault}
 use Rattle.rb_sockets.specs.declared.faults.Step.TheVariants.{Wait}
 
@@ -12,3 +14,8 @@ first_fault false untold fault = Some fault
 -- of a wait
 abbrev pub wait_fault : Error → SocketFault
 wait_fault error = record { step = Wait; error = error }
+
+-- how the turns ended, by the fault of one that failed
+abbrev pub end_of : Option SocketFault → Result (Unit {0}) DaemonFault
+end_of None = Ok tt
+end_of (Some fault) = Err (Socket fault)

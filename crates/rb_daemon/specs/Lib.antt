@@ -12,3 +12,5 @@ pub mod LogRates
 pub mod LoggedChanges
 pub mod Waiting
 pub mod Logs
+pub mod Turning
+pub mod Draining

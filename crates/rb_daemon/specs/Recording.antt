@@ -2,14 +2,17 @@
 use Rattle.std.specs.Prelude.{◌≡◌, ℕ, ◌==◌, if◌then◌else◌, List, [], ◌∷◌, length, Option, Some, None, Result, Ok, Err}
 use Rattle.std.specs.List.{flat_map}
 use Rattle.rb_address.specs.declared.peer.Peer.{Peer}
+use Rattle.rb_address.specs.declared.who.Who.{Who}
 use Rattle.rb_forward.specs.Forwards.{Unsent as UnsentCall}
+use Rattle.rb_model.specs.declared.served.Response.{Response}
+use Rattle.rb_model.specs.declared.served.Response.TheVariants.{NoCall, Reply, Forwarded, Silent as SilentCall}
 use Rattle.rb_model.specs.declared.types.CoreFault.{CoreFault}
 use Rattle.rb_model.specs.Plain.{LentEvent, lent_event}
 use Rattle.rb_model.specs.State.{State, opening}
 use Rattle.rb_model.specs.declared.types.Told.{Told}
 use Rattle.rb_model.specs.Step.{Event, Output, unsent_call, show_taken, show_told, IsReached}
-use Rattle.rb_model.specs.Step.Event.{Bytes, Pending, Gave, Unsent, Sent}
-use Rattle.rb_model.specs.Step.Output.{Refused, Done, IsPending, UnsentIs}
+use Rattle.rb_model.specs.Step.Event.{Bytes, Pending, Gave, Datagram, Unsent, Sent}
+use Rattle.rb_model.specs.Step.Output.{Refused, Done, IsPending, UnsentIs, Replied, Forwarded as OutForwarded, Silent}
 use Rattle.rb_lines.specs.Entries.{entry_text, run_entries, options_text}
 use Rattle.rb_lines.specs.Printing.{Writes}
 use Rattle.rb_lines.specs.Tapes.{Tape, IsRecordOf, unwritten, all_written}
@@ -84,6 +87,17 @@ taken_output done = output_or_refusal show_taken (taken_in done)
 -- the same by what the core said of the bytes
 abbrev pub exchange_entries : ℕ → ℕ → List ℕ → Result Exchanged CoreFault → List ℕ → List (List ℕ)
 exchange_entries now id piece done given = taken_entries now id piece (taken_output done) given
+
+-- what a datagram was answered with, which is this reply if it has one
+abbrev pub answer_shown : Response → List ℕ → Output
+answer_shown NoCall reply = Silent
+answer_shown Reply reply = Replied reply
+answer_shown Forwarded reply = OutForwarded
+answer_shown SilentCall reply = Silent
+
+-- a datagram came
+abbrev pub datagram_entry : ℕ → Who → List ℕ → Response → List ℕ → List ℕ
+datagram_entry now who content response reply = entry_text (Datagram now who content) (answer_shown response reply)
 
 -- the end of a forwarded call, with the last reply
 abbrev pub end_entry : LentEvent → List ℕ → Told → List ℕ

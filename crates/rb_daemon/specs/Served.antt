@@ -1,6 +1,6 @@
 -- What holds of the daemon's core between two events, and what its calls answer.
 use Rattle.std.specs.List.{AllByRecursion}
-use Rattle.std.specs.Prelude.{◌≡◌, ℕ, ◌==◌, Bool, true, not, List, length, Option, Some, None}
+use Rattle.std.specs.Prelude.{◌≡◌, ℕ, ◌==◌, Bool, true, not, List, [], ◌∷◌, length, Option, Some, None}
 use Rattle.rb_address.specs.declared.peer.Peer.{Peer}
 use Rattle.rb_address.specs.declared.who.Who.{Who}
 use Rattle.rb_registry.specs.declared.row.Row.{Row}
@@ -14,8 +14,8 @@ use Rattle.rb_model.specs.declared.types.Expired.{Expired}
 use Rattle.rb_model.specs.Ending.{forward_reply, expire}
 use Rattle.rb_model.specs.Calls.{Outcome}
 use Rattle.rb_model.specs.Calls.Outcome.{NoCall, Reply, Forwarded, Silent as SilentCall}
-use Rattle.rb_model.specs.Step.{datagram, unsent_call, sent_call, IsReached}
-use Rattle.rb_model.specs.ChangeLaws.{this_machine, set_bytes}
+use Rattle.rb_model.specs.Step.{datagram, unsent_call, sent_call, zero_stats, after, IsReached}
+use Rattle.rb_model.specs.ChangeLaws.{this_machine, set_bytes, set_calls}
 use Rattle.rb_lines.specs.Tapes.{Tape}
 use Rattle.rb_core.specs.StandsFor.{CoreView, StandsFor}
 use Rattle.rb_core.specs.HeldBytes.{IsListener}
@@ -79,6 +79,13 @@ has_changed before later = not (change_count before == change_count later)
 -- A row is set again by the call that sets it; and whether it is set.
 abbrev pub set_again : Row → State → ℕ → Bool × State
 set_again row s now = let later : State = (datagram s now this_machine (set_bytes row)).1 in (has_changed s later, later)
+
+-- The state after kept rows were set again, one after another, each by the call that sets it; then statistics begin anew, if
+-- there were some.
+-- KEEP-1 KEEP-7
+abbrev pub with_rows_again : List Row → State → ℕ → State
+with_rows_again [] s now = s
+with_rows_again (row ∷ rows) s now = zero_stats (after s (set_calls now (row ∷ rows)))
 
 -- ---- forwarded calls
 

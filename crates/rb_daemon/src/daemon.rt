@@ -1,9 +1,12 @@
 //! The daemon and its turns.
-ghost use Rattle.std.specs.Prelude.{◌≡◌, ◌↔◌, IsTrue, IsErrOf, IfOk, OnOk, false, not};
+ghost use Rattle.std.specs.Prelude.{◌≡◌, ◌↔◌, [], ◌∷◌, IsTrue, IsErrOf, IfOk, OnOk, false, not, OnErr, is_some, true};
+ghost use Rattle.rb_model.specs.Step.{after};
+ghost use Rattle.rb_model.specs.ChangeLaws.{set_call, set_calls};
 ghost use Rattle.rb_lines.specs.Starts.{MeetsLaws};
 ghost use Rattle.rb_sockets.specs.Settings.{listener_of};
-ghost use Rattle.rb_daemon.specs.Served.{has_good_limits};
-ghost use Rattle.rb_daemon.specs.Moves.{IsNewEngine};
+ghost use Rattle.rb_daemon.specs.Served.{has_good_limits, with_rows_again};
+ghost use Rattle.rb_daemon.specs.Moves.{IsNewEngine, Moves};
+ghost use Rattle.rb_daemon.specs.FirstFaults.{end_of};
 ghost use Rattle.rb_daemon.specs.Recording.{WritesRecord};
 
 use crate::engine::Engine;
@@ -12,10 +15,10 @@ use crate::load::Load;
 use crate::room::Room;
 use crate::secrets::{brake_of, draw, first_xid};
 use crate::serving::Serving;
-use crate::waiting::{EVENTS, Waiting};
+use crate::waiting::{EVENTS, Times, TurnFailed, Waiting, read_clocks};
 use mio::Registry;
 use rb_lines::bad_limit;
-use rb_policy::{Moments, others_of, place_count, wait_of};
+use rb_policy::{others_of, place_count, wait_of};
 use rb_registry::Row;
 use rb_sockets::{
     AddressNews, BindFault, DaemonFault, Follower, Handed, Settings, Shortage, SocketFault,
@@ -23,18 +26,16 @@ use rb_sockets::{
 };
 use std::alloc::{AllocError, Global};
 use std::fs::Files;
+use std::io;
 use std::io::Write;
 use std::net::Net;
 use std::random::RandomSource;
 use std::rt::Clock;
-use std::time::Duration;
-use std::{io, thread};
 
 /// A core and the sockets around it. What it takes of memory it takes in `new`; `tests/run-memory.sh` shows so.
 #[derive(Drop)]
 pub struct Daemon<'a, R: Clock, H: Files> {
     clock: &'a R,
-    moments: Moments,
     waiting: Waiting,
     serving: Serving<H>,
     shortage: Option<Shortage>,
@@ -72,7 +73,7 @@ impl<'a, R: Clock, H: Files> Daemon<'a, R, H> {
         let brake = brake_of(alloc, settings.udp_rate, secrets)?;
         // What has many parts is made last, since each `?` lets go all that was made before it.
         let inner = begin(alloc, settings, xid, first.wall, kept)?;
-        let outer = open(alloc, host, settings, handed)?;
+        let outer = open(alloc, host, settings, first, handed)?;
         outer.sockets.write_stack(host);
         let Inner {
             engine,
@@ -87,7 +88,6 @@ impl<'a, R: Clock, H: Files> Daemon<'a, R, H> {
         } = outer;
         Ok(Daemon {
             clock,
-            moments: Moments::new(first.wall, first.monotonic),
             waiting,
             serving: Serving::new(engine, keeper, sockets, room, settings.limits, brake),
             shortage,
@@ -97,7 +97,7 @@ impl<'a, R: Clock, H: Files> Daemon<'a, R, H> {
 
     /// The moment of the last turn, in milliseconds since the start of 1970.
     pub fn moment(&self) -> u64 {
-        self.moments.last()
+        self.waiting.moment()
     }
 
     /// How much it serves. It goes through all rows.
@@ -128,20 +128,22 @@ impl<'a, R: Clock, H: Files> Daemon<'a, R, H> {
     /// the turn is behind: then the next one does not wait. It closes Lost connections, and accepts connections as far as
     /// there are free places. If calls over TCP from this host wait until it is known whose they are, it reads a slice of the
     /// kernel's tables, which are files of `host`. A wait that fails is as
-    /// one that showed nothing, after a pause. After a fault, `Socket` of many waits that failed one after another or of the
-    /// clock, what was handed to the core stands, and the daemon can do no more.
-    pub fn turn(&mut self, host: &H, longest: Option<u64>) -> Result<(), DaemonFault> {
+    /// one that showed nothing, after a pause. After many waits that failed one after another, or if the clock does, the turn
+    /// fails: what was handed to the core stands, and the daemon can do no more.
+    pub fn turn(&mut self, host: &H, longest: Option<u64>) -> Result<(), TurnFailed>
+        ensures end { OnErr result (is_some self.new.waiting.end ≡ true) }
+    {
         let is_work_left = self.serving.is_work_left();
         let deadline = self.serving.next_deadline();
         let wait = wait_of(
             is_work_left || self.serving.is_table_left(),
-            self.moments.last(),
+            self.waiting.moment(),
             self.serving.next_turn(deadline),
             longest,
         );
-        let is_fresh = self.wait(wait, deadline.is_none())?;
+        let is_fresh = self.waiting.wait(self.clock, wait, deadline.is_none())?;
         let shown = self.waiting.count();
-        self.serving.begin_turn(self.moments.last());
+        self.serving.begin_turn(self.waiting.moment());
         for event in &self.waiting.events {
             self.serving.note_ready(event);
         }
@@ -159,6 +161,13 @@ impl<'a, R: Clock, H: Files> Daemon<'a, R, H> {
             .look_in_tables(host, !is_work_left && shown == 0);
         self.serving.keep(host);
         Ok(())
+    }
+
+    /// How the turns ended: `Socket` if one failed, once.
+    pub fn take_end(&mut self) -> Result<(), DaemonFault>
+        ensures { result ≡ end_of self.old.waiting.end }
+    {
+        self.waiting.take_end()
     }
 
     /// Whether one of the calls below has something to tell, or something to look for is due: if not, none need be made after
@@ -227,51 +236,6 @@ impl<'a, R: Clock, H: Files> Daemon<'a, R, H> {
     pub fn write_log<W: Write>(&mut self, writer: &mut W) -> io::Result<()> {
         self.serving.write_log(writer)
     }
-
-    // WAIT-3: After a wait that showed nothing, and if it does not wait, the daemon reads the clock and
-    // looks once more.
-    /// Waits until something is ready, or for this many milliseconds, and reads the clock. A wait that showed something is
-    /// over then; else the daemon looks once more after the clock, so that nothing is unread that came before the moment
-    /// of the turn. Returns whether it did. A signal ends a wait too, and is told as one that showed nothing.
-    fn wait(&mut self, wait: Option<u64>, follows_wall: bool) -> Result<bool, DaemonFault> {
-        if wait != Some(0) {
-            let is_done = self.waiting.look(self.clock, wait)?;
-            if self.waiting.count() > 0 {
-                self.read_moment(follows_wall)?;
-                return Ok(false);
-            }
-            if is_done {
-                self.sleep_on(wait)?;
-            }
-        }
-        self.read_moment(follows_wall)?;
-        self.waiting.look(self.clock, Some(0))
-    }
-
-    /// If a signal ended a wait of this many milliseconds, which showed nothing, the rest of it passes all the same: so
-    /// waits that always end in this way take no processor time.
-    fn sleep_on(&self, wait: Option<u64>) -> Result<(), DaemonFault> {
-        let monotonic = match self.clock.monotonic() {
-            Ok(time) => millis(time),
-            Err(error) => return Err(DaemonFault::Socket(Step::Clock.failed(error))),
-        };
-        let rest = self.moments.rest_of_wait(wait, monotonic);
-        if rest > 0 {
-            thread::sleep(self.clock, Duration::from_millis(rest));
-        }
-        Ok(())
-    }
-
-    /// Reads the moment of the turn off the clocks. If nothing has a deadline, it follows a wall clock that was set.
-    fn read_moment(&mut self, follows_wall: bool) -> Result<(), DaemonFault> {
-        match read_clocks(self.clock) {
-            Ok(Times { wall, monotonic }) => {
-                self.moments.next(wall, monotonic, follows_wall);
-                Ok(())
-            }
-            Err(error) => Err(DaemonFault::Socket(Step::Clock.failed(error))),
-        }
-    }
 }
 
 /// How many places there are for connections, and the shortage, if they are fewer than the settings ask for.
@@ -300,6 +264,44 @@ fn places_of<N: Net>(
     (places, Some(shortage))
 }
 
+/// Sets a row again that was kept, and notes whose it is. If it is not set, its place is left out. An error if an allocation
+/// is refused.
+fn restore_row<H: Files>(
+    engine: &mut Engine,
+    keeper: &mut Keeper<H>,
+    row: &Row,
+    place: usize,
+    left_out: &mut Vec<usize>,
+) -> Result<(), AllocError>
+    ensures acts { Moves (λ s now. after s (set_call now row.now ∷ [])) engine.old engine.new }
+    ensures moment { engine.new.moment ≡ engine.old.moment }
+{
+    let is_set = engine.restore(row);
+    keeper.note(engine);
+    if !is_set {
+        left_out.push(place)?;
+    }
+    Ok(())
+}
+
+/// Sets the rows again that were kept, in their order, and notes whose they are. The places of those that are not set are left
+/// out. An error if an allocation is refused.
+fn restore_rows<H: Files>(
+    engine: &mut Engine,
+    keeper: &mut Keeper<H>,
+    rows: &[Row],
+    left_out: &mut Vec<usize>,
+) -> Result<(), AllocError>
+    ensures { OnOk result (Moves (λ s now. after s (set_calls now rows.now)) engine.old engine.new) }
+{
+    let mut place = 0usize;
+    for row in rows {
+        restore_row(engine, keeper, row, place, left_out)?;
+        place = place.saturating_add(1);
+    }
+    Ok(())
+}
+
 /// Sets the rows again that were kept, notes whose they are, and begins the statistics anew after them. Returns the places
 /// of those that are not set. An error if an allocation is refused.
 fn restore<H: Files>(
@@ -307,38 +309,17 @@ fn restore<H: Files>(
     engine: &mut Engine,
     keeper: &mut Keeper<H>,
     rows: &[Row],
-) -> Result<Vec<usize>, AllocError> {
+) -> Result<Vec<usize>, AllocError>
+    ensures { OnOk result (Moves (with_rows_again rows.now) engine.old engine.new) }
+{
     let mut left_out = Vec::new(alloc);
-    for (place, row) in rows.iter().enumerate() {
-        if !engine.restore(row) {
-            left_out.push(place)?;
-        }
-        keeper.note(engine);
-    }
+    restore_rows(engine, keeper, rows, &mut left_out)?;
     keeper.begin(engine);
-    if !rows.is_empty() {
-        engine.zero_stats();
+    if rows.is_empty() {
+        return Ok(left_out);
     }
+    engine.zero_stats();
     Ok(left_out)
-}
-
-/// What two clocks give, in milliseconds.
-#[derive(Clone, Copy)]
-struct Times {
-    /// Since the start of 1970.
-    wall: u64,
-    monotonic: u64,
-}
-
-fn read_clocks(clock: &impl Clock) -> io::Result<Times> {
-    Ok(Times {
-        wall: millis(clock.since_1970()?),
-        monotonic: millis(clock.monotonic()?),
-    })
-}
-
-fn millis(time: Duration) -> u64 {
-    u64::try_from(time.as_millis()).unwrap_or(u64::MAX)
 }
 
 /// `Limits` if a limit is out of its range.
@@ -424,17 +405,18 @@ fn begin<H: Files>(
     }
 }
 
-/// Binds sockets to all that the settings name and that was not handed over, and waits on them from here on. `Memory` or
-/// `Socket`, whichever occurs first.
+/// Binds sockets to all that the settings name and that was not handed over, and waits on them from this first moment on.
+/// `Memory` or `Socket`, whichever occurs first.
 fn open<B: Files + Net, H: Files>(
     alloc: Global,
     host: &B,
     settings: &Settings<'_>,
+    first: Times,
     handed: Handed,
 ) -> Result<Outer<H>, DaemonFault>
     ensures others { IsErrOf result DaemonFault.Limits → IsTrue false }
 {
-    let waiting = Waiting::new(alloc, host)?;
+    let waiting = Waiting::new(alloc, host, first)?;
     let sockets = bind(alloc, host, settings, handed, waiting.registry())?;
     let (places, shortage) = places_of(host, settings, &sockets);
     let networks = settings.from.as_slice();

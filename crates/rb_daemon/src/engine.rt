@@ -22,7 +22,8 @@ use crate::held::Replies;
 use crate::keeping::Kept;
 use crate::log::Log;
 use crate::showing::{
-    count_given, record_exchange, record_pieces, record_unsent, show_done, show_opened,
+    count_given, record_datagram, record_exchange, record_pieces, record_unsent, show_done,
+    show_opened,
 };
 use rb_address::Source;
 use rb_core::{
@@ -429,20 +430,20 @@ impl Engine {
         ensures moment { self.new.moment ≡ self.old.moment }
         ensures looks { self.new.looks ≡ self.old.looks }
     {
+        let now = self.moment;
         let who = caller.who;
-        let event = Event::Datagram(self.moment, who, content);
-        match self.core.datagram(self.moment, who, content) {
+        match self.core.datagram(now, who, content) {
             Response::Reply => {
                 let reply = self.core.udp_reply();
-                self.tape.record(&event, &Output::Replied(reply));
+                record_datagram(&mut self.tape, now, who, content, Response::Reply, reply);
                 Answer::Reply
             }
             Response::Forwarded => {
-                self.tape.record(&event, &Output::Forwarded);
+                record_datagram(&mut self.tape, now, who, content, Response::Forwarded, &[]);
                 Answer::Forwarded
             }
             Response::NoCall | Response::Silent => {
-                self.tape.record(&event, &Output::Silent);
+                record_datagram(&mut self.tape, now, who, content, Response::Silent, &[]);
                 Answer::Nothing
             }
         }

@@ -4,6 +4,7 @@
 mod callers;
 mod daemon;
 mod datagrams;
+mod draining;
 mod engine;
 mod held;
 mod keeping;
@@ -32,3 +33,4 @@ pub use rb_proto::{Announced, Forwarding, Reserved, Terms};
 pub use rb_sockets::{
     DaemonFault, Few, Handed, LocalSocket, Logged, Settings, Shortage, SocketFault, Step,
 };
+pub use waiting::TurnFailed;

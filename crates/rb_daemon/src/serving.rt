@@ -1,8 +1,7 @@
 //! The core with its sockets and connections, and what a turn does with them.
-ghost use Rattle.std.specs.Prelude.{◌≤◌, length};
+ghost use Rattle.std.specs.Prelude.{◌≡◌};
+ghost use Rattle.rb_daemon.specs.Turning.{is_due};
 
-use crate::callers::{Asked, Sender};
-use crate::datagrams::answer_call;
 use crate::engine::{Due, Engine};
 use crate::held::{Held, HeldLink};
 use crate::keeping::{KeepNews, Keeper};
@@ -12,17 +11,16 @@ use crate::room::Room;
 use crate::steps::{Progress, serve, serve_kept};
 use mio::Registry;
 use mio::event::Event;
-use rb_address::{Family, Network, Peer, Who};
+use rb_address::{Family, Network};
 use rb_forward::sooner;
 use rb_links::{Places, Turn};
 use rb_model::Limits;
 use rb_policy::{
-    Admission, Again, Brake, Deadlines, Next, Origin, RETRY, Round, SOCKET_CALLS, Share, WaysBack,
-    after_accept, after_all_calls, after_receive, is_behind, origin_of, outcome_of, serves_another,
+    Admission, Brake, Deadlines, LAST_ROUND, Origin, RETRY, Round, Share, WaysBack, is_behind,
+    origin_of,
 };
 use rb_sockets::{
-    Accepted, AddressNews, Asker, Follower, Shown, Slice, SocketFault, Sockets, Step, Table,
-    TableFault, Visitor,
+    Accepted, AddressNews, Follower, Shown, Slice, SocketFault, Sockets, Table, TableFault, Visitor,
 };
 use std::alloc::AllocError;
 use std::fs::Files;
@@ -30,52 +28,51 @@ use std::io;
 use std::io::Write;
 use std::net::Net;
 
-/// The most datagrams of one socket in a turn: each is a socket call, and a reply to it is another.
-const DATAGRAMS: usize = SOCKET_CALLS / 2;
-
 /// The core with its sockets, the places of connections, and what is left for the next turn.
 #[derive(Drop)]
 pub(crate) struct Serving<H: Files> {
-    engine: Engine,
+    pub(crate) engine: Engine,
     /// Where the rows are kept that were set.
-    keeper: Keeper<H>,
-    sockets: Sockets,
+    pub(crate) keeper: Keeper<H>,
+    pub(crate) sockets: Sockets,
     /// The networks whose hosts may ask.
-    networks: Vec<Network>,
-    places: Places,
+    pub(crate) networks: Vec<Network>,
+    pub(crate) places: Places,
     /// How many rows may be set.
     most_rows: usize,
     /// As many things can be due at one moment: connections and forwarded calls.
     most_due: usize,
-    datagram: Vec<u8>,
+    pub(crate) datagram: Vec<u8>,
     /// On which sockets the calls came that were forwarded.
-    ways_back: WaysBack,
+    pub(crate) ways_back: WaysBack,
     /// What waits until the changes of the turn are kept.
-    held: Held,
+    pub(crate) held: Held,
     /// What drops datagrams of strangers that come too often, if that is asked for.
-    brake: Option<Brake>,
+    pub(crate) brake: Option<Brake>,
     /// The kernel's tables of connections, which show whose those from this host are.
     table: Table<H>,
     /// The family of the one that is walked through, if a pass through them goes on.
     walk: Option<Family>,
     /// How much of the time they are read.
     share: Share,
-    turn: Turn,
+    pub(crate) turn: Turn,
     deadlines: Deadlines,
     /// How many changes had been accepted when connections were last closed that the core had given up for one.
     changes: u64,
     /// The fault of a listener that is yet to be told.
-    fault: Option<SocketFault>,
+    pub(crate) fault: Option<SocketFault>,
     /// The first fault of a table, until it is told, and whether there was one.
     table_fault: Option<TableFault>,
     has_table_failed: bool,
 }
 
-/// Whether a datagram of this caller is served that came at this moment: each one is, if there is no brake.
-fn passes(brake: &mut Option<Brake>, now: u64, who: &Who) -> bool {
-    match brake {
-        Some(brake) => brake.passes(now, who),
-        None => true,
+/// Whether the next deadline has come at a moment, if there is one.
+fn is_due(deadline: Option<u64>, moment: u64) -> bool
+    ensures { result ≡ is_due deadline moment }
+{
+    match deadline {
+        Some(deadline) => deadline <= moment,
+        None => false,
     }
 }
 
@@ -86,6 +83,14 @@ impl<H: Files> Serving<H> {
     ghost use Rattle.rb_daemon.specs.Served.{row_count};
     ghost use Rattle.rb_daemon.specs.Recording.{WritesRecord};
     ghost use Rattle.rb_daemon.specs.FirstFaults.{first_fault};
+    ghost use Rattle.rb_daemon.specs.Moves.{LooksOnce};
+    ghost use Rattle.mio.specs.Event.{event_token};
+    ghost use Rattle.rb_policy.specs.Deadlines.{ends, put_off_after, is_behind};
+    ghost use Rattle.rb_policy.specs.Rounds.{StayBut};
+    ghost use Rattle.rb_sockets.specs.Events.{shown_by};
+    ghost use Rattle.rb_sockets.specs.Watching.{NotesShown};
+    ghost use Rattle.rb_links.specs.Rounds.{IsTakenUp, TakesUp, ServesFew};
+    ghost use Rattle.rb_daemon.specs.Turning.{ServesNone, is_due, leaves_some};
 
     /// A core of these limits, what keeps its rows, and the sockets around it, which are served with this memory; and
     /// what drops datagrams of strangers, if they are limited.
@@ -193,7 +198,9 @@ impl<H: Files> Serving<H> {
 
     /// The next deadline, in milliseconds since the start of 1970, if anything has one: of a connection or a forwarded call,
     /// and of a connection whose socket takes nothing of what waits for it.
-    pub(crate) fn next_deadline(&mut self) -> Option<u64> {
+    pub(crate) fn next_deadline(&mut self) -> Option<u64>
+        ensures looks { LooksOnce self.old.engine self.new.engine }
+    {
         sooner(self.engine.next_deadline(), self.places.next_stuck())
     }
 
@@ -220,20 +227,36 @@ impl<H: Files> Serving<H> {
     }
 
     /// Notes what an event shows of the daemon's own sockets.
-    pub(crate) fn note_ready(&mut self, event: &Event) {
+    pub(crate) fn note_ready(&mut self, event: &Event)
+        ensures { NotesShown
+            (shown_by (event_token event.now).0) self.old.sockets self.new.sockets }
+    {
         self.sockets.note_ready(event.token());
     }
 
     /// Serves the connection that an event shows, or leaves it for the last round.
-    pub(crate) fn serve(&mut self, host: &H, event: &Event) {
-        let Shown::Connection(key) = Sockets::shown_by(event.token()) else {
-            return;
-        };
-        if event.is_read_closed() {
+    pub(crate) fn serve(&mut self, host: &H, event: &Event)
+        ensures { TakesUp
+            (shown_by (event_token event.now).0) self.old.turn.number self.new.places }
+    {
+        match Sockets::shown_by(event.token()) {
+            Shown::Connection(key) => self.serve_shown(host, key, event.is_read_closed()),
+            Shown::Forwards(_) | Shown::Calls(_) | Shown::Listener(_) => {}
+        }
+    }
+
+    /// Serves the connection at a place, or leaves it for the last round. `has_ended` is whether the event shows that its peer
+    /// has ended what it sends.
+    fn serve_shown(&mut self, host: &H, key: usize, has_ended: bool)
+        ensures { IsTakenUp self.old.turn.number key self.new.places }
+    {
+        if has_ended {
             self.places.note_ended(key);
         }
         match self.places.round(key) {
-            Some(Round::First) => self.serve_at(host, key, event.is_read_closed()),
+            Some(Round::First) => {
+                self.serve_at(host, key, has_ended);
+            }
             Some(Round::Last) => self.places.leave(key),
             None => {}
         }
@@ -241,31 +264,51 @@ impl<H: Files> Serving<H> {
 
     /// The last round: serves connections that were left, by events of this turn or by the last turn, and those whose
     /// forwarded calls have ended. Those that are too many for it are the first of the next turn's.
-    pub(crate) fn serve_left(&mut self, host: &H) {
-        let Some(first) = self.places.begin_last_round() else {
+    pub(crate) fn serve_left(&mut self, host: &H)
+        ensures { ServesFew self.old.places.rounds.served.items self.new.places.rounds.served.items }
+    {
+        if !self.places.begin_last_round() {
             return;
-        };
-        let mut served = 0usize;
-        for key in (first..self.places.count()).chain(0..first) {
-            if !self.places.is_waiting(key) {
-                continue;
-            }
-            if !serves_another(served) {
-                self.places.leave_from(key);
+        }
+        'left: for _i in 0..=LAST_ROUND {
+            let Some(key) = self.places.take_left() else {
                 return;
-            }
-            self.serve_at(host, key, true);
-            served = served.saturating_add(1);
+            };
+            self.serve_again(host, key);
+        }
+    }
+
+    /// Serves the connection at a place that was left. It is left again if the turn has served it already.
+    fn serve_again(&mut self, host: &H, key: usize)
+        ensures others { StayBut key
+            self.old.places.rounds.served.items self.new.places.rounds.served.items }
+        ensures count { self.new.places.rounds.count ≡ self.old.places.rounds.count }
+    {
+        if !self.serve_at(host, key, true) {
+            self.places.leave(key);
         }
     }
 
     // CLOSE-1: A fault on one connection closes that connection, and its place is free.
     /// Serves the connection at a place, at most once in a turn. `may_end` is whether its peer may have ended what it
-    /// sends.
-    fn serve_at(&mut self, host: &H, key: usize, may_end: bool) {
-        if !self.places.is_served_by(self.turn, key) {
-            return;
+    /// sends. Whether it is served now.
+    fn serve_at(&mut self, host: &H, key: usize, may_end: bool) -> bool
+        ensures taken_up { IsTakenUp self.old.turn.number key self.new.places }
+        ensures others { StayBut key
+            self.old.places.rounds.served.items self.new.places.rounds.served.items }
+        ensures count { self.new.places.rounds.count ≡ self.old.places.rounds.count }
+    {
+        if !self.places.begins(self.turn, key) {
+            return false;
         }
+        self.serve_link(host, key, may_end);
+        true
+    }
+
+    /// Serves the connection at a place, once the turn counts as the last one that did.
+    fn serve_link(&mut self, host: &H, key: usize, may_end: bool)
+        ensures { ServesNone self.old.places self.new.places }
+    {
         if self.held.links.is_full() {
             self.answer_changes(host);
         }
@@ -291,24 +334,35 @@ impl<H: Files> Serving<H> {
     }
 
     /// A turn has served the connection at a place, which stands so.
-    fn note_served(&mut self, key: usize, progress: Progress) {
+    fn note_served(&mut self, key: usize, progress: Progress)
+        ensures { ServesNone self.old.places self.new.places }
+    {
+        self.end_at(key, progress);
+        self.places.note_served(key);
+    }
+
+    /// Leaves the connection at a place, or closes it, if it stands so.
+    fn end_at(&mut self, key: usize, progress: Progress)
+        ensures { ServesNone self.old.places self.new.places }
+    {
         match progress {
             Progress::Blocked => {}
             Progress::CutOff | Progress::Unkept(_) => self.places.leave(key),
             Progress::Over => self.close(key),
         }
-        self.places.note_served(key);
     }
 
     // KEEP-18: What changes in a turn, over UDP, TCP and the local socket, is added to the file by one write, if there is room
     // for its lines, and the replies that waited for it go out then.
     /// Keeps what changed in the turn, and then sends the replies that waited for it.
-    pub(crate) fn answer_changes(&mut self, host: &H) {
+    pub(crate) fn answer_changes(&mut self, host: &H)
+        ensures { ServesNone self.old.places self.new.places }
+    {
         let kept = self.keeper.keep(host, &mut self.engine);
         self.held
             .replies
             .send(&self.engine, &mut self.sockets, kept);
-        for i in 0..self.held.links.count() {
+        'links: for i in 0..self.held.links.count() {
             if let Some(held) = self.held.links.get(i) {
                 self.go_on(host, held);
             }
@@ -317,7 +371,9 @@ impl<H: Files> Serving<H> {
     }
 
     /// Goes on with a connection whose replies waited.
-    fn go_on(&mut self, host: &H, held: HeldLink) {
+    fn go_on(&mut self, host: &H, held: HeldLink)
+        ensures { ServesNone self.old.places self.new.places }
+    {
         let kept = self.keeper.keep(host, &mut self.engine);
         let Some(link) = self.places.links.get_mut(held.key) else {
             return;
@@ -328,7 +384,9 @@ impl<H: Files> Serving<H> {
     }
 
     /// Closes the connection at a place, if there is one.
-    fn close(&mut self, key: usize) {
+    fn close(&mut self, key: usize)
+        ensures { ServesNone self.old.places self.new.places }
+    {
         close_at(&mut self.places, &mut self.engine, key);
     }
 
@@ -338,131 +396,6 @@ impl<H: Files> Serving<H> {
             self.engine.tell_given_up(arrival.source());
         }
         self.close(key);
-    }
-
-    /// Answers datagrams on each socket where calls come in.
-    pub(crate) fn answer_calls(&mut self, host: &H) {
-        for i in 0..self.sockets.calls.all.len() {
-            let is_ready = self
-                .sockets
-                .calls
-                .all
-                .get(i)
-                .is_some_and(|calls| calls.is_ready());
-            if is_ready {
-                let again = self.answer_calls_on(host, i);
-                if let Some(calls) = self.sockets.calls.all.get_mut(i) {
-                    calls.leave(again);
-                }
-            }
-        }
-    }
-
-    /// Answers datagrams on the socket of this number, and says when it is served again.
-    fn answer_calls_on(&mut self, host: &H, i: usize) -> Again {
-        let mut got_some = false;
-        for _ in 0..DATAGRAMS {
-            let networks = &self.networks;
-            let Some(came) = self.sockets.calls.receive(i, networks, &mut self.datagram) else {
-                break;
-            };
-            match came {
-                Ok((len, from)) => {
-                    got_some = true;
-                    self.answer(host, len, from);
-                }
-                Err(error) => {
-                    if after_receive(outcome_of(&error)) == Next::AwaitEvent {
-                        return Again::AtEvent;
-                    }
-                }
-            }
-        }
-        after_all_calls(got_some)
-    }
-
-    /// Answers the datagram of the first `len` bytes, unless the brake drops it.
-    fn answer(&mut self, host: &H, len: usize, from: Option<Asker>)
-        requires { len ≤ length self.old.datagram.items }
-    {
-        let Some(asker) = from else {
-            return;
-        };
-        let asked = Asked::of(asker);
-        if !passes(&mut self.brake, self.turn.moment, &asked.caller.who) {
-            return;
-        }
-        answer_call(
-            host,
-            &mut self.engine,
-            &mut self.keeper,
-            &mut self.held.replies,
-            &mut self.sockets,
-            &mut self.ways_back,
-            asked,
-            &self.datagram[..len],
-        );
-    }
-
-    /// Takes what comes back for forwarded calls.
-    pub(crate) fn take_forward_replies(&mut self, host: &H) {
-        self.take_forward_replies_from(host, Family::Inet);
-        self.take_forward_replies_from(host, Family::Inet6);
-    }
-
-    /// Takes what comes back from targets of a family, if that must be served.
-    fn take_forward_replies_from(&mut self, host: &H, family: Family) {
-        let forwards = self.sockets.forwards.of(family);
-        if !forwards.is_some_and(|forwards| forwards.is_ready()) {
-            return;
-        }
-        let again = self.take_forward_replies_now(host, family);
-        if let Some(forwards) = self.sockets.forwards.of_mut(family) {
-            forwards.leave(again);
-        }
-    }
-
-    fn take_forward_replies_now(&mut self, host: &H, family: Family) -> Again {
-        let mut got_some = false;
-        for _ in 0..DATAGRAMS {
-            let Some(forwards) = self.sockets.forwards.of(family) else {
-                break;
-            };
-            match forwards.socket.receive(&mut self.datagram) {
-                Ok((len, from)) => {
-                    got_some = true;
-                    self.take_forward_reply(host, len, from);
-                }
-                Err(error) => {
-                    if after_receive(outcome_of(&error)) == Next::AwaitEvent {
-                        return Again::AtEvent;
-                    }
-                }
-            }
-        }
-        after_all_calls(got_some)
-    }
-
-    /// Takes the datagram of the first `len` bytes, once all changes were kept.
-    fn take_forward_reply(&mut self, host: &H, len: usize, from: Option<Peer>)
-        requires { len ≤ length self.old.datagram.items }
-    {
-        let Some(peer) = from else {
-            return;
-        };
-        let sender = Sender::of(peer);
-        let kept = self.keeper.keep(host, &mut self.engine);
-        let content = &self.datagram[..len];
-        let ready = self.engine.take_forward_reply(
-            sender,
-            content,
-            &mut self.sockets,
-            &mut self.ways_back,
-            kept,
-        );
-        if let Some(id) = ready {
-            self.places.wake(id);
-        }
     }
 
     // CLOSE-2: A connection that the core gave up in a turn is closed in it: one that was due at once,
@@ -478,10 +411,7 @@ impl<H: Files> Serving<H> {
         shown: usize,
         most: usize,
     ) {
-        let is_due = deadline.is_some_and(|deadline| deadline <= self.turn.moment);
-        let are_left = self.places.are_left() || self.sockets.are_datagrams_left();
-        let is_behind = is_behind(is_fresh, shown, most, are_left);
-        if !self.deadlines.ask(is_due, is_behind) {
+        if !self.ends_now(deadline, is_fresh, shown, most) {
             return;
         }
         self.close_stuck();
@@ -497,6 +427,21 @@ impl<H: Files> Serving<H> {
                 Due::Closed(id) => self.close_given_up(id),
             }
         }
+    }
+
+    /// Whether what is due ends in this turn, if something is: if not, it is put off.
+    fn ends_now(&mut self, deadline: Option<u64>, is_fresh: bool, shown: usize, most: usize) -> bool
+        ensures ends { result ≡ ends self.old.deadlines.put_off
+            (is_due deadline self.old.turn.moment)
+            (is_behind is_fresh shown most (leaves_some self.old.places self.old.sockets)) }
+        ensures after { self.new.deadlines.put_off ≡ put_off_after self.old.deadlines.put_off
+            (is_due deadline self.old.turn.moment)
+            (is_behind is_fresh shown most (leaves_some self.old.places self.old.sockets)) }
+    {
+        let is_due = is_due(deadline, self.turn.moment);
+        let are_left = self.places.are_left() || self.sockets.are_datagrams_left();
+        let is_behind = is_behind(is_fresh, shown, most, are_left);
+        self.deadlines.ask(is_due, is_behind)
     }
 
     /// Closes the connections whose sockets take nothing of what waits for them.
@@ -529,83 +474,6 @@ impl<H: Files> Serving<H> {
         match self.places.key_of(id) {
             Some(key) => self.give_up(key),
             None => self.engine.closed(id),
-        }
-    }
-
-    /// Accepts connections on each listener, beginning with another one in each turn, until they are as many as a
-    /// turn accepts.
-    pub(crate) fn accept_all(&mut self, host: &H, registry: &Registry) {
-        if !self.sockets.are_listeners_ready() {
-            return;
-        }
-        let mut left = self.places.accept_count();
-        for i in 0..self.sockets.listeners.len() {
-            let which = self.sockets.nth_listener(self.turn.number, i);
-            let is_ready = self
-                .sockets
-                .listeners
-                .get(which)
-                .is_some_and(|listener| listener.is_ready());
-            if is_ready {
-                let again = self.accept_on(host, registry, which, &mut left);
-                if let Some(listener) = self.sockets.listeners.get_mut(which) {
-                    listener.leave(again);
-                }
-            }
-        }
-    }
-
-    // LISTENER-1: The first fault of each listener is told, and no later one; each turn tries again.
-    /// Accepts connections on the listener of this number, as many as are left for the turn, and says when it is
-    /// served again.
-    fn accept_on(
-        &mut self,
-        host: &H,
-        registry: &Registry,
-        which: usize,
-        left: &mut usize,
-    ) -> Again {
-        let mut got_some = false;
-        for calls in 1..=SOCKET_CALLS {
-            if *left == 0 {
-                return Again::AtOnce;
-            }
-            let Some(listener) = self.sockets.listeners.get_mut(which) else {
-                break;
-            };
-            match listener.socket.accept(host, &self.networks) {
-                Ok(accepted) => {
-                    got_some = true;
-                    *left = left.saturating_sub(1);
-                    if let Some(accepted) = accepted {
-                        self.open(registry, accepted);
-                    }
-                }
-                Err(error) => match after_accept(outcome_of(&error)) {
-                    Next::AwaitEvent => return Again::AtEvent,
-                    Next::AwaitTurn => {
-                        self.note_fault(which, error);
-                        return Again::AfterWait;
-                    }
-                    Next::GoOn | Next::Close => {
-                        if calls == SOCKET_CALLS && !got_some {
-                            self.note_fault(which, error);
-                        }
-                    }
-                },
-            }
-        }
-        after_all_calls(got_some)
-    }
-
-    /// An accept of the listener of this number failed, which must be told if it is the listener's first failure.
-    fn note_fault(&mut self, which: usize, error: io::Error) {
-        if self.fault.is_none() {
-            if let Some(listener) = self.sockets.listeners.get_mut(which) {
-                if listener.fail() {
-                    self.fault = Some(Step::Accept.failed(error));
-                }
-            }
         }
     }
 
@@ -651,7 +519,7 @@ impl<H: Files> Serving<H> {
     /// Gives a connection a free place, or that of one that is given up for it, and opens it. If the kernel's tables
     /// must show whose it is, it is nobody's known until a call needs more. One that the core does not take is closed at once,
     /// and so is one whose events can't be shown.
-    fn open(&mut self, registry: &Registry, accepted: Accepted) {
+    pub(crate) fn open(&mut self, registry: &Registry, accepted: Accepted) {
         let origin = match &accepted.visitor {
             Visitor::Known(arrival) => origin_of(&arrival.who()),
             Visitor::Unknown(_) => Origin::New,

@@ -6,10 +6,10 @@ ghost use Rattle.rb_model.specs.Step.{show_done};
 ghost use Rattle.rb_model.specs.Exchanges.{count_given};
 ghost use Rattle.rb_model.specs.Gives.{pieces_of};
 ghost use Rattle.rb_lines.specs.Tapes.{Records};
-ghost use Rattle.rb_daemon.specs.Recording.{output_or_refusal, given_entries, pieces_entries, exchange_entries, taken_output, unsent_entry};
+ghost use Rattle.rb_daemon.specs.Recording.{output_or_refusal, given_entries, pieces_entries, exchange_entries, taken_output, answer_shown, datagram_entry, unsent_entry};
 
-use rb_address::Peer;
-use rb_core::{CoreFault, Exchanged};
+use rb_address::{Peer, Who};
+use rb_core::{CoreFault, Exchanged, Response};
 use rb_lines::Tape;
 use rb_model::{Event, Output, UnsentCall};
 use rb_rpc::LONGEST_FRAGMENT;
@@ -75,6 +75,40 @@ pub(crate) fn record_exchange(
     if !given.is_empty() {
         record_given(tape, now, id, given);
     }
+}
+
+/// What a datagram was answered with: with this reply, if it has one.
+fn show_answer<'a>(response: Response, reply: &'a [u8]) -> Output<&'a [u8]>
+    ensures { lent_output result ≡ answer_shown response reply.now }
+{
+    match response {
+        Response::Reply => Output::Replied(reply),
+        Response::Forwarded => Output::Forwarded,
+        Response::NoCall | Response::Silent => Output::Silent,
+    }
+}
+
+// TAPE-4
+/// Records that a datagram came, and what it was answered with. It makes no lines if nothing is recorded, since each call
+/// over UDP comes by here.
+pub(crate) fn record_datagram(
+    tape: &mut Tape,
+    now: u64,
+    who: Who,
+    content: &[u8],
+    response: Response,
+    reply: &[u8],
+)
+    requires within { length tape.old.text ≤ tape.old.limit }
+    ensures { Records (datagram_entry now who content.now response reply.now ∷ []) tape.old tape.new }
+{
+    if !tape.is_on() {
+        return;
+    }
+    tape.record(
+        &Event::Datagram(now, who, content),
+        &show_answer(response, reply),
+    );
 }
 
 /// Records the look at bytes, and that all of them were given.

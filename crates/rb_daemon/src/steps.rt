@@ -47,7 +47,7 @@ pub(crate) fn serve<H: Files, S: Datagrams>(
     turn: Turn,
     may_end: bool,
 ) -> Progress {
-    link.begin(turn, long_outbox);
+    link.begin(long_outbox);
     let progress = serve_calls(host, link, engine, keeper, sockets, may_end);
     link.end(turn, long_outbox);
     progress

@@ -4,7 +4,7 @@ use Rattle.std.proofs.lemmas.Bool.{cases_lt}
 use Rattle.std.proofs.lemmas.Option.{slice_get_within}
 use Rattle.rb_policy.specs.declared.door.Holder.{Holder}
 use Rattle.rb_links.specs.declared.link.Link.{Link}
-use Rattle.rb_links.specs.Tables.{StayBut}
+use Rattle.rb_policy.specs.Rounds.{StayBut}
 use Rattle.rb_links.specs.Served.{IsNotedAt, AreNoted}
 
 -- at the places before this one

@@ -6,7 +6,8 @@ use Rattle.std.proofs.lemmas.Option.{slice_get_within}
 use Rattle.rb_address.specs.declared.host.Family.{Family}
 use Rattle.rb_evidence.specs.declared.sight.Sight.{Sight}
 use Rattle.rb_links.specs.declared.link.Link.{Link}
-use Rattle.rb_links.specs.Tables.{StayBut, IsSoughtAt, AreSoughtIn, HasSeenAt, HaveSeenIn}
+use Rattle.rb_policy.specs.Rounds.{StayBut}
+use Rattle.rb_links.specs.Tables.{IsSoughtAt, AreSoughtIn, HasSeenAt, HaveSeenIn}
 
 -- ---- what is looked for
 

@@ -5,3 +5,4 @@ pub mod Numbers
 pub mod Tables
 pub mod Stands
 pub mod Served
+pub mod Rounds

@@ -1,5 +1,5 @@
 -- Which connections are served, and what a call makes of the place that it names.
-use Rattle.std.specs.Prelude.{◌≡◌, ℕ, ◌+◌, ◌-◌, ◌^◌, ◌==◌, min, Bool, true, false, not, ◌&&◌, if◌then◌else◌, List, map, position, slice_get, Option, Some, None, option_map, option_and_then}
+use Rattle.std.specs.Prelude.{◌≡◌, ◌<◌, ℕ, ◌+◌, ◌-◌, ◌^◌, min, length, Bool, true, false, not, ◌&&◌, if◌then◌else◌, List, map, position, slice_get, Option, Some, None, option_map, option_and_then}
 use Rattle.std.specs.Option.{is_some}
 use Rattle.std.specs.List.{list_any}
 use Rattle.rb_forward.specs.Deadlines.{soonest_of}
@@ -7,12 +7,13 @@ use Rattle.rb_model.specs.declared.types.Standing.TheVariants.{Owing}
 use Rattle.rb_policy.specs.declared.door.Admission.{Admission}
 use Rattle.rb_policy.specs.declared.door.Admission.TheVariants.{Take, GiveUp, Close}
 use Rattle.rb_policy.specs.declared.door.Holder.{Holder}
+use Rattle.rb_policy.specs.declared.turns.Round.{Round}
 use Rattle.rb_policy.specs.Origins.{is_unawaited}
+use Rattle.rb_policy.specs.Rounds.{StayBut, is_left_at, IsLeft}
 use Rattle.rb_links.specs.declared.link.Link.{Link}
 use Rattle.rb_links.specs.declared.places.Places.{Places}
 use Rattle.rb_links.specs.Shown.{is_held, in_next_pass, awaits_pass, StaysUnknown}
-use Rattle.rb_links.specs.Stands.{is_free, is_number, holder_of, stuck_of, IsOver}
-use Rattle.rb_links.specs.Tables.{StayBut}
+use Rattle.rb_links.specs.Stands.{is_free, is_number, holder_of, stuck_of, round_in, IsOver}
 
 abbrev pub link_at : Places → ℕ → Option Link
 link_at places key = slice_get places.links.items key
@@ -31,16 +32,12 @@ holds_at holds key places = holds_in holds (link_at places key)
 
 -- ---- who is served
 
--- whether a turn serves it: it has not, and it is opened
-abbrev pub serves_at : ℕ → ℕ → Places → Bool
-serves_at key turn places = holds_at (λ link. not (link.served_in == turn) && is_some link.id) key places
+abbrev pub is_opened_at : ℕ → Places → Bool
+is_opened_at key places = holds_at (λ link. is_some link.id) key places
 
--- whether the turn has served it, and the next one must serve it again
-abbrev pub is_served_again : ℕ → ℕ → Places → Bool
-is_served_again key turn places = holds_at (λ link. link.served_in == turn && link.is_waiting) key places
-
-abbrev pub waits_at : ℕ → Places → Bool
-waits_at key places = holds_at (λ link. link.is_waiting) key places
+-- the round of a turn in which the connection at a place is served, if there is that place
+abbrev pub round_at : ℕ → Places → Option Round
+round_at key places = option_map (round_in (is_left_at places.rounds.left.items key)) (link_at places key)
 
 abbrev pub awaits_at : ℕ → Places → Bool
 awaits_at key places = holds_at awaits_pass key places
@@ -61,27 +58,32 @@ next_stuck places = if places.are_owed then soonest_of (map stuck_of places.link
 
 -- ---- what changes at a place
 
+-- The connection at a place is left for a later round, if there is that place.
+abbrev pub IsLeftAt : ℕ → Places → Type 0
+IsLeftAt key places = key < length places.rounds.served.items → IsLeft key places.rounds.left.items
+
 -- The connection at the place changes so, and no other.
 pub record ChangesAt (key : ℕ) (change : Link → Link) (old new : Places) : Type 0 where
   pub here : link_at new key ≡ option_map change (link_at old key)
   pub others : StayBut key old.links.items new.links.items
-
-abbrev pub left_next : Link → Link
-left_next link = record link { is_waiting = not (is_free link) }
+  pub rest : new ≡ record old { links = new.links; rounds = new.rounds }
 
 -- it goes on: its forwarded call has ended
 abbrev pub woken : Link → Link
-woken link = record link { is_waiting = true; standing = Owing }
+woken link = record link { standing = Owing }
 
 pub record IsWoken (key : ℕ) (old new : Places) : Type 0 where
-  pub left : new.are_left ≡ true
+  pub left : IsLeftAt key new
   pub changed : ChangesAt key woken old new
 
 abbrev pub when_ended : Link → Link
 when_ended link = record link { has_ended = true }
 
+abbrev pub unnumbered : Link → Link
+unnumbered link = record link { id = None }
+
 abbrev pub renumbered : ℕ → Link → Link
-renumbered id link = record link { id = Some id; is_waiting = true }
+renumbered id link = record link { id = Some id }
 
 abbrev pub in_pass : Link → Link
 in_pass link = record link { sought = option_map in_next_pass link.sought }
@@ -93,6 +95,7 @@ taken_after key places = if is_some (link_at places key) then min (places.taken 
 -- No connection has the place from here on.
 pub record IsOverAt (key : ℕ) (old new : Places) : Type 0 where
   pub taken : new.taken ≡ old.taken - 1
+  pub forgotten : IsLeft key new.rounds.left.items → ⊥
   pub here : (link : Link) → link_at new key ≡ Some link → IsOver link
   pub others : StayBut key old.links.items new.links.items
 

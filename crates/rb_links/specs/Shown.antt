@@ -80,7 +80,7 @@ is_sought_in table link = not link.has_ended && takes_part table (unknown_ends l
 pub record IsSoughtBy (table : Family) (link : Link) (sight : Sight) : Type 0 where
   pub ends : Ends
   pub own : unknown_ends link ≡ Some ends
-  pub sought : IsSightIn table ends.theirs ends.ours sight
+  pub sought : IsSightIn table ends.theirs ends.ours.address sight
 
 -- a pass begins, of which nothing is known yet
 abbrev pub in_next_pass : Sought → Sought

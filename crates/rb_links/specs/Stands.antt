@@ -1,9 +1,9 @@
 -- Where the connection at a place stands, and when it is served.
-use Rattle.std.specs.Prelude.{◌≡◌, ℕ, ◌==◌, ◌+◌, ◌-◌, ◌^◌, min, Bool, true, false, not, ◌&&◌, ◌||◌, if◌then◌else◌, nat_lt, length, drop, Option, Some, None, Result, Ok, Err}
+use Rattle.std.specs.Prelude.{◌≡◌, ℕ, List, ◌==◌, ◌+◌, ◌-◌, ◌^◌, min, Bool, true, false, not, ◌&&◌, ◌||◌, if◌then◌else◌, nat_lt, length, drop, Option, Some, None, Result, Ok, Err}
 use Rattle.std.specs.Option.{is_some}
 use Rattle.std.specs.declared.io.Error.{Error}
 use Rattle.rb_model.specs.declared.types.Standing.{Standing}
-use Rattle.rb_model.specs.declared.types.Standing.TheVariants.{Reading, Owing}
+use Rattle.rb_model.specs.declared.types.Standing.TheVariants.{Reading, Owing, Awaiting, Sends}
 use Rattle.rb_policy.specs.declared.asks.Held.{Held}
 use Rattle.rb_policy.specs.declared.asks.Held.TheVariants.{Nothing, Part}
 use Rattle.rb_policy.specs.declared.door.Holder.{Holder}
@@ -11,7 +11,8 @@ use Rattle.rb_policy.specs.declared.turns.Round.{Round}
 use Rattle.rb_policy.specs.declared.outcome.Next.{Next}
 use Rattle.rb_policy.specs.Door.{standing_outside, stuck_at}
 use Rattle.rb_policy.specs.Origins.{origin_now, is_local}
-use Rattle.rb_policy.specs.Outcomes.{outcome_of_count, after_write}
+use Rattle.rb_evidence.specs.Walks.{IsReadBehind}
+use Rattle.rb_policy.specs.Outcomes.{outcome_of_count, after_read, after_write}
 use Rattle.rb_policy.specs.Turns.{round_of}
 use Rattle.rb_links.specs.declared.link.Link.{Link}
 use Rattle.rb_links.specs.Outgoing.{Outgoing, read_ahead}
@@ -43,8 +44,9 @@ holder_of link =
 abbrev pub stuck_of : Link → Option ℕ
 stuck_of link = if holds_bytes link.outbox then Some (stuck_at link.since) else None
 
-abbrev pub round_in : Link → Round
-round_in link = round_of link.is_waiting (outer_standing link)
+-- the round of a turn in which it is served, by whether it is left
+abbrev pub round_in : Bool → Link → Round
+round_in is_left link = round_of is_left (outer_standing link)
 
 -- ---- what is done next with it
 
@@ -80,10 +82,9 @@ longer_first own other =
 
 -- ---- what a turn makes of it
 
--- a turn of this number serves it from here on, with this outbox
-abbrev pub begun : ℕ → Outgoing → Link → Link
-begun number outbox link =
-    record link { outbox = outbox; served_in = number; is_waiting = false; read_was_short = false; made_progress = false; written = 0; moved_some = false }
+-- a turn serves it from here on, with this outbox
+abbrev pub begun : Outgoing → Link → Link
+begun outbox link = record link { outbox = outbox; read_was_short = false; made_progress = false; written = 0; moved_some = false }
 
 -- the turn of this moment has served it, and left it this outbox
 -- PROGRESS-1
@@ -112,6 +113,31 @@ pub record HasWritten (old new : Link) (next : Next) : Type 0 where
   pub after : new ≡ record (after_write_of came old) { stream = new.stream; outbox = new.outbox }
   pub next_is : next ≡ after_write (outcome_of_count came)
 
+abbrev pub awaits_answer : Standing → Bool
+awaits_answer Awaiting = true
+awaits_answer Sends = true
+awaits_answer standing = false
+
+-- READ-2
+abbrev pub after_read_of : Bool → Result ℕ Error → Link → Link
+after_read_of may_end (Ok n) link = record link {
+  read_was_short = not (n == (read_ahead - length link.inbox) || may_end);
+  moved_some = link.moved_some || nat_lt 0 n;
+}
+after_read_of may_end (Err error) link = link
+
+abbrev pub AreBehind : Result ℕ Error → List ℕ → List ℕ → Type 0
+AreBehind (Ok n) old new = IsReadBehind old new n
+AreBehind (Err error) old new = new ≡ old
+
+-- As many bytes are behind what was read before as came, if some did.
+-- READ-1
+pub record HasRead (may_end : Bool) (old new : Link) (next : Next) : Type 0 where
+  pub came : Result ℕ Error
+  pub bytes : AreBehind came old.inbox new.inbox
+  pub after : new ≡ record (after_read_of may_end came old) { stream = new.stream; inbox = new.inbox }
+  pub next_is : next ≡ after_read (outcome_of_count came) (awaits_answer old.standing)
+
 -- its end was looked for, if it is of this host
 -- DOOR-14
 pub record IsLookedAt (old new : Link) : Type 0 where
@@ -124,4 +150,3 @@ pub record IsOver (link : Link) : Type 0 where
   pub visitor : link.visitor ≡ None
   pub sought : link.sought ≡ None
   pub held : link.held ≡ Nothing
-  pub waits : link.is_waiting ≡ false

@@ -1,5 +1,5 @@
 -- What walks through the kernel's tables look for at each place, and what is noted there.
-use Rattle.std.specs.Prelude.{◌≡◌, ◌≢◌, ℕ, Bool, List, slice_get, Option, Some, None, option_and_then}
+use Rattle.std.specs.Prelude.{◌≡◌, ℕ, Bool, List, slice_get, Option, Some, None, option_and_then}
 use Rattle.rb_address.specs.declared.host.Family.{Family}
 use Rattle.rb_evidence.specs.declared.sight.Sight.{Sight}
 use Rattle.rb_sockets.specs.declared.listener.Visitor.{Visitor}
@@ -35,10 +35,6 @@ pub record IsShownAt (key moment : ℕ) (old new : Places) : Type 0 where
   pub after : Link
   pub is : slice_get new.links.items key ≡ Some after
   pub shown : IsShown moment before after
-
--- all but one stay
-abbrev pub StayBut : {X : Type 0} → ℕ → List X → List X → Type 0
-StayBut key old new = (other : ℕ) → other ≢ key → slice_get new other ≡ slice_get old other
 
 -- What is looked for at a place are the two ends of the connection that has it.
 -- TABLES-2

@@ -8,7 +8,7 @@ ghost use Rattle.rb_policy.specs.Turns.{is_cut_off};
 ghost use Rattle.rb_links.specs.Holding.{BeginsAnew, is_between_records, must_wait, held_of, is_same_held};
 ghost use Rattle.rb_links.specs.Numbers.{HasItsBytes, IsRest, HasMore};
 ghost use Rattle.rb_links.specs.Outgoing.{nothing_in, own_room};
-ghost use Rattle.rb_links.specs.Stands.{is_free, is_number, outer_standing, holder_of, stuck_of, round_in, is_reading, is_for_the_core, takes_more, holds_bytes, longer_first, begun, ended, HasWritten, IsLookedAt, IsOver};
+ghost use Rattle.rb_links.specs.Stands.{is_free, is_number, outer_standing, holder_of, stuck_of, round_in, is_reading, awaits_answer, is_for_the_core, takes_more, holds_bytes, longer_first, begun, ended, HasWritten, HasRead, IsLookedAt, IsOver};
 ghost use Rattle.rb_links.specs.Shown.{arrival_in, unknown_ends, is_held, when_asked, awaits_pass, in_next_pass, is_sought_in, IsSoughtBy, may_be_told_later, IsShownBy, HasSeen, IsShown, StaysUnknown};
 
 use crate::inbox::Inbox;
@@ -51,6 +51,16 @@ fn is_between_records(standing: Standing) -> bool
         Standing::Reading => false,
         Standing::Idle | Standing::Owing | Standing::Awaiting | Standing::Sends => true,
         Standing::Lost => true,
+    }
+}
+
+/// Whether it waits for a forwarded call, by where the core says that it stands.
+fn awaits_answer(standing: Standing) -> bool
+    ensures { result ≡ awaits_answer standing }
+{
+    match standing {
+        Standing::Sends | Standing::Awaiting => true,
+        Standing::Idle | Standing::Reading | Standing::Owing | Standing::Lost => false,
     }
 }
 
@@ -105,10 +115,6 @@ pub struct Link {
     moved_some: bool,
     /// Whether the last read is not followed by another in this turn.
     read_was_short: bool,
-    /// The last turn that served it.
-    served_in: u64,
-    /// Whether it must be served though no event shows it.
-    is_waiting: bool,
 }
 
 impl Link {
@@ -134,8 +140,6 @@ impl Link {
             written: 0,
             moved_some: false,
             read_was_short: false,
-            served_in: 0,
-            is_waiting: false,
         })
     }
 
@@ -184,8 +188,6 @@ impl Link {
         self.inbox.clear();
         self.outbox.clear();
         self.read_was_short = false;
-        self.served_in = 0;
-        self.is_waiting = false;
     }
 
     /// How whoever is there came in, as far as is known.
@@ -309,7 +311,7 @@ impl Link {
             && !self.has_ended
             && looks_in(table, ends.theirs.family(), sought.known)
         {
-            Some(sight_in(table, &ends.theirs, &ends.ours))
+            Some(sight_in(table, &ends.theirs, &ends.ours.address))
         } else {
             None
         }
@@ -375,18 +377,18 @@ impl Link {
     /// Its number, which is its own no longer.
     pub(crate) fn take_id(&mut self) -> Option<u64>
         ensures taken { result ≡ self.old.id }
+        ensures after { self.new ≡ record self.old { id = None } }
         ensures number { self.new.id ≡ None }
         ensures bytes { HasItsBytes self.old self.new }
     {
         self.id.take()
     }
 
-    /// It goes on under this number of the core's, and must be served though no event shows it.
+    /// It goes on under this number of the core's.
     pub(crate) fn renumber(&mut self, id: u64)
-        ensures { self.new ≡ record self.old { id = Some id; is_waiting = true } }
+        ensures { self.new ≡ record self.old { id = Some id } }
     {
         self.id = Some(id);
-        self.is_waiting = true;
     }
 
     /// The connection that has the place is opened under this number of the core's, and its events are shown under the
@@ -419,31 +421,14 @@ impl Link {
         self.held = Held::Nothing;
         self.outbox.clear();
         long_outbox.take_longer(&mut self.outbox);
-        self.is_waiting = false;
         self.id.take()
     }
 
-    /// Whether it must be served though no event shows it.
-    pub(crate) fn is_waiting(&self) -> bool
-        ensures { result ≡ self.now.is_waiting }
-    {
-        self.is_waiting
-    }
-
-    /// It must be served though no event shows it: its forwarded call has ended. It counts as owing the reply, until the
-    /// core says whether there is one.
+    /// Its forwarded call has ended. It counts as owing the reply, until the core says whether there is one.
     pub(crate) fn wake(&mut self)
-        ensures { self.new ≡ record self.old { is_waiting = true; standing = Owing } }
+        ensures { self.new ≡ record self.old { standing = Owing } }
     {
-        self.is_waiting = true;
         self.standing = Standing::Owing;
-    }
-
-    /// Whether this turn has served it.
-    pub(crate) fn was_served_in(&self, turn: Turn) -> bool
-        ensures { result ≡ (self.now.served_in == turn.number) }
-    {
-        self.served_in == turn.number
     }
 
     /// Where it stands, as its client sees it: bytes are owed on it until its socket has taken them.
@@ -453,18 +438,11 @@ impl Link {
         standing_outside(self.standing, !self.outbox.is_empty(), self.is_held())
     }
 
-    /// The round of a turn in which it is served.
-    pub(crate) fn round(&self) -> Round
-        ensures { result ≡ round_in self.now }
+    /// The round of a turn in which it is served, by whether it is left.
+    pub(crate) fn round(&self, is_left: bool) -> Round
+        ensures { result ≡ round_in is_left self.now }
     {
-        round_of(self.is_waiting, self.standing_outside())
-    }
-
-    /// It must be served though no event shows it again, if a connection has the place.
-    pub(crate) fn leave(&mut self)
-        ensures { self.new ≡ record self.old { is_waiting = not (is_free self.old) } }
-    {
-        self.is_waiting = !self.is_free();
+        round_of(is_left, self.standing_outside())
     }
 
     // DOOR-12
@@ -495,13 +473,11 @@ impl Link {
     }
 
     /// A turn serves it from here on. It has the long outbox meanwhile, if that is free.
-    pub fn begin(&mut self, turn: Turn, long_outbox: &mut Outbox)
-        ensures begun { self.new ≡ begun turn.number self.new.outbox self.old }
+    pub fn begin(&mut self, long_outbox: &mut Outbox)
+        ensures begun { self.new ≡ begun self.new.outbox self.old }
         ensures outbox { self.new.outbox ≡ (longer_first self.old.outbox long_outbox.old).0 }
         ensures long { long_outbox.new ≡ (longer_first self.old.outbox long_outbox.old).1 }
     {
-        self.served_in = turn.number;
-        self.is_waiting = false;
         self.read_was_short = false;
         self.made_progress = false;
         self.written = 0;
@@ -602,6 +578,12 @@ impl Link {
         ensures waits { holds_bytes self.old.outbox ≡ false
             → (self.old.read_was_short || not (takes_more self.old)) ≡ true
             → result ≡ AwaitEvent }
+        ensures stays { holds_bytes self.old.outbox ≡ false
+            → (self.old.read_was_short || not (takes_more self.old)) ≡ true
+            → self.new ≡ self.old }
+        ensures read { holds_bytes self.old.outbox ≡ false
+            → (self.old.read_was_short || not (takes_more self.old)) ≡ false
+            → is_free self.old ≡ false → HasRead may_end self.old self.new result }
         ensures inbox { HasMore self.old.inbox self.new.inbox }
     {
         if !self.outbox.is_empty() {
@@ -642,21 +624,23 @@ impl Link {
         after_write(outcome_of_count(&came))
     }
 
+    /// Reads once, behind what was read before.
     fn read(&mut self, may_end: bool) -> Next
         ensures outbox { self.new.outbox ≡ self.old.outbox }
         ensures inbox { HasMore self.old.inbox self.new.inbox }
+        ensures read { is_free self.old ≡ false → HasRead may_end self.old self.new result }
         ensures number { self.new.id ≡ self.old.id }
     {
         let Some(stream) = &mut self.stream else {
             return Next::Close;
         };
         let room = self.inbox.room();
+        let waits = awaits_answer(self.standing);
         let came = self.inbox.read(&mut stream.incoming());
         if let Ok(n) = came {
             self.read_was_short = !reads_on(n, room, may_end);
             self.moved_some |= n > 0;
         }
-        let waits = matches!(self.standing, Standing::Sends | Standing::Awaiting);
         after_read(outcome_of_count(&came), waits)
     }
 }

@@ -1,15 +1,17 @@
 //! All places of connections: which of them are left for later, and who gets one.
-ghost use Rattle.std.specs.Prelude.{◌≡◌, ◌-◌, true, false, ◌||◌, vec_len, map, position, Some, None, IfOk, IfSome, option_map, if◌then◌else◌};
+ghost use Rattle.std.specs.Prelude.{◌≡◌, ◌-◌, ◌<◌, ℕ, ◌+◌, true, false, ◌||◌, vec_len, length, map, position, Some, None, IfOk, IfSome};
 ghost use Rattle.std.specs.Option.{is_some};
 ghost use Rattle.std.specs.List.{list_any};
 ghost use Rattle.rb_policy.specs.Door.{IsAdmitted};
-ghost use Rattle.rb_policy.specs.Turns.{accept_count};
+ghost use Rattle.rb_policy.specs.Turns.{accept_count, last_round};
+ghost use Rattle.rb_policy.specs.Rounds.{StayBut, IsLeft};
 ghost use Rattle.rb_links.specs.Shown.{is_held};
 ghost use Rattle.rb_forward.specs.Deadlines.{soonest_of};
-ghost use Rattle.rb_links.specs.Stands.{is_number, stuck_of, round_in};
-ghost use Rattle.rb_links.specs.Served.{link_at, key_at, serves_at, is_served_again, waits_at, stuck_at, awaits_at, next_stuck, ChangesAt, left_next, IsWoken, when_ended, renumbered, in_pass, is_sought_at, is_taken_at, taken_after, IsOverAt, StaysUnknownAt, IsNotedAt, AreNoted, is_unawaited_at, looks_for_ends};
+ghost use Rattle.rb_links.specs.Stands.{is_number, stuck_of};
+ghost use Rattle.rb_links.specs.Served.{link_at, key_at, stuck_at, awaits_at, next_stuck, ChangesAt, IsWoken, when_ended, unnumbered, renumbered, in_pass, is_sought_at, is_taken_at, taken_after, IsOverAt, StaysUnknownAt, IsNotedAt, AreNoted, is_unawaited_at, looks_for_ends, is_opened_at, round_at, IsLeftAt};
 ghost use Rattle.rb_links.specs.Numbers.{number_at, arrival_at};
-ghost use Rattle.rb_links.specs.Tables.{sight_at, IsSeatedAt, IsShownAt, StayBut, IsSoughtAt, AreSoughtIn, AreSought, HasSeenAt, HaveSeenIn, HaveSeen};
+ghost use Rattle.rb_links.specs.Rounds.{IsServedAt, IsFirstAt, IsAgainAt, IsTakenUp};
+ghost use Rattle.rb_links.specs.Tables.{sight_at, IsSeatedAt, IsShownAt, IsSoughtAt, AreSoughtIn, AreSought, HasSeenAt, HaveSeenIn, HaveSeen};
 ghost use Rattle.rb_links.specs.Outgoing.{nothing_in, long_room};
 
 use crate::link::{Link, Turn};
@@ -18,6 +20,7 @@ use mio::{Registry, Token};
 use rb_address::Family;
 use rb_evidence::Sight;
 use rb_forward::sooner;
+use rb_policy::rounds::Rounds;
 use rb_policy::{Admission, Holder, Origin, Round, accept_count, admit, is_unawaited};
 use rb_sockets::{Accepted, Arrival};
 use std::alloc::{AllocError, Global};
@@ -39,10 +42,8 @@ pub struct Places {
     are_sought: bool,
     /// Whether bytes may wait for the sockets of some.
     are_owed: bool,
-    /// Whether connections must be served though no event shows them.
-    are_left: bool,
-    /// The key at which the last round of the next turn begins.
-    first_left: usize,
+    /// Which of them a turn has served, and which are left.
+    rounds: Rounds,
 }
 
 // PLACES-2: There are as many places as connections may be, or as descriptors are left for, and
@@ -160,6 +161,7 @@ impl Places {
     pub fn new(alloc: Global, count: usize) -> Result<Places, AllocError>
         ensures count { IfOk result (λ places. vec_len places.links ≡ count) }
         ensures long { IfOk result (λ places. places.long_outbox ≡ nothing_in long_room) }
+        ensures rounds { IfOk result (λ places. length places.rounds.served.items ≡ count) }
     {
         let mut holders = Vec::with_capacity(alloc, count)?;
         holders.resize(count, None)?;
@@ -171,8 +173,7 @@ impl Places {
             taken: 0,
             are_sought: false,
             are_owed: false,
-            are_left: false,
-            first_left: 0,
+            rounds: Rounds::new(alloc, count)?,
         })
     }
 
@@ -208,41 +209,54 @@ impl Places {
 
     /// The round of a turn in which the connection at a place is served.
     pub fn round(&self, key: usize) -> Option<Round>
-        ensures { result ≡ option_map round_in (link_at self.now key) }
+        ensures round { result ≡ round_at key self.now }
+        ensures none { result ≡ None → is_opened_at key self.now ≡ false }
     {
         match self.links.get(key) {
-            Some(link) => Some(link.round()),
+            Some(link) => Some(link.round(self.rounds.is_left(key))),
             None => None,
         }
     }
 
-    /// Whether this turn must serve the connection at a place. One that it has served is left for the next, if it must
-    /// be served again.
-    pub fn is_served_by(&mut self, turn: Turn, key: usize) -> bool
-        ensures serves { result ≡ serves_at key turn.number self.old }
-        ensures left { self.new ≡ record self.old {
-          are_left = self.old.are_left
-              || is_served_again key turn.number self.old;
-        } }
+    /// Whether a connection is opened at a place.
+    fn is_opened(&self, key: usize) -> bool
+        ensures { result ≡ is_opened_at key self.now }
     {
-        let Some(link) = self.links.get(key) else {
-            return false;
-        };
-        if link.was_served_in(turn) {
-            self.are_left |= link.is_waiting();
-            return false;
+        match self.links.get(key) {
+            Some(link) => link.id().is_some(),
+            None => false,
         }
-        link.id().is_some()
     }
 
-    /// The connection at a place must be served though no event shows it again, if there is one.
-    pub fn leave(&mut self, key: usize)
-        ensures left { self.new.are_left ≡ (self.old.are_left || is_some (link_at self.old key)) }
-        ensures changed { ChangesAt key left_next self.old self.new }
+    /// A turn serves the connection at a place, if one is opened there and the turn has not served it yet. Whether it does.
+    pub fn begins(&mut self, turn: Turn, key: usize) -> bool
+        ensures taken_up { IsTakenUp turn.number key self.new }
+        ensures served { result ≡ true → IsServedAt turn.number key self.new }
+        ensures first { result ≡ true → IsFirstAt turn.number key self.old }
+        ensures again { result ≡ false → IsAgainAt turn.number key self.old }
+        ensures others { StayBut key
+            self.old.rounds.served.items self.new.rounds.served.items }
+        ensures left { self.new.rounds.left ≡ self.old.rounds.left }
+        ensures count { self.new.rounds.count ≡ self.old.rounds.count }
+        ensures links { self.new ≡ record self.old { rounds = self.new.rounds } }
     {
-        if let Some(link) = self.links.get_mut(key) {
-            link.leave();
-            self.are_left = true;
+        if !self.is_opened(key) {
+            return false;
+        }
+        self.rounds.serve(key, turn.number)
+    }
+
+    /// The connection at a place must be served though no event shows it again, if one is opened there.
+    pub fn leave(&mut self, key: usize)
+        ensures left { is_opened_at key self.old ≡ true → IsLeftAt key self.new }
+        ensures taken_up { (turn : ℕ) → IsTakenUp turn key self.new }
+        ensures others { StayBut key self.old.rounds.left.items self.new.rounds.left.items }
+        ensures served { self.new.rounds.served ≡ self.old.rounds.served }
+        ensures count { self.new.rounds.count ≡ self.old.rounds.count }
+        ensures links { self.new ≡ record self.old { rounds = self.new.rounds } }
+    {
+        if self.is_opened(key) {
+            self.rounds.leave(key);
         }
     }
 
@@ -255,43 +269,40 @@ impl Places {
         };
         if let Some(link) = self.links.get_mut(key) {
             link.wake();
-            self.are_left = true;
+            self.rounds.leave(key);
         }
     }
 
     /// Whether connections must be served though no event shows them.
     pub fn are_left(&self) -> bool
-        ensures { result ≡ self.now.are_left }
+        ensures { result ≡ self.now.rounds.are_left }
     {
-        self.are_left
+        self.rounds.are_left()
     }
 
-    /// Whether the connection at a place must be served though no event shows it.
-    pub fn is_waiting(&self, key: usize) -> bool
-        ensures { result ≡ waits_at key self.now }
+    /// The last round of a turn begins, if connections are left for it. Whether some are.
+    pub fn begin_last_round(&mut self) -> bool
+        ensures left { self.new.rounds.left ≡ self.old.rounds.left }
+        ensures served { self.new.rounds.served ≡ self.old.rounds.served }
+        ensures count { self.new.rounds.count ≡ 0 }
     {
-        self.links.get(key).is_some_and(|link| link.is_waiting())
+        self.rounds.begin();
+        self.rounds.are_left()
     }
 
-    /// The key at which the last round of a turn begins, if connections are left for it. One that is left from here on
-    /// is left for the next turn.
-    pub fn begin_last_round(&mut self) -> Option<usize>
-        ensures first { result ≡ (if self.old.are_left then Some self.old.first_left else None) }
-        ensures left { self.new ≡ record self.old { are_left = false } }
+    /// The place of the next connection that the last round serves, if there is one: it is left no longer.
+    pub fn take_left(&mut self) -> Option<usize>
+        ensures was { IfSome result (λ key. IsLeft key self.old.rounds.left.items) }
+        ensures others { IfSome result (λ key.
+            StayBut key self.old.rounds.left.items self.new.rounds.left.items) }
+        ensures none { result ≡ None → self.new.rounds.left ≡ self.old.rounds.left }
+        ensures few { IfSome result (λ key. self.old.rounds.count < last_round) }
+        ensures count { IfSome result (λ key.
+            self.new.rounds.count ≡ self.old.rounds.count + 1) }
+        ensures served { self.new.rounds.served ≡ self.old.rounds.served }
+        ensures links { self.new ≡ record self.old { rounds = self.new.rounds } }
     {
-        if !self.are_left {
-            return None;
-        }
-        self.are_left = false;
-        Some(self.first_left)
-    }
-
-    /// Those that are left at this key and after it are the first of the next turn's last round.
-    pub fn leave_from(&mut self, key: usize)
-        ensures { self.new ≡ record self.old { first_left = key; are_left = true } }
-    {
-        self.first_left = key;
-        self.are_left = true;
+        self.rounds.take()
     }
 
     /// A turn has served the connection at a place: bytes may wait for its socket from here on, and its call for a pass.
@@ -333,11 +344,14 @@ impl Places {
         ensures number { IfSome result (λ id. number_at self.old key ≡ Some id) }
         ensures sight { IfSome result (λ id. sight_at self.new key ≡ None) }
         ensures over { is_taken_at key self.old ≡ true → IsOverAt key self.old self.new }
+        ensures served { self.new.rounds.served ≡ self.old.rounds.served }
+        ensures count { self.new.rounds.count ≡ self.old.rounds.count }
     {
         let link = self.links.get_mut(key)?;
         if link.is_free() {
             return None;
         }
+        self.rounds.forget(key);
         self.taken = self.taken.saturating_sub(1);
         if let Some(sight) = self.sights.get_mut(key) {
             *sight = None;
@@ -439,7 +453,8 @@ impl Places {
     /// The connection at a place is opened under this number of the core's, and its events are shown under the place's
     /// key. Whether that was done.
     pub fn open(&mut self, registry: &Registry, key: usize, id: u64) -> bool
-        ensures { result ≡ true → number_at self.new key ≡ Some id }
+        ensures number { result ≡ true → number_at self.new key ≡ Some id }
+        ensures others { StayBut key self.old.links.items self.new.links.items }
     {
         match self.links.get_mut(key) {
             Some(link) => link.open(registry, Token(key), id),
@@ -505,7 +520,8 @@ impl Places {
 
     /// The number of the connection at a place, which is its own no longer.
     pub fn take_id(&mut self, key: usize) -> Option<u64>
-        ensures { result ≡ number_at self.old key }
+        ensures taken { result ≡ number_at self.old key }
+        ensures changed { ChangesAt key unnumbered self.old self.new }
     {
         self.links.get_mut(key)?.take_id()
     }
@@ -513,7 +529,7 @@ impl Places {
     /// The connection at a place goes on under this number. Whether there is such a place.
     pub fn renumber(&mut self, key: usize, id: u64) -> bool
         ensures number { result ≡ true → number_at self.new key ≡ Some id }
-        ensures left { result ≡ true → self.new.are_left ≡ true }
+        ensures left { result ≡ true → IsLeftAt key self.new }
         ensures there { result ≡ is_some (link_at self.old key) }
         ensures changed { ChangesAt key (renumbered id) self.old self.new }
     {
@@ -521,7 +537,7 @@ impl Places {
             return false;
         };
         link.renumber(id);
-        self.are_left = true;
+        self.rounds.leave(key);
         true
     }
 }

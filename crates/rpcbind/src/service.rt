@@ -15,7 +15,7 @@ use crate::telling::{
 };
 use rb_address::Host;
 use rb_commands::Serve;
-use rb_daemon::{Daemon, DaemonFault, Handed, Settings};
+use rb_daemon::{Daemon, Handed, Settings, TurnFailed};
 use rb_forward::sooner;
 use rb_lines::Ending;
 use rb_sockets::{
@@ -321,8 +321,8 @@ where
 {
     recorder.write(daemon, faults);
     manager.tell(News::Ready(daemon.load()));
-    let turns = take_turns(rt, daemon, serve, &mut recorder, manager, faults);
-    conclude(&turns, &serve.settings, faults)
+    let _ = take_turns(rt, daemon, serve, &mut recorder, manager, faults);
+    conclude(&daemon.take_end(), &serve.settings, faults)
 }
 
 /// Takes a turn, which waits this many milliseconds at most, and writes what was recorded of it, the lines of the log,
@@ -336,7 +336,7 @@ fn take_turn<R: Clock + Files + Net, F: Write + Drop, E: Write>(
     manager: &mut Manager,
     faults: &mut E,
     longest: Option<u64>,
-) -> Result<(), DaemonFault> {
+) -> Result<(), TurnFailed> {
     let turned = daemon.turn(rt, sooner(longest, manager.wait(daemon.moment())));
     recorder.write(daemon, faults);
     if daemon.has_news() {
@@ -385,6 +385,7 @@ fn follow_addresses<R: Clock + Files + Net, E: Write>(
     }
 }
 
+/// Takes the turns that are asked for, or all, until one fails.
 fn take_turns<R: Clock + Files + Net + Wait, F: Write + Drop, E: Write>(
     rt: &R,
     daemon: &mut Daemon<'_, R, R>,
@@ -392,7 +393,7 @@ fn take_turns<R: Clock + Files + Net + Wait, F: Write + Drop, E: Write>(
     recorder: &mut Recorder<F>,
     manager: &mut Manager,
     faults: &mut E,
-) -> Result<(), DaemonFault> {
+) -> Result<(), TurnFailed> {
     let settings = &serve.settings;
     if serve.turns > 0 {
         for _ in 0..serve.turns {

@@ -8,5 +8,5 @@ returns c = λ told. record {
   came = sym c.arrival.ensures ∙ c.in-Some.is;
   id = c.in-Ok.id;
   acts = opened_as c.args.engine.now c.open.new.self c.of.ensures c.in-Ok.is c.open.ensures.acts;
-  number = c.open-2.ensures c.if-not-open.false;
+  number = c.open-2.ensures.number c.if-not-open.false;
 }

@@ -1,0 +1,335 @@
+//! The daemon's own sockets, as a turn calls them.
+ghost use Rattle.std.specs.Prelude.{⊤};
+ghost use Rattle.rb_daemon.specs.Draining.{IsServedNextAt, IsServedNextOf};
+
+use crate::callers::{Asked, Sender};
+use crate::datagrams::answer_call;
+use crate::serving::Serving;
+use mio::Registry;
+use rb_address::{Family, Peer, Who};
+use rb_policy::drains::{CallsSoFar, Came, Drains, drain};
+use rb_policy::{Again, Brake, Next, SOCKET_CALLS, after_accept, after_receive, outcome_of};
+use rb_sockets::{Asker, Step};
+use std::fs::Files;
+use std::io;
+
+/// The most datagrams of one socket in a turn: each is a socket call, and a reply to it is another.
+const DATAGRAMS: usize = SOCKET_CALLS / 2;
+
+/// A socket where calls come in.
+#[derive(Drop)]
+struct Calls<'a, H: Files> {
+    serving: &'a mut Serving<H>,
+    host: &'a H,
+    /// Its number.
+    number: usize,
+}
+
+// What is believed of the system: what a call comes to.
+impl<H: Files> Drains for Calls<'_, H> {
+    ghost comes = { λ old before came new. ⊤ };
+
+    ghost leaves = { λ old again new.
+        IsServedNextAt old.number again new.serving.now.sockets.calls.all.items };
+
+    fn call(&mut self, _before: CallsSoFar) -> Came {
+        self.serving.answer_on(self.host, self.number)
+    }
+
+    fn leave(&mut self, again: Again) {
+        self.serving.leave_calls(self.number, again);
+    }
+}
+
+/// The socket where replies to calls come in that were forwarded to targets of a family.
+#[derive(Drop)]
+struct Replies<'a, H: Files> {
+    serving: &'a mut Serving<H>,
+    host: &'a H,
+    family: Family,
+}
+
+impl<H: Files> Drains for Replies<'_, H> {
+    ghost comes = { λ old before came new. ⊤ };
+
+    ghost leaves = { λ old again new.
+        IsServedNextOf old.family again new.serving.now.sockets.forwards };
+
+    fn call(&mut self, _before: CallsSoFar) -> Came {
+        self.serving.take_reply(self.host, self.family)
+    }
+
+    fn leave(&mut self, again: Again) {
+        self.serving.leave_forwards(self.family, again);
+    }
+}
+
+/// A listener.
+#[derive(Drop)]
+struct Door<'a, H: Files> {
+    serving: &'a mut Serving<H>,
+    host: &'a H,
+    registry: &'a Registry,
+    /// Its number.
+    number: usize,
+}
+
+impl<H: Files> Drains for Door<'_, H> {
+    ghost comes = { λ old before came new. ⊤ };
+
+    ghost leaves = { λ old again new.
+        IsServedNextAt old.number again new.serving.now.sockets.listeners.items };
+
+    fn call(&mut self, before: CallsSoFar) -> Came {
+        self.serving
+            .accept_on(self.host, self.registry, self.number, before)
+    }
+
+    fn leave(&mut self, again: Again) {
+        self.serving.leave_listener(self.number, again);
+    }
+}
+
+/// Whether a datagram of this caller is served that came at this moment: each one is, if there is no brake.
+fn passes(brake: &mut Option<Brake>, now: u64, who: &Who) -> bool {
+    match brake {
+        Some(brake) => brake.passes(now, who),
+        None => true,
+    }
+}
+
+/// Whether the fault of an accept is told after which this is next: if it keeps the listener from being called again in this
+/// turn, or all accepts of the turn failed.
+fn is_told(next: Next, before: CallsSoFar) -> bool {
+    match next {
+        Next::AwaitEvent => false,
+        Next::AwaitTurn => true,
+        Next::GoOn | Next::Close => before.got == 0 && before.calls >= SOCKET_CALLS - 1,
+    }
+}
+
+impl<H: Files> Serving<H> {
+    ghost use Rattle.std.specs.Prelude.{◌≤◌, length};
+    ghost use Rattle.rb_daemon.specs.Draining.{IsServedNextAt, IsServedNextOf};
+
+    /// Answers datagrams on each socket where calls come in.
+    pub(crate) fn answer_calls(&mut self, host: &H) {
+        for i in 0..self.sockets.calls.all.len() {
+            let is_ready = self
+                .sockets
+                .calls
+                .all
+                .get(i)
+                .is_some_and(|calls| calls.is_ready());
+            if is_ready {
+                let mut socket = Calls {
+                    serving: &mut *self,
+                    host,
+                    number: i,
+                };
+                drain(&mut socket, DATAGRAMS, DATAGRAMS);
+            }
+        }
+    }
+
+    /// The socket of this number is served again then.
+    fn leave_calls(&mut self, number: usize, again: Again)
+        ensures { IsServedNextAt number again self.new.sockets.calls.all.items }
+    {
+        if let Some(calls) = self.sockets.calls.all.get_mut(number) {
+            calls.leave(again);
+        }
+    }
+
+    /// Answers a datagram on the socket of this number, if one comes.
+    fn answer_on(&mut self, host: &H, number: usize) -> Came {
+        let networks = &self.networks;
+        let Some(came) = self
+            .sockets
+            .calls
+            .receive(number, networks, &mut self.datagram)
+        else {
+            return Came::Nothing(Next::AwaitTurn);
+        };
+        match came {
+            Ok((len, from)) => {
+                self.answer(host, len, from);
+                Came::Something
+            }
+            Err(error) => Came::Nothing(after_receive(outcome_of(&error))),
+        }
+    }
+
+    /// Answers the datagram of the first `len` bytes, unless the brake drops it.
+    fn answer(&mut self, host: &H, len: usize, from: Option<Asker>)
+        requires { len ≤ length self.old.datagram.items }
+    {
+        let Some(asker) = from else {
+            return;
+        };
+        let asked = Asked::of(asker);
+        if !passes(&mut self.brake, self.turn.moment, &asked.caller.who) {
+            return;
+        }
+        answer_call(
+            host,
+            &mut self.engine,
+            &mut self.keeper,
+            &mut self.held.replies,
+            &mut self.sockets,
+            &mut self.ways_back,
+            asked,
+            &self.datagram[..len],
+        );
+    }
+
+    /// Takes what comes back for forwarded calls.
+    pub(crate) fn take_forward_replies(&mut self, host: &H) {
+        self.take_forward_replies_from(host, Family::Inet);
+        self.take_forward_replies_from(host, Family::Inet6);
+    }
+
+    /// Takes what comes back from targets of a family, if that must be served.
+    fn take_forward_replies_from(&mut self, host: &H, family: Family) {
+        let forwards = self.sockets.forwards.of(family);
+        if !forwards.is_some_and(|forwards| forwards.is_ready()) {
+            return;
+        }
+        let mut socket = Replies {
+            serving: &mut *self,
+            host,
+            family,
+        };
+        drain(&mut socket, DATAGRAMS, DATAGRAMS);
+    }
+
+    /// The socket for targets of a family is served again then.
+    fn leave_forwards(&mut self, family: Family, again: Again)
+        ensures { IsServedNextOf family again self.new.sockets.forwards }
+    {
+        match family {
+            Family::Inet => {
+                if let Some(forwards) = &mut self.sockets.forwards.inet {
+                    forwards.leave(again);
+                }
+            }
+            Family::Inet6 => {
+                if let Some(forwards) = &mut self.sockets.forwards.inet6 {
+                    forwards.leave(again);
+                }
+            }
+        }
+    }
+
+    /// Takes a datagram from a target of a family, if one comes.
+    fn take_reply(&mut self, host: &H, family: Family) -> Came {
+        let Some(forwards) = self.sockets.forwards.of(family) else {
+            return Came::Nothing(Next::AwaitTurn);
+        };
+        match forwards.socket.receive(&mut self.datagram) {
+            Ok((len, from)) => {
+                self.take_forward_reply(host, len, from);
+                Came::Something
+            }
+            Err(error) => Came::Nothing(after_receive(outcome_of(&error))),
+        }
+    }
+
+    /// Takes the datagram of the first `len` bytes, once all changes were kept.
+    fn take_forward_reply(&mut self, host: &H, len: usize, from: Option<Peer>)
+        requires { len ≤ length self.old.datagram.items }
+    {
+        let Some(peer) = from else {
+            return;
+        };
+        let sender = Sender::of(peer);
+        let kept = self.keeper.keep(host, &mut self.engine);
+        let content = &self.datagram[..len];
+        let ready = self.engine.take_forward_reply(
+            sender,
+            content,
+            &mut self.sockets,
+            &mut self.ways_back,
+            kept,
+        );
+        if let Some(id) = ready {
+            self.places.wake(id);
+        }
+    }
+
+    /// Accepts connections on each listener, beginning with another one in each turn, until they are as many as a
+    /// turn accepts.
+    pub(crate) fn accept_all(&mut self, host: &H, registry: &Registry) {
+        if !self.sockets.are_listeners_ready() {
+            return;
+        }
+        let mut left = self.places.accept_count();
+        for i in 0..self.sockets.listeners.len() {
+            let which = self.sockets.nth_listener(self.turn.number, i);
+            let is_ready = self
+                .sockets
+                .listeners
+                .get(which)
+                .is_some_and(|listener| listener.is_ready());
+            if is_ready {
+                let mut door = Door {
+                    serving: &mut *self,
+                    host,
+                    registry,
+                    number: which,
+                };
+                let got = drain(&mut door, SOCKET_CALLS, left);
+                left = left.saturating_sub(got);
+            }
+        }
+    }
+
+    /// The listener of this number is served again then.
+    fn leave_listener(&mut self, number: usize, again: Again)
+        ensures { IsServedNextAt number again self.new.sockets.listeners.items }
+    {
+        if let Some(listener) = self.sockets.listeners.get_mut(number) {
+            listener.leave(again);
+        }
+    }
+
+    // LISTENER-1: The first fault of each listener is told, and no later one; each turn tries again.
+    /// Accepts a connection on the listener of this number, if one comes, after what came before.
+    fn accept_on(
+        &mut self,
+        host: &H,
+        registry: &Registry,
+        number: usize,
+        before: CallsSoFar,
+    ) -> Came {
+        let Some(listener) = self.sockets.listeners.get_mut(number) else {
+            return Came::Nothing(Next::AwaitTurn);
+        };
+        match listener.socket.accept(host, &self.networks) {
+            Ok(accepted) => {
+                if let Some(accepted) = accepted {
+                    self.open(registry, accepted);
+                }
+                Came::Something
+            }
+            Err(error) => {
+                let next = after_accept(outcome_of(&error));
+                if is_told(next, before) {
+                    self.note_fault(number, error);
+                }
+                Came::Nothing(next)
+            }
+        }
+    }
+
+    /// An accept of the listener of this number failed, which must be told if it is the listener's first failure.
+    fn note_fault(&mut self, which: usize, error: io::Error) {
+        if self.fault.is_none() {
+            if let Some(listener) = self.sockets.listeners.get_mut(which) {
+                if listener.fail() {
+                    self.fault = Some(Step::Accept.failed(error));
+                }
+            }
+        }
+    }
+}
