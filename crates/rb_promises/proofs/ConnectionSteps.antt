@@ -1,7 +1,7 @@
 -- What an event does to each connection.
 use Rattle.std.specs.Prelude.{All, find}
 use Rattle.std.specs.List.{AllZip, Contains}
-use Rattle.std.proofs.Common.{◌≡◌, ◌⊎◌, inl, inr, ◌≤◌, ℕ, max, min, Bool, true, false, cond, not, eqb, Option, Some, Result, Ok, Err, List, [], ◌∷◌, ◌++◌, length, map, take, refl, sym, ap, subst, ◌∙◌, arith}
+use Rattle.std.proofs.Common.{◌≡◌, ◌⊎◌, inl, inr, ◌≤◌, ℕ, max, min, Bool, true, false, cond, not, eqb, Option, Some, None, Result, Ok, Err, List, [], ◌∷◌, ◌++◌, length, map, take, refl, sym, ap, subst, ◌∙◌, arith}
 use Rattle.std.proofs.lemmas.Bool.{and_parts, eqb-false, ne_eqb, not-true, le-ltb}
 use Rattle.std.proofs.lemmas.List.Elements.{All-contains, All-weaker, Contains-append_left, Contains-push_cases, filter_passes}
 use Rattle.rb_address.specs.declared.who.Who.{Who}
@@ -9,14 +9,16 @@ use Rattle.rb_rpc.specs.Records.{data_of}
 use Rattle.rb_rpc.specs.declared.caller.Caller.TheVariants.{Tcp}
 use Rattle.rb_model.specs.declared.types.CoreFault.{CoreFault}
 use Rattle.rb_model.specs.declared.types.CoreFault.TheVariants.{Gone}
+use Rattle.rb_model.specs.declared.types.Taken.{Taken}
 use Rattle.rb_model.specs.Calls.{Outcome}
+use Rattle.rb_model.specs.Laws.{number_given}
 use Rattle.rb_model.specs.State.{State, Phase, Connection, Connections, at_moment}
 use Rattle.rb_model.specs.State.Phase.{Lost}
 use Rattle.rb_model.specs.Connections.{is_lost, is_live, live_connection, change_first, changed_at, keep_reading, settle, with_given, give, pending_in, is_there, with_new, without_number, close_in_table}
 use Rattle.rb_model.specs.Losses.{began_before, stamp_in, lose, evict_early}
-use Rattle.rb_model.specs.Step.{sender, Event, Output, pending, pending_on, gave, is_too_much, dropped_with, close_connection, output_or, show_done, step}
+use Rattle.rb_model.specs.Step.{sender, Event, Output, pending, pending_on, gave, is_too_much, dropped_with, close_connection, output_or, show_taken, show_done, step}
 use Rattle.rb_model.specs.Step.Event.{Open, Gave, Closed}
-use Rattle.rb_model.specs.Step.Output.{Opened, TooMuch, Done}
+use Rattle.rb_model.specs.Step.Output.{Opened, TooMuch, Took, TookAndLost, Done}
 use Rattle.rb_laws.proofs.Happenings.{Happening, happening, crowd_at, said_in}
 use Rattle.rb_laws.proofs.Happenings.Happening.{Stays, Evicts, Opens, Reads, Ends, Gives, Closes, Tells, TimesOut}
 use Rattle.rb_promises.specs.Connections.{IsIn, LostConnectionsStay, HasOneOf, IsOpened, OnlyOpeningsAdd, OnlyClosesRemove, as_many, GavesAreCapped}
@@ -72,7 +74,7 @@ giving-keeps clock n = record {
 losing-keeps : KeepsWho lose
 losing-keeps = record { number = λ c. refl; who = λ c. refl }
 
-live-not-lost : (id : ℕ) (c : Connection) → is_live id c ≡ true → c.phase ≡ Lost → ⊥
+pub live-not-lost : (id : ℕ) (c : Connection) → is_live id c ≡ true → c.phase ≡ Lost → ⊥
 unfolding is_live
 live-not-lost id c live lost =
     let is : is_lost c.phase ≡ true = ap is_lost lost in
@@ -103,34 +105,41 @@ evicting-stays changes all = zip-map IsAsBefore (evict_early changes) (evicted-s
 
 -- ---- what an event does to all
 
-data Moves (s : State) (event : Event) (output : Output) (now : Connections) : Type 0 where
-  Keeps : AllZip IsAsBefore s.connections.all now.all → Moves s event output now
+pub taken_none : (taken : Taken) → number_given (show_taken taken) ≡ None
+taken_none taken = by_lost taken.lost
+  where
+    by_lost : (b : Bool) → number_given (cond b (TookAndLost taken.count) (Took taken.count)) ≡ None
+    by_lost true = refl
+    by_lost false = refl
+
+pub data Moves (s : State) (event : Event) (output : Output) (now : Connections) : Type 0 where
+  Keeps : number_given output ≡ None → AllZip IsAsBefore s.connections.all now.all → Moves s event output now
   Adds : (at : ℕ) (who : Who) → event ≡ Open at who → output ≡ Opened s.connections.next → now ≡ with_new who (max s.clock at) s.connections → Moves s event output now
   Removes : (id : ℕ) → event ≡ Closed id → now ≡ without_number id s.connections → Moves s event output now
 
-keeps-at : (s : State) (event : Event) (output : Output) (now after : Connections) → now ≡ after → AllZip IsAsBefore s.connections.all after.all → Moves s event output now
-keeps-at s event output now after same zip = Keeps (subst (λ (c : Connections). AllZip IsAsBefore s.connections.all c.all) (sym same) zip)
+keeps-at : (s : State) (event : Event) (output : Output) (now after : Connections) → number_given output ≡ None → now ≡ after → AllZip IsAsBefore s.connections.all after.all → Moves s event output now
+keeps-at s event output now after none same zip = Keeps none (subst (λ (c : Connections). AllZip IsAsBefore s.connections.all c.all) (sym same) zip)
 
 moves : (s : State) (event : Event) (output : Output) (now : Connections) → Happening s event output now → Moves s event output now
-moves s event output now (Stays q same) = keeps-at s event output now _ same (zip-same IsAsBefore same-as s.connections.all)
-moves s event output now (Evicts at who content is q same) = keeps-at s event output now _ same (evicting-stays (crowd_at s at (sender s who content) content) s.connections.all)
+moves s event output now (Stays q same) = keeps-at s event output now _ q.no_number same (zip-same IsAsBefore same-as s.connections.all)
+moves s event output now (Evicts at who content is q same) = keeps-at s event output now _ q.no_number same (evicting-stays (crowd_at s at (sender s who content) content) s.connections.all)
 moves s event output now (Opens at who is out same) = Adds at who is out same
 moves s event output now (Reads at id piece c fed is there feeds none out same) =
-    keeps-at s event output now _ same (changed-stays id (keep_reading (max s.clock at) (fed ++ piece)) (reading-keeps (max s.clock at) (fed ++ piece)) s.connections.all)
+    keeps-at s event output now _ (ap number_given out) same (changed-stays id (keep_reading (max s.clock at) (fed ++ piece)) (reading-keeps (max s.clock at) (fed ++ piece)) s.connections.all)
 moves s event output now (Ends at id piece c fed n is there feeds some out same) =
     let changes : List ℕ = crowd_at s at (Tcp id c.who) (data_of (take n (fed ++ piece))) in
     let said : Outcome = said_in s at id c (take n (fed ++ piece)) in
-    keeps-at s event output now _ same (zip-twice IsAsBefore same-twice s.connections.all (map (evict_early changes) s.connections.all) _
+    keeps-at s event output now _ (ap number_given out ∙ taken_none _) same (zip-twice IsAsBefore same-twice s.connections.all (map (evict_early changes) s.connections.all) _
     (evicting-stays changes s.connections.all) (changed-stays id (settle (max s.clock at) said) (settled-keeps (max s.clock at) said) (map (evict_early changes) s.connections.all)))
 moves s event output now (Gives at id n c is there few out same) =
-    keeps-at s event output now _ same (changed-stays id (λ x. (give (max s.clock at) n x).1) (giving-keeps (max s.clock at) n) s.connections.all)
+    keeps-at s event output now _ (ap number_given out) same (changed-stays id (λ x. (give (max s.clock at) n x).1) (giving-keeps (max s.clock at) n) s.connections.all)
 moves s event output now (Closes id is out there same) = Removes id is same
 moves s event output now (Tells at id said is q final told there same) =
-    keeps-at s event output now _ same (changed-stays id (settle (max s.clock at) said) (settled-keeps (max s.clock at) said) s.connections.all)
+    keeps-at s event output now _ q.no_number same (changed-stays id (settle (max s.clock at) said) (settled-keeps (max s.clock at) said) s.connections.all)
 moves s event output now (TimesOut at c is q none found same) =
-    keeps-at s event output now _ same (changed-stays c.number lose losing-keeps s.connections.all)
+    keeps-at s event output now _ q.no_number same (changed-stays c.number lose losing-keeps s.connections.all)
 
-step-moves : (s : State) (event : Event) → Moves s event (step s event).0 (step s event).1.connections
+pub step-moves : (s : State) (event : Event) → Moves s event (step s event).0 (step s event).1.connections
 step-moves s event = moves s event (step s event).0 (step s event).1.connections (happening s event)
 
 -- another number is not closed
@@ -143,7 +152,7 @@ not-closed event id c is other =
 
 lost-within : (s : State) (event : Event) (output : Output) (now : Connections) (c : Connection) → Moves s event output now → IsIn s c → c.phase ≡ Lost → (event ≡ Closed c.number → ⊥) → Contains now.all c
 unfolding without_number
-lost-within s event output now c (Keeps zip) within lost other =
+lost-within s event output now c (Keeps none zip) within lost other =
     let found = zip-forward IsAsBefore s.connections.all now.all c zip within in
     subst (Contains now.all) (found.2.lost lost) found.1
 lost-within s event output now c (Adds at who is out same) within lost other =
@@ -158,7 +167,7 @@ is-there s c within = by_test (is_there c.number s.connections) refl
     by_test true e = refl
     by_test false e = absurd (All-contains (λ (x : Connection). x.number ≡ c.number → ⊥) s.connections.all c (none-there s c.number e) within refl)
 
-closes-done : (s : State) (id : ℕ) → is_there id s.connections ≡ true → ((step s (Closed id)).0 ≡ Done) × ((step s (Closed id)).1.connections ≡ without_number id s.connections)
+pub closes-done : (s : State) (id : ℕ) → is_there id s.connections ≡ true → ((step s (Closed id)).0 ≡ Done) × ((step s (Closed id)).1.connections ≡ without_number id s.connections)
 unfolding step close_connection close_in_table
 closes-done s id there = (
   ap (λ (b : Bool). (output_or show_done (dropped_with s id (cond b (Ok tt, without_number id s.connections) (Err Gone, s.connections)))).0) there,
@@ -187,7 +196,7 @@ there-is s c d (k, low, is) number who = (k, d, low, is, (number, who))
 
 added : (s : State) (event : Event) (c : Connection) (now : Connections) → now ≡ (step s event).1.connections → Moves s event (step s event).0 now → Contains now.all c → HasOneOf s c ⊎ IsOpened s event c
 unfolding without_number
-added s event c now is_now (Keeps zip) within =
+added s event c now is_now (Keeps none zip) within =
     let found = zip-back IsAsBefore s.connections.all now.all c zip within in
     inl (there-is s c found.0 found.1 (sym found.2.number) (sym found.2.who))
 added s event c now is_now (Adds at who is out same) within =
@@ -210,7 +219,7 @@ only_openings_add s event c within = added s event c (step s event).1.connection
 
 removed : (s : State) (event : Event) (output : Output) (after : State) (c : Connection) → Moves s event output after.connections → IsIn s c → (event ≡ Closed c.number → ⊥) → HasOneOf after c
 unfolding without_number
-removed s event output after c (Keeps zip) within other =
+removed s event output after c (Keeps none zip) within other =
     let found = zip-forward IsAsBefore s.connections.all after.connections.all c zip within in
     there-is after c found.0 found.1 found.2.number found.2.who
 removed s event output after c (Adds at who is out same) within other =

@@ -38,7 +38,7 @@ udp_of : (host : Host) → ((family_of host ≡ Inet) × (netid_to_forward (sour
 udp_of (V4 octets) = inl (refl, refl)
 udp_of (V6 octets) = inr (refl, refl)
 
-goes_by : (source : Source) → GoesBy source (netid_to_forward source)
+pub goes_by : (source : Source) → GoesBy source (netid_to_forward source)
 goes_by (sources.Inet peer) = udp_of peer.host
 goes_by sources.Local = refl
 
@@ -77,7 +77,7 @@ module _ (context : Context) (remote : RemoteCall) where
         let there : may_go context remote (peer_of_address u).host ≡ true = ap (may_go context remote) at ∙ may in
         (u, rw (ne_eqb remote.prog 100000 c.foreign, address, there) refl)
 
-  goes_is : (found : Option Row) (u : Uaddr) → address_at found ≡ Some u → GoesTo context remote found
+  pub goes_is : (found : Option Row) (u : Uaddr) → address_at found ≡ Some u → GoesTo context remote found
   goes_is None u e = absurd (nowhere (remote.prog == rpcb_prog) e)
     where
       nowhere : (b : Bool) → if_may_go context remote (cond b None None) ≡ Some u → ⊥
@@ -180,7 +180,7 @@ module _ (context : Context) (head : CallHead) (kind : Kind) (remote : RemoteCal
       }
   by_address (Some u) is = by_room u (goes_is context remote found u is) (can_start context.forwards l.forwards) refl
 
-  asked_is : address_asked context remote (rows_in l) ≡ address_at context remote found
+  pub asked_is : address_asked context remote (rows_in l) ≡ address_at context remote found
   unfolding address_to_forward
   asked_is = refl
 

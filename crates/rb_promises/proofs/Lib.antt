@@ -18,6 +18,7 @@ pub mod SettingSteps
 pub mod RefusalCases
 pub mod Membership
 pub mod ConnectionSteps
+pub mod ConnectionTables
 pub mod Orders
 pub mod ContentFaults
 pub mod ReplyLines
@@ -46,4 +47,10 @@ pub mod LeftRows
 pub mod PassedClocks
 pub mod PassedSteps
 pub mod PassedRuns
+pub mod SessionSteps
+pub mod GoingOn
+pub mod EndingSaid
+pub mod EntriesSaid
+pub mod GoesSaid
 pub mod Headline
+pub mod ServedCores

@@ -14,7 +14,7 @@ use Rattle.rb_laws.proofs.Passing.{no-record}
 use Rattle.rb_laws.proofs.Sessions.{Holds, step-holds}
 use Rattle.rb_laws.proofs.StepBounds.{reached-step}
 use Rattle.rb_promises.specs.Accounts.{opened_by, Passes, Passed}
-use Rattle.rb_promises.specs.Accounts.Passed.{Nothing, OneMore}
+use Rattle.rb_promises.specs.Accounts.Passed.{NoMore, OneMore}
 use Rattle.rb_promises.specs.PassedRuns.{happened, opened_after, account_of, RunsPassAsSaid}
 use Rattle.rb_promises.proofs.PassedClocks.{AreOpened, step_clock, openings_on}
 use Rattle.rb_promises.proofs.PassedSteps.{happens}
@@ -22,7 +22,7 @@ use Rattle.rb_promises.proofs.PassedSteps.{happens}
 passes_on : (setting : Setting) (events : List Event) (s : State) → s.setting ≡ setting → IsReached s → (t : ℕ → Session) → ((id : ℕ) → Holds id s.connections (t id)) → Await s
     → (opened : List (ℕ × Who)) → AreOpened opened s.connections
     → Passed setting.limits setting.listener (account_of s opened t) (happened s events) (account_of (after s events) (opened_after s opened events) (λ id. session_from s id (t id) events))
-passes_on setting [] s same reached t h waits opened are = Nothing (account_of s opened t)
+passes_on setting [] s same reached t h waits opened are = NoMore (account_of s opened t)
 passes_on setting (event ∷ events) s same reached t h waits opened are =
     let more : List (ℕ × Who) = opened ++ opened_by event (step s event).0 in
     let later : ℕ → Session = λ id. session_after s id event (t id) in
@@ -38,7 +38,7 @@ passes_on setting (event ∷ events) s same reached t h waits opened are =
 none_found : (c : Connection) → ◌≡◌ {A = Option Connection} None (Some c) → ⊥
 none_found c e = cc
 
-opening_holds : (limits : Limits) (listener : Listener) (first_xid now id : ℕ) → Holds id (opening limits listener first_xid now).connections empty_session
+pub opening_holds : (limits : Limits) (listener : Listener) (first_xid now id : ℕ) → Holds id (opening limits listener first_xid now).connections empty_session
 unfolding first_record
 opening_holds limits listener first_xid now id = record {
   sound = omega arith;
@@ -49,7 +49,7 @@ opening_holds limits listener first_xid now id = record {
   live = λ c is. absurd (none_found c is);
 }
 
-no_connection : (c : Connection) → Contains [] c → ⊥
+pub no_connection : (c : Connection) → Contains [] c → ⊥
 no_connection c within = omega (arith, within.1)
 
 pub runs_pass_as_said : RunsPassAsSaid

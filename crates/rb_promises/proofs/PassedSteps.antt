@@ -1,8 +1,7 @@
 -- What one event of a run makes of what passed before it.
 use Rattle.std.specs.Prelude.{Contains}
 use Rattle.std.proofs.Common.{◌≡◌, ◌<◌, ◌≤◌, ◌⊎◌, inl, inr, ℕ, ◌+◌, ◌-◌, ◌*◌, ◌/◌, max, Bool, true, false, cond, not, eqb, nat_lt, Option, Some, None, Result, List, [], ◌∷◌, ◌++◌, length, take, drop, refl, sym, ap, subst, ◌∙◌, append_assoc, append-nil, length-append, eq-eqb, arith}
-use Rattle.std.proofs.Math.Seq.{take-nil}
-use Rattle.std.proofs.lemmas.Bool.{and_parts, ltb-false, ne_eqb, not-true}
+use Rattle.std.proofs.lemmas.Bool.{and_parts, ltb-false, ne_eqb, not-true, cases_lt}
 use Rattle.std.proofs.lemmas.List.{take_all, length-take, length-drop, take-append-drop, nil_from_length}
 use Rattle.std.proofs.lemmas.List.Elements.{All-contains, Contains-push}
 use Rattle.rb_xdr.specs.Xdr.{AreBytes}
@@ -27,7 +26,7 @@ use Rattle.rb_model.specs.Connections.{longest_fragment, fed_in, is_lost, pendin
 use Rattle.rb_model.specs.Connections.Taking.{Ends}
 use Rattle.rb_model.specs.Ending.{outcome_at_end}
 use Rattle.rb_model.specs.Laws.{owed_bytes, owed_in}
-use Rattle.rb_model.specs.Sessions.{Exchange, Session, at_event, piece_to, taken_by, gave_to, given_by, outcome_of_ended, outcome_by, with_last_outcome, with_outcome, session_with, session_after, replies_to, IsFinal, is_answered, AwaitsLast, AllGiven}
+use Rattle.rb_model.specs.Sessions.{Exchange, Session, at_event, piece_to, taken_by, gave_to, given_by, outcome_of_ended, outcome_by, with_last_outcome, session_after, replies_to, IsFinal, is_answered, AwaitsLast, AllGiven}
 use Rattle.rb_model.specs.State.{State, Owed, Phase, Connection, at_moment}
 use Rattle.rb_model.specs.State.Phase.{Idle, Reading, Owing, Awaiting, Lost}
 use Rattle.rb_model.specs.Step.{sender, Event, Output, serve, bytes, pending, pending_on, gave, is_too_much, unless_refused, with_reply, datagram, zero_stats, output_or, show_taken, show_done, show_outcome, step, IsReached}
@@ -50,6 +49,7 @@ use Rattle.rb_promises.specs.Accounts.Happens.{ADatagram, ARecord, MoreBytes, No
 use Rattle.rb_promises.specs.PassedRuns.{account_of}
 use Rattle.rb_promises.proofs.LeftRows.{message_answered}
 use Rattle.rb_promises.proofs.PassedClocks.{AreOpened, contains_found}
+use Rattle.rb_promises.proofs.SessionSteps.{ends_in_piece, told_ready, none_gave, session_is, none_passes, no_piece}
 
 -- ---- outputs
 
@@ -110,7 +110,7 @@ marked_is all n some short are =
 none_some : (n : ℕ) → ◌≡◌ {A = Option ℕ} None (Some n) → ⊥
 none_some n e = cc
 
-taking_is : (p : Phase) (fed piece : List ℕ) (n : ℕ) → fed_in p ≡ Some fed → first_record fed ≡ None → first_record (fed ++ piece) ≡ Some n
+pub taking_is : (p : Phase) (fed piece : List ℕ) (n : ℕ) → fed_in p ≡ Some fed → first_record fed ≡ None → first_record (fed ++ piece) ≡ Some n
     → taking_of p piece ≡ Ends (n - length fed) (data_of (take n (fed ++ piece)))
 unfolding taking_of
 taking_is p fed [] n feeds none some = absurd (none_some n (sym none ∙ ap first_record (sym (append-nil fed)) ∙ some))
@@ -131,31 +131,10 @@ module _ (s : State) (reached : IsReached s) (t : ℕ → Session) (h : (id : �
 
   -- ---- sessions
 
-  abbrev passed : Event → ℕ → List ℕ → List ℕ → Option Outcome → Session
-  passed event id taken gave told =
-      record (session_with (at_event event s) id taken gave (t id)) { calls = with_outcome told (session_with (at_event event s) id taken gave (t id)).calls }
-
-  session_is : (event : Event) (id : ℕ) (taken gave : List ℕ) (told : Option Outcome) → taken_by id event (step s event).0 ≡ taken
-      → given_by s id event (step s event).0 ≡ gave → outcome_by s id event ≡ told → session_after s id event (t id) ≡ passed event id taken gave told
-  session_is event id taken gave told p q r =
-      ap (λ (x : List ℕ). passed event id x (given_by s id event (step s event).0) (outcome_by s id event)) p
-      ∙ ap (λ (x : List ℕ). passed event id taken x (outcome_by s id event)) q
-      ∙ ap (λ (x : Option Outcome). passed event id taken gave x) r
-
-  none_passes : (event : Event) (id : ℕ) → taken_by id event (step s event).0 ≡ [] → given_by s id event (step s event).0 ≡ [] → outcome_by s id event ≡ None
-      → session_after s id event (t id) ≡ t id
-  none_passes event id p q r = session_is event id [] [] None p q r ∙ none-passed (at_event event s) id (t id) (h id).none
-
-  no_piece : (event : Event) (id : ℕ) → piece_to id event ≡ [] → taken_by id event (step s event).0 ≡ []
-  no_piece event id is = ap (λ (xs : List ℕ). take (count_in (step s event).0) xs) is ∙ take-nil (count_in (step s event).0)
-
-  none_gave : (event : Event) (id : ℕ) (output : Output) → gave_to id event ≡ 0 → given_by s id event output ≡ []
-  none_gave event id output is = grind arith
-
   none_told : (event : Event) (output : Output) → (step s event).0 ≡ output → count_in output ≡ 0 → ((id : ℕ) → given_by s id event output ≡ [])
       → ((id : ℕ) → outcome_by s id event ≡ None) → (id : ℕ) → session_after s id event (t id) ≡ t id
   none_told event output is no_count no_bytes no_outcome id =
-      none_passes event id (ap (λ (o : Output). take (count_in o) (piece_to id event)) is ∙ ap (λ (n : ℕ). take n (piece_to id event)) no_count)
+      none_passes s event id (t id) (h id).none (ap (λ (o : Output). take (count_in o) (piece_to id event)) is ∙ ap (λ (n : ℕ). take n (piece_to id event)) no_count)
       (ap (λ (o : Output). given_by s id event o) is ∙ no_bytes id) (no_outcome id)
 
   -- ---- events beside
@@ -170,7 +149,7 @@ module _ (s : State) (reached : IsReached s) (t : ℕ → Session) (h : (id : �
       → ((id : ℕ) → piece_to id event ≡ []) → ((id : ℕ) → gave_to id event ≡ 0) → ((id : ℕ) → outcome_by s id event ≡ None) → Does event
   besides event is none noted no_bytes no_gave no_outcome =
       Besides is (keeps event none) noted
-      (λ id. none_passes event id (no_piece event id (no_bytes id)) (none_gave event id (step s event).0 (no_gave id)) (no_outcome id))
+      (λ id. none_passes s event id (t id) (h id).none (no_piece s event id (t id) (no_bytes id)) (none_gave s event id (step s event).0 (no_gave id)) (no_outcome id))
 
   -- ---- ends of forwarded calls
 
@@ -181,10 +160,10 @@ module _ (s : State) (reached : IsReached s) (t : ℕ → Session) (h : (id : �
         let tell : TellsTo s event id said (step s event).1.connections = tells s event id said told in
         let w : IsWaiting id s.connections.all = entry-waits s id waits tell.has in
         let fits : Fits Awaiting (t id) = subst (λ (p : Phase). Fits p (t id)) w.phase (fits-live id s (t id) (h id) w.connection w.there) in
-        AnEnd id said is tell.final fits.answered (keeps event none) noted (record {
-          here = session_is event id [] [] (Some said) (no_piece event id (no_bytes id)) (none_gave event id (step s event).0 (no_gave id)) told
+        AnEnd id said is (told_ready s event id said told) tell.final fits.answered (keeps event none) noted (record {
+          here = session_is s event id (t id) [] [] (Some said) (no_piece s event id (t id) (no_bytes id)) (none_gave s event id (step s event).0 (no_gave id)) told
               ∙ ap (λ (x : Session). record x { calls = with_last_outcome said x.calls }) (none-passed (at_event event s) id (t id) (h id).none);
-          others = λ other apart. none_passes event other (no_piece event other (no_bytes other)) (none_gave event other (step s event).0 (no_gave other)) (alone other apart);
+          others = λ other apart. none_passes s event other (t other) (h other).none (no_piece s event other (t other) (no_bytes other)) (none_gave s event other (step s event).0 (no_gave other)) (alone other apart);
         })
 
     by_caller : (ended : EntryEnd) (caller : Caller) → ended.forward.caller ≡ caller
@@ -205,7 +184,7 @@ module _ (s : State) (reached : IsReached s) (t : ℕ → Session) (h : (id : �
   a_datagram now who content =
       ADatagram now who content (serve (at_moment now s) (sender s who content) content).0 refl (sent_is (serve (at_moment now s) (sender s who content) content))
       (message_answered s reached (Datagram now who content) (record { now = now; caller = sender s who content; content = content }) refl (step-ledger s (Datagram now who content)) refl refl)
-      (λ id. none_passes (Datagram now who content) id (no_piece (Datagram now who content) id refl) (none_gave (Datagram now who content) id (step s (Datagram now who content)).0 refl) refl)
+      (λ id. none_passes s (Datagram now who content) id (t id) (h id).none (no_piece s (Datagram now who content) id (t id) refl) (none_gave s (Datagram now who content) id (step s (Datagram now who content)).0 refl) refl)
 
   -- ---- bytes
 
@@ -222,12 +201,12 @@ module _ (s : State) (reached : IsReached s) (t : ℕ → Session) (h : (id : �
     state_is r e = ap (λ (x : Result Taken CoreFault × State). (output_or show_taken x).1) e
 
     none_given : (output : Output) → gave_to k event ≡ 0 → (id : ℕ) → given_by s id event output ≡ []
-    none_given output zero id = none_gave event id output refl
+    none_given output zero id = none_gave s event id output refl
 
     other_session : (other : ℕ) → ¬ (other ≡ k) → session_after s other event (t other) ≡ t other
     other_session other apart =
-        none_passes event other (no_piece event other (ap (λ (b : Bool). cond b piece []) (ne_eqb k other (λ e. apart (sym e)))))
-        (none_gave event other (step s event).0 refl) refl
+        none_passes s event other (t other) (h other).none (no_piece s event other (t other) (ap (λ (b : Bool). cond b piece []) (ne_eqb k other (λ e. apart (sym e)))))
+        (none_gave s event other (step s event).0 refl) refl
 
     -- the live connection
     module _ (c : Connection) (there : live_connection k s.connections.all ≡ Some c) where
@@ -245,13 +224,13 @@ module _ (s : State) (reached : IsReached s) (t : ℕ → Session) (h : (id : �
       caller_is = subst (λ (n : ℕ). Contains opened (n, c.who)) (number-is k c (find-holds (is_live k) s.connections.all c there))
           (are c (contains_found (is_live k) s.connections.all c there))
 
-      more_bytes : (fed : List ℕ) → fed_in c.phase ≡ Some fed → first_record (fed ++ piece) ≡ None → (step s event).0 ≡ Took (length piece) → (step s event).1.ledger ≡ s.ledger → Does event
-      more_bytes fed feeds none out same =
+      more_bytes : (fed : List ℕ) → fed_in c.phase ≡ Some fed → first_record (fed ++ piece) ≡ None → 0 < length piece → (step s event).0 ≡ Took (length piece) → (step s event).1.ledger ≡ s.ledger → Does event
+      more_bytes fed feeds none some out same =
           let whole : (t k).unfinished ++ piece ≡ fed ++ piece = ap (λ (xs : List ℕ). xs ++ piece) (unfinished-here k s (t k) (h k) c there fed feeds) in
           let still : first_record ((t k).unfinished ++ piece) ≡ None = ap first_record whole ∙ none in
           let taken : taken_by k event (step s event).0 ≡ piece = taken_so (length piece) (ap count_in out) ∙ take_all (length piece) piece (omega arith) in
-          MoreBytes now k piece refl out (given_all fed feeds) (λ bytes. (none_where_no_front ((t k).unfinished ++ piece) bytes).0 still) same (record {
-            here = session_is event k piece [] None taken (none_gave event k (step s event).0 refl) refl ∙ goes-on (at_moment now s) k piece (t k) still;
+          MoreBytes now k piece refl some out (given_all fed feeds) (λ bytes. (none_where_no_front ((t k).unfinished ++ piece) bytes).0 still) same (record {
+            here = session_is s event k (t k) piece [] None taken (none_gave s event k (step s event).0 refl) refl ∙ goes-on (at_moment now s) k piece (t k) still;
             others = other_session;
           })
 
@@ -280,9 +259,9 @@ module _ (s : State) (reached : IsReached s) (t : ℕ → Session) (h : (id : �
           let out_so : (step s event).0 ≡ show_taken (record { count = n - length fed; lost = is_no_call (said_of all) }) =
           out ∙ ap (λ (xs : List ℕ). show_taken (record { count = n - length fed; lost = is_no_call (said_of xs) })) (sym whole) in
           let counts : count_in (step s event).0 ≡ n - length fed = ap count_in out_so ∙ count-shown (record { count = n - length fed; lost = is_no_call (said_of all) }) in
-          ARecord now k (n - length fed) piece (data_of all) c.who (said_of all) refl (out_so ∙ took_is (n - length fed) (said_of all)) (given_all fed feeds) caller_is
+          ARecord now k (n - length fed) piece (data_of all) c.who (said_of all) refl (ends_in_piece fed piece n some) (out_so ∙ took_is (n - length fed) (said_of all)) (given_all fed feeds) caller_is
           (λ bytes. marked_is all n here short bytes) (subst answered_of (sym whole) (record_answered fed n feeds some)) (record {
-            here = session_is event k taken [] None (taken_so (n - length fed) counts) (none_gave event k (step s event).0 refl) refl ∙ ends (at_moment now s) k taken (t k) n c here there;
+            here = session_is s event k (t k) taken [] None (taken_so (n - length fed) counts) (none_gave s event k (step s event).0 refl) refl ∙ ends (at_moment now s) k taken (t k) n c here there;
             others = other_session;
           })
 
@@ -305,8 +284,15 @@ module _ (s : State) (reached : IsReached s) (t : ℕ → Session) (h : (id : �
         NoBytes now k piece refl out (none_taken c there why) (ap (λ (x : State). x.ledger) (state_is r e ∙ ap (λ (x : Result Taken CoreFault × State). (output_or show_taken x).1) is))
         (none_told event (Took 0) out refl (λ id. refl) (λ id. refl))
     by_arriving r e (ReadOn c fed there feeds none is) =
-        more_bytes c there fed feeds none (out_is r e ∙ ap (λ (x : Result Taken CoreFault × State). (output_or show_taken x).0) is)
+        by_piece (cases_lt 0 (length piece)) (out_is r e ∙ ap (λ (x : Result Taken CoreFault × State). (output_or show_taken x).0) is)
         (ap (λ (x : State). x.ledger) (state_is r e ∙ ap (λ (x : Result Taken CoreFault × State). (output_or show_taken x).1) is))
+      where
+        by_piece : (0 < length piece) ⊎ (length piece ≤ 0) → (step s event).0 ≡ Took (length piece) → (step s event).1.ledger ≡ s.ledger → Does event
+        by_piece (inl some) out same = more_bytes c there fed feeds none some out same
+        by_piece (inr empty) out same =
+            let none : length piece ≡ 0 = omega (arith, empty) in
+            let took_none : (step s event).0 ≡ Took 0 = out ∙ ap Took none in
+            NoBytes now k piece refl took_none (inl (nil_from_length piece none)) same (none_told event (Took 0) took_none refl (λ id. refl) (λ id. refl))
     by_arriving r e (Ended c fed n there feeds some is) =
         a_record c there fed n feeds some (out_is r e ∙ ap (λ (x : Result Taken CoreFault × State). (output_or show_taken x).0) is)
 
@@ -340,7 +326,7 @@ module _ (s : State) (reached : IsReached s) (t : ℕ → Session) (h : (id : �
 
     other_given : (other : ℕ) → ¬ (other ≡ k) → session_after s other giving (t other) ≡ t other
     other_given other apart =
-        none_passes giving other (no_piece giving other refl) (none_gave giving other (step s giving).0 (ap (λ (b : Bool). cond b n 0) (ne_eqb k other (λ e. apart (sym e))))) refl
+        none_passes s giving other (t other) (h other).none (no_piece s giving other (t other) refl) (none_gave s giving other (step s giving).0 (ap (λ (b : Bool). cond b n 0) (ne_eqb k other (λ e. apart (sym e))))) refl
 
     is_refused : (output : Output) → is_refusal output ≡ true → count_in output ≡ 0 → ((id : ℕ) → given_by s id giving output ≡ []) → step s giving ≡ (output, s) → Does giving
     is_refused output refuses no_count no_bytes is =
@@ -370,14 +356,14 @@ module _ (s : State) (reached : IsReached s) (t : ℕ → Session) (h : (id : �
                   ∙ ap (λ (xs : List ℕ). (t k).given ++ xs) (sym (append_assoc bytes (drop n (pending_in c.phase)) (behind c.phase)) ∙ ap (λ (xs : List ℕ). xs ++ behind c.phase) (take-append-drop n (pending_in c.phase)))
                   ∙ front_is c k there;
             }) (ap (λ (r : Output × State). r.1.ledger) is) (record {
-              here = session_is giving k [] bytes None (no_piece giving k refl) gave_so refl ∙ none-taken s k bytes (t k) (h k).none;
+              here = session_is s giving k (t k) [] bytes None (no_piece s giving k (t k) refl) gave_so refl ∙ none-taken s k bytes (t k) (h k).none;
               others = other_given;
             })
 
   -- ---- each event
 
-  none_noted : (event : Event) → (step s event).1.ledger.history ≡ s.ledger.history ++ [] → (step s event).1.ledger.history ≡ s.ledger.history
-  none_noted event is = is ∙ append-nil s.ledger.history
+  none_noted : (one : Event) → (step s one).1.ledger.history ≡ s.ledger.history ++ [] → (step s one).1.ledger.history ≡ s.ledger.history
+  none_noted one is = is ∙ append-nil s.ledger.history
 
   look_is : (id : ℕ) → step s (Pending id) ≡ output_or IsPending (pending_on (live_connection id s.connections.all), s)
   unfolding step pending

@@ -1,8 +1,8 @@
 -- A run on a page: what each event and its output make of what passed before (RFC 5531 sections 8 and 11, RFC 1833). Begin at
--- `Passes`, and read upwards. There is no step and no state of the model in it: what was registered and what was counted follow
--- from the messages and their answers, and these from the page of answers. Which calls are forwarded at a moment and how they end, when
--- connections close and which bytes are refused is not said here.
-use Rattle.std.specs.Prelude.{◌≡◌, ◌⊎◌, ⊤, ℕ, max, Bool, true, false, if◌then◌else◌, List, [], ◌∷◌, ◌++◌, length, take, Contains}
+-- `Passes`, and read upwards. There is no step of the model in it: what was registered and what was counted follow
+-- from the messages and their answers, and these from the page of answers. Which calls are forwarded, how they end, when
+-- connections close and what is refused is on the page of ends, Ends.antt.
+use Rattle.std.specs.Prelude.{◌≡◌, ◌⊎◌, ◌<◌, ◌≤◌, ⊤, ℕ, max, Bool, true, false, if◌then◌else◌, List, [], ◌∷◌, ◌++◌, length, take, Contains}
 use Rattle.rb_xdr.specs.Xdr.{AreBytes}
 use Rattle.rb_address.specs.declared.who.Who.{Who}
 use Rattle.rb_rpc.specs.declared.call.CallHead.{CallHead}
@@ -26,7 +26,7 @@ use Rattle.rb_model.specs.HistoryLaws.{notes_of}
 use Rattle.rb_model.specs.Sessions.{Session, replies_to, with_last_outcome, IsFinal, AwaitsLast, IsFront, AllGiven}
 use Rattle.rb_model.specs.Step.{Event, Output, Output as outputs, longest_to}
 use Rattle.rb_model.specs.Step.Event.{Open, Bytes, Pending, Gave, Closed, Datagram, Forward, Expire, ZeroStats}
-use Rattle.rb_model.specs.Step.Output.{Opened, Refused, TooMuch, Took, TookAndLost, IsPending, Done}
+use Rattle.rb_model.specs.Step.Output.{Opened, Refused, TooMuch, Took, TookAndLost, IsPending, Done, Ready}
 use Rattle.rb_promises.specs.Sets.{AsksToSet, IsAccepted, IsAddedTo, SetsARow}
 use Rattle.rb_promises.specs.Unsets.{IsRemovedFrom, RemovesARow}
 use Rattle.rb_promises.specs.LookUps.{HasHosts}
@@ -172,7 +172,7 @@ module _ (limits : Limits) (listener : Listener) (a : Account) (event : Event) (
         → IsAnswered (context_at limits listener (max a.clock now) (Udp who (longest_to listener.terms who (length content)))) content said a.ledger b.ledger
         → NothingPasses a b → Happens
     -- The first n bytes of a piece end a record, and its data is answered. All replies before it were given.
-    ARecord : (now id n : ℕ) (piece content : List ℕ) (who : Who) (said : Outcome) → event ≡ Bytes now id piece → output ≡ took n said
+    ARecord : (now id n : ℕ) (piece content : List ℕ) (who : Who) (said : Outcome) → event ≡ Bytes now id piece → n ≤ length piece → output ≡ took n said
         → AllGiven (a.sessions id) → Contains a.opened (id, who)
         → (AreBytes ((a.sessions id).unfinished ++ take n piece) → IsMarked ((a.sessions id).unfinished ++ take n piece) content)
         → IsAnswered (context_at limits listener (max a.clock now) (Tcp id who)) content said a.ledger b.ledger
@@ -182,7 +182,7 @@ module _ (limits : Limits) (listener : Listener) (a : Account) (event : Event) (
           calls = (a.sessions id).calls ++ record { content = content; said = said } ∷ [];
         }) a b → Happens
     -- A piece is taken whole, and ends no record. All replies before it were given.
-    MoreBytes : (now id : ℕ) (piece : List ℕ) → event ≡ Bytes now id piece → output ≡ Took (length piece) → AllGiven (a.sessions id)
+    MoreBytes : (now id : ℕ) (piece : List ℕ) → event ≡ Bytes now id piece → 0 < length piece → output ≡ Took (length piece) → AllGiven (a.sessions id)
         → (AreBytes ((a.sessions id).unfinished ++ piece) → HasNoRecord ((a.sessions id).unfinished ++ piece)) → b.ledger ≡ a.ledger
         → BecomesAt id (record (a.sessions id) {
           taken = (a.sessions id).taken ++ piece;
@@ -200,7 +200,7 @@ module _ (limits : Limits) (listener : Listener) (a : Account) (event : Event) (
         → IsFront ((a.sessions id).given ++ bytes) (replies_to (a.sessions id).calls) → b.ledger ≡ a.ledger
         → BecomesAt id (record (a.sessions id) { given = (a.sessions id).given ++ bytes }) a b → Happens
     -- A forwarded call ends, for which a connection waits, which is told so.
-    AnEnd : (id : ℕ) (said : Outcome) → IsBesides event → IsFinal said → AwaitsLast (a.sessions id).calls
+    AnEnd : (id : ℕ) (said : Outcome) → IsBesides event → output ≡ Ready id → IsFinal said → AwaitsLast (a.sessions id).calls
         → KeepsRows a.ledger b.ledger → AreNotedBesides event a.ledger.history b.ledger.history
         → BecomesAt id (record (a.sessions id) { calls = with_last_outcome said (a.sessions id).calls }) a b → Happens
     -- The others pass nothing.
@@ -218,6 +218,6 @@ module _ (limits : Limits) (listener : Listener) (a : Account) (event : Event) (
 
 -- these events had these outputs one after another, and so much had passed then
 pub data Passed (limits : Limits) (listener : Listener) : Account → List (Event × Output) → Account → Type 0 where
-  Nothing : (a : Account) → Passed limits listener a [] a
+  NoMore : (a : Account) → Passed limits listener a [] a
   OneMore : (a : Account) (event : Event) (output : Output) (next b : Account) (later : List (Event × Output)) → Passes limits listener a event output next
       → Passed limits listener next later b → Passed limits listener a ((event, output) ∷ later) b

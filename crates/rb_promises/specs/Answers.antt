@@ -1,6 +1,6 @@
 -- RFC 1833 on a page: what a message is answered with (RFC 5531 sections 8 and 9, RFC 1833 sections 2.2 and 3.2). Begin at
 -- `Answers`, and read upwards. Which messages are in the bytes of a connection, in which order their replies go out and what each
--- leaves is on the page of runs, Accounts.antt; what the caller of a forwarded call is told at its end, in rb_model's Ending.antt.
+-- leaves is on the page of runs, Accounts.antt; what the caller of a forwarded call is told at its end, on the page of ends, Ends.antt.
 -- As whom a caller counts is in LocalCallers.antt. A module under `declared` is a type of the sources.
 use Rattle.std.specs.Prelude.{◌≡◌, ◌≢◌, ◌↔◌, ⊤, ℕ, ◌<◌, ◌≤◌, true, false, List, [], ◌∷◌, ◌++◌, length, Option, Some, None}
 use Rattle.rb_xdr.specs.Xdr.{AreBytes, boolean, number, opaque, linked_list}

@@ -16,6 +16,7 @@ pub mod Contents
 pub mod Answers
 pub mod Accounts
 pub mod PassedRuns
+pub mod Ends
 pub mod Headline
 pub mod RowLists
 pub mod Pieces

@@ -1,6 +1,6 @@
 //! What users were told, in the words of the standards: laws over the definitions of the crates below. Nothing stands on it.
 //!
-//! Each public function is a law: it does nothing, and its contract is what is proved.
+//! Each public function is a law: it does nothing, and its contract is what is proved. But `serve_events` runs the core.
 #![tactic(auto)]
 
 mod answers;
@@ -23,7 +23,9 @@ mod turned_addresses;
 mod word_forms;
 mod worked;
 
-pub use answers::{messages_are_answered_as_said, runs_are_served, runs_pass_as_said};
+pub use answers::{
+    messages_are_answered_as_said, runs_are_served, runs_pass_as_said, serve_events,
+};
 pub use connections::{
     gaves_are_capped, lost_connections_stay, numbers_are_distinct, only_openings_add,
 };
