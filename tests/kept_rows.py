@@ -518,6 +518,8 @@ def closed_folders_are_said():
         judge(lists(rows_of(1001, 1002, 1003)), "the daemon serves on")
         os.chmod(folder, 0o755)
         judge(unsets_all(1001) and keeps(rows_of(1002, 1003), file), "rows are kept once the folder may be written to")
+    with Keeper(file=file, start=start) as daemon:
+        judge(lists(rows_of(1002, 1003)) and daemon.said_is(), "a file of the daemon's own user is believed")
 
 
 def full_devices_are_said():

@@ -1,10 +1,10 @@
 #!/usr/bin/env -S python3 -B
 """Makes docs/BELIEVED.md: the definitions that the promises cite, and all else that a reader of them must trust.
 
-The promises are the laws of rb_promises and rb_daemon but for worked examples. What their contracts name is
-followed through specs/ and through the types of src/, by names: no proof is run. With --check nothing is written; a line
-says what is wrong: a name of this repository that stands nowhere, or a document that is not what the sources make. The
-status is 1 then.
+The promises are the headline, a contract of code, and the laws of rb_promises and rb_daemon but for worked examples. What
+their contracts name is followed through specs/ and through the types of src/, by names: no proof is run. With --check
+nothing is written; a line says what is wrong: a name of this repository that stands nowhere, or a document that is not what
+the sources make. The status is 1 then.
 """
 import re
 import sys
@@ -16,11 +16,13 @@ from sources import CLAUSE, CRATES, FUNCTION, NAME, ROOMS, ROOT, cited, differen
 BELIEVED = ROOT / "docs" / "BELIEVED.md"
 AXIOMS = ROOT / "tests" / "axioms"  # by tests/list-axioms.sh
 PROMISERS = ("rb_promises", "rb_daemon")
-HEADLINE = "runs_are_served"
+HEADLINE = "serve_events"
 PAGE = "rb_promises", "Answers.Answers"
 # What a reader of replies and sessions must believe: this relation of events, outputs and what passed with them. It names no step of
 # the model and no function that answers, so nothing is left out of the count: what they are is what the law of runs says of them.
 RUNS = "rb_promises", "Accounts.Passed"
+# And with closings, deadlines and forwarded calls: what a run's events and outputs are promised to be, in the same way.
+WHOLE = "rb_promises", "Headline.IsServed"
 
 # A definition begins at the margin, or in a block of definitions; a field of a record is `pub NAME :`.
 AT_MARGIN = re.compile(r"(?!pub mod|pub use|use |mod )(?:[a-z]+ )*(?:pub|abbrev|unfoldable) (?:record |data )?([^\s:({]+)")
@@ -34,8 +36,8 @@ HEAD = """\
 
 tests/make-believed.py makes this list of the sources, and the gate compares it: a change that adds to what must be
 believed shows here. First come the definitions that the promises cite, by crate: that they say what the standards say is
-for a reader to judge. The promises are the laws of rb_promises and rb_daemon. A star marks what the page of
-RFC 1833 cites, rb_promises/specs/Answers.antt. Then comes what else is trusted.
+for a reader to judge. The promises are the headline and the laws of rb_promises and rb_daemon. A star marks what the page
+of RFC 1833 cites, rb_promises/specs/Answers.antt. Then comes what else is trusted.
 docs/CLAIMS.md says in a sentence what each kind means.
 """
 
@@ -112,13 +114,14 @@ class Sources:
         for line in file.read_text().splitlines():
             names.update(imports(line))
             if found := FUNCTION.match(line):
-                law, told = found[2] if line.startswith(f"pub fn {found[2]}()") else None, set()
+                is_promise = line.startswith(f"pub fn {found[2]}()") or found[2] == HEADLINE
+                law, told = found[2] if is_promise else None, set()
             clause = CLAUSE.fullmatch(line)
             if law and (clause or depth):
                 text = line if depth else clause[2]
                 depth += text.count("{") - text.count("}")
                 told |= named(text, names)
-            elif law and line == "{}" and not law.startswith("worked_"):
+            elif law and line == ("{" if law == HEADLINE else "{}") and not law.startswith("worked_"):
                 self.promises[law] = told
 
     def key_of(self, crate, path):
@@ -232,6 +235,7 @@ def text(book):
     page = book.reached([PAGE])[0]
     on_page = [book.items[key] for key in page]
     runs = [book.items[key] for key in book.reached([RUNS])[0]]
+    whole = [book.items[key] for key in book.reached([WHOLE])[0]]
     headline = [book.items[key] for key in book.reached(book.promises[HEADLINE])[0]]
     unsafe = list(places(r"\bunsafe\b", "src/**/*.rt"))
     externs = list(places(r"\bextern\b", "src/**/*.rt"))
@@ -256,6 +260,7 @@ def text(book):
     out.append(f"| cited by `{HEADLINE}` alone | {count(headline)} |")
     out.append(f"| cited by `{PAGE[1]}` alone, the page of RFC 1833 | {count(on_page)} |")
     out.append(f"| cited by `{RUNS[1]}` alone, the page of runs: replies, rows, statistics and sessions | {count(runs)} |")
+    out.append(f"| cited by `{WHOLE[1]}` alone, that page and the page of ends: closings, deadlines and forwarded calls too | {count(whole)} |")
     out.append(f"| definitions of the toolchain's library and the kit | {sum(map(len, library.values()))} |")
     out.append(f"| axioms of the logic, in specs and proofs | {len(axioms)} |")
     out.append(f"| functions of C that the verdicts rest on | {sum(map(len, reached.values()))} |")
@@ -287,7 +292,7 @@ def text(book):
 def main():
     book = Sources()
     known = {*book.items, *((crate, HEADLINE) for crate in PROMISERS if HEADLINE in book.promises)}
-    for crate, name in ("rb_promises", HEADLINE), PAGE, RUNS:
+    for crate, name in ("rb_promises", HEADLINE), PAGE, RUNS, WHOLE:
         if (crate, name) not in known:
             sys.exit(f"tests/make-believed.py: there is no {name} in {crate}, which it asks for by name")
     made, faults = text(book)

@@ -114,6 +114,7 @@ run_interfaces() {
 --bind all;192.0.2.1 192.0.2.3 198.51.100.1 2001:db8::1
 --bind=here;192.0.2.1 192.0.2.3 2001:db8::1
 --bind there --bind 192.0.2.3;192.0.2.3 198.51.100.1
+--bind=there --bind=192.0.2.1;192.0.2.1 198.51.100.1
 --bind here --bind there --loopback6;192.0.2.1 192.0.2.3 2001:db8::1 198.51.100.1
 --bind lo;
 --bind localhost;;rpcbind: --bind localhost adds no address now; it is tried again
@@ -286,7 +287,7 @@ run_text_of_options() {
     if [ $# -gt 0 ]; then printf 'rpcbind: --options: %s\n' "$@"; fi > "$work/wanted-stderr"
     run /dev/null serve --port 20112 --turns 1 --log changes --keep "$work/rows" "--options=$text"
     as_wanted "$work/wanted" "$work/wanted-stderr" 0 || bad=1
-    run /dev/null serve --port 20112 --options "$text" --turns 1 --log changes --keep "$work/rows"
+    run /dev/null serve --port 20112 --options "$text" --options= --turns 1 --log changes --keep "$work/rows"
     as_wanted "$work/wanted" "$work/wanted-stderr" 0 || bad=1
     judge $bad "--options='$text'"
 }

@@ -102,8 +102,9 @@ fn rows_are_removed(rt: HostRuntime) -> Result<(), Fail> {
 // of udp6 and 5 of local.
 fn netids_of(registry: &Registry, prog: u32, vers: u32, meter: &mut Meter) -> u64 {
     let mut digits: u64 = 0;
+    let version = registry.version(prog, vers, meter);
     let mut cursor = Cursor::start();
-    'rows: while let Some((next, listed)) = registry.next_of(prog, vers, cursor, meter) {
+    'rows: while let Some((next, listed)) = registry.next_of(&version, cursor, meter) {
         let digit = match listed.as_row().netid {
             Netid::Tcp => 1,
             Netid::Udp => 2,
