@@ -16,17 +16,20 @@ pub struct Owners {
     numbers: Ordered,
     /// How many they are.
     count: usize,
+    /// How many they may be.
+    most: usize,
     meter: Meter,
 }
 
 impl Model for Owners {
-    ghost use Rattle.std.specs.Prelude.{◌≡◌, ℕ, List};
+    ghost use Rattle.std.specs.Prelude.{◌≡◌, ℕ, List, length};
 
     ghost Value = { List (ℕ × ℕ) };
 
     ghost view = { λ o. o.numbers.entries };
 
-    ghost invariant = { λ o. o.meter.tie ≡ o.numbers.tie };
+    ghost invariant = { λ o. (o.meter.tie ≡ o.numbers.tie)
+        × (o.count ≡ length o.numbers.entries) × (o.numbers.cap ≡ o.most) };
 }
 
 /// The number of an owner: 0 if none is known, else the one after the uid.
@@ -65,12 +68,15 @@ impl Owners {
         Ok(Owners {
             numbers,
             count: 0,
+            most,
             meter,
         })
     }
 
     /// Of how many rows.
-    pub fn count(&self) -> usize {
+    pub fn count(&self) -> usize
+        ensures { result ≡ length self.now }
+    {
         self.count
     }
 
@@ -92,7 +98,7 @@ impl Owners {
             .insert(rank, owner_number(owner), &mut self.meter)
         {
             Ok(()) => {
-                self.count = self.count.saturating_add(1);
+                self.count += 1;
                 Ok(())
             }
             Err(_) => Err(io::Error::from(ErrorKind::OutOfMemory)),
@@ -103,8 +109,9 @@ impl Owners {
     pub(crate) fn remove(&mut self, rank: u128)
         ensures { self.new ≡ without self.old rank }
     {
-        if self.numbers.remove(rank, &mut self.meter).is_some() {
-            self.count = self.count.saturating_sub(1);
+        match self.numbers.remove(rank, &mut self.meter) {
+            Some(_number) => self.count -= 1,
+            None => {}
         }
     }
 }
