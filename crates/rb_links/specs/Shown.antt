@@ -95,14 +95,13 @@ after_walk is_whole sight sought =
 abbrev pub HasSeen : Bool → Sight → Link → Link → Type 0
 HasSeen is_whole sight old new = new ≡ record old { sought = option_map (after_walk is_whole sight) old.sought }
 
--- Whoever is at its other end came in so, by what the passes showed of its two ends.
+-- Whoever is at its other end came in so, by what the passes showed of its two ends, and by whether it is connected still.
 -- TABLES-5
-pub record IsShownBy (link : Link) (arrival : Arrival) : Type 0 where
+pub record IsShownBy (is_connected : Bool) (link : Link) (arrival : Arrival) : Type 0 where
   pub ends : Ends
   pub own : unknown_ends link ≡ Some ends
   pub sought : Sought
   pub passed : link.sought ≡ Some sought
-  pub is_connected : Bool
   pub evidence : Evidence
   pub shown : shown_after sought.passes sought.known is_connected link.has_ended ≡ Some evidence
   pub arrival_is : arrival ≡ arrival_of ends evidence
@@ -125,7 +124,8 @@ counted_as arrival link = record link { sought = None; origin = origin_of (who_o
 -- TRUST-14
 pub record IsShown (moment : ℕ) (old new : Link) : Type 0 where
   pub arrival : Arrival
-  pub shown : IsShownBy old arrival
+  pub is_connected : Bool
+  pub shown : IsShownBy is_connected old arrival
   pub waited : is_held old.held ≡ true
   pub after : new ≡ record (counted_as arrival old) { visitor = Some (Known arrival); held = Nothing; since = moment }
 
@@ -133,7 +133,8 @@ pub record IsShown (moment : ℕ) (old new : Link) : Type 0 where
 -- TABLES-8
 pub record IsCounted (old new : Link) : Type 0 where
   pub arrival : Arrival
-  pub shown : IsShownBy old arrival
+  pub is_connected : Bool
+  pub shown : IsShownBy is_connected old arrival
   pub waited : is_held old.held ≡ false
   pub after : new ≡ counted_as arrival old
 

@@ -335,7 +335,7 @@ impl Link {
         ensures shown { result ≡ true → IsShown moment self.old self.new }
         ensures waits { result ≡ false → StaysUnknown self.old self.new }
     {
-        let Some(arrival) = self.arrival_shown() else {
+        let Some(arrival) = self.arrival_shown(self.is_connected()) else {
             return false;
         };
         self.sought = None;
@@ -350,10 +350,10 @@ impl Link {
     }
 
     // TABLES-5
-    /// How whoever is there came in, by what the passes showed of its own two ends; none if there is one more, or it takes
-    /// part in none.
-    fn arrival_shown(&self) -> Option<Arrival>
-        ensures shown { IfSome result (IsShownBy self.now) }
+    /// How whoever is there came in, by what the passes showed of its own two ends, and by whether it is connected still; none
+    /// if there is one more, or it takes part in none.
+    fn arrival_shown(&self, is_connected: bool) -> Option<Arrival>
+        ensures shown { IfSome result (IsShownBy is_connected self.now) }
         ensures none { IfNone result (may_be_told_later self.now ≡ true) }
     {
         let ends = self.unknown_ends()?;
@@ -361,7 +361,6 @@ impl Link {
         if sought.passes == 0 {
             return None;
         }
-        let is_connected = self.is_connected();
         let evidence = shown_after(sought.passes, sought.known, is_connected, self.has_ended)?;
         Some(ends.arrival(evidence))
     }

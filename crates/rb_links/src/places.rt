@@ -344,6 +344,7 @@ impl Places {
         ensures number { IfSome result (λ id. number_at self.old key ≡ Some id) }
         ensures sight { IfSome result (λ id. sight_at self.new key ≡ None) }
         ensures over { is_taken_at key self.old ≡ true → IsOverAt key self.old self.new }
+        ensures others { StayBut key self.old.links.items self.new.links.items }
         ensures served { self.new.rounds.served ≡ self.old.rounds.served }
         ensures count { self.new.rounds.count ≡ self.old.rounds.count }
     {
