@@ -14,3 +14,4 @@ pub mod Paying
 pub mod Restorings
 pub mod LastRounds
 pub mod Leavings
+pub mod GoingOn

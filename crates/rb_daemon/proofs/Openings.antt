@@ -1,7 +1,6 @@
 -- A connection is opened as one of whoever came in.
 use Rattle.std.proofs.Common.{◌≡◌, ℕ, Result, subst}
 use Rattle.rb_address.specs.declared.who.Who.{Who}
-use Rattle.rb_model.specs.State.{State}
 use Rattle.rb_model.specs.declared.types.CoreFault.{CoreFault}
 use Rattle.rb_model.specs.Step.{open_connection, close_connection}
 use Rattle.rb_core.specs.StandsFor.{StandsFor}

@@ -11,6 +11,9 @@ use Rattle.rb_model.specs.Step.{unsent_call}
 use Rattle.rb_core.specs.Events.{OnlyBegins}
 use Rattle.rb_sockets.specs.Dispatches.{Dispatch, Hands}
 use Rattle.rb_daemon.specs.declared.engine.Answer.TheVariants as answers
+use Rattle.rb_daemon.specs.declared.engine.Engine.{Engine}
+use Rattle.rb_daemon.specs.Keeping.{SameEngine}
+use Rattle.rb_daemon.specs.Moves.{ActsNow, HandsNow, ShowsNow}
 use Rattle.rb_daemon.specs.Served.{answered, send_unsent}
 use Rattle.rb_daemon.specs.Sending.{answer_sent, call_sent, way_noted, ways_answered}
 use Rattle.rb_daemon.specs.Waiting.{Waiting, waiting, dispatch_of, HandsAll, PostsReply, Posts}
@@ -69,3 +72,20 @@ pub after_held : {S : Type 0} (sends : S → Dispatch → S → Type 0) (socket 
 after_held sends socket to first mid last before held after old new kept begun same posted =
     subst (λ (x : List ℕ). PostsReply sends (waiting socket to x) before after old new) (ap (λ (x : CoreView). x.reply) kept ∙ ap (λ (x : CoreView). x.reply) begun)
     (subst (λ (x : List Waiting). PostsReply sends (waiting socket to last.reply) x after old new) same posted)
+
+-- ---- what changed is kept before
+
+stands_mid : {old mid : Engine} {s : State} → SameEngine old mid → StandsFor old.core.core s → StandsFor mid.core.core s
+stands_mid {old} {mid} {s} same h = subst (λ (x : CoreView). StandsFor x s) (sym same.core) h
+
+pub hands_after : {S : Type 0} (sends : S → Dispatch → S → Type 0) (datagram : State → ℕ → Option Dispatch) (first mid : Engine) (old new : S) → SameEngine first mid → HandsNow sends datagram mid old new → HandsNow sends datagram first old new
+hands_after sends datagram first mid old new same hands = λ s h. subst (λ (m : ℕ). Hands sends (datagram s m) old new) same.moment (hands s (stands_mid same h))
+
+pub shows_after : {R : Type 0} (show : State → ℕ → R) (first mid : Engine) (r : R) → SameEngine first mid → ShowsNow show mid r → ShowsNow show first r
+shows_after show first mid r same shows = λ s h. subst (λ (m : ℕ). r ≡ show s m) same.moment (shows s (stands_mid same h))
+
+pub acts_after : {R : Type 0} (step : State → ℕ → R × State) (first mid last : Engine) (r : R) → SameEngine first mid → ActsNow step mid last r → ActsNow step first last r
+acts_after step first mid last r same acts = record {
+  gives = λ s h. subst (λ (m : ℕ). r ≡ (step s m).0) same.moment (acts.gives s (stands_mid same h));
+  stands = λ s h. subst (λ (m : ℕ). StandsFor last.core.core (step s m).1) same.moment (acts.stands s (stands_mid same h));
+}

@@ -22,7 +22,7 @@ use Rattle.rb_model.specs.Calls.{Outcome, Outcome as outcomes}
 use Rattle.rb_model.specs.Ending.{forward_reply, expire}
 use Rattle.rb_model.specs.Step.{Event, Output, step, after, open_connection, pending, gave, close_connection, next_lost, datagram, zero_stats, unsent_call, sent_call, output_or, show_done, show_outcome, show_told, show_end, show_expired, is_too_much}
 use Rattle.rb_model.specs.Step.Event.{Open, Pending, Gave, Closed, NextLost, Datagram, Unsent, Sent, Forward, Expire, ZeroStats}
-use Rattle.rb_model.specs.Step.Output.{Opened, TooMuch, IsPending, Done, LostIs, Replied, Forwarded as OutForwarded, Silent, UnsentIs, Ignored, Nothing, ConnectionLost}
+use Rattle.rb_model.specs.Step.Output.{Opened, TooMuch, IsPending, Done, LostIs, Silent, UnsentIs, Ignored, Nothing, ConnectionLost}
 use Rattle.rb_laws.proofs.RunLaws.{after-append}
 use Rattle.rb_laws.proofs.EntriesKept.{after-setting}
 use Rattle.rb_lines.specs.Entries.{entry_text, run_entries, options_text}

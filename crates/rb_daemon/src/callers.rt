@@ -7,7 +7,7 @@ ghost use Rattle.rb_daemon.specs.PlainCallers.{plain_peer, plain_who};
 
 use rb_address::{Host, Owner, Peer, Source, Trust, Who};
 use rb_keep::this_machine;
-use rb_sockets::{Arrival, Asker};
+use rb_sockets::{Arrival, Asker, Returned};
 
 /// A caller.
 #[derive(Clone, Copy)]
@@ -16,17 +16,19 @@ pub(crate) struct Caller {
     ghost is_who: { ∥ IsWho who ∥₁ },
 }
 
-/// Who asked by a datagram, and on the socket of which number.
+/// Who asked by a datagram, on the socket of which number, and how many bytes it has.
 #[derive(Clone, Copy)]
 pub(crate) struct Asked {
     pub(crate) caller: Caller,
     pub(crate) socket: usize,
+    pub(crate) len: usize,
 }
 
-/// Where a datagram came from.
+/// Where a datagram came from, and how many bytes it has.
 #[derive(Clone, Copy)]
 pub(crate) struct Sender {
     pub(crate) peer: Peer,
+    pub(crate) len: usize,
     ghost is_peer: { ∥ IsPeer peer ∥₁ },
 }
 
@@ -136,10 +138,12 @@ impl Asked {
     pub(crate) fn of(asker: Asker) -> Asked
         ensures caller { result.caller.who ≡ plain_who (who_of asker.arrival) }
         ensures socket { result.socket ≡ asker.socket }
+        ensures len { result.len ≡ asker.len }
     {
         Asked {
             caller: Caller::of(asker.arrival()),
             socket: asker.socket(),
+            len: asker.len(),
         }
     }
 }
@@ -149,10 +153,12 @@ impl Sender {
     ghost use Rattle.rb_daemon.specs.PlainCallers.{plain_peer};
 
     /// The sender with its host in its plain form.
-    pub(crate) fn of(peer: Peer) -> Sender
-        ensures { result.peer ≡ plain_peer peer }
+    pub(crate) fn of(returned: Returned) -> Sender
+        ensures peer { result.peer ≡ plain_peer returned.peer }
+        ensures len { result.len ≡ returned.len }
     {
-        let peer = plain_peer(peer);
-        Sender { peer }
+        let peer = plain_peer(returned.peer());
+        let len = returned.len();
+        Sender { peer, len }
     }
 }

@@ -3,13 +3,13 @@ ghost use Rattle.std.specs.Prelude.{⊤};
 ghost use Rattle.rb_daemon.specs.Draining.{IsServedNextAt, IsServedNextOf};
 
 use crate::callers::{Asked, Sender};
-use crate::datagrams::answer_call;
+use crate::datagrams::{answer_call, take_back};
 use crate::serving::Serving;
 use mio::Registry;
-use rb_address::{Family, Peer, Who};
+use rb_address::{Family, Who};
 use rb_policy::drains::{CallsSoFar, Came, Drains, drain};
 use rb_policy::{Again, Brake, Next, SOCKET_CALLS, after_accept, after_receive, outcome_of};
-use rb_sockets::{Asker, Step};
+use rb_sockets::Step;
 use std::fs::Files;
 use std::io;
 
@@ -152,22 +152,20 @@ impl<H: Files> Serving<H> {
             return Came::Nothing(Next::AwaitTurn);
         };
         match came {
-            Ok((len, from)) => {
-                self.answer(host, len, from);
+            Ok(from) => {
+                if let Some(asker) = from {
+                    self.answer(host, Asked::of(asker));
+                }
                 Came::Something
             }
             Err(error) => Came::Nothing(after_receive(outcome_of(&error))),
         }
     }
 
-    /// Answers the datagram of the first `len` bytes, unless the brake drops it.
-    fn answer(&mut self, host: &H, len: usize, from: Option<Asker>)
-        requires { len ≤ length self.old.datagram.items }
+    /// Answers the datagram that came, unless the brake drops it.
+    fn answer(&mut self, host: &H, asked: Asked)
+        requires { asked.len ≤ length self.old.datagram.items }
     {
-        let Some(asker) = from else {
-            return;
-        };
-        let asked = Asked::of(asker);
         if !passes(&mut self.brake, self.turn.moment, &asked.caller.who) {
             return;
         }
@@ -179,7 +177,7 @@ impl<H: Files> Serving<H> {
             &mut self.sockets,
             &mut self.ways_back,
             asked,
-            &self.datagram[..len],
+            self.datagram.as_slice(),
         );
     }
 
@@ -227,30 +225,28 @@ impl<H: Files> Serving<H> {
             return Came::Nothing(Next::AwaitTurn);
         };
         match forwards.socket.receive(&mut self.datagram) {
-            Ok((len, from)) => {
-                self.take_forward_reply(host, len, from);
+            Ok(from) => {
+                if let Some(returned) = from {
+                    self.take_back(host, Sender::of(returned));
+                }
                 Came::Something
             }
             Err(error) => Came::Nothing(after_receive(outcome_of(&error))),
         }
     }
 
-    /// Takes the datagram of the first `len` bytes, once all changes were kept.
-    fn take_forward_reply(&mut self, host: &H, len: usize, from: Option<Peer>)
-        requires { len ≤ length self.old.datagram.items }
+    /// Takes in the datagram that came. The connection goes on whose forwarded call it ends.
+    fn take_back(&mut self, host: &H, sender: Sender)
+        requires { sender.len ≤ length self.old.datagram.items }
     {
-        let Some(peer) = from else {
-            return;
-        };
-        let sender = Sender::of(peer);
-        let kept = self.keeper.keep(host, &mut self.engine);
-        let content = &self.datagram[..len];
-        let ready = self.engine.take_forward_reply(
-            sender,
-            content,
+        let ready = take_back(
+            host,
+            &mut self.engine,
+            &mut self.keeper,
             &mut self.sockets,
             &mut self.ways_back,
-            kept,
+            sender,
+            self.datagram.as_slice(),
         );
         if let Some(id) = ready {
             self.places.wake(id);

@@ -138,7 +138,7 @@ pub(crate) struct HeldLinks {
 }
 
 impl HeldLinks {
-    ghost use Rattle.std.specs.Prelude.{◌≡◌, [], ◌∷◌, ◌++◌, IsTrue, IfOk, length, slice_get};
+    ghost use Rattle.std.specs.Prelude.{◌≡◌, [], ◌∷◌, ◌++◌, IsTrue, IfOk};
 
     /// None, with room for those that may wait.
     pub(crate) fn new(alloc: Global) -> Result<HeldLinks, AllocError>
@@ -173,18 +173,11 @@ impl HeldLinks {
         !self.is_full() && self.all.push(link).is_ok()
     }
 
-    /// How many wait.
-    pub(crate) fn count(&self) -> usize
-        ensures { result ≡ length self.now.all.items }
+    /// Those that wait.
+    pub(crate) fn as_slice(&self) -> &[HeldLink]
+        ensures { result.now ≡ self.now.all.items }
     {
-        self.all.len()
-    }
-
-    /// The one of this number.
-    pub(crate) fn get(&self, i: usize) -> Option<HeldLink>
-        ensures { result ≡ slice_get self.now.all.items i }
-    {
-        self.all.get(i).copied()
+        self.all.as_slice()
     }
 
     /// None waits from here on.

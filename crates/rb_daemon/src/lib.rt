@@ -15,6 +15,7 @@ mod opening;
 mod outbox;
 mod room;
 mod secrets;
+mod served;
 mod serving;
 mod showing;
 mod steps;

@@ -1,7 +1,7 @@
 //! Connections at their places are opened and closed for the core.
 ghost use Rattle.std.specs.Prelude.{◌≡◌, true, IfSome};
 ghost use Rattle.rb_daemon.specs.Links.{OpensAt, ClosesAt, OpensAgain};
-ghost use Rattle.rb_daemon.specs.Turning.{ServesNone};
+ghost use Rattle.rb_daemon.specs.Turning.{ServesOnly};
 
 use crate::callers::Caller;
 use crate::engine::Engine;
@@ -36,7 +36,7 @@ pub(crate) fn open_at(
 /// Closes the connection at a place. The answer is its number, if there was one that the core knows.
 pub(crate) fn close_at(places: &mut Places, engine: &mut Engine, key: usize) -> Option<u64>
     ensures closes { IfSome result (λ id. ClosesAt key id engine.old engine.new places.old) }
-    ensures served { ServesNone places.old places.new }
+    ensures only { ServesOnly key places.old places.new }
 {
     let id = places.close(key)?;
     engine.closed(id);

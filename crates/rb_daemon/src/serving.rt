@@ -3,12 +3,13 @@ ghost use Rattle.std.specs.Prelude.{◌≡◌};
 ghost use Rattle.rb_daemon.specs.Turning.{is_due};
 
 use crate::engine::{Due, Engine};
-use crate::held::{Held, HeldLink};
+use crate::held::Held;
 use crate::keeping::{KeepNews, Keeper};
 use crate::load::Load;
 use crate::opening::{close_at, open_again, open_at};
 use crate::room::Room;
-use crate::steps::{Progress, serve, serve_kept};
+use crate::served::{go_on_each, note_served};
+use crate::steps::{Progress, serve};
 use mio::Registry;
 use mio::event::Event;
 use rb_address::{Family, Network};
@@ -90,7 +91,7 @@ impl<H: Files> Serving<H> {
     ghost use Rattle.rb_sockets.specs.Events.{shown_by};
     ghost use Rattle.rb_sockets.specs.Watching.{NotesShown};
     ghost use Rattle.rb_links.specs.Rounds.{IsTakenUp, TakesUp, ServesFew};
-    ghost use Rattle.rb_daemon.specs.Turning.{ServesNone, is_due, leaves_some};
+    ghost use Rattle.rb_daemon.specs.Turning.{ServesNone, ServesEach, is_due, leaves_some};
 
     /// A core of these limits, what keeps its rows, and the sockets around it, which are served with this memory; and
     /// what drops datagrams of strangers, if they are limited.
@@ -330,63 +331,34 @@ impl<H: Files> Serving<H> {
                 return;
             }
         }
-        self.note_served(key, progress);
-    }
-
-    /// A turn has served the connection at a place, which stands so.
-    fn note_served(&mut self, key: usize, progress: Progress)
-        ensures { ServesNone self.old.places self.new.places }
-    {
-        self.end_at(key, progress);
-        self.places.note_served(key);
-    }
-
-    /// Leaves the connection at a place, or closes it, if it stands so.
-    fn end_at(&mut self, key: usize, progress: Progress)
-        ensures { ServesNone self.old.places self.new.places }
-    {
-        match progress {
-            Progress::Blocked => {}
-            Progress::CutOff | Progress::Unkept(_) => self.places.leave(key),
-            Progress::Over => self.close(key),
-        }
+        note_served(&mut self.places, &mut self.engine, key, progress);
     }
 
     // KEEP-18: What changes in a turn, over UDP, TCP and the local socket, is added to the file by one write, if there is room
     // for its lines, and the replies that waited for it go out then.
     /// Keeps what changed in the turn, and then sends the replies that waited for it.
     pub(crate) fn answer_changes(&mut self, host: &H)
-        ensures { ServesNone self.old.places self.new.places }
+        ensures each { ServesEach
+            self.old.held.links.all.items self.old.places self.new.places }
+        ensures none { ServesNone self.old.places self.new.places }
     {
         let kept = self.keeper.keep(host, &mut self.engine);
         self.held
             .replies
             .send(&self.engine, &mut self.sockets, kept);
-        'links: for i in 0..self.held.links.count() {
-            if let Some(held) = self.held.links.get(i) {
-                self.go_on(host, held);
-            }
-        }
+        go_on_each(
+            host,
+            &mut self.engine,
+            &mut self.keeper,
+            &mut self.places,
+            self.turn,
+            self.held.links.as_slice(),
+        );
         self.held.links.clear();
     }
 
-    /// Goes on with a connection whose replies waited.
-    fn go_on(&mut self, host: &H, held: HeldLink)
-        ensures { ServesNone self.old.places self.new.places }
-    {
-        let kept = self.keeper.keep(host, &mut self.engine);
-        let Some(link) = self.places.links.get_mut(held.key) else {
-            return;
-        };
-        let long_outbox = &mut self.places.long_outbox;
-        let progress = serve_kept(link, &self.engine, kept, held, long_outbox, self.turn);
-        self.note_served(held.key, progress);
-    }
-
     /// Closes the connection at a place, if there is one.
-    fn close(&mut self, key: usize)
-        ensures { ServesNone self.old.places self.new.places }
-    {
+    fn close(&mut self, key: usize) {
         close_at(&mut self.places, &mut self.engine, key);
     }
 

@@ -62,14 +62,14 @@ CameOn calls arrival = (peer : Peer) × (arrival ≡ datagram_arrival calls peer
 
 -- So did whoever asked on the one of this number.
 -- TRUST-14
-abbrev pub AskedOn : {E : Type 0} → List (Watched CallSocket) → ℕ → Result (ℕ × Option Asker) E → Type 0
+abbrev pub AskedOn : {E : Type 0} → List (Watched CallSocket) → ℕ → Result (Option Asker) E → Type 0
 AskedOn all socket received =
     (calls : Watched CallSocket) → slice_get all socket ≡ Some calls
-    → IfOk received (λ r. IfSome r.1 (λ asker. CameOn calls.socket asker.arrival))
+    → IfOk received (λ came. IfSome came (λ asker. CameOn calls.socket asker.arrival))
 
 -- What was received on the socket of this number fits the room, and was asked there.
-abbrev pub IsReceived : {E : Type 0} → ℕ → List ℕ → Result (ℕ × Option Asker) E → Type 0
-IsReceived socket room received = IfOk received (λ r. (r.0 ≤ length room) × IfSome r.1 (λ asker. asker.socket ≡ socket))
+abbrev pub IsReceived : {E : Type 0} → ℕ → List ℕ → Result (Option Asker) E → Type 0
+IsReceived socket room received = IfOk received (λ came. IfSome came (λ asker. (asker.len ≤ length room) × (asker.socket ≡ socket)))
 
 -- ---- who is let in
 

@@ -142,11 +142,12 @@ impl CallSocket {
     }
 }
 
-/// Who asked by a datagram, and on the socket of which number.
+/// Who asked by a datagram, on the socket of which number, and how many bytes it has.
 #[derive(Clone, Copy)]
 pub struct Asker {
     arrival: Arrival,
     socket: usize,
+    len: usize,
 }
 
 impl Asker {
@@ -165,6 +166,13 @@ impl Asker {
     {
         self.socket
     }
+
+    /// How many bytes the datagram has, with which the room begins where it was received.
+    pub fn len(self) -> usize
+        ensures { result ≡ self.len }
+    {
+        self.len
+    }
 }
 
 /// All sockets where calls come in as datagrams.
@@ -179,21 +187,25 @@ impl CallSockets {
     ghost use Rattle.rb_sockets.specs.Arrivals.{IsReceived, AskedOn};
     ghost use Rattle.rb_sockets.specs.Room.{closed_place, free_place};
 
-    /// A datagram on the socket of this number, how long it is, and who asked by it, if that caller may call when these
-    /// networks are served. None if there is no such socket.
+    /// Who asked by a datagram on the socket of this number, if that caller may call when these networks are served. None if
+    /// there is no such socket.
     pub fn receive(
         &self,
         socket: usize,
         networks: &[Network],
         room: &mut [u8],
-    ) -> Option<io::Result<(usize, Option<Asker>)>>
+    ) -> Option<io::Result<Option<Asker>>>
         ensures fits { IfSome result (IsReceived socket room.new) }
         ensures came { IfSome result (AskedOn self.now.all.items socket) }
     {
         let calls = self.all.get(socket)?;
         Some(match calls.socket.receive(networks, room) {
-            Ok((len, Some(arrival))) => Ok((len, Some(Asker { arrival, socket }))),
-            Ok((len, None)) => Ok((len, None)),
+            Ok((len, Some(arrival))) => Ok(Some(Asker {
+                arrival,
+                socket,
+                len,
+            })),
+            Ok((_, None)) => Ok(None),
             Err(error) => Err(error),
         })
     }
@@ -229,6 +241,31 @@ impl CallSockets {
     }
 }
 
+/// From whom a datagram came back, and how many bytes it has.
+#[derive(Clone, Copy)]
+pub struct Returned {
+    peer: Peer,
+    len: usize,
+}
+
+impl Returned {
+    ghost use Rattle.std.specs.Prelude.{◌≡◌};
+
+    /// Who sent it.
+    pub fn peer(self) -> Peer
+        ensures { result ≡ self.peer }
+    {
+        self.peer
+    }
+
+    /// How many bytes it has, with which the room begins where it was received.
+    pub fn len(self) -> usize
+        ensures { result ≡ self.len }
+    {
+        self.len
+    }
+}
+
 /// Where forwarded calls go out, and what comes back for them comes in.
 #[derive(Drop)]
 pub struct ForwardSocket {
@@ -243,12 +280,15 @@ impl ForwardSocket {
         })
     }
 
-    /// A datagram, how long it is, and from whom, if that may be a target.
-    pub fn receive(&self, room: &mut [u8]) -> io::Result<(usize, Option<Peer>)>
-        ensures { IfOk result (λ r. r.0 ≤ length room.new) }
+    /// A datagram, if it came from who may be a target.
+    pub fn receive(&self, room: &mut [u8]) -> io::Result<Option<Returned>>
+        ensures { IfOk result (λ came. IfSome came (λ returned. returned.len ≤ length room.new)) }
     {
         let (len, from) = self.socket.recv_from(room)?;
-        Ok((len, sender(from)))
+        Ok(match sender(from) {
+            Some(peer) => Some(Returned { peer, len }),
+            None => None,
+        })
     }
 
     /// Whether it is bound to this host.

@@ -24,7 +24,7 @@ mod user_namespace;
 mod watched;
 
 pub use arrival::{Arrival, Ends, OwnEnd};
-pub use calls::{Asker, CallSocket, CallSockets, ForwardSocket, ForwardSockets};
+pub use calls::{Asker, CallSocket, CallSockets, ForwardSocket, ForwardSockets, Returned};
 pub use datagrams::{Datagrams, reply_to_forwarded};
 pub use descriptors::{Shortage, open_files};
 pub use environment::{own_notifier, own_watchdog_pause, take_handed};

@@ -1,6 +1,6 @@
 use Rattle.std.proofs.Common.{◌∙◌, List, ℕ, subst}
 use Rattle.rb_address.specs.declared.who.Who.{Who}
-use Rattle.rb_model.specs.ChangeLaws.{this_machine, set_bytes}
+use Rattle.rb_model.specs.ChangeLaws.{set_bytes}
 use Rattle.rb_model.specs.Step.Event.{Datagram}
 use Rattle.rb_daemon.specs.Moves.{RecordsEvent, PricedNow}
 use Rattle.rb_daemon.proofs.engine.Engine.restore.Goals as goal
