@@ -83,7 +83,8 @@ class Manager:
     """What starts the daemon with these sockets and words. With `end_after` the daemon is ended once so many messages had the
     text. Where `is_asked_first` a null call is sent to the first of the sockets before the start, and a SET by a datagram to that
     port of 127.0.0.1; the replies are waited for, and the SET's has to be TRUE. It is told at a path, or at a `name`; a quiet one
-    is not told. `variables` take the place of what is true."""
+    is not told. A full one has no room for what it is told until the daemon listens and for a second more. `variables` take the
+    place of what is true."""
 
     sockets: str
     words: str
@@ -92,6 +93,7 @@ class Manager:
     is_asked_first: bool = False
     has_name: bool = False
     is_quiet: bool = False
+    is_full: bool = False
     variables: dict = field(default_factory=dict)
 
     def run(self):
@@ -107,6 +109,8 @@ class Manager:
             if not self.is_quiet:
                 variables["NOTIFY_SOCKET"] = name.replace("\0", "@")
             asked = callers(made[0]) if self.is_asked_first else None
+            if self.is_full:
+                fill(name)
             pid = start(made, [RPCBIND, *self.words.split()], variables, output, errors)
             self.status = self.attend(pid, told, output, asked)
         for it in made:
@@ -118,6 +122,10 @@ class Manager:
 
     def attend(self, pid, told, output, asked):
         left, latest = self.times, time.monotonic() + LONGEST
+        if self.is_full:
+            while "listening" not in read(f"{WORK}/told") and time.monotonic() < latest:
+                time.sleep(0.05)
+            time.sleep(1)
         while time.monotonic() < latest:
             if select.select([told], [], [], 0.05)[0]:
                 message = told.recv(4096).decode()
@@ -160,6 +168,17 @@ def start(made, words, variables, output, errors):
     os.closerange(3 + len(made), 300)
     mine = {name: value.replace("PID", str(os.getpid())) for name, value in variables.items()}
     os.execve(words[0], words, {**os.environ, **mine})
+
+
+def fill(name):
+    """Sends messages to a local socket until it has no room for more."""
+    with socket.socket(socket.AF_UNIX, socket.SOCK_DGRAM) as filler:
+        filler.setblocking(False)
+        try:
+            while True:
+                filler.sendto(b"full", name)
+        except BlockingIOError:
+            pass
 
 
 def callers(first):
@@ -287,7 +306,14 @@ def manager_may_have_a_name():
     judge(it.status == ENDED, "a manager at a name")
 
 
+# MANAGER-1
+# READY=1 waits until the manager has room for it.
+def manager_may_have_no_room():
+    it = hand_over("tcp:127.0.0.1:20112", "--port 20112", is_full=True, end_after="READY=1")
+    judge(it.status == ENDED and "full" in it.told.splitlines(), "a manager that has no room for READY=1 at first")
+
+
 if __name__ == "__main__":
     run_named(sockets_are_handed_over, some_sockets_are_not_taken, loopbacks_are_bound, other_environments_are_refused,
               local_sockets_are_handed_over, forwarded_calls_have_a_socket, watchdog_is_told, bind_says_where_it_listens,
-              manager_may_have_a_name, missing_address_is_waited_for)
+              manager_may_have_a_name, manager_may_have_no_room, missing_address_is_waited_for)

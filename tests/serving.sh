@@ -96,6 +96,26 @@ run_unshown_client() {
     wait "$tracer" "$daemon" 2> /dev/null
 }
 
+# WAIT-6 EXIT-1
+# Waits for events that fail for five seconds end the daemon. It says why, and its status is that of a failure, after which a
+# service manager starts it again.
+run_failing_waits() {
+    local daemon tracer bad=0 fault='wait for events: Invalid argument (os error 22)'
+    start_daemon "$work/listening" --port 20112
+    "$rpcinfo" -n 20112 -u 127.0.0.1 100000 4 > /dev/null # a turn is over then, in which all is told that a start leaves
+    if inject epoll_wait,epoll_pwait:error=EINVAL; then
+        printf 'rpcbind: %s\n' 'listening on 127.0.0.1 port 20112' "$fault; it is tried again" 'socket failed' "$fault" > "$work/wanted"
+        await_line "$work/listening" '^rpcbind: socket failed$' || { kill "$daemon"; bad=1; }
+        wait "$daemon"
+        [ $? -eq 1 ] && same "$work/wanted" "$work/listening" "what the daemon wrote" || bad=1
+        judge $bad "waits for events that fail"
+    else
+        echo "waits for events that fail are not tried: that wants strace, which may attach to a daemon"
+    fi
+    kill "$tracer" "$daemon" 2> /dev/null
+    wait "$tracer" "$daemon" 2> /dev/null
+}
+
 # A socket at the path of the local one whose queue is full answers: it stays, and the daemon does not start.
 run_full_queue_in_the_way() {
     local path=$work/full.sock listener before
@@ -125,8 +145,9 @@ signal.pause()
     wait "$listener" 2> /dev/null
 }
 
+# TRUST-12
 # Who comes by the local socket is root, unless others could before its file had its mode; of 0.0.0.0 it is told the address
-# that is announced.
+# that is announced. Once its file is opened to others, a line says so.
 run_local_socket() {
     local path=$work/known.sock daemon mask owner listed
     for mask in 022 000; do
@@ -144,6 +165,12 @@ END
         listed=$?
         [ $listed -eq 0 ] && "$rpcinfo" --port 20112 127.0.0.1 | grep -qx "200001 1 tcp 0.0.0.0.8.1 $owner"
         judge $? "who comes by the local socket, with umask $mask"
+        if [ $mask = 022 ]; then
+            chmod 666 "$path"
+            asked_are <<< "local $path 4 set 200002 1 tcp 0.0.0.0.8.1: 1" \
+                && await_line "$work/listening" "^rpcbind: $path was replaced, removed or opened to others: .* unknown until a restart$"
+            judge $? "a local socket that is opened to others"
+        fi
         kill "$daemon"
         wait "$daemon" 2> /dev/null
     done
@@ -229,6 +256,7 @@ run_serving() {
     run_without_descriptors
     run_connections_at_once
     run_unshown_client
+    run_failing_waits
     run_full_queue_in_the_way
     run_local_socket
     run_growing_table

@@ -212,9 +212,9 @@ END
 # A user of --reserve may be named as in /etc/passwd, in each form of the option.
 run_names_of_users() {
     echo 'rpcbind: listening on 127.0.0.1 port 20112' > "$work/wanted"
-    run /dev/null serve --port 20112 --turns 1 --reserve 100003=root --reserve=100005-100007=root
+    run /dev/null serve --port 20112 --turns 1 --reserve 100003=root --reserve=100005-100007=root --reserve 100021=4294967294
     as_wanted "$work/wanted" /dev/null 0
-    judge $? "users by their names"
+    judge $? "users by their names, and one by its number"
     echo 'rpcbind: --reserve: /etc/passwd has no user nobody-of-this-name' > "$work/wanted"
     run /dev/null serve --port 20112 --turns 1 --reserve=100003=nobody-of-this-name
     as_wanted /dev/null "$work/wanted" 2
@@ -285,7 +285,7 @@ run_text_of_options() {
     shift 2
     printf 'rpcbind: %s\n' "listening on $listens port 20112" > "$work/wanted"
     if [ $# -gt 0 ]; then printf 'rpcbind: --options: %s\n' "$@"; fi > "$work/wanted-stderr"
-    run /dev/null serve --port 20112 --turns 1 --log changes --keep "$work/rows" "--options=$text"
+    run /dev/null serve --port 20112 --turns 1 --log changes --keep "$work/rows" "--options=$text" --options ''
     as_wanted "$work/wanted" "$work/wanted-stderr" 0 || bad=1
     run /dev/null serve --port 20112 --options "$text" --options= --turns 1 --log changes --keep "$work/rows"
     as_wanted "$work/wanted" "$work/wanted-stderr" 0 || bad=1
