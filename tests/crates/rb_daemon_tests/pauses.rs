@@ -122,12 +122,8 @@ const REFUSED: u32 = 25;
 /// What the log tells of those that were left out, after their second.
 const LEFT_OUT: &[u8] = b"rpcbind: 5 more refused calls by 127.0.0.1\n";
 
-/// How long a turn waits for that line, and whether it comes.
-fn waits_for_a_line(
-    rt: &HostRuntime,
-    host: &mut Host<'_>,
-    clock: &Stopped,
-) -> Option<(u64, bool, bool)> {
+/// So many calls are refused, whose lines are taken.
+fn refuses_many(rt: &HostRuntime, host: &mut Host<'_>) -> Option<Caller> {
     let mut caller = Caller::new(rt, 0)?;
     for xid in 0..REFUSED {
         let call = bytes_of(rt.alloc(), &[xid, 0, 2, 100_000, 9, 0, 0, 0, 0, 0]).ok()?;
@@ -137,12 +133,32 @@ fn waits_for_a_line(
         caller.receive(host);
     }
     host.take_log()?;
+    Some(caller)
+}
+
+/// How long a turn waits for that line, and whether it comes.
+fn waits_for_a_line(
+    rt: &HostRuntime,
+    host: &mut Host<'_>,
+    clock: &Stopped,
+) -> Option<(u64, bool, bool)> {
+    let _caller = refuses_many(rt, host)?;
     clock.advance(1_000 - SOON);
     let wait = wait_of_a_turn(host, clock);
     let is_early = !host.take_log()?.is_empty();
     clock.advance(SOON);
     host.turn();
     Some((wait, is_early, host.take_log()?.as_slice() == LEFT_OUT))
+}
+
+/// Whether the line on those that were left out comes before that of the next call, in a later second.
+fn tells_before_the_next(rt: &HostRuntime, host: &mut Host<'_>, clock: &Stopped) -> Option<bool> {
+    let mut caller = refuses_many(rt, host)?;
+    clock.advance(1_000);
+    let is_sent = caller.send(&bytes_of(rt.alloc(), VERSION_9.get(1..)?).ok()?);
+    caller.receive(host);
+    let log = host.take_log()?;
+    Some(is_sent && log.starts_with(LEFT_OUT) && log.ends_with(b" refused: version unavailable\n"))
 }
 
 /// A call of version 9 in a record of 40 bytes, and how many bytes its reply has there.
@@ -188,5 +204,14 @@ fn turn_waits_until_a_line(rt: HostRuntime) -> Result<(), Fail> {
         waits_for_a_line(&rt, &mut host, &clock),
         Some((SOON, false, true))
     );
+    Ok(())
+}
+
+// LOG-5: also of a caller that calls again before they are told
+#[test]
+fn lines_left_out_are_told_before_the_next(rt: HostRuntime) -> Result<(), Fail> {
+    let clock = Stopped::new(&rt);
+    let mut host = new_host(&rt, &clock, 1)?;
+    assert_eq!(rt; tells_before_the_next(&rt, &mut host, &clock), Some(true));
     Ok(())
 }
