@@ -1,8 +1,9 @@
 //! The daemon and its turns.
-ghost use Rattle.std.specs.Prelude.{◌≡◌, ◌↔◌, [], ◌∷◌, IsTrue, IsErrOf, IfOk, OnOk, false, not, OnErr, is_some, true};
+ghost use Rattle.std.specs.Prelude.{◌≡◌, ◌↔◌, [], ◌∷◌, IsTrue, IsErrOf, IfOk, OnOk, nat_lt, false, not, OnErr, is_some, true};
 ghost use Rattle.rb_model.specs.Step.{after};
 ghost use Rattle.rb_model.specs.ChangeLaws.{set_call, set_calls};
 ghost use Rattle.rb_lines.specs.Starts.{MeetsLaws};
+ghost use Rattle.rb_policy.specs.Turns.{others_of};
 ghost use Rattle.rb_sockets.specs.Settings.{listener_of};
 ghost use Rattle.rb_daemon.specs.Served.{has_good_limits, with_rows_again};
 ghost use Rattle.rb_daemon.specs.Moves.{IsNewEngine, Moves};
@@ -238,6 +239,15 @@ impl<'a, R: Clock, H: Files> Daemon<'a, R, H> {
     }
 }
 
+// PLACES-1
+/// How many descriptors are for no connection, if so many are for no connection and no file.
+fn others_beside(sockets: u64, settings: &Settings<'_>) -> u64
+    ensures { result
+        ≡ others_of sockets (nat_lt 0 settings.now.record_limit) (is_some settings.now.keep) }
+{
+    others_of(sockets, settings.record_limit > 0, settings.keep.is_some())
+}
+
 /// How many places there are for connections, and the shortage, if they are fewer than the settings ask for.
 fn places_of<N: Net>(
     host: &N,
@@ -246,11 +256,7 @@ fn places_of<N: Net>(
 ) -> (usize, Option<Shortage>) {
     let asked = settings.limits.conns;
     let limit = settings.open_files;
-    let others = others_of(
-        sockets.count_descriptors(host),
-        settings.record_limit > 0,
-        settings.keep.is_some(),
-    );
+    let others = others_beside(sockets.count_descriptors(host), settings);
     let places = place_count(asked, limit, others);
     if places == asked {
         return (places, None);

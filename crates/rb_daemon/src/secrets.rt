@@ -1,5 +1,5 @@
 //! Numbers of the system's randomness, drawn once at the start, that nobody else knows.
-ghost use Rattle.std.specs.Prelude.{IsErrOf, IsTrue, false};
+ghost use Rattle.std.specs.Prelude.{◌≡◌, IfOk, IsErrOf, IsTrue, false};
 
 use rb_policy::{Brake, PlaceKey, Rate};
 use rb_sockets::{DaemonFault, Step};
@@ -34,7 +34,9 @@ fn draw_number<H: RandomSource>(host: &H) -> io::Result<u32> {
 }
 
 /// The xid of the first forwarded call: without randomness by the start's moment, in milliseconds.
-pub(crate) fn first_xid(secrets: &io::Result<Secrets>, moment: u64) -> u32 {
+pub(crate) fn first_xid(secrets: &io::Result<Secrets>, moment: u64) -> u32
+    ensures { IfOk secrets.now (λ drawn. result ≡ drawn.first_xid) }
+{
     match secrets {
         Ok(secrets) => secrets.first_xid,
         Err(_) => (moment % 0x1_0000_0000) as u32,
