@@ -43,13 +43,13 @@ impl<H: Files> Drains for Calls<'_, H> {
 
 /// The socket where replies to calls come in that were forwarded to targets of a family.
 #[derive(Drop)]
-struct Replies<'a, H: Files> {
+struct ForwardReplies<'a, H: Files> {
     serving: &'a mut Serving<H>,
     host: &'a H,
     family: Family,
 }
 
-impl<H: Files> Drains for Replies<'_, H> {
+impl<H: Files> Drains for ForwardReplies<'_, H> {
     ghost comes = { λ old before came new. ⊤ };
 
     ghost leaves = { λ old again new.
@@ -193,7 +193,7 @@ impl<H: Files> Serving<H> {
         if !forwards.is_some_and(|forwards| forwards.is_ready()) {
             return;
         }
-        let mut socket = Replies {
+        let mut socket = ForwardReplies {
             serving: &mut *self,
             host,
             family,
