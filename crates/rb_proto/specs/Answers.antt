@@ -169,6 +169,11 @@ shown_address hosts row = option_map (merged_address hosts) (address_in row.neti
 abbrev pub is_replaced : Hosts → List ℕ → Bool
 is_replaced hosts own = bytes_eq own any_host6 && not (bytes_eq hosts.inet6 any_host6)
 
+-- another host stands in for that of the address, or may, since 0.0.0.0 itself does if no other is known
+abbrev pub is_told_anew : Hosts → Uaddr → Bool
+is_told_anew hosts (V4 own port) = bytes_eq own any_host
+is_told_anew hosts (V6 own port) = is_replaced hosts own
+
 -- An IPv4 address is told in this way, and an IPv6 address if its :: is replaced. Any other IPv6 address and the name
 -- of a local socket stay as they were set.
 abbrev pub told_text : Hosts → Row → Option Uaddr → List ℕ

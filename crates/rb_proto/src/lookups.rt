@@ -4,7 +4,7 @@ ghost use Rattle.rb_xdr.specs.Meter.{PaysAtMost};
 ghost use Rattle.rb_proto.specs.Books.{ActsAs, AreTied, NotesLookUp, SameFrame};
 ghost use Rattle.rb_proto.specs.Terms.{counts_look_up};
 ghost use Rattle.rb_proto.specs.Ledger.{version_of};
-ghost use Rattle.rb_proto.specs.Answers.{shown_address, shown_text, shown_port, port_found, is_replaced, addr_told, addr_found, getport, getaddr, getversaddr, target_of, seconds, taddr_of, uaddr_of};
+ghost use Rattle.rb_proto.specs.Answers.{shown_address, shown_text, shown_port, port_found, is_replaced, is_told_anew, addr_told, addr_found, getport, getaddr, getversaddr, target_of, seconds, taddr_of, uaddr_of};
 ghost use Rattle.rb_uaddr.specs.Uaddr.{text_of};
 ghost use Rattle.rb_proto.specs.Costs.{note_cost};
 ghost use Rattle.rb_proto.specs.Puts.{lookup_cost};
@@ -21,6 +21,8 @@ use rb_rpc::CallHead;
 use rb_stats::{Stats, Target};
 use rb_uaddr::{Hosts, MAX_KEPT, Uaddr};
 use rb_xdr::{Meter, Text};
+
+const ANY_HOST: [u8; 4] = [0; 4];
 
 const ANY_HOST6: [u8; 16] = [0; 16];
 
@@ -39,18 +41,25 @@ fn is_replaced(hosts: &Hosts, own: [u8; 16]) -> bool
     own == ANY_HOST6 && hosts.inet6 != ANY_HOST6
 }
 
+/// Whether another host stands in for that of the address.
+fn is_told_anew(hosts: &Hosts, address: Uaddr) -> bool
+    ensures { result ≡ is_told_anew hosts.now address }
+{
+    match address {
+        Uaddr::V4(own, _) => own == ANY_HOST,
+        Uaddr::V6(own, _) => is_replaced(hosts, own),
+    }
+}
+
 /// The text of the row's address as a list of addresses has it: a host of its family stands in for 0.0.0.0 or ::, and
-/// any other text that is no IPv4 address stays as it was set.
+/// any other text stays as it was set.
 #[tactic(auto, unfolding(crate::specs::Answers::shown_text))]
 pub(crate) fn shown_text(hosts: &Hosts, row: &Row) -> Text<MAX_KEPT>
     ensures { result ≡ shown_text hosts.now row.now }
 {
     match address_in(row.netid, &row.addr) {
-        Some(Uaddr::V4(own, port)) => text_of(Uaddr::V4(own, port).merge(hosts)),
-        Some(Uaddr::V6(own, port)) if is_replaced(hosts, own) => {
-            text_of(Uaddr::V6(hosts.inet6, port))
-        }
-        Some(Uaddr::V6(..)) | None => Text::new(row.addr.as_slice()),
+        Some(address) if is_told_anew(hosts, address) => text_of(address.merge(hosts)),
+        _ => Text::new(row.addr.as_slice()),
     }
 }
 

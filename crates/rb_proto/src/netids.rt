@@ -1,5 +1,5 @@
 //! What is known of each netid.
-ghost use Rattle.std.specs.Prelude.{◌≡◌, ◌≤◌, length};
+ghost use Rattle.std.specs.Prelude.{◌≡◌, ◌≤◌, ◌∷◌, ◌++◌, length, replicate};
 ghost use Rattle.rb_proto.specs.Netids.{which_of, prot_on, semantics_of, family_text, proto_text, entry_end, address_in, is_address};
 
 use rb_address::{Netid, Transport};
@@ -60,18 +60,28 @@ pub(crate) fn proto_text(netid: Netid) -> &'static [u8]
     }
 }
 
-/// What an entry says of a netid after the address, as XDR spells it: its name, its semantics, family and protocol.
+/// The residual bytes of an address, and what an entry says after it of a netid, as XDR spells it: its name, its semantics,
+/// family and protocol.
+pub(crate) fn entry_end(netid: Netid, residue: usize) -> &'static [u8]
+    requires few { residue ≤ 3 }
+    ensures end { result.now ≡ replicate residue 0 ++ entry_end netid }
+    ensures short { length result.now ≤ 39 }
+{
+    &padded_entry_end(netid)[3 - residue..]
+}
+
+/// The same after three residual bytes.
 #[tactic(auto, unfolding(rb_xdr::specs::Xdr::opaque, rb_xdr::specs::Xdr::number))]
-pub(crate) fn entry_end(netid: Netid) -> &'static [u8]
-    ensures end { result.now ≡ entry_end netid }
-    ensures short { length result.now ≤ 36 }
+fn padded_entry_end(netid: Netid) -> &'static [u8]
+    ensures end { result.now ≡ 0 ∷ 0 ∷ 0 ∷ entry_end netid }
+    ensures short { length result.now ≤ 39 }
 {
     match netid {
-        Netid::Tcp => b"\0\0\0\x03tcp\0\0\0\0\x03\0\0\0\x04inet\0\0\0\x03tcp\0",
-        Netid::Udp => b"\0\0\0\x03udp\0\0\0\0\x01\0\0\0\x04inet\0\0\0\x03udp\0",
-        Netid::Tcp6 => b"\0\0\0\x04tcp6\0\0\0\x03\0\0\0\x05inet6\0\0\0\0\0\0\x03tcp\0",
-        Netid::Udp6 => b"\0\0\0\x04udp6\0\0\0\x01\0\0\0\x05inet6\0\0\0\0\0\0\x03udp\0",
-        Netid::Local => b"\0\0\0\x05local\0\0\0\0\0\0\x03\0\0\0\x08loopback\0\0\0\x01-\0\0\0",
+        Netid::Tcp => b"\0\0\0\0\0\0\x03tcp\0\0\0\0\x03\0\0\0\x04inet\0\0\0\x03tcp\0",
+        Netid::Udp => b"\0\0\0\0\0\0\x03udp\0\0\0\0\x01\0\0\0\x04inet\0\0\0\x03udp\0",
+        Netid::Tcp6 => b"\0\0\0\0\0\0\x04tcp6\0\0\0\x03\0\0\0\x05inet6\0\0\0\0\0\0\x03tcp\0",
+        Netid::Udp6 => b"\0\0\0\0\0\0\x04udp6\0\0\0\x01\0\0\0\x05inet6\0\0\0\0\0\0\x03udp\0",
+        Netid::Local => b"\0\0\0\0\0\0\x05local\0\0\0\0\0\0\x03\0\0\0\x08loopback\0\0\0\x01-\0\0\0",
     }
 }
 

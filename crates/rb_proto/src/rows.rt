@@ -1,5 +1,6 @@
 //! Rows as a list shows them: the room that they need, and their bytes.
-ghost use Rattle.std.specs.Prelude.{◌≡◌, ◌+◌, ◌≤◌, [], length, None, IfSome, IfNone};
+ghost use Rattle.std.specs.Prelude.{◌≡◌, ◌+◌, ◌≤◌, ◌++◌, [], true, length, None, IfSome, IfNone};
+ghost use Rattle.rb_xdr.specs.Xdr.{number, boolean};
 ghost use Rattle.rb_xdr.specs.Meter.{Pays, PaysAtMost};
 ghost use Rattle.rb_registry.specs.Registry.{Reaches, rows_at};
 ghost use Rattle.rb_registry.specs.Versions.{IsFoundIn};
@@ -16,7 +17,7 @@ use crate::lookups::shown_text;
 use crate::netids::entry_end;
 use rb_registry::{Cursor, ListedRow, Registry, Row, Version, Which};
 use rb_uaddr::Hosts;
-use rb_xdr::{Kept, Meter, Xdr};
+use rb_xdr::{Kept, Meter, Xdr, residue};
 
 /// TRUE and a mapping, in bytes.
 const MAPPING_ITEM: usize = 20;
@@ -63,6 +64,18 @@ fn mapping_item(row: &Row) -> [u8; MAPPING_ITEM]
     item
 }
 
+/// TRUE, and how many bytes the address of an entry has.
+#[tactic(auto, unfolding(rb_xdr::specs::Xdr::number, rb_xdr::specs::Xdr::boolean))]
+fn entry_head(count: usize) -> [u8; 8]
+    requires { count ≤ 128 }
+    ensures { result ≡ boolean true ++ number count }
+{
+    let mut head = [0; 8];
+    head[..4].copy_from_slice(&u32::from(true).to_be_bytes());
+    head[4..].copy_from_slice(&(count as u32).to_be_bytes());
+    head
+}
+
 /// Writes TRUE and the entry of a row. They are short, and the buffer has room for them if they are.
 fn write_entry(hosts: &Hosts, row: &Row, out: &mut Kept, meter: &mut Meter)
     requires tie { meter.old.tie ≡ out.old.tie }
@@ -72,10 +85,11 @@ fn write_entry(hosts: &Hosts, row: &Row, out: &mut Kept, meter: &mut Meter)
     ensures cost { Pays meter.old meter.new (length (entry_item hosts.now row.now)) }
 {
     let maddr = shown_text(hosts, row);
-    let _content = maddr.as_slice();
-    true.write(out, meter);
-    maddr.write(out, meter);
-    let _ = out.extend(entry_end(row.netid), meter);
+    let content = maddr.as_slice();
+    let count = content.len();
+    let _ = out.extend(&entry_head(count), meter);
+    let _ = out.extend(content, meter);
+    let _ = out.extend(entry_end(row.netid, residue(count)), meter);
 }
 
 /// Writes what a row adds to a list: TRUE and the item, or nothing if the list doesn't show the row. It is short, and

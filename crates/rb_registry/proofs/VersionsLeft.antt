@@ -253,7 +253,7 @@ versions_are_few kept inside index same stamped indexed prog vers cursor small =
 -- ---- when searches are fewer than walks
 
 -- among 256 rows or more, live or retained, to find five rows of a version costs less than a walk
-pub long_enough : (count slots : ℕ) → 256 ≤ slots → slots < 2 ^ 56 → count ≤ slots → 5 * looks count + 5 + 6 * 28 ≤ 2 * slots
+pub long_enough : (count slots : ℕ) → 256 ≤ slots → slots < 2 ^ 56 → count ≤ slots → 5 * looks count + 10 + 6 * 28 ≤ 2 * slots
 long_enough count slots many few within =
     elim (cases_lt 256 slots) [
       | inr upto ↦ let looked = looks_few count 8 (omega (arith, upto, within)) in omega (arith, looked, many)

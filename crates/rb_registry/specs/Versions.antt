@@ -29,12 +29,12 @@ VersionsAreFew kept = (prog vers : ℕ) (cursor : Option ℕ) → vers < 2 ^ 32 
 abbrev pub rows_after : Version → Registry → Option ℕ → List Row
 rows_after version kept cursor = versions_left version.prog version.vers kept cursor
 
--- what it costs to find them: a search for each netid, and a look at what it finds
+-- what it costs to find them: a look where one likely is and a search for each netid, and a look at what it finds
 -- LOOKUP-4: The rows of one version are searched for, in a list of the rows as they are now among
 -- 256 live or retained ones or more: a search for each netid finds them. Other lists walk the
 -- rows.
 abbrev pub version_cost : Registry → ℕ
-version_cost kept = 5 * looks (length (rows_of kept)) + 5
+version_cost kept = 5 * looks (length (rows_of kept)) + 10
 
 -- what it costs to come from one to the next: the own rows, of which there are 12 at most, are walked
 abbrev pub next_cost : ℕ

@@ -27,7 +27,8 @@ pub struct Version {
 
 impl Registry {
     // LOOKUP-4
-    /// The rows of a version, found by a search for each netid. It costs these searches, and a step for each.
+    /// The rows of a version, found by a search for each netid, or where the one before it was found. It costs these searches,
+    /// and two steps for each.
     #[inline(never)]
     pub fn version(&self, prog: u32, vers: u32, meter: &mut Meter) -> Version
         requires { meter.old.tie ≡ self.now.tie }
@@ -36,29 +37,32 @@ impl Registry {
         ensures found { IsFoundIn self.now result }
         ensures cost { PaysAtMost meter.old meter.new (version_cost self.now) }
     {
+        let mut likely = 0;
         let places = [
-            self.place_on(prog, vers, Netid::Tcp, meter),
-            self.place_on(prog, vers, Netid::Udp, meter),
-            self.place_on(prog, vers, Netid::Tcp6, meter),
-            self.place_on(prog, vers, Netid::Udp6, meter),
-            self.place_on(prog, vers, Netid::Local, meter),
+            self.place_on(prog, vers, Netid::Tcp, &mut likely, meter),
+            self.place_on(prog, vers, Netid::Udp, &mut likely, meter),
+            self.place_on(prog, vers, Netid::Tcp6, &mut likely, meter),
+            self.place_on(prog, vers, Netid::Udp6, &mut likely, meter),
+            self.place_on(prog, vers, Netid::Local, &mut likely, meter),
         ];
         Version { prog, vers, places }
     }
 
-    /// The change that added the live row of the version on a netid, and its key, if a change did.
+    /// The change that added the live row of the version on a netid, and its key, if a change did. Its number is likely at this
+    /// place in the index, and the next one behind it.
     fn place_on(
         &self,
         prog: u32,
         vers: u32,
         netid: Netid,
+        likely: &mut usize,
         meter: &mut Meter,
     ) -> Option<(u64, usize)>
         requires { meter.old.tie ≡ self.now.tie }
         ensures place { result ≡ place_on prog vers self.now.entries netid }
-        ensures cost { PaysAtMost meter.old meter.new (looks (length (rows_of self.now)) + 1) }
+        ensures cost { PaysAtMost meter.old meter.new (looks (length (rows_of self.now)) + 2) }
     {
-        let key = self.index.find(rank(prog, netid, vers), meter);
+        let key = self.index.find_at(rank(prog, netid, vers), likely, meter);
         place_under(&self.slots, key, meter)
     }
 

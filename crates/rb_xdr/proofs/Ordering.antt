@@ -164,6 +164,24 @@ module _ (number : ℕ) (es : List (ℕ × ℕ)) (rising : IsRising es) where
       let here : None ≡ key_if number (Some e) = rw is refl in
       here ∙ found
 
+-- what stands at a place is found by its number
+pub found_at : (low : ℕ) (es : List (ℕ × ℕ)) → IsRisingFrom low es → (place : ℕ) (e : ℕ × ℕ) → place < length es → e ≡ get_or es place e → value_at es e.0 ≡ Some e.1
+found_at low [] rising place e within here = absurd (omega (arith, within))
+found_at low (x ∷ rest) rising zero e within here = by_test (eqb x.0 e.0) refl
+  where
+    by_test : (b : Bool) → eqb x.0 e.0 ≡ b → cond b (Some x.1) (value_at rest e.0) ≡ Some e.1
+    by_test true same = ap (λ (y : ℕ × ℕ). Some y.1) (sym here)
+    by_test false other = let is : e.0 ≡ x.0 = ap (λ (y : ℕ × ℕ). y.0) here in absurd (grind (arith, nat_tests, other, is))
+found_at low (x ∷ rest) rising (suc place) e within here = by_test (eqb x.0 e.0) refl (found_at (x.0 + 1) rest rising.1 place e (omega (arith, within)) here)
+  where
+    by_test : (b : Bool) → eqb x.0 e.0 ≡ b → value_at rest e.0 ≡ Some e.1 → cond b (Some x.1) (value_at rest e.0) ≡ Some e.1
+    by_test true same there =
+        let is : x.0 ≡ e.0 = grind (arith, nat_tests, same) in
+        let none : value_at rest e.0 ≡ None = missing_below e.0 (x.0 + 1) rest rising.1 (omega (arith, is)) in
+        let clash : None ≡ Some e.1 = sym none ∙ there in
+        absurd cc
+    by_test false other there = there
+
 -- ---- a number more
 
 pub insert_place : (number key : ℕ) (es : List (ℕ × ℕ)) → insert es (count_upto number es) (number, key) ≡ with_number es number key

@@ -1,6 +1,6 @@
 //! Numbers in rising order, each with a key, in storage of fixed capacity whose calls are counted.
-ghost use Rattle.std.specs.Prelude.{◌≡◌, ◌<◌, ◌≤◌, ◌↔◌, [], length, is_some, IsOk, IfOk, OnOk, OnErr, None, vec_capacity};
-ghost use Rattle.rb_xdr.specs.Meter.{Pays};
+ghost use Rattle.std.specs.Prelude.{◌≡◌, ◌+◌, ◌<◌, ◌≤◌, ◌↔◌, [], length, is_some, IsOk, IfOk, OnOk, OnErr, None, vec_capacity};
+ghost use Rattle.rb_xdr.specs.Meter.{Pays, PaysAtMost};
 ghost use Rattle.rb_xdr.specs.Pool.{value_at, without};
 ghost use Rattle.rb_xdr.specs.Ordered.{IsRising, count_upto, last_upto, with_more, looks, insert_cost, remove_cost};
 
@@ -120,6 +120,29 @@ impl Ordered {
             Some((last, key)) if last == number => Some(key),
             _ => None,
         }
+    }
+
+    /// The same of a number that likely stands at this place among them, as one does that follows the last that was found: a
+    /// step, and a search if it is not there. The place is then the one behind it.
+    pub fn find_at(&self, number: u128, place: &mut usize, meter: &mut Meter) -> Option<usize>
+        requires { meter.old.tie ≡ self.now.tie }
+        ensures key { result ≡ value_at self.now.entries number }
+        ensures rising { IsRising self.now.entries }
+        ensures cost { PaysAtMost meter.old meter.new (looks (length self.now.entries) + 1) }
+    {
+        meter.pay(1);
+        if let Some(&(there, key)) = self.entries.get(*place) {
+            if there == number {
+                *place += 1;
+                return Some(key);
+            }
+        }
+        *place = self.place(number, meter);
+        if *place == 0 {
+            return None;
+        }
+        let (last, key) = self.entries[*place - 1];
+        if last == number { Some(key) } else { None }
     }
 
     /// Adds a number that isn't there, with its key, or `Full` if there are `cap` numbers. It costs a search, a step
