@@ -3,9 +3,9 @@ use Rattle.std.proofs.Common.{◌≡◌, ℕ, List, Option, Result, inl, inr}
 use Rattle.rb_lines.specs.declared.faults.Ending.{Ending}
 use Rattle.rb_sockets.specs.declared.settings.Settings.{Settings}
 use Rattle.rb_sockets.specs.declared.faults.DaemonFault.{DaemonFault}
-use Rattle.rpcbind.specs.declared.ending.StartFault.{StartFault}
-use Rattle.rpcbind.specs.Ends.{status_of, end_at_start, end_after}
-use Rattle.rpcbind.specs.Faults.{TellsStart, TellsTurns, EndsServe, EndsAfterTurns}
+use Rattle.rb_startup.specs.declared.ending.StartFault.{StartFault}
+use Rattle.rb_startup.specs.Ends.{status_of, end_at_start, end_after}
+use Rattle.rb_startup.specs.Faults.{TellsStart, TellsTurns, EndsServe, EndsAfterTurns}
 
 pub ends_by_start : {E : Type 0} (contents : E → Option (List ℕ)) (before new : E) (settings : Settings) (ending : Ending) (fault : StartFault)
     → ending.status ≡ status_of (end_at_start fault)

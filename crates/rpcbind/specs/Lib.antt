@@ -1,7 +1,1 @@
-pub mod Faults
-pub mod Fronts
-pub mod Words
-pub mod Starts
-pub mod Levels
-pub mod Ends
-pub mod Foreign
+pub mod News

@@ -1,32 +1,22 @@
 //! `rpcbind serve` is the daemon; `rpcbind replay` reads event lines and prints what each event gives.
 #![tactic(auto)]
 
-mod ending;
-mod files;
-mod foreign;
-mod interfaces;
-mod keep;
-mod leveled;
 mod manager;
+mod news;
 mod record;
 mod service;
-mod start;
-mod telling;
-mod users;
-mod words;
 
-use foreign::{say_hosts, translate_words};
-use interfaces::{Binds, take_interfaces};
-use leveled::{Leveled, is_journal};
 use rb_commands::{Words, command_words, read_words};
 use rb_lines::{Beginning, Ending, Fault, explain};
 use rb_replay::{Meter, run_check, run_replay};
+use rb_startup::{
+    Binds, Leveled, WordsFault, explain_words, is_journal, name_users, say_hosts, take_interfaces,
+    translate_words,
+};
 use service::run_service;
 use std::io;
 use std::io::{BufWriter, Write};
 use std::process::ExitCode;
-use users::name_users;
-use words::{WordsFault, explain_words};
 
 /// Runs the command `replay` over standard input and output.
 fn replay(rt: &HostRuntime, beginning: &Beginning) -> Ending {

@@ -28,7 +28,7 @@ pub enum News {
 
 impl Display for News {
     ghost use Rattle.std.specs.Prelude.{Some};
-    ghost use Rattle.rpcbind.specs.Ends.{news_text};
+    ghost use Rattle.rpcbind.specs.News.{news_text};
 
     ghost output = { λ news. Some (news_text news) };
 
@@ -54,7 +54,7 @@ struct LoadText(Load);
 
 impl Display for LoadText {
     ghost use Rattle.std.specs.Prelude.{Some};
-    ghost use Rattle.rpcbind.specs.Ends.{load_text};
+    ghost use Rattle.rpcbind.specs.News.{load_text};
 
     ghost output = { λ text. Some (load_text text.0) };
 

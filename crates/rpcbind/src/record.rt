@@ -1,7 +1,7 @@
 //! The file in which the events of `serve` are recorded.
-use crate::ending::StartFault;
 use rb_daemon::Daemon;
 use rb_files::new_file;
+use rb_startup::StartFault;
 use std::fs::Files;
 use std::io::Write;
 use std::rt::Clock;

@@ -1,27 +1,20 @@
 //! The command `serve`.
-ghost use Rattle.std.specs.Prelude.{◌≡◌};
 ghost use Rattle.rb_commands.specs.Asked.{BeginsWell};
-ghost use Rattle.rpcbind.specs.Faults.{EndsServe, EndsAfterTurns};
+ghost use Rattle.rb_startup.specs.Faults.{EndsServe, EndsAfterTurns};
 
-use crate::ending::StartFault;
-use crate::interfaces::Binds;
-use crate::keep::{lock_keep, read_keep, say_keep_news, say_left_out};
-use crate::leveled::{Level, Leveled};
 use crate::manager::{Manager, News};
+use crate::news::say_news;
 use crate::record::{Recorder, make_record};
-use crate::telling::{
-    conclude, explain_start, say_address, say_local_change, say_loopback6, say_missing, say_name,
-    say_silent, say_start, say_table_fault,
-};
 use rb_address::Host;
 use rb_commands::Serve;
-use rb_daemon::{Daemon, Handed, Settings, TurnFailed};
+use rb_daemon::{Daemon, Handed, Settings, Shortage, TurnFailed};
 use rb_forward::sooner;
 use rb_lines::Ending;
-use rb_sockets::{
-    Follower, HandedFault, MOST, Shortage, lacks_loopback6, missing_host, take_handed,
+use rb_sockets::{Follower, lacks_loopback6, missing_host};
+use rb_startup::{
+    Binds, Level, Leveled, StartFault, conclude, explain_start, find_hosts, lock_keep, read_keep,
+    say_left_out, say_loopback6, say_missing, say_start, take_sockets,
 };
-use std::alloc::AllocError;
 use std::env::Env;
 use std::fs::{File, Files};
 use std::io::Write;
@@ -127,59 +120,6 @@ where
         Ok(mut daemon) => serve_until_the_end(rt, &mut daemon, follower, serve, manager, faults),
         Err(fault) => explain_start(&fault, &serve.settings, faults),
     }
-}
-
-/// The sockets that were handed over, for the addresses of the settings, whose hosts are those of the sockets if `--bind` is not
-/// given.
-fn take_sockets<R: Env + AllocGlobal>(
-    rt: &R,
-    settings: &mut Settings<'_>,
-    is_bind_given: bool,
-) -> Result<Handed, HandedFault>
-    ensures { settings.new ≡ record settings.old { bind = settings.new.bind } }
-{
-    let handed = take_handed(rt.alloc(), rt)?;
-    match handed.hosts() {
-        Some(hosts) if !is_bind_given => settings.bind = hosts,
-        Some(_) | None => {}
-    }
-    handed.settle(rt.alloc(), settings)
-}
-
-/// The addresses of interfaces that `--bind` names, or of all, are among the hosts of the settings from here on, and are
-/// followed. What there is to be said of them is said. An error if an allocation is refused.
-fn find_hosts<R, E>(
-    rt: &R,
-    settings: &mut Settings<'_>,
-    binds: Binds,
-    faults: &mut E,
-) -> Result<Option<Follower>, AllocError>
-where
-    R: Net + Files + AllocGlobal,
-    E: Write,
-    ensures { settings.new ≡ record settings.old { bind = settings.new.bind } }
-{
-    let Binds {
-        interfaces,
-        are_hosts,
-    } = binds;
-    if interfaces.is_empty() {
-        return Ok(None);
-    }
-    let mut follower = if are_hosts {
-        Follower::new(rt.alloc(), interfaces, settings.bind.as_slice())?
-    } else {
-        Follower::new(rt.alloc(), interfaces, &[])?
-    };
-    settings.bind = follower.begin(rt);
-    say_silent(follower.silent(), faults);
-    for _ in 0..MOST {
-        match follower.take_news() {
-            Some(news) => say_address(settings.port, news, faults),
-            None => break,
-        }
-    }
-    Ok(Some(follower))
 }
 
 // KEEP-10: Kept rows are read, and asked, before anything listens.
@@ -346,43 +286,6 @@ fn take_turn<R: Clock + Files + Net, F: Write + Drop, E: Write>(
         manager.tell(News::Turn(daemon.load()));
     }
     turned
-}
-
-/// Writes what there is to be told after a turn, and looks for what is due to be looked for.
-fn say_news<R: Clock + Files + Net, E: Write>(
-    rt: &R,
-    daemon: &mut Daemon<'_, R, R>,
-    settings: &Settings<'_>,
-    faults: &mut E,
-) {
-    let _ = daemon.write_log(&mut Leveled::new(&mut *faults, Level::Info));
-    follow_addresses(rt, daemon, settings, faults);
-    let mut warnings = Leveled::new(faults, Level::Warning);
-    if let Some(fault) = daemon.take_fault() {
-        let _ = writeln!(warnings, "rpcbind: {fault}; it is tried again");
-    }
-    say_keep_news(settings, daemon.take_keep_news(), &mut warnings);
-    say_table_fault(daemon.take_table_fault(), &mut warnings);
-    say_local_change(settings, daemon.take_local_change(), &mut warnings);
-    say_name(daemon.take_name(rt), &mut warnings);
-}
-
-/// More than can change at once of addresses that are followed.
-const CHANGES: usize = 64;
-
-/// Listens on addresses that have come, and no more on those that have gone, and says each.
-fn follow_addresses<R: Clock + Files + Net, E: Write>(
-    rt: &R,
-    daemon: &mut Daemon<'_, R, R>,
-    settings: &Settings<'_>,
-    faults: &mut E,
-) {
-    for _ in 0..CHANGES {
-        match daemon.follow(rt) {
-            Some(news) => say_address(settings.port, news, faults),
-            None => return,
-        }
-    }
 }
 
 /// Takes the turns that are asked for, or all, until one fails.

@@ -1,11 +1,11 @@
 -- Why the words of the command line end the program before they are read, with which status, and what is told of it.
-use Rattle.std.specs.Prelude.{◌≡◌, ℕ, Bool, List, ◌++◌, codes, string_bytes, Option, ⊤}
+use Rattle.std.specs.Prelude.{ℕ, Bool, List, ◌++◌, codes, string_bytes, Option, ⊤}
 use Rattle.rb_lines.specs.declared.faults.Fault.TheVariants as faults
 use Rattle.rb_lines.specs.Faults.{fault_line}
 use Rattle.rb_lines.specs.Faults as lines
-use Rattle.rpcbind.specs.declared.words.WordsFault.{WordsFault}
-use Rattle.rpcbind.specs.declared.words.WordsFault.TheVariants.{NotHad, NoMemory, NotTaken, HostForHelp, NoUser, NoUsers}
-use Rattle.rpcbind.specs.Faults.{Tells, TellsBehind}
+use Rattle.rb_startup.specs.declared.words.WordsFault.{WordsFault}
+use Rattle.rb_startup.specs.declared.words.WordsFault.TheVariants.{NotHad, NoMemory, NotTaken, HostForHelp, NoUser, NoUsers}
+use Rattle.rb_startup.specs.Faults.{Tells, TellsBehind}
 
 -- EXIT-2: Words end the program with status 2 if they are no text, if one is an option of Debian's without its like, if `serve`
 -- has `-h HOST`, and if a reservation names a user that there is not; and with 1 if memory is refused or users' names can't be

@@ -1,24 +1,20 @@
--- How `serve` ends, and what a service manager is told.
-use Rattle.std.specs.Prelude.{ℕ, Bool, true, false, List, ◌++◌, codes, decimal, Result, Ok, Err}
+-- How `serve` ends.
+use Rattle.std.specs.Prelude.{ℕ, Bool, true, false, Result, Ok, Err}
 use Rattle.std.specs.IoError.{error_kind}
 use Rattle.std.specs.declared.io.ErrorKind.{ErrorKind}
 use Rattle.std.specs.declared.io.ErrorKind.TheVariants.{OutOfMemory}
 use Rattle.rb_files.specs.declared.trusted.KeptFileFault.TheVariants as files
 use Rattle.rb_keep.specs.declared.fault.KeepFault.TheVariants as texts
-use Rattle.rpcbind.specs.declared.keep.KeepReadFault.{KeepReadFault}
-use Rattle.rpcbind.specs.declared.keep.KeepReadFault.TheVariants.{File, Text}
+use Rattle.rb_startup.specs.declared.keep.KeepReadFault.{KeepReadFault}
+use Rattle.rb_startup.specs.declared.keep.KeepReadFault.TheVariants.{File, Text}
 use Rattle.rb_sockets.specs.declared.faults.DaemonFault.{DaemonFault}
 use Rattle.rb_sockets.specs.declared.faults.DaemonFault.TheVariants.{Memory, Limits as OfLimits, Socket}
 use Rattle.rb_sockets.specs.declared.handed.HandedFault.{HandedFault}
 use Rattle.rb_sockets.specs.declared.handed.HandedFault.TheVariants as handed
-use Rattle.rb_daemon.specs.declared.load.Load.{Load}
-use Rattle.rb_address.specs.Peers.{bare_host_text}
-use Rattle.rpcbind.specs.declared.ending.End.{End as Ending}
-use Rattle.rpcbind.specs.declared.ending.End.TheVariants.{Done, NotStarted, Failed}
-use Rattle.rpcbind.specs.declared.ending.StartFault.{StartFault}
-use Rattle.rpcbind.specs.declared.ending.StartFault.TheVariants.{NoMemory, Locked, Unread, Handed, Daemon, Unmade, Unsaid}
-use Rattle.rpcbind.specs.declared.manager.News.{News}
-use Rattle.rpcbind.specs.declared.manager.News.TheVariants.{Missing, Ready, Turn, End}
+use Rattle.rb_startup.specs.declared.ending.End.{End as Ending}
+use Rattle.rb_startup.specs.declared.ending.End.TheVariants.{Done, NotStarted, Failed}
+use Rattle.rb_startup.specs.declared.ending.StartFault.{StartFault}
+use Rattle.rb_startup.specs.declared.ending.StartFault.TheVariants.{NoMemory, Locked, Unread, Handed, Daemon, Unmade, Unsaid}
 
 -- EXIT-1: `serve` ends with status 0 after the last turn that was asked for, with 3 if it can't start, whose reason is the last
 -- line, and with 1 if a turn failed or an allocation was refused.
@@ -74,17 +70,3 @@ end_at_start Unsaid = NotStarted
 abbrev pub end_after : Result (Unit {0}) DaemonFault → Ending
 end_after (Ok done) = Done
 end_after (Err fault) = Failed
-
-abbrev pub load_text : Load → List ℕ
-load_text load =
-    decimal load.rows ++ codes " of " ++ decimal load.most_rows ++ codes " rows, " ++ decimal load.connections
-    ++ codes " of " ++ decimal load.places ++ codes " connections"
-
--- MANAGER-1: A service manager is told READY=1 once the rows that were kept are set again and each socket is served, with
--- WATCHDOG=1 of a turn, and STOPPING=1 at the end. Its status says how many rows and connections there are, of how many, or
--- for which address a start waits.
-abbrev pub news_text : News → List ℕ
-news_text (Missing host) = codes "STATUS=waits for the address " ++ bare_host_text host
-news_text (Ready load) = codes "READY=1\nSTATUS=" ++ load_text load
-news_text (Turn load) = codes "WATCHDOG=1\nSTATUS=" ++ load_text load
-news_text End = codes "STOPPING=1"

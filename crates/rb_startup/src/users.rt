@@ -1,7 +1,7 @@
 //! Users by their names in `--reserve` of `serve`: /etc/passwd has their uids (passwd(5)).
 ghost use Rattle.std.specs.Prelude.{◌≡◌, IfErr};
-ghost use Rattle.rpcbind.specs.Foreign.{uid_behind, uid_in};
-ghost use Rattle.rpcbind.specs.Words.{IsOfUsers};
+ghost use Rattle.rb_startup.specs.Foreign.{uid_behind, uid_in};
+ghost use Rattle.rb_startup.specs.Words.{IsOfUsers};
 
 use crate::files::text_of;
 use crate::words::WordsFault;

@@ -4,8 +4,8 @@ use Rattle.rb_sockets.specs.declared.settings.LocalSocket.{LocalSocket}
 use Rattle.rb_sockets.specs.Faults.{step_text}
 use Rattle.rb_sockets.specs.declared.faults.Step.{Step}
 use Rattle.rb_sockets.specs.declared.faults.Step.TheVariants.{BindLocal}
-use Rattle.rpcbind.specs.declared.telling.Front.{Front}
-use Rattle.rpcbind.specs.declared.telling.Front.TheVariants.{Own, At, Read, Make, OfStep}
+use Rattle.rb_startup.specs.declared.telling.Front.{Front}
+use Rattle.rb_startup.specs.declared.telling.Front.TheVariants.{Own, At, Read, Make, OfStep}
 
 -- of a step that failed, with its address, or the path of the local socket
 -- FAULT-3

@@ -1,7 +1,7 @@
 //! Settings that were made for another rpcbind: options of Debian's, and the files of tcpd.
 ghost use Rattle.std.specs.Prelude.{◌≡◌, IfErr};
-ghost use Rattle.rpcbind.specs.Foreign.{is_service, is_between};
-ghost use Rattle.rpcbind.specs.Words.{IsOfOptions};
+ghost use Rattle.rb_startup.specs.Foreign.{is_service, is_between};
+ghost use Rattle.rb_startup.specs.Words.{IsOfOptions};
 
 use crate::files::text_of;
 use crate::leveled::{Level, Leveled};

@@ -1,14 +1,13 @@
 //! What `serve` begins with of the rows that were kept, and what it says of them.
 ghost use Rattle.std.specs.Prelude.{◌≡◌, true, false};
-ghost use Rattle.rpcbind.specs.declared.ending.StartFault.TheVariants.{NoMemory, Unread};
-ghost use Rattle.rpcbind.specs.Ends.{is_memory};
-ghost use Rattle.rpcbind.specs.Starts.{hosts_of};
+ghost use Rattle.rb_startup.specs.declared.ending.StartFault.TheVariants.{NoMemory, Unread};
+ghost use Rattle.rb_startup.specs.Ends.{is_memory};
+ghost use Rattle.rb_startup.specs.Starts.{hosts_of};
 
 use crate::ending::StartFault;
 use crate::leveled::{Level, Leveled};
 use rb_address::Host;
 use rb_commands::Serve;
-use rb_daemon::KeepNews;
 use rb_files::{Found, KeptFileFault, LockFault, OwnHosts, ask_all, lock_file, read_kept};
 use rb_keep::{KeepFault, read_rows, whole_part};
 use rb_lines::longest_input;
@@ -220,24 +219,6 @@ pub fn say_left_out<E: Write>(
             say_row(path, row, " can't be set again", faults);
         }
     }
-}
-
-/// Says what there is to tell of the rows that are kept.
-pub fn say_keep_news<E: Write>(settings: &Settings<'_>, news: Option<KeepNews>, faults: &mut E) {
-    let (Some(path), Some(news)) = (settings.keep, news) else {
-        return;
-    };
-    let _ = match news {
-        KeepNews::Failed(error) => writeln!(
-            faults,
-            "rpcbind: keep {path}: {error}; it is tried again at the next change"
-        ),
-        KeepNews::Written => writeln!(faults, "rpcbind: keep {path}: it is written again"),
-        KeepNews::Another => writeln!(
-            faults,
-            "rpcbind: keep {path}: somebody else changed it; all rows were written anew"
-        ),
-    };
 }
 
 /// A line of a row of the file: its program, its version and its netid, and what is said of it.

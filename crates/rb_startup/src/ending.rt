@@ -1,10 +1,9 @@
 //! How `serve` ends, and why it can't start.
 ghost use Rattle.std.specs.Prelude.{◌≡◌};
-ghost use Rattle.rpcbind.specs.Ends.{end_at_start, end_after};
+ghost use Rattle.rb_startup.specs.Ends.{end_at_start, end_after};
 
 use crate::keep::KeepReadFault;
-use rb_daemon::DaemonFault;
-use rb_sockets::HandedFault;
+use rb_sockets::{DaemonFault, HandedFault};
 use std::alloc::AllocError;
 use std::io;
 
@@ -20,7 +19,7 @@ pub enum End {
 }
 
 impl End {
-    ghost use Rattle.rpcbind.specs.Ends.{status_of};
+    ghost use Rattle.rb_startup.specs.Ends.{status_of};
 
     /// The exit status.
     pub fn status(self) -> u8
@@ -55,7 +54,7 @@ pub enum StartFault<'a> {
 
 impl<'a> From<AllocError> for StartFault<'a> {
     ghost use Rattle.std.specs.Prelude.{◌≡◌};
-    ghost use Rattle.rpcbind.specs.declared.ending.StartFault.TheVariants.{NoMemory};
+    ghost use Rattle.rb_startup.specs.declared.ending.StartFault.TheVariants.{NoMemory};
 
     ghost from_gives = { λ _ fault. fault ≡ NoMemory };
 

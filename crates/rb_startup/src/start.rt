@@ -31,7 +31,7 @@ struct LocalLine<'a>(Option<LocalSocket<'a>>);
 impl Display for HostLines<'_> {
     ghost use Rattle.std.specs.Prelude.{Some};
     ghost use Rattle.std.specs.List.{flat_map};
-    ghost use Rattle.rpcbind.specs.Starts.{host_line};
+    ghost use Rattle.rb_startup.specs.Starts.{host_line};
 
     ghost output = { λ lines. Some (flat_map (host_line lines.port) lines.hosts.now) };
 
@@ -46,7 +46,7 @@ impl Display for HostLines<'_> {
 
 impl Display for Loopback6Line {
     ghost use Rattle.std.specs.Prelude.{Some};
-    ghost use Rattle.rpcbind.specs.Starts.{loopback6_line};
+    ghost use Rattle.rb_startup.specs.Starts.{loopback6_line};
 
     ghost output = { λ line. Some (loopback6_line line.is_bound line.port) };
 
@@ -61,7 +61,7 @@ impl Display for Loopback6Line {
 
 impl Display for LocalLine<'_> {
     ghost use Rattle.std.specs.Prelude.{Some};
-    ghost use Rattle.rpcbind.specs.Starts.{local_line};
+    ghost use Rattle.rb_startup.specs.Starts.{local_line};
 
     ghost output = { λ line. Some (local_line line.0) };
 
@@ -78,7 +78,7 @@ impl Display for LocalLine<'_> {
 
 impl Display for ListeningText<'_> {
     ghost use Rattle.std.specs.Prelude.{Some};
-    ghost use Rattle.rpcbind.specs.Starts.{start_text};
+    ghost use Rattle.rb_startup.specs.Starts.{start_text};
 
     ghost output = { λ text. Some (start_text text.0.now) };
 
@@ -104,7 +104,7 @@ pub(crate) struct UnannouncedLine(pub(crate) Host);
 
 impl Display for UnannouncedLine {
     ghost use Rattle.std.specs.Prelude.{Some};
-    ghost use Rattle.rpcbind.specs.Starts.{unannounced_line};
+    ghost use Rattle.rb_startup.specs.Starts.{unannounced_line};
 
     ghost output = { λ line. Some (unannounced_line line.0) };
 
@@ -123,7 +123,7 @@ pub(crate) struct ShortageLine(pub(crate) Shortage);
 
 impl Display for ShortageLine {
     ghost use Rattle.std.specs.Prelude.{Some};
-    ghost use Rattle.rpcbind.specs.Starts.{shortage_line};
+    ghost use Rattle.rb_startup.specs.Starts.{shortage_line};
 
     ghost output = { λ line. Some (shortage_line line.0) };
 

@@ -1,6 +1,6 @@
 //! Why the words of the command line end the program before they are read, and what is said of it.
 ghost use Rattle.std.specs.Prelude.{◌≡◌};
-ghost use Rattle.rpcbind.specs.Words.{status_of, TellsWords};
+ghost use Rattle.rb_startup.specs.Words.{status_of, TellsWords};
 
 use crate::telling::{Front, write_behind};
 use rb_lines::{Ending, Fault, explain};
@@ -27,7 +27,7 @@ pub enum WordsFault {
 
 impl From<AllocError> for WordsFault {
     ghost use Rattle.std.specs.Prelude.{◌≡◌};
-    ghost use Rattle.rpcbind.specs.declared.words.WordsFault.TheVariants.{NoMemory};
+    ghost use Rattle.rb_startup.specs.declared.words.WordsFault.TheVariants.{NoMemory};
 
     ghost from_gives = { λ _ fault. fault ≡ NoMemory };
 
@@ -38,7 +38,7 @@ impl From<AllocError> for WordsFault {
 
 impl WordsFault {
     ghost use Rattle.std.specs.Prelude.{◌≡◌};
-    ghost use Rattle.rpcbind.specs.Words.{status_of};
+    ghost use Rattle.rb_startup.specs.Words.{status_of};
 
     // EXIT-2
     /// The exit status: 2 if the words are at fault, else 1.

@@ -9,12 +9,12 @@ use Rattle.rb_sockets.specs.declared.settings.Settings.{Settings}
 use Rattle.rb_sockets.specs.Settings.{listener_of}
 use Rattle.rb_sockets.specs.declared.faults.DaemonFault.{DaemonFault}
 use Rattle.rb_sockets.specs.declared.faults.DaemonFault.TheVariants.{Memory, Limits as OfLimits, Socket}
-use Rattle.rpcbind.specs.declared.telling.Front.TheVariants.{Own, At, Make}
-use Rattle.rpcbind.specs.Fronts.{step_front, front_text}
-use Rattle.rpcbind.specs.declared.ending.StartFault.{StartFault}
-use Rattle.rpcbind.specs.declared.ending.StartFault.TheVariants.{Locked, Unread, Handed, Daemon, Unmade, Unsaid}
-use Rattle.rpcbind.specs.declared.ending.StartFault.TheVariants as starts
-use Rattle.rpcbind.specs.Ends.{status_of, end_at_start, end_after}
+use Rattle.rb_startup.specs.declared.telling.Front.TheVariants.{Own, At, Make}
+use Rattle.rb_startup.specs.Fronts.{step_front, front_text}
+use Rattle.rb_startup.specs.declared.ending.StartFault.{StartFault}
+use Rattle.rb_startup.specs.declared.ending.StartFault.TheVariants.{Locked, Unread, Handed, Daemon, Unmade, Unsaid}
+use Rattle.rb_startup.specs.declared.ending.StartFault.TheVariants as starts
+use Rattle.rb_startup.specs.Ends.{status_of, end_at_start, end_after}
 
 -- This text was written, whatever was after it.
 abbrev pub HasWritten : {E : Type 0} → (E → Option (List ℕ)) → E → List ℕ → Type 0

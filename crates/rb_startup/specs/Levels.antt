@@ -2,8 +2,8 @@
 use Rattle.std.specs.Prelude.{ℕ, ◌^◌, Bool, false, ◌&&◌, List, codes, Option, Some, None}
 use Rattle.rb_address.specs.Reading.{cut, number_below}
 use Rattle.rb_policy.specs.Handed.{is_number}
-use Rattle.rpcbind.specs.declared.leveled.Level.{Level}
-use Rattle.rpcbind.specs.declared.leveled.Level.TheVariants.{Error, Warning, Notice, Info}
+use Rattle.rb_startup.specs.declared.leveled.Level.{Level}
+use Rattle.rb_startup.specs.declared.leveled.Level.TheVariants.{Error, Warning, Notice, Info}
 
 -- LEVEL-1: In the journal a line that says why the program ends has priority 3, what is not as it
 -- should be 4, what is worth knowing of a start 5, and a line of the log 6.

@@ -2,10 +2,10 @@
 ghost use Rattle.std.specs.Prelude.{◌≡◌, OnOk};
 ghost use Rattle.std.specs.Io.KnownBytes.{Appends};
 ghost use Rattle.std.specs.Option.{option_map};
-ghost use Rattle.rpcbind.specs.Ends.{status_of, end_at_start, end_after};
-ghost use Rattle.rpcbind.specs.Starts.{loopback6_text};
-ghost use Rattle.rpcbind.specs.Fronts.{front_text};
-ghost use Rattle.rpcbind.specs.Faults.{HasWritten, TellsThen, TellsFault, TellsStart, TellsTurns};
+ghost use Rattle.rb_startup.specs.Ends.{status_of, end_at_start, end_after};
+ghost use Rattle.rb_startup.specs.Starts.{loopback6_text};
+ghost use Rattle.rb_startup.specs.Fronts.{front_text};
+ghost use Rattle.rb_startup.specs.Faults.{HasWritten, TellsThen, TellsFault, TellsStart, TellsTurns};
 
 use crate::ending::{StartFault, end_after, end_at_start};
 use crate::leveled::{Level, Leveled};
@@ -270,7 +270,7 @@ pub enum Front<'a> {
 
 impl Display for Front<'_> {
     ghost use Rattle.std.specs.Prelude.{Some};
-    ghost use Rattle.rpcbind.specs.Fronts.{front_text};
+    ghost use Rattle.rb_startup.specs.Fronts.{front_text};
 
     ghost output = { λ front. Some (front_text front) };
 

@@ -2,8 +2,8 @@
 use Rattle.std.proofs.Common.{take}
 use Rattle.std.specs.Fmt.{HasWritten, IsPlainFormatter}
 use Rattle.std.specs.List.{flat_map}
-use Rattle.rpcbind.specs.Starts.{host_line}
-use Rattle.rpcbind.proofs.start.HostLinesDisplay.fmt.Given as goal
+use Rattle.rb_startup.specs.Starts.{host_line}
+use Rattle.rb_startup.proofs.start.HostLinesDisplay.fmt.Given as goal
 
 abbrev pub invariant-loop-host : goal.invariant-loop-host
 invariant-loop-host g l =

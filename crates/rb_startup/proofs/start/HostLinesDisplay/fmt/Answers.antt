@@ -7,8 +7,8 @@ use Rattle.std.proofs.lemmas.List.{take_more, flat_map_more}
 use Rattle.rb_address.specs.declared.host.Host.{Host}
 use Rattle.rb_address.specs.declared.host.Host.TheVariants.{V4}
 use Rattle.rb_address.specs.Peers.{bare_host_text}
-use Rattle.rpcbind.specs.Starts.{host_line}
-use Rattle.rpcbind.proofs.start.HostLinesDisplay.fmt.Goals as goal
+use Rattle.rb_startup.specs.Starts.{host_line}
+use Rattle.rb_startup.proofs.start.HostLinesDisplay.fmt.Goals as goal
 
 one_more : (port : ℕ) (hosts : List Host) (i : ℕ) (d : Host) → i < length hosts
     → flat_map (host_line port) (take i hosts) ++ host_line port (get_or hosts i d) ≡ flat_map (host_line port) (take (i + 1) hosts)

@@ -2,7 +2,7 @@
 ghost use Rattle.std.specs.Prelude.{◌≡◌, ◌≤◌, ◌^◌, length};
 ghost use Rattle.rb_address.specs.Reading.{number_below};
 ghost use Rattle.rb_policy.specs.Handed.{is_number};
-ghost use Rattle.rpcbind.specs.Levels.{mark_of, names_file};
+ghost use Rattle.rb_startup.specs.Levels.{mark_of, names_file};
 
 use rb_address::{cut, number_below};
 use std::env::{self, Env};
