@@ -1,10 +1,11 @@
-//! The start of `rpcbind serve` around the daemon, and its end: the words of the command line that the machine changes, users,
-//! interfaces, hosts, the rows that were kept, and what is said of all of them, in lines with their priority.
+//! What `rpcbind serve` does around the daemon: it reads the words that are given, the users, interfaces and files of the
+//! machine and the rows that were kept, and says how it starts, what it finds, and why it ends.
 #![tactic(auto)]
 
 mod ending;
 mod files;
 mod foreign;
+mod given;
 mod hosts;
 mod interfaces;
 mod keep;
@@ -15,14 +16,14 @@ mod users;
 mod words;
 
 pub use ending::StartFault;
-pub use foreign::{say_hosts, translate_words};
+pub use foreign::say_hosts;
+pub use given::given_words;
 pub use hosts::{find_hosts, take_sockets};
-pub use interfaces::{Binds, take_interfaces};
+pub use interfaces::Binds;
 pub use keep::{lock_keep, read_keep, say_left_out};
 pub use leveled::{Level, Leveled, is_journal};
 pub use telling::{
     conclude, explain_start, say_address, say_local_change, say_loopback6, say_missing, say_name,
     say_start, say_table_fault,
 };
-pub use users::name_users;
-pub use words::{WordsFault, explain_words};
+pub use words::explain_words;

@@ -6,16 +6,13 @@ mod news;
 mod record;
 mod service;
 
-use rb_commands::{Words, command_words, read_words};
+use rb_commands::{Words, read_words};
 use rb_lines::{Beginning, Ending, Fault, explain};
 use rb_replay::{Meter, run_check, run_replay};
-use rb_startup::{
-    Binds, Leveled, WordsFault, explain_words, is_journal, name_users, say_hosts, take_interfaces,
-    translate_words,
-};
+use rb_startup::{Leveled, explain_words, given_words, is_journal, say_hosts};
 use service::run_service;
 use std::io;
-use std::io::{BufWriter, Write};
+use std::io::BufWriter;
 use std::process::ExitCode;
 
 /// Runs the command `replay` over standard input and output.
@@ -49,21 +46,9 @@ fn check(rt: &HostRuntime, beginning: &Beginning) -> Ending {
     )
 }
 
-/// The words of the command line, with those of ours in the place of Debian's, and uids in that of users' names; without
-/// interfaces of `--bind`, which come with them.
-fn words_of<E: Write>(
-    rt: &HostRuntime,
-    faults: &mut E,
-) -> Result<(Vec<String>, Binds), WordsFault> {
-    let words = command_words(rt).map_err(WordsFault::NotHad)?;
-    let mut words = translate_words(rt, words, faults)?;
-    name_users(rt, &mut words)?;
-    Ok(take_interfaces(rt.alloc(), words)?)
-}
-
 fn main(rt: HostRuntime) -> ExitCode {
     let mut faults = Leveled::standard_error(rt.stderr(), is_journal(&rt));
-    let (words, binds) = match words_of(&rt, &mut faults) {
+    let (words, binds) = match given_words(&rt, &mut faults) {
         Ok(words) => words,
         Err(fault) => return ExitCode::from(explain_words(&fault, &mut faults).status),
     };
