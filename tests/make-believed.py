@@ -1,7 +1,7 @@
 #!/usr/bin/env -S python3 -B
 """Makes docs/BELIEVED.md: the definitions that the promises cite, and all else that a reader of them must trust.
 
-The promises are the headline, a contract of code, and the laws of rb_promises and rb_daemon but for worked examples. What
+The promises are the headline, a contract of code, and the laws of rb_promises and rb_engine but for worked examples. What
 their contracts name is followed through specs/ and through the types of src/, by names: no proof is run. With --check
 nothing is written; a line says what is wrong: a name of this repository that stands nowhere, or a document that is not what
 the sources make. The status is 1 then.
@@ -15,7 +15,7 @@ from sources import CLAUSE, CRATES, FUNCTION, NAME, ROOMS, ROOT, cited, differen
 
 BELIEVED = ROOT / "docs" / "BELIEVED.md"
 AXIOMS = ROOT / "tests" / "axioms"  # by tests/list-axioms.sh
-PROMISERS = ("rb_promises", "rb_daemon")
+PROMISERS = ("rb_promises", "rb_engine")
 HEADLINE = "serve_events"
 PAGE = "rb_promises", "Answers.Answers"
 # What a reader of replies and sessions must believe: this relation of events, outputs and what passed with them. It names no step of
@@ -36,7 +36,7 @@ HEAD = """\
 
 tests/make-believed.py makes this list of the sources, and the gate compares it: a change that adds to what must be
 believed shows here. First come the definitions that the promises cite, by crate: that they say what the standards say is
-for a reader to judge. The promises are the headline and the laws of rb_promises and rb_daemon. A star marks what the page
+for a reader to judge. The promises are the headline and the laws of rb_promises and rb_engine. A star marks what the page
 of RFC 1833 cites, rb_promises/specs/Answers.antt. Then comes what else is trusted.
 docs/CLAIMS.md says in a sentence what each kind means.
 """

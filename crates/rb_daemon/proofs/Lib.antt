@@ -1,17 +1,5 @@
-pub mod Reached
-pub mod Exchanges
-pub mod Pieces
-pub mod ServedBounds
 pub mod Rooms
-pub mod ServedRecords
-pub mod ServedRows
-pub mod Rows
-pub mod Sendings
-pub mod Postings
-pub mod Takings
 pub mod Openings
-pub mod Paying
-pub mod Restorings
 pub mod LastRounds
 pub mod Leavings
 pub mod GoingOn

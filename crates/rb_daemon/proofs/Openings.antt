@@ -4,8 +4,8 @@ use Rattle.rb_address.specs.declared.who.Who.{Who}
 use Rattle.rb_model.specs.declared.types.CoreFault.{CoreFault}
 use Rattle.rb_model.specs.Step.{open_connection, close_connection}
 use Rattle.rb_core.specs.StandsFor.{StandsFor}
-use Rattle.rb_daemon.specs.declared.engine.Engine.{Engine}
-use Rattle.rb_daemon.specs.Moves.{Moves, ActsNow}
+use Rattle.rb_engine.specs.declared.engine.Engine.{Engine}
+use Rattle.rb_engine.specs.Moves.{Moves, ActsNow}
 
 pub opened_as : (before after : Engine) {who told : Who} {result given : Result ℕ CoreFault} → who ≡ told → result ≡ given → ActsNow (λ s now. open_connection s now who) before after result → ActsNow (λ s now. open_connection s now told) before after given
 opened_as before after {who} {told} {result} {given} is same acts =

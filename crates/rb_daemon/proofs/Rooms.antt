@@ -10,9 +10,9 @@ use Rattle.rb_model.specs.Step.{unless_refused}
 use Rattle.rb_model.specs.Exchanges.{exchange}
 use Rattle.rb_model.specs.Gives.{write_fitting, unless_nothing, write_into, given_in, bytes_given}
 use Rattle.rb_core.specs.StandsFor.{StandsFor}
-use Rattle.rb_daemon.specs.declared.engine.Engine.{Engine}
-use Rattle.rb_daemon.specs.Moves.{Moves, ActsNow}
-use Rattle.rb_daemon.proofs.Pieces.{refused_stays}
+use Rattle.rb_engine.specs.declared.engine.Engine.{Engine}
+use Rattle.rb_engine.specs.Moves.{Moves, ActsNow}
+use Rattle.rb_engine.proofs.Pieces.{refused_stays}
 
 pub exchanges_in : (id : ℕ) (piece : List ℕ) (room free : ℕ) (old new : Engine) (result : Result Taken CoreFault × List ℕ) → room ≡ free → ActsNow (λ s now. exchange now id piece room s) old new result → ActsNow (λ s now. exchange now id piece free s) old new result
 exchanges_in id piece room free old new result same acts =

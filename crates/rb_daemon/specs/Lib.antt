@@ -1,16 +1,5 @@
-pub mod Served
-pub mod Counting
-pub mod Moves
-pub mod Recording
-pub mod ServedLaws
-pub mod PlainCallers
-pub mod Keeping
-pub mod Sending
+pub mod Outboxes
 pub mod Links
 pub mod FirstFaults
-pub mod LogRates
-pub mod LoggedChanges
-pub mod Waiting
-pub mod Logs
 pub mod Turning
 pub mod Draining

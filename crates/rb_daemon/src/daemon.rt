@@ -1,23 +1,19 @@
 //! The daemon and its turns.
-ghost use Rattle.std.specs.Prelude.{◌≡◌, ◌↔◌, [], ◌∷◌, IsTrue, IsErrOf, IfOk, OnOk, nat_lt, false, not, OnErr, is_some, true};
-ghost use Rattle.rb_model.specs.Step.{after};
-ghost use Rattle.rb_model.specs.ChangeLaws.{set_call, set_calls};
+ghost use Rattle.std.specs.Prelude.{◌≡◌, ◌↔◌, IsTrue, IsErrOf, OnOk, nat_lt, false, not, OnErr, is_some, true};
 ghost use Rattle.rb_lines.specs.Starts.{MeetsLaws};
 ghost use Rattle.rb_policy.specs.Turns.{others_of};
 ghost use Rattle.rb_sockets.specs.Settings.{listener_of};
-ghost use Rattle.rb_daemon.specs.Served.{has_good_limits, with_rows_again};
-ghost use Rattle.rb_daemon.specs.Moves.{IsNewEngine, Moves};
+ghost use Rattle.rb_engine.specs.Served.{has_good_limits};
 ghost use Rattle.rb_daemon.specs.FirstFaults.{end_of};
-ghost use Rattle.rb_daemon.specs.Recording.{WritesRecord};
+ghost use Rattle.rb_engine.specs.Recording.{WritesRecord};
 
-use crate::engine::Engine;
-use crate::keeping::{KeepNews, Keeper};
 use crate::load::Load;
 use crate::room::Room;
 use crate::secrets::{brake_of, draw, first_xid};
 use crate::serving::Serving;
 use crate::waiting::{EVENTS, Times, TurnFailed, Waiting, read_clocks};
 use mio::Registry;
+use rb_engine::{Begun, KeepNews, begin};
 use rb_lines::bad_limit;
 use rb_policy::{others_of, place_count, wait_of};
 use rb_registry::Row;
@@ -76,7 +72,7 @@ impl<'a, R: Clock, H: Files> Daemon<'a, R, H> {
         let inner = begin(alloc, settings, xid, first.wall, kept)?;
         let outer = open(alloc, host, settings, first, handed)?;
         outer.sockets.write_stack(host);
-        let Inner {
+        let Begun {
             engine,
             keeper,
             left_out,
@@ -270,64 +266,6 @@ fn places_of<N: Net>(
     (places, Some(shortage))
 }
 
-/// Sets a row again that was kept, and notes whose it is. If it is not set, its place is left out. An error if an allocation
-/// is refused.
-fn restore_row<H: Files>(
-    engine: &mut Engine,
-    keeper: &mut Keeper<H>,
-    row: &Row,
-    place: usize,
-    left_out: &mut Vec<usize>,
-) -> Result<(), AllocError>
-    ensures acts { Moves (λ s now. after s (set_call now row.now ∷ [])) engine.old engine.new }
-    ensures moment { engine.new.moment ≡ engine.old.moment }
-{
-    let is_set = engine.restore(row);
-    keeper.note(engine);
-    if !is_set {
-        left_out.push(place)?;
-    }
-    Ok(())
-}
-
-/// Sets the rows again that were kept, in their order, and notes whose they are. The places of those that are not set are left
-/// out. An error if an allocation is refused.
-fn restore_rows<H: Files>(
-    engine: &mut Engine,
-    keeper: &mut Keeper<H>,
-    rows: &[Row],
-    left_out: &mut Vec<usize>,
-) -> Result<(), AllocError>
-    ensures { OnOk result (Moves (λ s now. after s (set_calls now rows.now)) engine.old engine.new) }
-{
-    let mut place = 0usize;
-    for row in rows {
-        restore_row(engine, keeper, row, place, left_out)?;
-        place = place.saturating_add(1);
-    }
-    Ok(())
-}
-
-/// Sets the rows again that were kept, notes whose they are, and begins the statistics anew after them. Returns the places
-/// of those that are not set. An error if an allocation is refused.
-fn restore<H: Files>(
-    alloc: Global,
-    engine: &mut Engine,
-    keeper: &mut Keeper<H>,
-    rows: &[Row],
-) -> Result<Vec<usize>, AllocError>
-    ensures { OnOk result (Moves (with_rows_again rows.now) engine.old engine.new) }
-{
-    let mut left_out = Vec::new(alloc);
-    restore_rows(engine, keeper, rows, &mut left_out)?;
-    keeper.begin(engine);
-    if rows.is_empty() {
-        return Ok(left_out);
-    }
-    engine.zero_stats();
-    Ok(left_out)
-}
-
 /// `Limits` if a limit is out of its range.
 fn check_limits(settings: &Settings<'_>) -> Result<(), DaemonFault>
     ensures bad { IsErrOf result DaemonFault.Limits
@@ -340,15 +278,6 @@ fn check_limits(settings: &Settings<'_>) -> Result<(), DaemonFault>
     }
 }
 
-/// The core with the rows that were kept, and what keeps them.
-#[derive(Drop)]
-struct Inner<H: Files> {
-    engine: Engine,
-    keeper: Keeper<H>,
-    /// Which of the rows are not set again.
-    left_out: Vec<usize>,
-}
-
 /// What is around the core: the wait, the sockets whose events it shows, and the memory with which they are served.
 #[derive(Drop)]
 struct Outer<H: Files> {
@@ -356,59 +285,6 @@ struct Outer<H: Files> {
     sockets: Sockets,
     room: Room<H>,
     shortage: Option<Shortage>,
-}
-
-/// An engine at this moment, whose first forwarded call has this xid. `Memory` if an allocation is refused.
-fn engine_of(
-    alloc: Global,
-    settings: &Settings<'_>,
-    xid: u32,
-    moment: u64,
-) -> Result<Engine, DaemonFault>
-    requires { MeetsLaws (listener_of settings.now) settings.now.record_limit }
-    ensures others { IsErrOf result DaemonFault.Limits → IsTrue false }
-    ensures made { IfOk result
-        (IsNewEngine xid moment settings.now.limits (listener_of settings.now)) }
-    ensures record { IfOk result (λ engine. engine.tape.limit ≡ settings.now.record_limit) }
-{
-    let made = Engine::new(
-        alloc,
-        settings.limits,
-        settings.listener(),
-        xid,
-        moment,
-        settings.record_limit,
-        settings.log,
-    );
-    match made {
-        Ok(engine) => Ok(engine),
-        Err(_) => Err(DaemonFault::Memory(AllocError)),
-    }
-}
-
-/// Begins at this moment, sets the rows again that were kept, and keeps those from here on. `Memory` if an allocation is
-/// refused.
-fn begin<H: Files>(
-    alloc: Global,
-    settings: &Settings<'_>,
-    xid: u32,
-    moment: u64,
-    kept: &[Row],
-) -> Result<Inner<H>, DaemonFault>
-    requires { MeetsLaws (listener_of settings.now) settings.now.record_limit }
-    ensures others { IsErrOf result DaemonFault.Limits → IsTrue false }
-{
-    let mut engine = engine_of(alloc, settings, xid, moment)?;
-    let rows = settings.limits.rows;
-    let mut keeper = Keeper::new(alloc, settings.keep, rows).map_err(DaemonFault::Memory)?;
-    match restore(alloc, &mut engine, &mut keeper, kept) {
-        Ok(left_out) => Ok(Inner {
-            engine,
-            keeper,
-            left_out,
-        }),
-        Err(error) => Err(DaemonFault::Memory(error)),
-    }
 }
 
 /// Binds sockets to all that the settings name and that was not handed over, and waits on them from this first moment on.

@@ -2,11 +2,10 @@
 ghost use Rattle.std.specs.Prelude.{⊤};
 ghost use Rattle.rb_daemon.specs.Draining.{IsServedNextAt, IsServedNextOf};
 
-use crate::callers::{Asked, Sender};
-use crate::datagrams::{answer_call, take_back};
 use crate::serving::Serving;
 use mio::Registry;
 use rb_address::{Family, Who};
+use rb_engine::{Asked, Sender, answer_call, take_back};
 use rb_policy::drains::{CallsSoFar, Came, Drains, drain};
 use rb_policy::{Again, Brake, Next, SOCKET_CALLS, after_accept, after_receive, outcome_of};
 use rb_sockets::Step;

@@ -3,9 +3,8 @@ ghost use Rattle.std.specs.Prelude.{◌≡◌, true, IfSome};
 ghost use Rattle.rb_daemon.specs.Links.{OpensAt, ClosesAt, OpensAgain};
 ghost use Rattle.rb_daemon.specs.Turning.{ServesOnly};
 
-use crate::callers::Caller;
-use crate::engine::Engine;
 use mio::Registry;
+use rb_engine::{Caller, Engine};
 use rb_links::Places;
 
 // LINK-2

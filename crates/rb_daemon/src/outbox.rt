@@ -1,10 +1,11 @@
 //! Replies that the core gives go into the outbox of their connection.
 ghost use Rattle.std.specs.Prelude.{◌≤◌, length, IfOk};
 ghost use Rattle.rb_model.specs.Exchanges.{count_given};
-ghost use Rattle.rb_daemon.specs.Moves.{FillsOutbox, WritesToOutbox, RecordsExchange};
+ghost use Rattle.rb_engine.specs.Moves.{RecordsExchange};
+ghost use Rattle.rb_daemon.specs.Outboxes.{FillsOutbox, WritesToOutbox};
 
-use crate::engine::Engine;
 use rb_core::{CoreFault, Exchanged, Given};
+use rb_engine::Engine;
 use rb_links::Outbox;
 
 /// Hands bytes in that came on a connection, and takes the reply over that is given at once, if there is one.

@@ -1,11 +1,10 @@
 //! What becomes of connections that a turn has served, and of those whose replies waited.
 ghost use Rattle.rb_daemon.specs.Turning.{ServesOnly, ServesEach};
 
-use crate::engine::Engine;
 use crate::held::HeldLink;
-use crate::keeping::Keeper;
 use crate::opening::close_at;
 use crate::steps::{Progress, serve_kept};
+use rb_engine::{Engine, Keeper};
 use rb_links::{Places, Turn};
 use std::fs::Files;
 

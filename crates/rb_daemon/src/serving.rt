@@ -2,9 +2,7 @@
 ghost use Rattle.std.specs.Prelude.{◌≡◌};
 ghost use Rattle.rb_daemon.specs.Turning.{is_due};
 
-use crate::engine::{Due, Engine};
 use crate::held::Held;
-use crate::keeping::{KeepNews, Keeper};
 use crate::load::Load;
 use crate::opening::{close_at, open_again, open_at};
 use crate::room::Room;
@@ -13,6 +11,7 @@ use crate::steps::{Progress, serve};
 use mio::Registry;
 use mio::event::Event;
 use rb_address::{Family, Network};
+use rb_engine::{Due, Engine, KeepNews, Keeper};
 use rb_forward::sooner;
 use rb_links::{Places, Turn};
 use rb_model::Limits;
@@ -81,10 +80,10 @@ impl<H: Files> Serving<H> {
     ghost use Rattle.std.specs.Prelude.{◌≡◌, vec_len, OnOk, true, None};
     ghost use Rattle.rb_connections.specs.Slots.{Shows};
     ghost use Rattle.rb_core.specs.StandsFor.{StandsFor};
-    ghost use Rattle.rb_daemon.specs.Served.{row_count};
-    ghost use Rattle.rb_daemon.specs.Recording.{WritesRecord};
+    ghost use Rattle.rb_engine.specs.Served.{row_count};
+    ghost use Rattle.rb_engine.specs.Recording.{WritesRecord};
     ghost use Rattle.rb_daemon.specs.FirstFaults.{first_fault};
-    ghost use Rattle.rb_daemon.specs.Moves.{LooksOnce};
+    ghost use Rattle.rb_engine.specs.Moves.{LooksOnce};
     ghost use Rattle.mio.specs.Event.{event_token};
     ghost use Rattle.rb_policy.specs.Deadlines.{ends, put_off_after, is_behind};
     ghost use Rattle.rb_policy.specs.Rounds.{StayBut};

@@ -5,13 +5,12 @@ ghost use Rattle.rb_connections.specs.Slots.{Shows};
 ghost use Rattle.rb_core.specs.StandsFor.{StandsFor};
 ghost use Rattle.rb_links.specs.Holding.{must_wait};
 ghost use Rattle.rb_daemon.specs.Links.{HandsIn, TakesOver};
-ghost use Rattle.rb_daemon.specs.Served.{change_count};
+ghost use Rattle.rb_engine.specs.Served.{change_count};
 
-use crate::engine::Engine;
 use crate::held::HeldLink;
-use crate::keeping::{Keeper, Kept};
 use crate::outbox::{exchange, write_into};
 use rb_core::Standing;
+use rb_engine::{Engine, Keeper, Kept};
 use rb_links::{LONG_ROOM, Link, Outbox, READ_AHEAD, Turn};
 use rb_policy::{Next, SOCKET_CALLS};
 use rb_sockets::Datagrams;

@@ -5,7 +5,7 @@ use Rattle.rb_links.specs.Outgoing.{Outgoing}
 use Rattle.rb_links.proofs.Outboxes.{waits_more, room_stays, all_is_free}
 use Rattle.rb_daemon.proofs.Rooms.{gives_in, idle_stays}
 use Rattle.rb_model.specs.Gives.{write_into}
-use Rattle.rb_daemon.specs.Moves.{ActsNow}
+use Rattle.rb_engine.specs.Moves.{ActsNow}
 use Rattle.rb_daemon.proofs.outbox.write_into.Goals as goal
 use borrow.Rule.Slice.PartMut.{post_of}
 

@@ -1,5 +1,0 @@
-use Rattle.rb_daemon.proofs.Restorings.{AreAgain}
-use Rattle.rb_daemon.proofs.daemon.restore_rows.Given as goal
-
-abbrev pub invariant-loop-row : goal.invariant-loop-row
-invariant-loop-row g l = AreAgain l.rows l.row-index l.fn.engine l.engine

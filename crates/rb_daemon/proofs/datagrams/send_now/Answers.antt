@@ -1,5 +1,0 @@
-use Rattle.rb_daemon.specs.Waiting.{PostsReply}
-use Rattle.rb_daemon.proofs.datagrams.send_now.Goals as goal
-
-pub returns : goal.returns
-returns g c = PostsReply.GoesOut c.send.new.sockets c.send.ensures.sent c.reply.ensures.sent c.send.ensures.none

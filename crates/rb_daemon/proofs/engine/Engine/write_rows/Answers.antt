@@ -1,5 +1,0 @@
-use Rattle.rb_daemon.proofs.Paying.{paid_look, raised, rows_fit}
-use Rattle.rb_daemon.proofs.engine.Engine.write_rows.Goals as goal
-
-pub invariant_of-self : goal.invariant_of-self
-invariant_of-self g c = record { paid = paid_look c.args.self.now.core _ c.args.self.now.tape _ _ c.args.self.now.looks.steps _ c.write_rows.ensures.stays c.write_rows.ensures.cost (rows_fit _) (raised _ _ _ c.raise.ensures) c.args.self.now.paid; fits = c.args.self.now.fits }

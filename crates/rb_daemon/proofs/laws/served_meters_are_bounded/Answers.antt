@@ -1,5 +1,0 @@
-use Rattle.rb_daemon.proofs.ServedBounds.{served_meters_are_bounded}
-use Rattle.rb_daemon.proofs.laws.served_meters_are_bounded.Goals as goal
-
-pub returns : goal.returns
-returns c = served_meters_are_bounded

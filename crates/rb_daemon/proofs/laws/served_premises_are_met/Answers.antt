@@ -1,5 +1,0 @@
-use Rattle.rb_daemon.proofs.ServedRows.{served_premises_are_met}
-use Rattle.rb_daemon.proofs.laws.served_premises_are_met.Goals as goal
-
-pub returns : goal.returns
-returns c = served_premises_are_met

@@ -1,0 +1,12 @@
+pub mod Reached
+pub mod Exchanges
+pub mod Pieces
+pub mod ServedBounds
+pub mod ServedRecords
+pub mod ServedRows
+pub mod Rows
+pub mod Sendings
+pub mod Postings
+pub mod Takings
+pub mod Paying
+pub mod Restorings
