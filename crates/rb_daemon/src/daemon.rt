@@ -15,7 +15,8 @@ use crate::waiting::{EVENTS, Times, TurnFailed, Waiting, read_clocks};
 use mio::Registry;
 use rb_engine::{Begun, KeepNews, begin};
 use rb_lines::bad_limit;
-use rb_policy::{others_of, place_count, wait_of};
+use rb_model::Limits;
+use rb_policy::{Brake, others_of, place_count, wait_of};
 use rb_registry::Row;
 use rb_sockets::{
     AddressNews, BindFault, DaemonFault, Follower, Handed, Settings, Shortage, SocketFault,
@@ -61,6 +62,21 @@ impl<'a, R: Clock, H: Files> Daemon<'a, R, H> {
         ensures good { OnOk result (IsTrue (has_good_limits settings.now)) }
     {
         check_limits(settings)?;
+        Daemon::begin(alloc, host, clock, settings, kept, handed)
+    }
+
+    /// The same, at good limits.
+    fn begin<B: Files + Net + RandomSource>(
+        alloc: Global,
+        host: &B,
+        clock: &'a R,
+        settings: &Settings<'_>,
+        kept: &[Row],
+        handed: Handed,
+    ) -> Result<Daemon<'a, R, H>, DaemonFault>
+        requires { MeetsLaws (listener_of settings.now) settings.now.record_limit }
+        ensures others { IsErrOf result DaemonFault.Limits → IsTrue false }
+    {
         let first = match read_clocks(clock) {
             Ok(first) => first,
             Err(error) => return Err(DaemonFault::Socket(Step::Clock.failed(error))),
@@ -68,28 +84,35 @@ impl<'a, R: Clock, H: Files> Daemon<'a, R, H> {
         let secrets = draw(host);
         let xid = first_xid(&secrets, first.wall);
         let brake = brake_of(alloc, settings.udp_rate, secrets)?;
-        // What has many parts is made last, since each `?` lets go all that was made before it.
+        // What is big is made last: each `?` lets go what was made before it.
         let inner = begin(alloc, settings, xid, first.wall, kept)?;
         let outer = open(alloc, host, settings, first, handed)?;
         outer.sockets.write_stack(host);
-        let Begun {
-            engine,
-            keeper,
-            left_out,
-        } = inner;
-        let Outer {
-            waiting,
-            sockets,
-            room,
-            shortage,
-        } = outer;
-        Ok(Daemon {
+        Ok(Daemon::of(clock, settings.limits, inner, outer, brake))
+    }
+
+    /// A core with what is around it.
+    fn of(
+        clock: &'a R,
+        limits: Limits,
+        inner: Begun<H>,
+        outer: Outer<H>,
+        brake: Option<Brake>,
+    ) -> Daemon<'a, R, H> {
+        Daemon {
             clock,
-            waiting,
-            serving: Serving::new(engine, keeper, sockets, room, settings.limits, brake),
-            shortage,
-            left_out,
-        })
+            waiting: outer.waiting,
+            serving: Serving::new(
+                inner.engine,
+                inner.keeper,
+                outer.sockets,
+                outer.room,
+                limits,
+                brake,
+            ),
+            shortage: outer.shortage,
+            left_out: inner.left_out,
+        }
     }
 
     /// The moment of the last turn, in milliseconds since the start of 1970.
@@ -140,17 +163,7 @@ impl<'a, R: Clock, H: Files> Daemon<'a, R, H> {
         );
         let is_fresh = self.waiting.wait(self.clock, wait, deadline.is_none())?;
         let shown = self.waiting.count();
-        self.serving.begin_turn(self.waiting.moment());
-        for event in &self.waiting.events {
-            self.serving.note_ready(event);
-        }
-        self.serving.answer_calls(host);
-        self.serving.take_forward_replies(host);
-        for event in &self.waiting.events {
-            self.serving.serve(host, event);
-        }
-        self.serving.serve_left(host);
-        self.serving.answer_changes(host);
+        serve_events(&mut self.serving, host, &self.waiting);
         self.serving.expire(host, deadline, is_fresh, shown, EVENTS);
         self.serving.close_lost();
         self.serving.accept_all(host, self.waiting.registry());
@@ -233,6 +246,21 @@ impl<'a, R: Clock, H: Files> Daemon<'a, R, H> {
     pub fn write_log<W: Write>(&mut self, writer: &mut W) -> io::Result<()> {
         self.serving.write_log(writer)
     }
+}
+
+/// Serves what the wait showed.
+fn serve_events<H: Files>(serving: &mut Serving<H>, host: &H, waiting: &Waiting) {
+    serving.begin_turn(waiting.moment());
+    for event in &waiting.events {
+        serving.note_ready(event);
+    }
+    serving.answer_calls(host);
+    serving.take_forward_replies(host);
+    for event in &waiting.events {
+        serving.serve(host, event);
+    }
+    serving.serve_left(host);
+    serving.answer_changes(host);
 }
 
 // PLACES-1

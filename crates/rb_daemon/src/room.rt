@@ -1,4 +1,4 @@
-//! The memory with which connections and datagrams are served.
+//! What serving takes of memory.
 use crate::held::Held;
 use rb_address::Network;
 use rb_links::Places;

@@ -92,8 +92,8 @@ impl<H: Files> Serving<H> {
     ghost use Rattle.rb_links.specs.Rounds.{IsTakenUp, TakesUp, ServesFew};
     ghost use Rattle.rb_daemon.specs.Turning.{ServesNone, ServesEach, is_due, leaves_some};
 
-    /// A core of these limits, what keeps its rows, and the sockets around it, which are served with this memory; and
-    /// what drops datagrams of strangers, if they are limited.
+    /// A core of these limits, what keeps its rows, the sockets around it, which are served with this memory, and what
+    /// drops datagrams of strangers.
     pub(crate) fn new(
         engine: Engine,
         keeper: Keeper<H>,

@@ -1,4 +1,4 @@
-//! The core as a daemon calls it: its events are recorded, and what they changed is kept and logged.
+//! The core as a daemon calls it: its events are recorded, what they changed is kept and logged.
 #![tactic(auto)]
 
 mod beginning;

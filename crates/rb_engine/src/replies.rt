@@ -1,4 +1,4 @@
-//! Replies to datagrams wait until the changes of a turn are kept.
+//! Replies that wait until changes are kept.
 ghost use Rattle.rb_engine.specs.Waiting.{HandsAll, dispatch_of};
 
 use crate::engine::Engine;
