@@ -2,10 +2,9 @@
 # Proves each crate of crates.txt and builds the programs, as many crates side by side as processors and memory allow.
 #
 # A crate begins as soon as those that it stands on are proved, the one with the longest chain of others above it first, and
-# no more crates at a time than there are processors. The crate of the longest chain works in two processes, in three once
-# that chain is a fifth longer than all else that is left, and others give way to it (nice) but those with a chain of nine
-# tenths of it. Each other crate works in one, since a proof in four processes takes half more processor time. Processors that
-# nothing else waits for go to the crate that begins, four at most.
+# no more crates at a time than there are processors. A crate whose chain has 97 % of the longest one's seconds works in two
+# processes. Others work in one, since a proof in four takes half more processor time, and give way (nice) to those with a
+# chain of 85 %. Processors that nothing else waits for go to the crate that begins, four at most.
 #
 # `rt` lets one command at a time work in a crate's folder or in one below it. So each crate is proved in a room
 # of its own: a folder with links to its files and to the libraries below it, which has its out/ meanwhile. The crates'
@@ -193,17 +192,6 @@ longest_running() {
     echo "$longest"
 }
 
-# The seconds of all crates that are not proved yet, but for those of the longest chain that begins with this one.
-seconds_beside() {
-    local name sum=0
-    for name in "${names[@]}"; do
-        case ${state[$name]} in
-            waiting | running) sum=$((sum + costs[$name])) ;;
-        esac
-    done
-    echo $((sum - chain[$1]))
-}
-
 # The processors, less the processes that work.
 count_idle() {
     local name idle=$slots
@@ -215,7 +203,7 @@ count_idle() {
 
 # Begins the crates that are ready, as far as there are processors.
 start_ready() {
-    local ready name way longest running most spare waiting
+    local ready name way longest running spare waiting
     mapfile -t ready < <(list_ready)
     waiting=${#ready[@]}
     longest=$(longest_to_come "${ready[@]}")
@@ -224,11 +212,11 @@ start_ready() {
         share[$name]=1
         way=10
         running=$(longest_running)
-        if [ "${chain[$name]}" -ge "$longest" ] && [ "${chain[$name]}" -gt "$running" ]; then
-            most=$(($(seconds_beside "$name") * 6 < chain[$name] * 5 ? 3 : 2))
-            share[$name]=$((slots < most ? slots : most))
+        [ "$running" -le "$longest" ] || longest=$running
+        if [ $((chain[$name] * 100)) -ge $((longest * 97)) ]; then
+            share[$name]=$((slots < 2 ? slots : 2))
             way=0
-        elif [ $((chain[$name] * 10)) -ge $(((longest > running ? longest : running) * 9)) ]; then
+        elif [ $((chain[$name] * 100)) -ge $((longest * 85)) ]; then
             way=0
         fi
         spare=$(($(count_idle) / waiting))
