@@ -1,5 +1,5 @@
 -- Callers: where from, which host was asked, and what is known of them; and their texts.
-use Rattle.std.specs.Prelude.{ℕ, ◌^◌, ◌<◌, if◌then◌else◌, List, [], ◌++◌, replicate, decimal, codes}
+use Rattle.std.specs.Prelude.{ℕ, ◌^◌, ◌<◌, ◌==◌, Bool, true, false, if◌then◌else◌, List, [], ◌++◌, replicate, decimal, codes}
 use Rattle.rb_address.specs.declared.host.Host.{Host}
 use Rattle.rb_address.specs.declared.host.Host.TheVariants.{V4}
 use Rattle.rb_address.specs.declared.netid.Netid.{Netid}
@@ -15,6 +15,13 @@ use Rattle.rb_address.specs.declared.who.Who.{Who}
 use Rattle.rb_address.specs.Hosts.{family_of, is_same_host, IsHost}
 use Rattle.rb_address.specs.Netids.{netid_on}
 use Rattle.rb_address.specs.Peers.{IsPeer, bare_host_text, peer_text}
+
+-- the same owner
+abbrev pub is_same_owner : Owner → Owner → Bool
+is_same_owner Unknown Unknown = true
+is_same_owner Unknown (Uid own) = false
+is_same_owner (Uid uid) Unknown = false
+is_same_owner (Uid uid) (Uid own) = uid == own
 
 -- NETID-3: A caller's netid is that of its transport and of its peer's family, or local.
 abbrev pub netid_from : Transport → Source → Netid

@@ -1,6 +1,7 @@
 //! Who is at the other end, and by which transport: hosts, peers, netids and callers, with their texts. No call takes memory.
 #![tactic(auto)]
 
+mod caller;
 mod host;
 mod laws;
 mod netid;
@@ -9,6 +10,7 @@ mod peer;
 mod reading;
 mod who;
 
+pub use caller::Caller;
 pub use host::{Family, Host};
 pub use laws::{caller_laws, host_laws, name_laws, peer_laws, worked_examples};
 pub use netid::{Netid, Transport};

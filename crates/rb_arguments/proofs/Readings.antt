@@ -14,7 +14,7 @@ use Rattle.rb_arguments.specs.declared.mapping.Mapping.{Mapping}
 use Rattle.rb_arguments.specs.declared.rpcb.Rpcb.{Rpcb}
 use Rattle.rb_arguments.specs.declared.netbuf.Netbuf.{Netbuf}
 use Rattle.rb_arguments.specs.declared.entry.Entry.{Entry}
-use Rattle.rb_rpc.specs.Forwarded.{longest_forwarded}
+use Rattle.rb_arguments.specs.Forwarded.{longest_forwarded}
 use Rattle.rb_arguments.specs.declared.remote.RemoteCall.{RemoteCall}
 use Rattle.rb_arguments.specs.Arguments.{value_of, front}
 use Rattle.rb_arguments.specs.Remote.{read_remote, args_of, SpellsRemote}

@@ -6,7 +6,7 @@ use Rattle.rb_xdr.specs.Xdr.{Reader, refuse, number_at, residue, read_number, re
 use Rattle.rb_xdr.specs.declared.fault.XdrFault.{XdrFault}
 use Rattle.rb_xdr.specs.declared.fault.XdrFault.TheVariants.{Short, TooLong}
 use Rattle.rb_xdr.proofs.Readers.{ok_is, bind_ok}
-use Rattle.rb_rpc.specs.Forwarded.{longest_forwarded}
+use Rattle.rb_arguments.specs.Forwarded.{longest_forwarded}
 use Rattle.rb_arguments.specs.declared.remote.RemoteCall.{RemoteCall}
 use Rattle.rb_arguments.specs.Remote.{read_remote, HasContent}
 

@@ -9,7 +9,7 @@ use Rattle.rb_arguments.specs.declared.procedure.Procedure.{Procedure}
 use Rattle.rb_arguments.specs.declared.procedure.Procedure.TheVariants as procedures
 use Rattle.rb_arguments.specs.declared.request.Request.TheVariants.{Void, Mapping, Rpcb, Uaddr2taddr, Taddr2uaddr, Forward}
 use Rattle.rb_arguments.specs.Types.{IsMapping, mapping_spelling, read_mapping, IsRpcb, rpcb_spelling, read_rpcb, IsNetbuf, netbuf_spelling, read_netbuf}
-use Rattle.rb_rpc.specs.declared.caller.Kind.{Kind}
+use Rattle.rb_arguments.specs.declared.kind.Kind.{Kind}
 use Rattle.rb_arguments.specs.declared.remote.RemoteCall.{RemoteCall}
 use Rattle.rb_arguments.specs.Remote.{read_remote, SpellsRemote}
 use Rattle.rb_arguments.proofs.Readings.{mapping_sound, mapping_complete, rpcb_sound, rpcb_complete, netbuf_sound, netbuf_complete, remote_spelled, remote_read}

@@ -1,7 +1,7 @@
 -- The procedures of program 100000 and their arguments (RFC 1833 sections 2.2 and 3.2).
 use Rattle.std.specs.Prelude.{ℕ, ◌==◌, Bool, ◌&&◌, if◌then◌else◌, List, [], ◌∷◌, Option, Some, None, option_map, option_and_then, find, is_some, Result, Ok, Err, ⊤}
 use Rattle.rb_xdr.specs.Xdr.{Reader, Reading, read_opaque}
-use Rattle.rb_rpc.specs.declared.caller.Kind.TheVariants.{Callit2, Callit3, Bcast, Indirect}
+use Rattle.rb_arguments.specs.declared.kind.Kind.TheVariants.{Callit2, Callit3, Bcast, Indirect}
 use Rattle.rb_arguments.specs.Types.{read_mapping, read_rpcb, read_netbuf}
 use Rattle.rb_arguments.specs.Remote.{read_remote, HasContent}
 use Rattle.rb_arguments.specs.declared.procedure.Procedure.{Procedure}

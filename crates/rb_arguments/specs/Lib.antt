@@ -1,4 +1,5 @@
 pub mod Types
+pub mod Forwarded
 pub mod Remote
 pub mod Arguments
 pub mod Numbers

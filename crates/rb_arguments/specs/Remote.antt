@@ -1,7 +1,7 @@
 -- The argument of the procedures that forward a call (RFC 1833 sections 2.1, rpcb_rmtcallargs, and 3.1, call_args).
 use Rattle.std.specs.Prelude.{◌≡◌, ◌≤◌, ℕ, ◌+◌, List, ◌++◌, length, slice_range}
 use Rattle.rb_xdr.specs.Xdr.{number, opaque, Reader, ◌>>=◌, give, read_number, read_opaque, IsNumber, IsContent}
-use Rattle.rb_rpc.specs.Forwarded.{longest_forwarded}
+use Rattle.rb_arguments.specs.Forwarded.{longest_forwarded}
 use Rattle.rb_arguments.specs.declared.remote.RemoteCall.{RemoteCall}
 
 -- ARGS-2: CALLIT, BCAST and INDIRECT take prog, vers, proc and args of at most 8,800 bytes; more

@@ -1,7 +1,7 @@
 -- Worked examples of requests.
 use Rattle.std.specs.Prelude.{◌≡◌, ℕ, List, [], ◌∷◌, ◌++◌, length, map, filter, replicate, Ok, Err}
 use Rattle.rb_xdr.specs.Xdr.{words}
-use Rattle.rb_rpc.specs.declared.caller.Kind.TheVariants.{Callit2}
+use Rattle.rb_arguments.specs.declared.kind.Kind.TheVariants.{Callit2}
 use Rattle.rb_arguments.specs.declared.request.ArgumentFault.TheVariants.{GarbageArgs}
 use Rattle.rb_arguments.specs.declared.request.Request.TheVariants as requests
 use Rattle.rb_arguments.specs.declared.remote.RemoteCall.{RemoteCall}

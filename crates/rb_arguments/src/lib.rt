@@ -3,6 +3,7 @@
 #![tactic(auto)]
 
 mod entry;
+mod kind;
 mod laws;
 mod lent;
 mod mapping;
@@ -14,6 +15,7 @@ mod rpcb;
 mod worked;
 
 pub use entry::Entry;
+pub use kind::{Kind, LONGEST_FORWARDED};
 pub use laws::requests_are_of_the_grammar;
 pub use lent::{LentNetbuf, LentRpcb, LentText};
 pub use mapping::Mapping;

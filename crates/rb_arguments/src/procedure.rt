@@ -3,11 +3,11 @@ ghost use Rattle.std.specs.Prelude.{◌≡◌, Option, IfSome};
 ghost use Rattle.rb_arguments.specs.Arguments.{value_of, procedure_at, arguments, HasArgs};
 ghost use Rattle.rb_arguments.specs.Numbers.{is_void, is_mapping, is_rpcb, is_procedure, number_of};
 
+use crate::kind::Kind;
 use crate::lent::{LentNetbuf, LentRpcb, LentText};
 use crate::mapping::Mapping;
 use crate::remote::RemoteCall;
 use crate::request::Request;
-use rb_rpc::Kind;
 use rb_xdr::{Xdr, XdrFault};
 
 /// A procedure without arguments.

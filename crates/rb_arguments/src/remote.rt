@@ -3,7 +3,7 @@ ghost use Rattle.std.specs.Prelude.{◌≡◌, IfSome};
 ghost use Rattle.rb_arguments.specs.Arguments.{front};
 ghost use Rattle.rb_arguments.specs.Remote.{HasContent, read_remote, args_of};
 
-use rb_rpc::LONGEST_FORWARDED;
+use crate::kind::LONGEST_FORWARDED;
 use rb_xdr::{Xdr, XdrFault, take_opaque};
 
 /// Where the content of args begins, after three numbers and its count.
@@ -38,7 +38,7 @@ impl RemoteCall {
     }
 
     /// The same with where it ends, or the first fault.
-    #[tactic(auto, unfolding(crate::specs::Remote::read_remote, rb_rpc::specs::Forwarded::longest_forwarded))]
+    #[tactic(auto, unfolding(crate::specs::Remote::read_remote, crate::specs::Forwarded::longest_forwarded))]
     fn read_front(bytes: &[u8]) -> Result<(RemoteCall, usize), XdrFault>
         ensures { result ≡ read_remote bytes.now }
     {

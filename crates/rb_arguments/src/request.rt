@@ -2,11 +2,11 @@
 ghost use Rattle.std.specs.Prelude.{◌≡◌, IfOk};
 ghost use Rattle.rb_arguments.specs.Arguments.{read_request, HasArgs};
 
+use crate::kind::Kind;
 use crate::lent::{LentNetbuf, LentRpcb, LentText};
 use crate::mapping::Mapping;
 use crate::procedure::{MappingProcedure, Procedure, RpcbProcedure, VoidProcedure};
 use crate::remote::RemoteCall;
-use rb_rpc::Kind;
 use thiserror::Error;
 
 /// A procedure with its argument, whose texts stay in the bytes that it was read from.

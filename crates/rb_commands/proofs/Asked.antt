@@ -12,9 +12,9 @@ use Rattle.rb_address.proofs.Words as words
 use Rattle.rb_lines.specs.Lines.{longest_input}
 use Rattle.rb_lines.specs.Paths.{is_quotable, is_path}
 use Rattle.rb_lines.specs.Starts.{MeetsLaws}
-use Rattle.rb_sockets.specs.declared.settings.LocalSocket.{LocalSocket}
-use Rattle.rb_sockets.specs.declared.settings.Settings.{Settings}
-use Rattle.rb_sockets.specs.Settings.{path_of, listener_of}
+use Rattle.rb_settings.specs.declared.settings.LocalSocket.{LocalSocket}
+use Rattle.rb_settings.specs.declared.settings.Settings.{Settings}
+use Rattle.rb_settings.specs.Settings.{path_of, listener_of}
 use Rattle.rb_commands.specs.declared.options.Valued.{Valued}
 use Rattle.rb_commands.specs.declared.options.Valued.TheVariants.{LocalMode, Port, Turns, RecordLimit}
 use Rattle.rb_commands.specs.declared.options.Valued.TheVariants as valueds

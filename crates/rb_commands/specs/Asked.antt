@@ -1,7 +1,7 @@
 -- What holds of what words ask for.
 use Rattle.std.specs.Prelude.{⊤}
 use Rattle.rb_lines.specs.Starts.{MeetsLaws}
-use Rattle.rb_sockets.specs.Settings.{listener_of}
+use Rattle.rb_settings.specs.Settings.{listener_of}
 use Rattle.rb_commands.specs.declared.serving.Serve.{Serve}
 use Rattle.rb_commands.specs.declared.arguments.Words.{Words}
 use Rattle.rb_commands.specs.declared.arguments.Words.TheVariants as words

@@ -10,10 +10,10 @@ use Rattle.rb_address.specs.Reading.{cut, number_below}
 use Rattle.rb_address.specs.Networks.{network_of, plain_host_of}
 use Rattle.rb_proto.specs.declared.listener.Terms.{Terms}
 use Rattle.rb_policy.specs.declared.brake.Rate.{Rate}
-use Rattle.rb_sockets.specs.declared.settings.LocalSocket.{LocalSocket}
+use Rattle.rb_settings.specs.declared.settings.LocalSocket.{LocalSocket}
 use Rattle.rb_policy.specs.declared.log_choice.Logged.{Logged}
 use Rattle.rb_policy.specs.declared.log_choice.Logged.TheVariants.{Nothing, Changes, All as Everything}
-use Rattle.rb_sockets.specs.declared.settings.Settings.{Settings}
+use Rattle.rb_settings.specs.declared.settings.Settings.{Settings}
 use Rattle.rb_commands.specs.declared.options.Valued.{Valued}
 use Rattle.rb_commands.specs.declared.options.Valued.TheVariants.{Bind, From, LocalMode, Port, UdpLists, ForwardFor, UdpRate, Turns, RecordLimit, Keep, Log}
 use Rattle.rb_commands.specs.declared.serving.ServeTexts.{ServeTexts}

@@ -12,7 +12,7 @@ use crate::wanted::{BadValue, texts_of};
 use clap::error::ErrorKind;
 use clap::{ArgMatches, Error};
 use rb_lines::{Beginning, DONE, Ending, Fault, explain};
-use rb_sockets::open_files;
+use rb_settings::open_files;
 use std::alloc::Global;
 use std::convert::AsStr;
 use std::io::Write;

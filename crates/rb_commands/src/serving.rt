@@ -13,7 +13,7 @@ use crate::wanted::texts_of;
 use rb_address::{Host, Network, cut, number_below};
 use rb_policy::{ANY, Rate};
 use rb_proto::Terms;
-use rb_sockets::{Few, LocalSocket, Logged, MOST, Settings};
+use rb_settings::{Few, LocalSocket, Logged, MOST, Settings};
 
 /// The values of the options of `serve`, as texts.
 #[derive(Clone, Copy)]

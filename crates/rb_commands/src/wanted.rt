@@ -4,7 +4,7 @@ ghost use Rattle.rb_commands.specs.Wanted.{said, option_texts, texts_of, announc
 
 use crate::options::Valued;
 use rb_proto::MOST_RESERVED;
-use rb_sockets::MOST;
+use rb_settings::MOST;
 use std::fmt;
 use std::fmt::{Display, Formatter};
 

@@ -6,7 +6,7 @@ use Rattle.rb_xdr.specs.Meter.{Meter, PaysAtMost}
 use Rattle.rb_xdr.specs.Pool.{value_at, HasDistinctKeys}
 use Rattle.rb_registry.specs.Registry.{Registry}
 use Rattle.rb_model.specs.Gives.{written_into_cost}
-use Rattle.rb_model.specs.declared.types.Standing.{Standing}
+use Rattle.rb_rpc.specs.declared.standing.Standing.{Standing}
 use Rattle.rb_model.specs.declared.types.CoreFault.TheVariants as CoreFault
 use Rattle.rb_model.specs.Costs.{walked, find_cost, given_cost, recount_cost}
 use Rattle.rb_connections.specs.declared.giving.Giving.{Giving}

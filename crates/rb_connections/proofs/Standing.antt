@@ -11,8 +11,8 @@ use Rattle.rb_xdr.specs.Pool.{value_at, with_value}
 use Rattle.rb_model.specs.State.{Phase, Connection}
 use Rattle.rb_model.specs.Connections.{is_live, live_connection}
 use Rattle.rb_model.specs.Standings.{standing_in, standing_on}
-use Rattle.rb_model.specs.declared.types.Standing.{Standing}
-use Rattle.rb_model.specs.declared.types.Standing.TheVariants as stands
+use Rattle.rb_rpc.specs.declared.standing.Standing.{Standing}
+use Rattle.rb_rpc.specs.declared.standing.Standing.TheVariants as stands
 use Rattle.rb_registry.specs.Registry.{Registry}
 use Rattle.rb_connections.specs.declared.slot.Slot.{Slot}
 use Rattle.rb_connections.specs.declared.slot.Stage.{Stage}

@@ -4,7 +4,7 @@ use Rattle.rb_xdr.specs.Meter.{Meter, PaysAtMost}
 use Rattle.rb_registry.specs.Registry.{Registry, slots_of}
 use Rattle.rb_model.specs.declared.types.CoreFault.{CoreFault}
 use Rattle.rb_model.specs.declared.types.Given.{Given}
-use Rattle.rb_model.specs.declared.types.Standing.{Standing}
+use Rattle.rb_rpc.specs.declared.standing.Standing.{Standing}
 use Rattle.rb_model.specs.Standings.{without_standing}
 use Rattle.rb_model.specs.Connections.{longest_fragment, live_connection}
 use Rattle.rb_model.specs.Costs.{walked, show_cost, listed_cost, given_cost, recount_cost, find_cost, take_cost, swap_cost, gave_cost}

@@ -9,7 +9,7 @@ use Rattle.rb_xdr.specs.Pool.{Pool, HasDistinctKeys}
 use Rattle.rb_rpc.specs.Verdict.{verdict}
 use Rattle.rb_address.specs.declared.who.Who.{Who}
 use Rattle.rb_model.specs.declared.types.CoreFault.{CoreFault}
-use Rattle.rb_model.specs.declared.types.Standing.{Standing}
+use Rattle.rb_rpc.specs.declared.standing.Standing.{Standing}
 use Rattle.rb_model.specs.declared.types.Given.{Given}
 use Rattle.rb_model.specs.Gives.{write_fitting, bytes_given}
 use Rattle.rb_model.specs.Standings.{without_standing}

@@ -1,7 +1,7 @@
 -- Each connection for which a call is forwarded awaits it, after a call too.
 use Rattle.std.proofs.Common.{◌≡◌, ℕ, Bool, true, false, refl, sym, ◌∙◌}
 use Rattle.rb_address.specs.declared.who.Who.{Who}
-use Rattle.rb_rpc.specs.declared.caller.Caller.TheVariants.{Udp}
+use Rattle.rb_address.specs.declared.caller.Caller.TheVariants.{Udp}
 use Rattle.rb_forward.specs.StandsFor.{Table as Entries, slots_of}
 use Rattle.rb_forward.specs.Table.{is_waiting, NoneWaitsAnew, OnlyWaitsAnew}
 use Rattle.rb_connections.specs.StandsFor.{Table}

@@ -10,7 +10,7 @@ use Rattle.rb_rpc.specs.Feeds.{arguments_of}
 use Rattle.rb_registry.specs.Registry.{slots_of}
 use Rattle.rb_forward.specs.Costs.{sent_cost, unsent_cost}
 use Rattle.rb_forward.specs.Deadlines.{soonest_cost}
-use Rattle.rb_rpc.specs.Forwarded.{longest_forwarded as longest_args}
+use Rattle.rb_arguments.specs.Forwarded.{longest_forwarded as longest_args}
 use Rattle.rb_proto.specs.Costs.{zero_cost}
 use Rattle.rb_model.specs.Calls.{Outcome, longest_reply, longest_kept, kept_of, message_of}
 use Rattle.rb_model.specs.State.{State, Setting, Connection, Connections, at_moment}
@@ -18,7 +18,7 @@ use Rattle.rb_model.specs.declared.types.CoreFault.{CoreFault}
 use Rattle.rb_model.specs.Connections.{on_live, give, live_connection, Taking, fed_in, taking_of, taking_behind}
 use Rattle.rb_model.specs.Connections.Taking.{TakesNone, GoesOn, Ends}
 use Rattle.rb_model.specs.Step.{datagram, bytes, bytes_to, when_taken, gave, unless_refused, show_taken, step, IsReached}
-use Rattle.rb_model.specs.declared.types.Standing.{Standing}
+use Rattle.rb_rpc.specs.declared.standing.Standing.{Standing}
 use Rattle.rb_model.specs.declared.types.Taken.{Taken}
 use Rattle.rb_model.specs.Standings.{without_standing}
 use Rattle.rb_model.specs.Step.Event.{Bytes, Datagram}

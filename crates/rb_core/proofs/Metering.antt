@@ -14,7 +14,7 @@ use Rattle.rb_model.specs.declared.types.CoreFault.{CoreFault}
 use Rattle.rb_model.specs.declared.types.CoreFault.TheVariants.{BadLimits}
 use Rattle.rb_model.specs.declared.types.Expired.{Expired}
 use Rattle.rb_model.specs.declared.types.Given.{Given}
-use Rattle.rb_model.specs.declared.types.Standing.{Standing}
+use Rattle.rb_rpc.specs.declared.standing.Standing.{Standing}
 use Rattle.rb_model.specs.declared.types.Taken.{Taken}
 use Rattle.rb_model.specs.declared.types.Told.{Told}
 use Rattle.rb_model.specs.State.{State, Setting, Connection}

@@ -2,7 +2,7 @@
 use Rattle.std.proofs.Common.{ℕ, ◌+◌, ◌*◌, ◌^◌, ◌≤◌, ◌<◌, arith}
 use Rattle.std.proofs.Math.Nat.{mul-le-mul_left}
 use Rattle.rb_registry.specs.Slots.{row_charge}
-use Rattle.rb_rpc.specs.Forwarded.{longest_forwarded as args}
+use Rattle.rb_arguments.specs.Forwarded.{longest_forwarded as args}
 use Rattle.rb_forward.specs.StandsFor.{longest_forwarded_call}
 use Rattle.rb_model.specs.Calls.{longest_reply, longest_kept}
 use Rattle.rb_model.specs.Connections.{longest_fragment}

@@ -4,7 +4,7 @@ use Rattle.std.proofs.Common.{◌≡◌, ◌≤◌, ℕ, ◌+◌, Bool, true, fa
 use Rattle.rb_xdr.specs.Meter.{Meter, Pays, PaysAtMost}
 use Rattle.rb_xdr.specs.Kept.{Kept}
 use Rattle.rb_rpc.specs.declared.call.Verdict.{Verdict}
-use Rattle.rb_rpc.specs.declared.caller.Caller.{Caller}
+use Rattle.rb_address.specs.declared.caller.Caller.{Caller}
 use Rattle.rb_xdr.specs.Ordered.{looks}
 use Rattle.rb_registry.specs.Registry.{Registry, slots_of}
 use Rattle.rb_proto.specs.declared.books.Books.{Books}

@@ -1,7 +1,7 @@
 -- Where a connection stands after a call on it.
 use Rattle.std.specs.Prelude.{◌≡◌, ℕ, None}
 use Rattle.rb_model.specs.declared.types.Exchanged.{Exchanged}
-use Rattle.rb_model.specs.declared.types.Standing.{Standing}
+use Rattle.rb_rpc.specs.declared.standing.Standing.{Standing}
 use Rattle.rb_model.specs.Standings.{standing_of, standing_behind}
 use Rattle.rb_connections.specs.StandsFor.{Table}
 use Rattle.rb_connections.specs.Slots.{Shows}

@@ -7,12 +7,12 @@ use crate::calls::{
 };
 use crate::holding::Core;
 use crate::seen::{Seen, forget};
-use rb_address::{Peer, Who};
+use rb_address::{Caller, Peer, Who};
 use rb_connections::{EndedRecord, Received};
 use rb_forward::{Ended, FwdId, sooner};
 use rb_model::{CoreFault, Exchanged, Expired, Limits, Response, Served, Standing, Taken, Told};
 use rb_proto::{Context, Listener};
-use rb_rpc::{Caller, read_call};
+use rb_rpc::read_call;
 use rb_serving::{arguments_behind, longest_to, put_end};
 use rb_xdr::Meter;
 

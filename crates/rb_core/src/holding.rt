@@ -129,7 +129,7 @@ impl Drop for Core {
 /// How many bytes a core of these limits may hold: for each connection its fixed part, a whole call and a whole
 /// fragment; for each row its fixed part and an address text of 128 bytes; for each forwarded call its fixed part and
 /// the call; the keys of the statistics; and a reply.
-#[tactic(auto, unfolding(rb_model::specs::Calls::longest_reply, rb_model::specs::Connections::longest_fragment, rb_rpc::specs::Forwarded::longest_forwarded))]
+#[tactic(auto, unfolding(rb_model::specs::Calls::longest_reply, rb_model::specs::Connections::longest_fragment, rb_arguments::specs::Forwarded::longest_forwarded))]
 fn bytes_bound(limits: &Limits) -> u64
     requires conns { limits.now.conns ≤ 256 }
     requires rows { limits.now.rows ≤ 4096 }

@@ -1,10 +1,10 @@
 //! What a call asked to change, or with what it was refused: for those who tell of it. It is no part of the state,
 //! and no answer depends on it.
-use rb_address::{Family, Netid, Owner, Transport, Who};
+use rb_address::{Caller, Family, Netid, Owner, Transport, Who};
 use rb_arguments::{LentRpcb, Mapping, MappingProcedure, Request, RpcbProcedure};
 use rb_model::Message;
 use rb_proto::{Call, Context, Refusal};
-use rb_rpc::{Caller, ReplyStatus};
+use rb_rpc::ReplyStatus;
 use rb_uaddr::Uaddr;
 use rb_xdr::Text;
 

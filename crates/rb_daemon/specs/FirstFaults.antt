@@ -1,10 +1,10 @@
 -- What is told of faults that may come again and again.
 use Rattle.std.specs.Prelude.{Bool, true, false, Option, Some, None, Result, Ok, Err}
 use Rattle.std.specs.declared.io.Error.{Error}
-use Rattle.rb_sockets.specs.declared.faults.DaemonFault.{DaemonFault}
-use Rattle.rb_sockets.specs.declared.faults.DaemonFault.TheVariants.{Socket}
-use Rattle.rb_sockets.specs.declared.faults.SocketFault.{SocketFault}
-use Rattle.rb_sockets.specs.declared.faults.Step.TheVariants.{Wait}
+use Rattle.rb_settings.specs.declared.faults.DaemonFault.{DaemonFault}
+use Rattle.rb_settings.specs.declared.faults.DaemonFault.TheVariants.{Socket}
+use Rattle.rb_settings.specs.declared.faults.SocketFault.{SocketFault}
+use Rattle.rb_settings.specs.declared.faults.Step.TheVariants.{Wait}
 
 -- what is to be told after a fault: the first one, once, and no later one
 abbrev pub first_fault : {F : Type 0} → Bool → Option F → F → Option F

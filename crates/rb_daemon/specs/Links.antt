@@ -6,8 +6,8 @@ use Rattle.rb_model.specs.declared.types.Given.{Given}
 use Rattle.rb_model.specs.Exchanges.{taken_in}
 use Rattle.rb_model.specs.Step.{open_connection, close_connection}
 use Rattle.rb_core.specs.Events.{length_taken}
-use Rattle.rb_sockets.specs.declared.arrival.Arrival.{Arrival}
-use Rattle.rb_sockets.specs.Arrivals.{who_of}
+use Rattle.rb_arrivals.specs.declared.arrival.Arrival.{Arrival}
+use Rattle.rb_arrivals.specs.Arrivals.{who_of}
 use Rattle.rb_links.specs.declared.link.Link.{Link}
 use Rattle.rb_links.specs.declared.places.Places.{Places}
 use Rattle.rb_links.specs.Numbers.{number_at, arrival_at}

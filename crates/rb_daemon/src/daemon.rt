@@ -1,27 +1,25 @@
 //! The daemon and its turns.
-ghost use Rattle.std.specs.Prelude.{◌≡◌, ◌↔◌, IsTrue, IsErrOf, OnOk, nat_lt, false, not, OnErr, is_some, true};
+ghost use Rattle.std.specs.Prelude.{◌≡◌, ◌↔◌, IsTrue, IsErrOf, OnOk, nat_lt, false, not, OnErr, is_some, true, None};
 ghost use Rattle.rb_lines.specs.Starts.{MeetsLaws};
 ghost use Rattle.rb_policy.specs.Turns.{others_of};
-ghost use Rattle.rb_sockets.specs.Settings.{listener_of};
+ghost use Rattle.rb_settings.specs.Settings.{listener_of};
 ghost use Rattle.rb_engine.specs.Served.{has_good_limits};
 ghost use Rattle.rb_daemon.specs.FirstFaults.{end_of};
 ghost use Rattle.rb_engine.specs.Recording.{WritesRecord};
 
-use crate::load::Load;
 use crate::room::Room;
 use crate::secrets::{brake_of, draw, first_xid};
 use crate::serving::Serving;
-use crate::waiting::{EVENTS, Times, TurnFailed, Waiting, read_clocks};
+use crate::waiting::{EVENTS, Times, Waiting, read_clocks};
 use mio::Registry;
-use rb_engine::{Begun, KeepNews, begin};
+use rb_engine::{Begun, begin};
 use rb_lines::bad_limit;
 use rb_model::Limits;
 use rb_policy::{Brake, others_of, place_count, wait_of};
 use rb_registry::Row;
-use rb_sockets::{
-    AddressNews, BindFault, DaemonFault, Follower, Handed, Settings, Shortage, SocketFault,
-    Sockets, Step, TableFault,
-};
+use rb_settings::{BindFault, DaemonFault, KeepNews, Settings, Shortage, SocketFault, Step};
+use rb_sockets::{AddressNews, Follower, Handed, Sockets, TableFault};
+use rb_turns::{Load, Starts, TurnFailed, Turns};
 use std::alloc::{AllocError, Global};
 use std::fs::Files;
 use std::io;
@@ -36,36 +34,14 @@ pub struct Daemon<'a, R: Clock, H: Files> {
     clock: &'a R,
     waiting: Waiting,
     serving: Serving<H>,
+    /// That the limit of open files leaves fewer places for connections than the settings ask for, if it does.
     shortage: Option<Shortage>,
-    /// Which of the rows that were kept are not set again.
+    /// Which of the rows that were kept are not set again, by their places, in order.
     left_out: Vec<usize>,
 }
 
 impl<'a, R: Clock, H: Files> Daemon<'a, R, H> {
-    // LIMITS-2: The fault is `Limits` if and only if a limit is out of its range: before memory is
-    // taken and sockets are bound.
-    /// A daemon that listens where the settings say: over TCP and UDP on each of their hosts, and also on ::1 and on a
-    /// local socket if they are asked for, at some of them by sockets that were handed over. Before that it sets the rows
-    /// again that were kept. Its secrets are of the randomness of `host`. `Limits` if a limit is out of its range, or the rows have no room for the own ones and two
-    /// more; else `Memory` or `Socket`, whichever occurs first.
-    pub fn new<B: Files + Net + RandomSource>(
-        alloc: Global,
-        host: &B,
-        clock: &'a R,
-        settings: &Settings<'_>,
-        kept: &[Row],
-        handed: Handed,
-    ) -> Result<Daemon<'a, R, H>, DaemonFault>
-        requires { MeetsLaws (listener_of settings.now) settings.now.record_limit }
-        ensures bad { IsErrOf result DaemonFault.Limits
-            ↔ IsTrue (not (has_good_limits settings.now)) }
-        ensures good { OnOk result (IsTrue (has_good_limits settings.now)) }
-    {
-        check_limits(settings)?;
-        Daemon::begin(alloc, host, clock, settings, kept, handed)
-    }
-
-    /// The same, at good limits.
+    /// One at good limits.
     fn begin<B: Files + Net + RandomSource>(
         alloc: Global,
         host: &B,
@@ -84,8 +60,24 @@ impl<'a, R: Clock, H: Files> Daemon<'a, R, H> {
         let secrets = draw(host);
         let xid = first_xid(&secrets, first.wall);
         let brake = brake_of(alloc, settings.udp_rate, secrets)?;
-        // What is big is made last: each `?` lets go what was made before it.
+        // What is big is made last, and handed on: each `?` lets go what was made before it.
         let inner = begin(alloc, settings, xid, first.wall, kept)?;
+        Daemon::around(alloc, host, clock, settings, handed, first, inner, brake)
+    }
+
+    /// A core with the sockets that the settings name.
+    fn around<B: Files + Net>(
+        alloc: Global,
+        host: &B,
+        clock: &'a R,
+        settings: &Settings<'_>,
+        handed: Handed,
+        first: Times,
+        inner: Begun<H>,
+        brake: Option<Brake>,
+    ) -> Result<Daemon<'a, R, H>, DaemonFault>
+        ensures others { IsErrOf result DaemonFault.Limits → IsTrue false }
+    {
         let outer = open(alloc, host, settings, first, handed)?;
         outer.sockets.write_stack(host);
         Ok(Daemon::of(clock, settings.limits, inner, outer, brake))
@@ -115,24 +107,65 @@ impl<'a, R: Clock, H: Files> Daemon<'a, R, H> {
         }
     }
 
-    /// The moment of the last turn, in milliseconds since the start of 1970.
-    pub fn moment(&self) -> u64 {
+    /// Waits for events as a turn does. Returns whether the turn looked for them after its moment.
+    fn wait(
+        &mut self,
+        is_work_left: bool,
+        deadline: Option<u64>,
+        longest: Option<u64>,
+    ) -> Result<bool, TurnFailed>
+        ensures end { OnErr result (is_some self.new.waiting.end ≡ true) }
+    {
+        let wait = wait_of(
+            is_work_left || self.serving.is_table_left(),
+            self.waiting.moment(),
+            self.serving.next_turn(deadline),
+            longest,
+        );
+        self.waiting.wait(self.clock, wait, deadline.is_none())
+    }
+}
+
+// What each of these does, rb_turns says.
+impl<'a, R: Clock, H: Files> Starts<&'a R, H> for Daemon<'a, R, H> {
+    // LIMITS-2: The fault is `Limits` if and only if a limit is out of its range: before memory is
+    // taken and sockets are bound.
+    /// A daemon that listens where the settings say: over TCP and UDP on each of their hosts, and also on ::1 and on a
+    /// local socket if they are asked for, at some of them by sockets that were handed over. Before that it sets the rows
+    /// again that were kept. Its secrets are of the randomness of `host`. `Limits` if a limit is out of its range, or the
+    /// rows have no room for the own ones and two more; else `Memory` or `Socket`, whichever occurs first.
+    fn new<B: Files + Net + RandomSource>(
+        alloc: Global,
+        host: &B,
+        clock: &'a R,
+        settings: &Settings<'_>,
+        kept: &[Row],
+        handed: Handed,
+    ) -> Result<Daemon<'a, R, H>, DaemonFault>
+        requires { MeetsLaws (listener_of settings.now) settings.now.record_limit }
+        ensures bad { IsErrOf result DaemonFault.Limits
+            ↔ IsTrue (not (has_good_limits settings.now)) }
+        ensures good { OnOk result (IsTrue (has_good_limits settings.now)) }
+    {
+        check_limits(settings)?;
+        Daemon::begin(alloc, host, clock, settings, kept, handed)
+    }
+}
+
+impl<R: Clock, H: Files> Turns<H> for Daemon<'_, R, H> {
+    fn moment(&self) -> u64 {
         self.waiting.moment()
     }
 
-    /// How much it serves. It goes through all rows.
-    pub fn load(&mut self) -> Load {
+    fn load(&mut self) -> Load {
         self.serving.load()
     }
 
-    // START-2
-    /// That the limit of open files leaves fewer places for connections than the settings ask for, if it does.
-    pub fn shortage(&self) -> Option<Shortage> {
+    fn shortage(&self) -> Option<Shortage> {
         self.shortage
     }
 
-    /// Which of the rows that were kept are not set again, by their places, in order.
-    pub fn left_out(&self) -> &[usize] {
+    fn left_out(&self) -> &[usize] {
         self.left_out.as_slice()
     }
 
@@ -150,117 +183,107 @@ impl<'a, R: Clock, H: Files> Daemon<'a, R, H> {
     /// kernel's tables, which are files of `host`. A wait that fails is as
     /// one that showed nothing, after a pause. After many waits that failed one after another, or if the clock does, the turn
     /// fails: what was handed to the core stands, and the daemon can do no more.
-    pub fn turn(&mut self, host: &H, longest: Option<u64>) -> Result<(), TurnFailed>
+    fn turn(&mut self, host: &H, longest: Option<u64>) -> Result<(), TurnFailed>
         ensures end { OnErr result (is_some self.new.waiting.end ≡ true) }
     {
         let is_work_left = self.serving.is_work_left();
         let deadline = self.serving.next_deadline();
-        let wait = wait_of(
-            is_work_left || self.serving.is_table_left(),
-            self.waiting.moment(),
-            self.serving.next_turn(deadline),
-            longest,
-        );
-        let is_fresh = self.waiting.wait(self.clock, wait, deadline.is_none())?;
+        let is_fresh = self.wait(is_work_left, deadline, longest)?;
         let shown = self.waiting.count();
         serve_events(&mut self.serving, host, &self.waiting);
         self.serving.expire(host, deadline, is_fresh, shown, EVENTS);
-        self.serving.close_lost();
-        self.serving.accept_all(host, self.waiting.registry());
+        let is_idle = !is_work_left && shown == 0;
         self.serving
-            .look_in_tables(host, !is_work_left && shown == 0);
-        self.serving.keep(host);
+            .end_turn(host, self.waiting.registry(), is_idle);
         Ok(())
     }
 
-    /// How the turns ended: `Socket` if one failed, once.
-    pub fn take_end(&mut self) -> Result<(), DaemonFault>
+    fn take_end(&mut self) -> Result<(), DaemonFault>
         ensures { result ≡ end_of self.old.waiting.end }
     {
         self.waiting.take_end()
     }
 
-    /// Whether one of the calls below has something to tell, or something to look for is due: if not, none need be made after
-    /// this turn.
-    pub fn has_news(&self) -> bool {
+    fn has_news(&self) -> bool {
         self.waiting.has_news() || self.serving.has_news()
     }
 
-    /// The first fault of a listener, or of the wait for events, once: the daemon goes on, and tries it again in each turn.
-    pub fn take_fault(&mut self) -> Option<SocketFault> {
+    fn take_fault(&mut self) -> Option<SocketFault> {
         match self.waiting.take_fault() {
             Some(fault) => Some(fault),
-            None => self.serving.take_fault(),
+            None => self.serving.fault.take(),
         }
     }
 
-    /// What there is to tell of the rows that are kept, once: that they could not be written, and the daemon tries again
-    /// at the next change; that they are written again; that another file was in their place.
-    pub fn take_keep_news(&mut self) -> Option<KeepNews>
+    fn take_keep_news(&mut self) -> Option<KeepNews>
         ensures { result ≡ self.old.serving.keeper.news }
     {
-        self.serving.take_keep_news()
+        self.serving.keeper.take_news()
     }
 
-    /// The first fault of one of the kernel's tables, once: while they can't be read whole, nobody registers over TCP.
-    pub fn take_table_fault(&mut self) -> Option<TableFault>
-        ensures { result ≡ self.old.serving.table_fault }
+    fn take_table_fault(&mut self) -> Option<TableFault>
+        ensures fault { result ≡ self.old.serving.tables.fault }
+        ensures told { self.new.serving.tables.fault ≡ None }
     {
-        self.serving.take_table_fault()
+        self.serving.tables.fault.take()
     }
 
-    /// Whether it was found since the last question that the file of the local socket is another one, or open to others: from
-    /// then on the owner of whoever comes there is unknown.
-    pub fn take_local_change(&mut self) -> bool {
-        self.serving.take_local_change()
+    fn take_local_change(&mut self) -> bool {
+        self.serving.sockets.take_local_change()
     }
 
-    /// Tries again to take the abstract name of the local socket, if it is to be held and is not: every 10 seconds, which a
-    /// turn knows of. What is to be told of it, once each: why it was not taken at the start, and that it was taken later.
-    pub fn take_name<N: Files + Net>(&mut self, host: &N) -> Option<io::Result<()>> {
-        self.serving.take_name(host)
+    fn take_name<N: Files + Net>(&mut self, host: &N) -> Option<io::Result<()>> {
+        let moment = self.serving.turn.moment;
+        self.serving.sockets.take_name(host, moment)
     }
 
-    /// From here on addresses are followed. An error if an allocation is refused.
-    pub fn follow_by(&mut self, follower: Follower) -> Result<(), AllocError> {
-        self.serving.follow_by(follower)
+    fn follow_by(&mut self, follower: Follower) -> Result<(), AllocError> {
+        self.serving.sockets.follow_by(follower)
     }
 
-    /// Listens on an address that has come, or no more on one that has gone, if addresses are followed: they are found out
-    /// every 10 seconds, which a turn knows of. What is to be told, once each; nothing once all is done.
-    pub fn follow<N: Files + Net>(&mut self, host: &N) -> Option<AddressNews> {
-        self.serving.follow(host, self.waiting.registry())
+    fn follow<N: Files + Net>(&mut self, host: &N) -> Option<AddressNews> {
+        let registry = self.waiting.registry();
+        let moment = self.serving.turn.moment;
+        self.serving.sockets.follow(host, registry, moment)
     }
 
     /// Writes what was recorded of the turns and not yet written (docs/EVENTS.md). After an error nothing more is
     /// recorded, and the daemon goes on.
-    pub fn write_record<W: Write>(&mut self, writer: &mut W) -> io::Result<()>
+    fn write_record<W: Write>(&mut self, writer: &mut W) -> io::Result<()>
         ensures { OnOk result (WritesRecord W.contents writer.old writer.new
             self.old.serving.engine.tape self.new.serving.engine.tape) }
     {
-        self.serving.write_record(writer)
+        self.serving.engine.write_record(writer)
     }
 
-    /// Writes the lines of the log that the turns added and that are not written yet (rpcbind(8), `--log`). If that
-    /// fails, they are lost, and the daemon goes on.
-    pub fn write_log<W: Write>(&mut self, writer: &mut W) -> io::Result<()> {
-        self.serving.write_log(writer)
+    fn write_log<W: Write>(&mut self, writer: &mut W) -> io::Result<()> {
+        self.serving.engine.write_log(writer)
     }
 }
 
 /// Serves what the wait showed.
 fn serve_events<H: Files>(serving: &mut Serving<H>, host: &H, waiting: &Waiting) {
     serving.begin_turn(waiting.moment());
-    for event in &waiting.events {
-        serving.note_ready(event);
-    }
+    note_ready(&mut serving.sockets, waiting);
     serving.answer_calls(host);
     serving.take_forward_replies(host);
+    serve_shown(serving, host, waiting);
+    serving.serve_left(host);
+    serving.answer_changes(host);
+}
+
+/// Notes what the wait showed of the daemon's own sockets.
+fn note_ready(sockets: &mut Sockets, waiting: &Waiting) {
+    for event in &waiting.events {
+        sockets.note_ready(event.token());
+    }
+}
+
+/// Serves the connections that the wait showed.
+fn serve_shown<H: Files>(serving: &mut Serving<H>, host: &H, waiting: &Waiting) {
     for event in &waiting.events {
         serving.serve(host, event);
     }
-    serving.serve_left(host);
-    serving.answer_changes(host);
 }
 
 // PLACES-1
@@ -272,6 +295,7 @@ fn others_beside(sockets: u64, settings: &Settings<'_>) -> u64
     others_of(sockets, settings.record_limit > 0, settings.keep.is_some())
 }
 
+// START-2
 /// How many places there are for connections, and the shortage, if they are fewer than the settings ask for.
 fn places_of<N: Net>(
     host: &N,
@@ -328,6 +352,19 @@ fn open<B: Files + Net, H: Files>(
 {
     let waiting = Waiting::new(alloc, host, first)?;
     let sockets = bind(alloc, host, settings, handed, waiting.registry())?;
+    furnish(alloc, host, settings, waiting, sockets)
+}
+
+/// Takes the memory with which sockets are served. `Memory` if an allocation is refused.
+fn furnish<B: Net, H: Files>(
+    alloc: Global,
+    host: &B,
+    settings: &Settings<'_>,
+    waiting: Waiting,
+    sockets: Sockets,
+) -> Result<Outer<H>, DaemonFault>
+    ensures others { IsErrOf result DaemonFault.Limits → IsTrue false }
+{
     let (places, shortage) = places_of(host, settings, &sockets);
     let networks = settings.from.as_slice();
     let forwards = settings.limits.forwards;

@@ -8,7 +8,8 @@ use rb_address::{Family, Who};
 use rb_engine::{Asked, Sender, answer_call, take_back};
 use rb_policy::drains::{CallsSoFar, Came, Drains, drain};
 use rb_policy::{Again, Brake, Next, SOCKET_CALLS, after_accept, after_receive, outcome_of};
-use rb_sockets::Step;
+use rb_settings::{SocketFault, Step};
+use rb_sockets::{CallSocket, ForwardSocket, ForwardSockets, Listener, Watched};
 use std::fs::Files;
 use std::io;
 
@@ -36,7 +37,7 @@ impl<H: Files> Drains for Calls<'_, H> {
     }
 
     fn leave(&mut self, again: Again) {
-        self.serving.leave_calls(self.number, again);
+        leave_calls(&mut self.serving.sockets.calls.all, self.number, again);
     }
 }
 
@@ -59,7 +60,7 @@ impl<H: Files> Drains for ForwardReplies<'_, H> {
     }
 
     fn leave(&mut self, again: Again) {
-        self.serving.leave_forwards(self.family, again);
+        leave_of(&mut self.serving.sockets.forwards, self.family, again);
     }
 }
 
@@ -85,7 +86,7 @@ impl<H: Files> Drains for Door<'_, H> {
     }
 
     fn leave(&mut self, again: Again) {
-        self.serving.leave_listener(self.number, again);
+        leave_listener(&mut self.serving.sockets.listeners, self.number, again);
     }
 }
 
@@ -107,9 +108,68 @@ fn is_told(next: Next, before: CallsSoFar) -> bool {
     }
 }
 
+/// The socket of this number, where calls come in, is served again then, if there is one.
+fn leave_calls(sockets: &mut Vec<Watched<CallSocket>>, number: usize, again: Again)
+    ensures { IsServedNextAt number again sockets.new.items }
+{
+    if let Some(socket) = sockets.get_mut(number) {
+        socket.leave(again);
+    }
+}
+
+/// The listener of this number is served again then, if there is one.
+fn leave_listener(listeners: &mut Vec<Watched<Listener>>, number: usize, again: Again)
+    ensures { IsServedNextAt number again listeners.new.items }
+{
+    if let Some(listener) = listeners.get_mut(number) {
+        listener.leave(again);
+    }
+}
+
+/// Whether the socket, if there is one, must be served in this turn.
+fn is_ready(forwards: &Option<Watched<ForwardSocket>>) -> bool {
+    match forwards {
+        Some(forwards) => forwards.is_ready(),
+        None => false,
+    }
+}
+
+/// The socket for targets of a family is served again then.
+fn leave_of(forwards: &mut ForwardSockets, family: Family, again: Again)
+    ensures { IsServedNextOf family again forwards.new }
+{
+    match family {
+        Family::Inet => {
+            if let Some(socket) = &mut forwards.inet {
+                socket.leave(again);
+            }
+        }
+        Family::Inet6 => {
+            if let Some(socket) = &mut forwards.inet6 {
+                socket.leave(again);
+            }
+        }
+    }
+}
+
+/// An accept of the listener of this number failed, which must be told if it is the listener's first failure.
+fn note_fault(
+    told: &mut Option<SocketFault>,
+    listeners: &mut [Watched<Listener>],
+    which: usize,
+    error: io::Error,
+) {
+    if told.is_none() {
+        if let Some(listener) = listeners.get_mut(which) {
+            if listener.fail() {
+                *told = Some(Step::Accept.failed(error));
+            }
+        }
+    }
+}
+
 impl<H: Files> Serving<H> {
     ghost use Rattle.std.specs.Prelude.{◌≤◌, length};
-    ghost use Rattle.rb_daemon.specs.Draining.{IsServedNextAt, IsServedNextOf};
 
     /// Answers datagrams on each socket where calls come in.
     pub(crate) fn answer_calls(&mut self, host: &H) {
@@ -128,15 +188,6 @@ impl<H: Files> Serving<H> {
                 };
                 drain(&mut socket, DATAGRAMS, DATAGRAMS);
             }
-        }
-    }
-
-    /// The socket of this number is served again then.
-    fn leave_calls(&mut self, number: usize, again: Again)
-        ensures { IsServedNextAt number again self.new.sockets.calls.all.items }
-    {
-        if let Some(calls) = self.sockets.calls.all.get_mut(number) {
-            calls.leave(again);
         }
     }
 
@@ -182,40 +233,22 @@ impl<H: Files> Serving<H> {
 
     /// Takes what comes back for forwarded calls.
     pub(crate) fn take_forward_replies(&mut self, host: &H) {
-        self.take_forward_replies_from(host, Family::Inet);
-        self.take_forward_replies_from(host, Family::Inet6);
+        if is_ready(&self.sockets.forwards.inet) {
+            self.take_forward_replies_from(host, Family::Inet);
+        }
+        if is_ready(&self.sockets.forwards.inet6) {
+            self.take_forward_replies_from(host, Family::Inet6);
+        }
     }
 
-    /// Takes what comes back from targets of a family, if that must be served.
+    /// Takes what comes back from targets of a family.
     fn take_forward_replies_from(&mut self, host: &H, family: Family) {
-        let forwards = self.sockets.forwards.of(family);
-        if !forwards.is_some_and(|forwards| forwards.is_ready()) {
-            return;
-        }
         let mut socket = ForwardReplies {
             serving: &mut *self,
             host,
             family,
         };
         drain(&mut socket, DATAGRAMS, DATAGRAMS);
-    }
-
-    /// The socket for targets of a family is served again then.
-    fn leave_forwards(&mut self, family: Family, again: Again)
-        ensures { IsServedNextOf family again self.new.sockets.forwards }
-    {
-        match family {
-            Family::Inet => {
-                if let Some(forwards) = &mut self.sockets.forwards.inet {
-                    forwards.leave(again);
-                }
-            }
-            Family::Inet6 => {
-                if let Some(forwards) = &mut self.sockets.forwards.inet6 {
-                    forwards.leave(again);
-                }
-            }
-        }
     }
 
     /// Takes a datagram from a target of a family, if one comes.
@@ -279,15 +312,6 @@ impl<H: Files> Serving<H> {
         }
     }
 
-    /// The listener of this number is served again then.
-    fn leave_listener(&mut self, number: usize, again: Again)
-        ensures { IsServedNextAt number again self.new.sockets.listeners.items }
-    {
-        if let Some(listener) = self.sockets.listeners.get_mut(number) {
-            listener.leave(again);
-        }
-    }
-
     // LISTENER-1: The first fault of each listener is told, and no later one; each turn tries again.
     /// Accepts a connection on the listener of this number, if one comes, after what came before.
     fn accept_on(
@@ -310,20 +334,9 @@ impl<H: Files> Serving<H> {
             Err(error) => {
                 let next = after_accept(outcome_of(&error));
                 if is_told(next, before) {
-                    self.note_fault(number, error);
+                    note_fault(&mut self.fault, &mut self.sockets.listeners, number, error);
                 }
                 Came::Nothing(next)
-            }
-        }
-    }
-
-    /// An accept of the listener of this number failed, which must be told if it is the listener's first failure.
-    fn note_fault(&mut self, which: usize, error: io::Error) {
-        if self.fault.is_none() {
-            if let Some(listener) = self.sockets.listeners.get_mut(which) {
-                if listener.fail() {
-                    self.fault = Some(Step::Accept.failed(error));
-                }
             }
         }
     }

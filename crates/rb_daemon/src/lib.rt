@@ -4,7 +4,6 @@
 mod daemon;
 mod draining;
 mod held;
-mod load;
 mod opening;
 mod outbox;
 mod room;
@@ -12,15 +11,15 @@ mod secrets;
 mod served;
 mod serving;
 mod steps;
+mod tables;
 mod waiting;
 
 pub use daemon::Daemon;
-pub use load::Load;
-pub use rb_engine::KeepNews;
 pub use rb_model::Limits;
 pub use rb_policy::Rate;
 pub use rb_proto::{Announced, Forwarding, Reserved, Terms};
-pub use rb_sockets::{
-    DaemonFault, Few, Handed, LocalSocket, Logged, Settings, Shortage, SocketFault, Step,
+pub use rb_settings::{
+    DaemonFault, Few, KeepNews, LocalSocket, Logged, Settings, Shortage, SocketFault, Step,
 };
-pub use waiting::TurnFailed;
+pub use rb_sockets::Handed;
+pub use rb_turns::{Load, Starts, TurnFailed, Turns};

@@ -1,5 +1,6 @@
 //! What serving takes of memory.
 use crate::held::Held;
+use crate::tables::Tables;
 use rb_address::Network;
 use rb_links::Places;
 use rb_policy::WaysBack;
@@ -19,7 +20,7 @@ pub(crate) struct Room<H: Files> {
     pub(crate) datagram: Vec<u8>,
     pub(crate) ways_back: WaysBack,
     pub(crate) held: Held,
-    pub(crate) table: Table<H>,
+    pub(crate) tables: Tables<H>,
 }
 
 impl<H: Files> Room<H> {
@@ -43,7 +44,7 @@ impl<H: Files> Room<H> {
             datagram,
             ways_back,
             held: Held::new(alloc)?,
-            table,
+            tables: Tables::new(table),
         })
     }
 }

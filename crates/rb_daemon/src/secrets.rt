@@ -2,7 +2,7 @@
 ghost use Rattle.std.specs.Prelude.{◌≡◌, IfOk, IsErrOf, IsTrue, false};
 
 use rb_policy::{Brake, PlaceKey, Rate};
-use rb_sockets::{DaemonFault, Step};
+use rb_settings::{DaemonFault, Step};
 use std::alloc::Global;
 use std::io;
 use std::random::RandomSource;

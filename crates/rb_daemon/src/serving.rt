@@ -3,30 +3,26 @@ ghost use Rattle.std.specs.Prelude.{◌≡◌};
 ghost use Rattle.rb_daemon.specs.Turning.{is_due};
 
 use crate::held::Held;
-use crate::load::Load;
 use crate::opening::{close_at, open_again, open_at};
 use crate::room::Room;
 use crate::served::{go_on_each, note_served};
 use crate::steps::{Progress, serve};
+use crate::tables::Tables;
 use mio::Registry;
 use mio::event::Event;
-use rb_address::{Family, Network};
-use rb_engine::{Due, Engine, KeepNews, Keeper};
+use rb_address::Network;
+use rb_arrivals::{Accepted, Shown, Visitor};
+use rb_engine::{Due, Engine, Keeper};
 use rb_forward::sooner;
 use rb_links::{Places, Turn};
 use rb_model::Limits;
 use rb_policy::{
-    Admission, Brake, Deadlines, LAST_ROUND, Origin, RETRY, Round, Share, WaysBack, is_behind,
-    origin_of,
+    Admission, Brake, Deadlines, LAST_ROUND, Origin, RETRY, Round, WaysBack, is_behind, origin_of,
 };
-use rb_sockets::{
-    Accepted, AddressNews, Follower, Shown, Slice, SocketFault, Sockets, Table, TableFault, Visitor,
-};
-use std::alloc::AllocError;
+use rb_settings::SocketFault;
+use rb_sockets::Sockets;
+use rb_turns::Load;
 use std::fs::Files;
-use std::io;
-use std::io::Write;
-use std::net::Net;
 
 /// The core with its sockets, the places of connections, and what is left for the next turn.
 #[derive(Drop)]
@@ -50,20 +46,13 @@ pub(crate) struct Serving<H: Files> {
     /// What drops datagrams of strangers that come too often, if that is asked for.
     pub(crate) brake: Option<Brake>,
     /// The kernel's tables of connections, which show whose those from this host are.
-    table: Table<H>,
-    /// The family of the one that is walked through, if a pass through them goes on.
-    walk: Option<Family>,
-    /// How much of the time they are read.
-    share: Share,
+    pub(crate) tables: Tables<H>,
     pub(crate) turn: Turn,
     deadlines: Deadlines,
     /// How many changes had been accepted when connections were last closed that the core had given up for one.
     changes: u64,
     /// The fault of a listener that is yet to be told.
     pub(crate) fault: Option<SocketFault>,
-    /// The first fault of a table, until it is told, and whether there was one.
-    table_fault: Option<TableFault>,
-    has_table_failed: bool,
 }
 
 /// Whether the next deadline has come at a moment, if there is one.
@@ -77,18 +66,15 @@ fn is_due(deadline: Option<u64>, moment: u64) -> bool
 }
 
 impl<H: Files> Serving<H> {
-    ghost use Rattle.std.specs.Prelude.{◌≡◌, vec_len, OnOk, true, None};
+    ghost use Rattle.std.specs.Prelude.{◌≡◌, vec_len, true};
     ghost use Rattle.rb_connections.specs.Slots.{Shows};
     ghost use Rattle.rb_core.specs.StandsFor.{StandsFor};
     ghost use Rattle.rb_engine.specs.Served.{row_count};
-    ghost use Rattle.rb_engine.specs.Recording.{WritesRecord};
-    ghost use Rattle.rb_daemon.specs.FirstFaults.{first_fault};
     ghost use Rattle.rb_engine.specs.Moves.{LooksOnce};
     ghost use Rattle.mio.specs.Event.{event_token};
     ghost use Rattle.rb_policy.specs.Deadlines.{ends, put_off_after, is_behind};
     ghost use Rattle.rb_policy.specs.Rounds.{StayBut};
     ghost use Rattle.rb_sockets.specs.Events.{shown_by};
-    ghost use Rattle.rb_sockets.specs.Watching.{NotesShown};
     ghost use Rattle.rb_links.specs.Rounds.{IsTakenUp, TakesUp, ServesFew};
     ghost use Rattle.rb_daemon.specs.Turning.{ServesNone, ServesEach, is_due, leaves_some};
 
@@ -108,7 +94,7 @@ impl<H: Files> Serving<H> {
             datagram,
             ways_back,
             held,
-            table,
+            tables,
         } = room;
         Serving {
             engine,
@@ -122,9 +108,7 @@ impl<H: Files> Serving<H> {
             ways_back,
             held,
             brake,
-            table,
-            walk: None,
-            share: Share::new(),
+            tables,
             turn: Turn {
                 number: 0,
                 moment: 0,
@@ -132,43 +116,16 @@ impl<H: Files> Serving<H> {
             deadlines: Deadlines::new(),
             changes: 0,
             fault: None,
-            table_fault: None,
-            has_table_failed: false,
         }
-    }
-
-    /// Writes what was recorded and not yet written.
-    pub(crate) fn write_record<W: Write>(&mut self, writer: &mut W) -> io::Result<()>
-        ensures { OnOk result (WritesRecord W.contents
-            writer.old writer.new self.old.engine.tape self.new.engine.tape) }
-    {
-        self.engine.write_record(writer)
     }
 
     /// Whether something is to be told, or something to look for is due.
     pub(crate) fn has_news(&self) -> bool {
         self.fault.is_some()
-            || self.table_fault.is_some()
+            || self.tables.fault.is_some()
             || self.keeper.has_news()
             || self.engine.may_have_log_lines()
             || self.sockets.has_news(self.turn.moment)
-    }
-
-    /// Keeps what changed and is not kept yet.
-    pub(crate) fn keep(&mut self, host: &H) {
-        self.keeper.keep(host, &mut self.engine);
-    }
-
-    /// What is yet to be told of the kept rows.
-    pub(crate) fn take_keep_news(&mut self) -> Option<KeepNews>
-        ensures { result ≡ self.old.keeper.news }
-    {
-        self.keeper.take_news()
-    }
-
-    /// Writes the lines of the log that are not written yet.
-    pub(crate) fn write_log<W: Write>(&mut self, writer: &mut W) -> io::Result<()> {
-        self.engine.write_log(writer)
     }
 
     /// How much is served now. It goes through all rows.
@@ -193,7 +150,7 @@ impl<H: Files> Serving<H> {
 
     /// Whether the next turn has a slice of the kernel's tables to read at once.
     pub(crate) fn is_table_left(&self) -> bool {
-        self.walk.is_some() || self.places.are_sought()
+        self.tables.is_walking() || self.places.are_sought()
     }
 
     /// The next deadline, in milliseconds since the start of 1970, if anything has one: of a connection or a forwarded call,
@@ -219,19 +176,11 @@ impl<H: Files> Serving<H> {
     /// A turn at this moment, in milliseconds since the start of 1970.
     pub(crate) fn begin_turn(&mut self, now: u64) {
         self.engine.set_moment(now);
-        self.share.begin_turn(now);
+        self.tables.begin_turn(now);
         self.turn = Turn {
             number: self.turn.number.wrapping_add(1),
             moment: now,
         };
-    }
-
-    /// Notes what an event shows of the daemon's own sockets.
-    pub(crate) fn note_ready(&mut self, event: &Event)
-        ensures { NotesShown
-            (shown_by (event_token event.now).0) self.old.sockets self.new.sockets }
-    {
-        self.sockets.note_ready(event.token());
     }
 
     /// Serves the connection that an event shows, or leaves it for the last round.
@@ -369,6 +318,15 @@ impl<H: Files> Serving<H> {
         self.close(key);
     }
 
+    /// What a turn does after it served all and ended what is due: closes Lost connections, accepts others, reads a slice of the
+    /// kernel's tables, if nothing else was to be done, and keeps what changed.
+    pub(crate) fn end_turn(&mut self, host: &H, registry: &Registry, is_idle: bool) {
+        self.close_lost();
+        self.accept_all(host, registry);
+        self.look_in_tables(host, is_idle);
+        self.keeper.keep(host, &mut self.engine);
+    }
+
     // CLOSE-2: A connection that the core gave up in a turn is closed in it: one that was due at once,
     // and those of which the room of a row was made at the end of the turn.
     /// Ends what is due, unless the turn is behind. `deadline` is the next one as the turn began; `is_fresh` is whether
@@ -448,43 +406,6 @@ impl<H: Files> Serving<H> {
         }
     }
 
-    /// The fault of a listener that is yet to be told.
-    pub(crate) fn take_fault(&mut self) -> Option<SocketFault> {
-        self.fault.take()
-    }
-
-    /// The first fault of one of the kernel's tables, if it is yet to be told.
-    pub(crate) fn take_table_fault(&mut self) -> Option<TableFault>
-        ensures fault { result ≡ self.old.table_fault }
-        ensures told { self.new.table_fault ≡ None }
-    {
-        self.table_fault.take()
-    }
-
-    /// Whether it was found since the last question that the local socket is root's no longer.
-    pub(crate) fn take_local_change(&mut self) -> bool {
-        self.sockets.take_local_change()
-    }
-
-    /// Tries again to take the abstract name, if that is due. What is to be told of it.
-    pub(crate) fn take_name<N: Files + Net>(&mut self, host: &N) -> Option<io::Result<()>> {
-        self.sockets.take_name(host, self.turn.moment)
-    }
-
-    /// Addresses are followed from here on.
-    pub(crate) fn follow_by(&mut self, follower: Follower) -> Result<(), AllocError> {
-        self.sockets.follow_by(follower)
-    }
-
-    /// Listens on an address that has come, or no more on one that has gone. What is to be told.
-    pub(crate) fn follow<N: Files + Net>(
-        &mut self,
-        host: &N,
-        registry: &Registry,
-    ) -> Option<AddressNews> {
-        self.sockets.follow(host, registry, self.turn.moment)
-    }
-
     // DOOR-7: The connection that is given up is closed for the core before the one that takes its
     // place is opened.
     /// Gives a connection a free place, or that of one that is given up for it, and opens it. If the kernel's tables
@@ -516,97 +437,15 @@ impl<H: Files> Serving<H> {
         }
     }
 
-    // TABLES-6: A pass through the kernel's tables begins at once when a call needs one, unless one
-    // goes on, and is for all that wait then; who comes meanwhile waits for the next.
-    // TABLES-8: When a connection is given up for a client that comes, a pass shows of all from this
-    // host whose they are.
-    /// Reads a slice of the kernel's tables, if a connection waits for them and this turn may: each turn may in which nothing
-    /// else was to be done. A pass begins at once, unless one goes on, and is for all that wait then.
-    pub(crate) fn look_in_tables(&mut self, rt: &H, is_idle: bool) {
+    /// Reads a slice of the kernel's tables, if that is to be done. Once all were looked at, those whose calls waited for it go
+    /// on, each as who it is.
+    fn look_in_tables(&mut self, host: &H, is_idle: bool) {
         let now = self.turn.moment;
-        if self.walk.is_none() && !self.places.are_sought() || !self.share.reads(now, is_idle) {
+        if !self.tables.look(host, &mut self.places, now, is_idle) {
             return;
         }
-        if self.walk.is_none() {
-            self.places.begin_pass();
-            self.begin_walk(rt);
-        }
-        let Some(table) = self.walk else {
-            return;
-        };
-        match self.table.read(self.places.sights()) {
-            Ok(Slice::More) => {}
-            Ok(Slice::End) => self.end_walk(rt, table, true),
-            Err(fault) => {
-                self.note_table_fault(fault);
-                self.end_walk(rt, table, false);
-            }
-        }
-    }
-
-    /// A pass begins in the first table in which something is looked for.
-    fn begin_walk(&mut self, rt: &H) {
-        if self.walks_in(rt, Family::Inet) {
-            self.walk = Some(Family::Inet);
-        } else {
-            self.begin_last_walk(rt);
-        }
-    }
-
-    /// A pass goes on in the table of IPv6, or ends, if nothing is looked for there.
-    fn begin_last_walk(&mut self, rt: &H) {
-        if self.walks_in(rt, Family::Inet6) {
-            self.walk = Some(Family::Inet6);
-        } else {
-            self.end_pass();
-        }
-    }
-
-    /// Opens the table of a family, if something is looked for there. Whether it is open.
-    fn walks_in(&mut self, rt: &H, table: Family) -> bool {
-        if !self.places.begin_walk(table) {
-            return false;
-        }
-        match self.table.open(rt, table) {
-            Ok(true) => true,
-            Ok(false) => {
-                self.places.end_walk(true);
-                false
-            }
-            Err(fault) => {
-                self.note_table_fault(fault);
-                self.places.end_walk(false);
-                false
-            }
-        }
-    }
-
-    /// The walk through a table is over, which came to its end or could not go on.
-    fn end_walk(&mut self, rt: &H, table: Family, is_whole: bool) {
-        self.places.end_walk(is_whole);
-        match table {
-            Family::Inet => self.begin_last_walk(rt),
-            Family::Inet6 => self.end_pass(),
-        }
-    }
-
-    /// A table could not be read whole, which must be told if it is the first time.
-    fn note_table_fault(&mut self, fault: TableFault)
-        ensures fault { self.new.table_fault
-            ≡ first_fault self.old.has_table_failed self.old.table_fault fault }
-        ensures failed { self.new.has_table_failed ≡ true }
-    {
-        if !self.has_table_failed {
-            self.has_table_failed = true;
-            self.table_fault = Some(fault);
-        }
-    }
-
-    /// All tables were looked at: those whose calls waited for it go on, each as who it is.
-    fn end_pass(&mut self) {
-        self.walk = None;
         for key in 0..self.places.count() {
-            if self.places.shown(key, self.turn.moment) {
+            if self.places.shown(key, now) {
                 self.open_again(key);
             }
         }

@@ -9,11 +9,11 @@ ghost use Rattle.rb_engine.specs.Served.{change_count};
 
 use crate::held::HeldLink;
 use crate::outbox::{exchange, write_into};
+use rb_arrivals::Datagrams;
 use rb_core::Standing;
 use rb_engine::{Engine, Keeper, Kept};
 use rb_links::{LONG_ROOM, Link, Outbox, READ_AHEAD, Turn};
 use rb_policy::{Next, SOCKET_CALLS};
-use rb_sockets::Datagrams;
 use std::fs::Files;
 
 /// The most calls of the core between two of the socket: each but the last takes or gives a byte at least, or sends the

@@ -1,7 +1,8 @@
 //! The wait for events and the moments of turns: what a wait shows, and what is done if it or a clock fails.
 use mio::{Events, Poll, Registry};
 use rb_policy::{AfterWait, Moments, RETRY, Waits};
-use rb_sockets::{DaemonFault, SocketFault, Step};
+use rb_settings::{DaemonFault, SocketFault, Step};
+use rb_turns::TurnFailed;
 use std::alloc::Global;
 use std::net::Net;
 use std::rt::Clock;
@@ -10,10 +11,6 @@ use std::{io, thread};
 
 /// The most events that one wait shows. The system keeps the others for the next.
 pub(crate) const EVENTS: usize = 64;
-
-/// The fault of a turn after which the daemon can do no more is there to be taken.
-#[derive(Clone, Copy, Debug)]
-pub struct TurnFailed;
 
 /// What two clocks give, in milliseconds.
 #[derive(Clone, Copy)]
@@ -30,8 +27,19 @@ pub(crate) fn read_clocks(clock: &impl Clock) -> io::Result<Times> {
     })
 }
 
+/// The wall clock, if that is followed, and the monotonic clock, in milliseconds.
+fn read_followed(clock: &impl Clock, follows_wall: bool) -> io::Result<(Option<u64>, u64)> {
+    let wall = if follows_wall {
+        Some(millis(clock.since_1970()?))
+    } else {
+        None
+    };
+    Ok((wall, millis(clock.monotonic()?)))
+}
+
 fn millis(time: Duration) -> u64 {
-    u64::try_from(time.as_millis()).unwrap_or(u64::MAX)
+    let of_seconds = time.as_secs().saturating_mul(1_000);
+    of_seconds.saturating_add(u64::from(time.subsec_millis()))
 }
 
 /// What is waited on, what the last wait showed, and when that was.
@@ -130,13 +138,13 @@ impl Waiting {
         Ok(())
     }
 
-    /// Reads the moment of the turn off the clocks. If nothing has a deadline, it follows a wall clock that was set.
+    /// Reads the moment of the turn off the monotonic clock. If nothing has a deadline, it follows a wall clock that was set.
     fn read_moment<R: Clock>(&mut self, clock: &R, follows_wall: bool) -> Result<(), TurnFailed>
         ensures end { OnErr result (is_some self.new.end ≡ true) }
     {
-        match read_clocks(clock) {
-            Ok(Times { wall, monotonic }) => {
-                self.moments.next(wall, monotonic, follows_wall);
+        match read_followed(clock, follows_wall) {
+            Ok((wall, monotonic)) => {
+                self.moments.next(wall, monotonic);
                 Ok(())
             }
             Err(error) => Err(self.fail(Step::Clock, error)),

@@ -1,3 +1,6 @@
+pub mod Written
+pub mod Noting
+pub mod Walks
 pub mod Reached
 pub mod Exchanges
 pub mod Pieces

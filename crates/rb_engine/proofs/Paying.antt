@@ -46,7 +46,7 @@ use Rattle.rb_core.specs.MeteredCalls.{Priced, reply_look}
 use Rattle.rb_core.specs.StandsFor.{CoreView, StandsFor}
 use Rattle.rb_core.proofs.Begun.{with_steps_before, stands_begun}
 use Rattle.rb_core.proofs.Spending.{connections_held, rows_held}
-use Rattle.rb_keep.specs.Writing.{row_look}
+use Rattle.rb_engine.specs.Writing.{row_look}
 use Rattle.rb_engine.specs.Counting.{look_allowance, most_counted, IsPaid}
 use Rattle.rb_engine.specs.Recording.{given_events, exchange_events, give_events, send_events_of, send_events}
 use Rattle.rb_engine.specs.Served.{IsServed}

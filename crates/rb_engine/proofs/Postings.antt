@@ -9,7 +9,7 @@ use Rattle.rb_forward.specs.Forwards.{Unsent}
 use Rattle.rb_policy.specs.WaysBack.{Ways, noted}
 use Rattle.rb_model.specs.Step.{unsent_call}
 use Rattle.rb_core.specs.Events.{OnlyBegins}
-use Rattle.rb_sockets.specs.Dispatches.{Dispatch, Hands}
+use Rattle.rb_arrivals.specs.Dispatches.{Dispatch, Hands}
 use Rattle.rb_engine.specs.declared.engine.Answer.TheVariants as answers
 use Rattle.rb_engine.specs.declared.engine.Engine.{Engine}
 use Rattle.rb_engine.specs.Keeping.{SameEngine}

@@ -12,7 +12,7 @@ use Rattle.rb_model.specs.declared.types.Expired.TheVariants.{Nothing, Ended, Co
 use Rattle.rb_model.specs.Calls.{Outcome, Outcome as outcomes, reply_in}
 use Rattle.rb_model.specs.Step.{datagram, with_reply, serve, sender}
 use Rattle.rb_core.specs.StandsFor.{CoreView, StandsFor}
-use Rattle.rb_sockets.specs.Dispatches.{Dispatch, Hands}
+use Rattle.rb_arrivals.specs.Dispatches.{Dispatch, Hands}
 use Rattle.rb_engine.specs.declared.engine.Answer.TheVariants as answers
 use Rattle.rb_engine.specs.Served.{answered}
 use Rattle.rb_engine.specs.Sending.{reply_told, ways_told, reply_after, ways_after, reply_due, ways_due, answer_sent, call_sent}

@@ -7,11 +7,11 @@ use Rattle.rb_model.specs.Step.{IsReached}
 use Rattle.rb_connections.specs.Slots.{Shows}
 use Rattle.rb_core.specs.StandsFor.{CoreView, StandsFor}
 use Rattle.rb_keep.specs.Kept.{kept_text, change_text}
-use Rattle.rb_keep.specs.Writing.{NotesOwners}
+use Rattle.rb_engine.specs.Writing.{NotesOwners}
 use Rattle.rb_files.specs.Kept.{Grows, WasWritten}
 use Rattle.rb_engine.specs.declared.engine.Engine.{Engine}
-use Rattle.rb_engine.specs.declared.keeping.KeepNews.{KeepNews}
-use Rattle.rb_engine.specs.declared.keeping.KeepNews.TheVariants as told
+use Rattle.rb_settings.specs.declared.news.KeepNews.{KeepNews}
+use Rattle.rb_settings.specs.declared.news.KeepNews.TheVariants as told
 use Rattle.rb_engine.specs.Served.{change_count}
 
 -- the most changes whose lines are added at once

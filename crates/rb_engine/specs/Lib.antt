@@ -1,3 +1,4 @@
+pub mod Writing
 pub mod Served
 pub mod Counting
 pub mod Moves

@@ -15,7 +15,7 @@ use Rattle.rb_model.specs.Sessions.{pending_bytes}
 use Rattle.rb_core.specs.AtOnce.{Exchanges}
 use Rattle.rb_core.specs.MeteredCalls.{Priced, PricedExchange}
 use Rattle.rb_core.specs.StandsFor.{StandsFor}
-use Rattle.rb_sockets.specs.Dispatches.{Dispatch, Hands}
+use Rattle.rb_arrivals.specs.Dispatches.{Dispatch, Hands}
 use Rattle.rb_engine.specs.declared.engine.Engine.{Engine}
 use Rattle.rb_engine.specs.Recording.{exchange_events, give_events}
 

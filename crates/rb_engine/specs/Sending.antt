@@ -12,7 +12,7 @@ use Rattle.rb_model.specs.declared.types.Expired.{Expired}
 use Rattle.rb_model.specs.declared.types.Expired.TheVariants.{Nothing, Ended, ConnectionLost}
 use Rattle.rb_model.specs.Calls.{Outcome, Outcome as outcomes}
 use Rattle.rb_model.specs.Step.{unsent_call}
-use Rattle.rb_sockets.specs.Dispatches.{Dispatch, reply_back}
+use Rattle.rb_arrivals.specs.Dispatches.{Dispatch, reply_back}
 
 -- ---- the end of a forwarded call
 

@@ -21,8 +21,8 @@ use Rattle.rb_core.specs.StandsFor.{CoreView, StandsFor}
 use Rattle.rb_core.specs.HeldBytes.{IsListener}
 use Rattle.rb_lines.specs.RecordLaws.{HasLine}
 use Rattle.rb_lines.specs.Starts.{MeetsLaws}
-use Rattle.rb_sockets.specs.declared.settings.Settings.{Settings}
-use Rattle.rb_sockets.specs.Settings.{listener_of}
+use Rattle.rb_settings.specs.declared.settings.Settings.{Settings}
+use Rattle.rb_settings.specs.Settings.{listener_of}
 use Rattle.rb_engine.specs.declared.engine.Answer.{Answer}
 use Rattle.rb_engine.specs.declared.engine.Answer.TheVariants as answers
 use Rattle.rb_engine.specs.declared.engine.Due.{Due}

@@ -3,7 +3,7 @@ use Rattle.std.specs.Prelude.{◌≡◌, ℕ, List, [], ◌∷◌, ◌++◌, Opt
 use Rattle.rb_address.specs.declared.who.Source.{Source}
 use Rattle.rb_model.specs.State.{State}
 use Rattle.rb_core.specs.StandsFor.{StandsFor}
-use Rattle.rb_sockets.specs.Dispatches.{Dispatch, Hands}
+use Rattle.rb_arrivals.specs.Dispatches.{Dispatch, Hands}
 use Rattle.rb_engine.specs.declared.engine.Engine.{Engine}
 
 -- A reply to a datagram, the caller that gets it, and the number of the socket on which it goes out.

@@ -3,14 +3,14 @@ ghost use Rattle.std.specs.Prelude.{◌≡◌, [], ◌∷◌, IsTrue, IsErrOf, I
 ghost use Rattle.rb_model.specs.Step.{after};
 ghost use Rattle.rb_model.specs.ChangeLaws.{set_call, set_calls};
 ghost use Rattle.rb_lines.specs.Starts.{MeetsLaws};
-ghost use Rattle.rb_sockets.specs.Settings.{listener_of};
+ghost use Rattle.rb_settings.specs.Settings.{listener_of};
 ghost use Rattle.rb_engine.specs.Served.{with_rows_again};
 ghost use Rattle.rb_engine.specs.Moves.{IsNewEngine, Moves};
 
 use crate::engine::Engine;
 use crate::keeping::Keeper;
 use rb_registry::Row;
-use rb_sockets::{DaemonFault, Settings};
+use rb_settings::{DaemonFault, Settings};
 use std::alloc::{AllocError, Global};
 use std::fs::Files;
 

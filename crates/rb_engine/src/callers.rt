@@ -6,8 +6,8 @@ ghost use Rattle.rb_address.specs.Peers.{IsPeer};
 ghost use Rattle.rb_engine.specs.PlainCallers.{plain_peer, plain_who};
 
 use rb_address::{Host, Owner, Peer, Source, Trust, Who};
+use rb_arrivals::{Arrival, Asker, Returned};
 use rb_keep::this_machine;
-use rb_sockets::{Arrival, Asker, Returned};
 
 /// A caller.
 #[derive(Clone, Copy)]
@@ -101,7 +101,7 @@ fn plain_who(who: Who) -> Who
 impl Caller {
     ghost use Rattle.std.specs.Prelude.{◌≡◌};
     ghost use Rattle.rb_model.specs.ChangeLaws.{this_machine};
-    ghost use Rattle.rb_sockets.specs.Arrivals.{who_of};
+    ghost use Rattle.rb_arrivals.specs.Arrivals.{who_of};
     ghost use Rattle.rb_engine.specs.PlainCallers.{plain_who};
 
     // TRUST-14
@@ -131,7 +131,7 @@ impl Caller {
 
 impl Asked {
     ghost use Rattle.std.specs.Prelude.{◌≡◌};
-    ghost use Rattle.rb_sockets.specs.Arrivals.{who_of};
+    ghost use Rattle.rb_arrivals.specs.Arrivals.{who_of};
     ghost use Rattle.rb_engine.specs.PlainCallers.{plain_who};
 
     /// Who asked so.
@@ -141,9 +141,9 @@ impl Asked {
         ensures len { result.len ≡ asker.len }
     {
         Asked {
-            caller: Caller::of(asker.arrival()),
-            socket: asker.socket(),
-            len: asker.len(),
+            caller: Caller::of(asker.arrival),
+            socket: asker.socket,
+            len: asker.len,
         }
     }
 }
@@ -157,8 +157,8 @@ impl Sender {
         ensures peer { result.peer ≡ plain_peer returned.peer }
         ensures len { result.len ≡ returned.len }
     {
-        let peer = plain_peer(returned.peer());
-        let len = returned.len();
+        let peer = plain_peer(returned.peer);
+        let len = returned.len;
         Sender { peer, len }
     }
 }

@@ -13,8 +13,8 @@ use crate::callers::{Asked, Sender};
 use crate::engine::{Answer, Engine};
 use crate::keeping::{Keeper, Kept};
 use crate::replies::Replies;
+use rb_arrivals::Datagrams;
 use rb_policy::WaysBack;
-use rb_sockets::Datagrams;
 use std::fs::Files;
 
 /// Answers the datagram that the room begins with: its reply goes out, or waits until what changed is kept. A call that is

@@ -11,7 +11,7 @@ ghost use Rattle.rb_core.specs.StandsFor.{StandsFor};
 ghost use Rattle.rb_lines.specs.Entries.{options_of};
 ghost use Rattle.rb_lines.specs.Starts.{MeetsLaws};
 ghost use Rattle.rb_lines.specs.Tapes.{Records, empty_tape};
-ghost use Rattle.rb_sockets.specs.Dispatches.{Hands};
+ghost use Rattle.rb_arrivals.specs.Dispatches.{Hands};
 ghost use Rattle.rb_engine.specs.Counting.{IsPaid};
 ghost use Rattle.rb_engine.specs.Recording.{end_entry};
 ghost use Rattle.rb_engine.specs.Sending.{reply_told, ways_told};
@@ -25,16 +25,18 @@ use crate::showing::{
     count_given, record_datagram, record_exchange, record_pieces, record_unsent, show_done,
     show_opened,
 };
+use crate::writing::{write_change, write_rows};
 use rb_address::Source;
+use rb_arrivals::{Datagrams, reply_to_forwarded};
 use rb_core::{
     CoreFault, Exchanged, Expired, Given, Limits, Listener, Metered, Response, Seen, Told,
 };
-use rb_keep::{Owners, set_call, write_change, write_rows};
+use rb_keep::{Owners, set_call};
 use rb_lines::{Start, Tape};
 use rb_model::{Event, Output};
 use rb_policy::WaysBack;
 use rb_registry::Row;
-use rb_sockets::{Datagrams, Logged, reply_to_forwarded};
+use rb_settings::Logged;
 use rb_xdr::Tally;
 use std::alloc::Global;
 use std::io;
@@ -189,7 +191,7 @@ impl Engine {
     ghost use Rattle.rb_model.specs.NextDeadlines.{next_deadline};
     ghost use Rattle.rb_model.specs.Step.{open_connection, close_connection, next_lost, zero_stats};
     ghost use Rattle.rb_model.specs.ChangeLaws.{set_call};
-    ghost use Rattle.rb_keep.specs.Writing.{WritesKept, WritesChange, NotesOwners};
+    ghost use Rattle.rb_engine.specs.Writing.{WritesKept, WritesChange, NotesOwners};
     ghost use Rattle.rb_connections.specs.Slots.{Shows};
     ghost use Rattle.rb_core.specs.StandsFor.{StandsFor};
     ghost use Rattle.rb_core.specs.CallCosts.{deadline_cost};
@@ -200,7 +202,7 @@ impl Engine {
     ghost use Rattle.rb_core.specs.Standings.{StandsAfterPiece, StandsThen};
     ghost use Rattle.rb_engine.specs.Served.{answer_datagram, change_count, row_count, set_again, ready_of, take_forward_reply, expire_due, send_forward};
     ghost use Rattle.rb_engine.specs.Moves.{IsNewEngine, Moves, LooksOnce, ActsNow, PricedNow, PricedExchangeNow, RecordsEvent, RecordsEvents, RecordsExchange, RecordsGiven, ExchangesNow, WritesInto, CountsGiven, HandsNow, ShowsNow};
-    ghost use Rattle.rb_sockets.specs.Dispatches.Dispatch.{Reply};
+    ghost use Rattle.rb_arrivals.specs.Dispatches.Dispatch.{Reply};
     ghost use Rattle.rb_model.specs.Step.{unsent_call};
     ghost use Rattle.rb_model.specs.Ending.{forward_reply, expire};
     ghost use Rattle.rb_engine.specs.Sending.{reply_after, ways_after, reply_due, ways_due, call_sent};

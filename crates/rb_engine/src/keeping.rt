@@ -2,7 +2,7 @@
 ghost use Rattle.std.specs.Prelude.{◌≡◌, ◌≢◌, nat_le, [], true, IsTrue, IfSome, OnOk};
 ghost use Rattle.rb_connections.specs.Slots.{Shows};
 ghost use Rattle.rb_core.specs.StandsFor.{StandsFor};
-ghost use Rattle.rb_keep.specs.Writing.{NotesOwners};
+ghost use Rattle.rb_engine.specs.Writing.{NotesOwners};
 ghost use Rattle.rb_engine.specs.Served.{change_count};
 ghost use Rattle.rb_files.specs.Kept.{Grows, WasWritten};
 ghost use Rattle.rb_engine.specs.Keeping.{AreLinesOfRows, AddsLines, AddsLinesOf, Notes, lines_next, most_changes, Takes, Writes, Keeps, SameEngine};
@@ -11,6 +11,7 @@ use crate::engine::Engine;
 use rb_files::{AppendFault, KeptFile};
 use rb_keep::{LONGEST_SET, Owners};
 use rb_registry::RPCB_PROG;
+use rb_settings::KeepNews;
 use std::alloc::{AllocError, Global};
 use std::fs::Files;
 use std::io;
@@ -24,17 +25,6 @@ const MOST_CHANGES: usize = 64;
 
 /// The most lines of that many changes: an UNSET removes a row on each netid.
 const MOST_LINES: usize = 5 * MOST_CHANGES;
-
-/// What must be told of the file of kept rows.
-#[derive(Drop)]
-pub enum KeepNews {
-    /// It could not be written.
-    Failed(io::Error),
-    /// It is written again, after that.
-    Written,
-    /// It was not at its path, or somebody else wrote to it, and all rows were written anew.
-    Another,
-}
 
 /// How many changes were accepted that the keeper has taken up: their lines are in the file, or it failed.
 #[derive(Clone, Copy)]

@@ -5,7 +5,7 @@ use crate::engine::Engine;
 use crate::keeping::Kept;
 use arrayvec::ArrayVec;
 use rb_address::Source;
-use rb_sockets::Datagrams;
+use rb_arrivals::Datagrams;
 use std::alloc::{AllocError, Global};
 use std::marker::Model;
 

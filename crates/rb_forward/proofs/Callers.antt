@@ -6,8 +6,8 @@ use Rattle.std.specs.List.{list_any}
 use Rattle.std.proofs.lemmas.Bool.{eqb-true}
 use Rattle.std.proofs.lemmas.Bool.Decides.{nat_tests}
 use Rattle.rb_address.specs.declared.who.Who.{Who}
-use Rattle.rb_rpc.specs.declared.caller.Caller.{Caller}
-use Rattle.rb_rpc.specs.declared.caller.Caller.TheVariants.{Tcp, Udp}
+use Rattle.rb_address.specs.declared.caller.Caller.{Caller}
+use Rattle.rb_address.specs.declared.caller.Caller.TheVariants.{Tcp, Udp}
 use Rattle.rb_forward.specs.declared.entries.Slot.{Slot}
 use Rattle.rb_forward.specs.declared.entries.Sought.TheVariants as wanted
 use Rattle.rb_forward.specs.Forwards.{is_connection, without_first, change_first}

@@ -8,8 +8,8 @@ use Rattle.rb_xdr.specs.Xdr.{word}
 use Rattle.rb_address.specs.declared.peer.Peer.{Peer}
 use Rattle.rb_address.specs.Hosts.{is_same_host}
 use Rattle.rb_address.proofs.HostLaws.{same_host_is, same_host_of}
-use Rattle.rb_rpc.specs.declared.caller.Caller.{Caller}
-use Rattle.rb_rpc.specs.declared.caller.Caller.TheVariants.{Tcp, Udp}
+use Rattle.rb_address.specs.declared.caller.Caller.{Caller}
+use Rattle.rb_address.specs.declared.caller.Caller.TheVariants.{Tcp, Udp}
 use Rattle.rb_forward.specs.declared.types.ForwardEnd.{ForwardEnd}
 use Rattle.rb_forward.specs.Forwards.{Entry, Forwards, xid_of, is_same_peer, is_answered, counts_for, is_connection, without_first, ended_by, with_end}
 use Rattle.rb_forward.specs.Ends.{NoneIs, IsFirst, EndsFirst, IsReplyTo, IsOf}

@@ -9,7 +9,7 @@ use Rattle.rb_forward.specs.declared.entries.Slot.{Slot}
 use Rattle.rb_xdr.specs.Pool.{Pool}
 use Rattle.rb_xdr.specs.Kept.{Kept}
 use Rattle.rb_forward.specs.Table.{IsTable, IsBuffer, HasBuffer, IsSpare, wanted_slot, is_wanted_slot, IsNew, without_call}
-use Rattle.rb_rpc.specs.Forwarded.{longest_forwarded}
+use Rattle.rb_arguments.specs.Forwarded.{longest_forwarded}
 use Rattle.rb_forward.specs.StandsFor.{longest_forwarded_call}
 use Rattle.std.specs.Prelude.{option_map, find}
 use Rattle.rb_xdr.specs.Pool.{HasDistinctKeys, value_at, without, with_value}

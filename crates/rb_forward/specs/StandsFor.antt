@@ -3,7 +3,7 @@ use Rattle.std.specs.Prelude.{◌≡◌, ℕ, ◌+◌, List, length}
 use Rattle.std.specs.List.{AllZip, sum_by}
 use Rattle.std.specs.Map.{values_of}
 use Rattle.rb_forward.specs.declared.entries.Slot.{Slot}
-use Rattle.rb_rpc.specs.Forwarded.{longest_forwarded}
+use Rattle.rb_arguments.specs.Forwarded.{longest_forwarded}
 use Rattle.rb_forward.specs.Forwards.{Entry, Forwards, xid_of, held_call, entry_charge}
 
 -- the longest unsent call: a head of 40 bytes and the arguments

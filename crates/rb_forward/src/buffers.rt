@@ -6,10 +6,11 @@ ghost use Rattle.rb_xdr.specs.Pool.{HasDistinctKeys, SameFrame};
 ghost use Rattle.rb_rpc.specs.CallBytes.{call_bytes};
 ghost use Rattle.rb_rpc.specs.declared.call.Credential.TheVariants as credentials;
 ghost use Rattle.rb_forward.specs.Table.{IsBuffer, IsSpare};
-ghost use Rattle.rb_rpc.specs.Forwarded.{longest_forwarded};
+ghost use Rattle.rb_arguments.specs.Forwarded.{longest_forwarded};
 ghost use Rattle.rb_forward.specs.StandsFor.{longest_forwarded_call};
 
-use rb_rpc::{CallHead, LONGEST_FORWARDED, put_call};
+use rb_arguments::LONGEST_FORWARDED;
+use rb_rpc::{CallHead, put_call};
 use rb_xdr::{Kept, Meter, NoMemory, Pool};
 use std::alloc::Global;
 
@@ -59,7 +60,7 @@ pub(crate) fn put_buffer(spare: &mut Pool<Kept>, mut buffer: Kept, meter: &mut M
 }
 
 /// As many buffers as there may be entries.
-#[tactic(auto, unfolding(rb_rpc::specs::Forwarded::longest_forwarded))]
+#[tactic(auto, unfolding(rb_arguments::specs::Forwarded::longest_forwarded))]
 pub(crate) fn make_spare(
     alloc: Global,
     cap: usize,

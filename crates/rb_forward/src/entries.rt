@@ -7,8 +7,8 @@ ghost use Rattle.rb_forward.specs.Costs.{find_cost};
 ghost use Rattle.rb_forward.specs.Table.{is_wanted_slot, wanted_slot};
 
 use crate::types::Forward;
-use rb_address::{Host, Peer, Source, Trust, Who};
-use rb_rpc::{Caller, Kind};
+use rb_address::{Caller, Host, Peer, Source, Trust, Who};
+use rb_arguments::Kind;
 use rb_xdr::{Kept, Meter, NoMemory, Pool};
 use std::alloc::Global;
 

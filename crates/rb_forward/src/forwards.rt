@@ -85,7 +85,7 @@ impl Forwards {
     ghost use Rattle.std.specs.Map.{values_of};
     ghost use Rattle.rb_xdr.specs.Meter.{PaysAtMost};
     ghost use Rattle.rb_forward.specs.Costs.{start_cost, end_cost, sent_cost, unsent_cost};
-    ghost use Rattle.rb_rpc.specs.Forwarded.{longest_forwarded};
+    ghost use Rattle.rb_arguments.specs.Forwarded.{longest_forwarded};
     ghost use Rattle.rb_forward.specs.Forwards.{no_forwards, reply, due, drop_caller, can_start, with_next_entry, can_be_sent, sent, unsent, held, without_first};
     ghost use Rattle.rb_forward.specs.Outcomes.{PassesWithin};
     ghost use Rattle.rb_forward.specs.StandsFor.{StandsForForwards, SameFrame, slots_of, longest_forwarded_call, held_in};

@@ -1,6 +1,7 @@
 //! What is forwarded, and how it ends.
-use rb_address::Peer;
-use rb_rpc::{Caller, Kind, ReplyStatus};
+use rb_address::{Caller, Peer};
+use rb_arguments::Kind;
+use rb_rpc::ReplyStatus;
 use thiserror::Error;
 
 /// What is asked of which target, and what its caller is told.

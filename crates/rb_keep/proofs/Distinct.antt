@@ -10,7 +10,7 @@ use Rattle.rb_address.specs.declared.who.Owner.{Owner}
 use Rattle.rb_address.specs.declared.who.Owner.TheVariants.{Unknown, Uid}
 use Rattle.rb_registry.specs.declared.row.Row.{Row}
 use Rattle.rb_registry.specs.Rows.{is_on, is_row, is_of_key, are_distinct}
-use Rattle.rb_model.specs.CallerLaws.{is_same_owner}
+use Rattle.rb_address.specs.Callers.{is_same_owner}
 use Rattle.rb_keep.specs.Reading.{is_named, without}
 use mathlib.Core.Bool.{true≢false}
 

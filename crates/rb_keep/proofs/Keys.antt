@@ -16,7 +16,7 @@ use Rattle.rb_registry.specs.declared.row.Row.{Row}
 use Rattle.rb_registry.specs.Rows.{is_on, is_row, is_of_key, find_exact}
 use Rattle.rb_registry.specs.Index.{rank, rank_of}
 use Rattle.rb_registry.proofs.Ranks.{same_rank}
-use Rattle.rb_model.specs.CallerLaws.{is_same_owner}
+use Rattle.rb_address.specs.Callers.{is_same_owner}
 use Rattle.rb_keep.specs.Kept.{owner_number, AreOwners}
 use Rattle.rb_keep.specs.Reading.{is_named, without}
 use Rattle.rb_keep.proofs.Distinct.{Apart, Distinct, itself}

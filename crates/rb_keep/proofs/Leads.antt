@@ -1,5 +1,6 @@
 -- Lines of changes, one after another, lead from rows to rows.
 use Rattle.std.specs.Prelude.{All}
+use Rattle.std.specs.List.{concat}
 use Rattle.std.proofs.Common.{◌≡◌, ℕ, zero, suc, ◌==◌, ◌^◌, ◌+◌, ◌<◌, ◌≤◌, Bool, true, false, cond, None, Ok, Err, List, [], ◌∷◌, ◌++◌, length, map, replicate, get_or, refl, sym, ap, subst, ◌∙◌, append_assoc, append-nil, length-append, arith}
 use Rattle.std.proofs.lemmas.Bool.{lt-ltb}
 use Rattle.std.proofs.lemmas.List.Elements.{All-nil, All-head, All-tail}
@@ -20,6 +21,7 @@ use Rattle.rb_model.specs.ChangeLaws.{set_rows, set_call, IsSpelled, HasShortCal
 use Rattle.rb_laws.proofs.Ledgers.{settable-short, ledgers_are_well_kept}
 use Rattle.rb_laws.proofs.Restoring.{rows_can_be_set}
 use Rattle.rb_laws.proofs.Spelling.{rows_are_spelled, kept_calls_are_short}
+use Rattle.rb_lines.specs.Entries.{event_text}
 use Rattle.rb_lines.specs.Lines.{lines_of, longest_input}
 use Rattle.rb_lines.specs.RecordLaws.{HasLine}
 use Rattle.rb_lines.proofs.LineWords.{line_of}
@@ -35,7 +37,10 @@ use Rattle.rb_keep.proofs.KeptLaws.{keyed, key-fits, removes, has-line, keeps, a
 use Rattle.rb_keep.proofs.Parts.{Ended, whole-ended, ended-append}
 use Rattle.rb_keep.proofs.Parts.Ended.{Empty, Behind}
 use Rattle.rb_keep.proofs.TextLaws.{short_reads}
-use Rattle.rb_keep.proofs.Walks.{kept_lines}
+
+pub kept_lines : (now : ℕ) (rows : List Row) → concat (map event_text (map (set_call now) rows)) ≡ rows_text now rows
+kept_lines now [] = refl
+kept_lines now (row ∷ rows) = ap (λ (xs : List ℕ). row_line now row ++ xs) (kept_lines now rows)
 
 -- ---- texts that lead from rows to rows
 

@@ -1,9 +1,6 @@
 pub mod Calls
 pub mod Founds
 pub mod Keys
-pub mod Written
-pub mod Noting
-pub mod Walks
 pub mod Turns
 pub mod Parts
 pub mod Distinct

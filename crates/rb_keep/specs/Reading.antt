@@ -24,7 +24,7 @@ use Rattle.rb_proto.specs.Callers.{owner_named}
 use Rattle.rb_proto.specs.Answers.{row_of_rpcb}
 use Rattle.rb_model.specs.Step.{Event}
 use Rattle.rb_model.specs.Step.Event.{Datagram}
-use Rattle.rb_model.specs.CallerLaws.{is_same_owner}
+use Rattle.rb_address.specs.Callers.{is_same_owner}
 use Rattle.rb_model.specs.ChangeLaws.{set_bytes}
 use Rattle.rb_lines.specs.Lines.{Line, line, lines_of, longest_input}
 use Rattle.rb_lines.specs.Lines.Line.{Skipped as SaysNothing, Happens, Bad as SaysNoEvent}

@@ -8,12 +8,10 @@ mod laws;
 mod owners;
 mod reading;
 mod worked;
-mod writing;
 
 pub use call::{LONGEST_SET, set_call, this_machine, unset_call};
 pub use fault::KeepFault;
 pub use laws::{changes_are_read, kept_lines_are_read, kept_text_is_read};
-pub use owners::Owners;
+pub use owners::{Owners, owner_numbered};
 pub use reading::{MOST_ROWS, read_rows, whole_part};
 pub use worked::worked_examples;
-pub use writing::{write_change, write_rows};

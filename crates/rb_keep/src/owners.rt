@@ -42,8 +42,8 @@ fn owner_number(owner: Owner) -> usize
     }
 }
 
-/// The owner of a number.
-pub(crate) fn owner_numbered(number: usize) -> Owner
+/// The owner of a number, as `find` gives it.
+pub fn owner_numbered(number: usize) -> Owner
     ensures { result ≡ owner_numbered number }
 {
     if number == 0 || number > 1 << 32 {
@@ -81,7 +81,7 @@ impl Owners {
     }
 
     /// The number of the owner of the row of this rank, if there is one.
-    pub(crate) fn find(&mut self, rank: u128) -> Option<usize>
+    pub fn find(&mut self, rank: u128) -> Option<usize>
         ensures number { result ≡ value_at self.old rank }
         ensures stays { self.new ≡ self.old }
     {
@@ -89,7 +89,7 @@ impl Owners {
     }
 
     /// Notes the owner of a row of another rank than the others. An error if there is no room.
-    pub(crate) fn add(&mut self, rank: u128, owner: Owner) -> io::Result<()>
+    pub fn add(&mut self, rank: u128, owner: Owner) -> io::Result<()>
         requires { value_at self.old rank ≡ None }
         ensures { OnOk result (self.new ≡ with_number self.old rank (owner_number owner)) }
     {
@@ -106,7 +106,7 @@ impl Owners {
     }
 
     /// The row of this rank went.
-    pub(crate) fn remove(&mut self, rank: u128)
+    pub fn remove(&mut self, rank: u128)
         ensures { self.new ≡ without self.old rank }
     {
         match self.numbers.remove(rank, &mut self.meter) {

@@ -201,7 +201,7 @@ pub fn whole_part(text: &[u8]) -> &[u8]
 }
 
 /// The rows that the lines of a text of kept rows leave, in their order, up to its last line feed. Each line that says
-/// something has to be one that `write_rows` or `write_change` writes, at any moment: a datagram from port 0 of 127.0.0.1 with the
+/// something has to be one that rb_engine writes, at any moment: a datagram from port 0 of 127.0.0.1 with the
 /// bytes of the call that sets a row, which adds it, or of the call that removes it, which takes it out.
 ///
 /// The first line that is not names the fault: `BadLine` if it is no event line, `NotKept` if it is another, and

@@ -34,7 +34,8 @@ use Rattle.rb_model.specs.State.{State}
 use Rattle.rb_model.specs.Step.{Event, step}
 use Rattle.rb_model.specs.ChangeLaws.{change_for, Brought, ChangesAtMostOnce, Accepts}
 use Rattle.rb_model.specs.ChangeLaws.ChangesAtMostOnce.{Same, OneMore}
-use Rattle.rb_model.specs.CallerLaws.{BringsFrom, StrangersChangeNothing, is_same_owner, rows_of_others, LocalOwnersKeepTheirs}
+use Rattle.rb_address.specs.Callers.{is_same_owner}
+use Rattle.rb_model.specs.CallerLaws.{BringsFrom, StrangersChangeNothing, rows_of_others, LocalOwnersKeepTheirs}
 use Rattle.rb_laws.proofs.Changes.{at-most-once}
 use Rattle.rb_laws.proofs.Ledgers.{are-own, step-own, ledgers_are_well_kept}
 

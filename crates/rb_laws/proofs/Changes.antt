@@ -12,9 +12,9 @@ use Rattle.rb_address.specs.declared.who.Trust.{Trust}
 use Rattle.rb_address.specs.declared.who.Trust.TheVariants.{Claims, Local, Stranger}
 use Rattle.rb_address.specs.declared.who.Who.{Who}
 use Rattle.rb_proto.specs.Callers.{is_of_a_stranger, is_trusted, may_register}
-use Rattle.rb_rpc.specs.declared.caller.Caller.{Caller}
-use Rattle.rb_rpc.specs.declared.caller.Caller.TheVariants.{Tcp, Udp}
-use Rattle.rb_rpc.specs.declared.caller.Kind.{Kind}
+use Rattle.rb_address.specs.declared.caller.Caller.{Caller}
+use Rattle.rb_address.specs.declared.caller.Caller.TheVariants.{Tcp, Udp}
+use Rattle.rb_arguments.specs.declared.kind.Kind.{Kind}
 use Rattle.rb_rpc.specs.declared.call.CallHead.{CallHead}
 use Rattle.rb_rpc.specs.Feeds.{arguments_of}
 use Rattle.rb_registry.specs.declared.row.Row.{Row}

@@ -4,8 +4,8 @@ use Rattle.std.proofs.Common.{◌≡◌, ℕ, ◌+◌, ◌-◌, ◌≤◌, ◌<�
 use Rattle.std.proofs.lemmas.List.{length-take}
 use Rattle.std.proofs.lemmas.List.Elements.{All-nil, All-cons, All-head, All-tail, All-push}
 use Rattle.std.proofs.lemmas.Grind.{common_steps}
-use Rattle.rb_rpc.specs.declared.caller.Caller.{Caller}
-use Rattle.rb_rpc.specs.declared.caller.Caller.TheVariants.{Tcp, Udp}
+use Rattle.rb_address.specs.declared.caller.Caller.{Caller}
+use Rattle.rb_address.specs.declared.caller.Caller.TheVariants.{Tcp, Udp}
 use Rattle.rb_rpc.specs.declared.call.CallHead.{CallHead}
 use Rattle.rb_uaddr.specs.declared.address.Uaddr.{Uaddr}
 use Rattle.rb_rpc.specs.Verdict.{verdict}
@@ -13,10 +13,10 @@ use Rattle.rb_rpc.specs.Feeds.{arguments_of}
 use Rattle.rb_registry.specs.declared.row.Row.{Row}
 use Rattle.rb_registry.specs.declared.row.Which.{Which}
 use Rattle.rb_forward.specs.declared.types.Forward.{Forward}
-use Rattle.rb_rpc.specs.declared.caller.Kind.{Kind}
+use Rattle.rb_arguments.specs.declared.kind.Kind.{Kind}
 use Rattle.rb_forward.specs.declared.types.Ended.{Ended}
 use Rattle.rb_forward.specs.declared.types.FwdId.{FwdId}
-use Rattle.rb_rpc.specs.Forwarded.{longest_forwarded}
+use Rattle.rb_arguments.specs.Forwarded.{longest_forwarded}
 use Rattle.rb_forward.specs.Forwards.{Entry, Forwards, can_start, with_next_entry, next_entry, sent, can_be_sent, without_first, change_first, as_sent, is_unsent, reply, due, drop_caller, counts_for, is_due, is_of_connection}
 use Rattle.rb_proto.specs.declared.context.Context.{Context}
 use Rattle.rb_arguments.specs.declared.mapping.Mapping.{Mapping}

@@ -3,7 +3,7 @@ use Rattle.std.proofs.Common.{◌≡◌, ◌⊎◌, ℕ, ◌+◌, ◌-◌, max, 
 use Rattle.rb_xdr.specs.Xdr.{AreBytes}
 use Rattle.rb_rpc.specs.RecordLaws.{IsFirstRecord}
 use Rattle.rb_rpc.specs.Records.{data_of, first_record}
-use Rattle.rb_rpc.specs.declared.caller.Caller.TheVariants.{Tcp}
+use Rattle.rb_address.specs.declared.caller.Caller.TheVariants.{Tcp}
 use Rattle.rb_rpc.proofs.Markings.{first_is_least, none_where_no_front}
 use Rattle.rb_rpc.proofs.RecordCuts.{ends_later}
 use Rattle.rb_model.specs.declared.types.CoreFault.{CoreFault}

@@ -3,7 +3,7 @@ use Rattle.std.specs.Prelude.{All, ⊤}
 use Rattle.std.proofs.Common.{◌≡◌, ℕ, ◌≤◌, max, Bool, true, false, cond, ◌&&◌, Option, Some, None, Result, Ok, Err, List, [], ◌∷◌, ◌++◌, length, refl, arith}
 use Rattle.std.proofs.lemmas.List.Elements.{All-push}
 use Rattle.std.proofs.lemmas.Grind.{common_steps}
-use Rattle.rb_rpc.specs.declared.caller.Caller.{Caller}
+use Rattle.rb_address.specs.declared.caller.Caller.{Caller}
 use Rattle.rb_address.specs.declared.peer.Peer.{Peer}
 use Rattle.rb_rpc.specs.declared.call.CallHead.{CallHead}
 use Rattle.rb_rpc.specs.Feeds.{arguments_of}
@@ -17,7 +17,7 @@ use Rattle.rb_registry.specs.Laws.{is_accepted, are_accepted}
 use Rattle.rb_registry.proofs.RowLaws.{accepted_more, keys_are_distinct, live_rows_fit}
 use Rattle.rb_stats.specs.Statistics.{Note}
 use Rattle.rb_stats.specs.Statistics.Note.{WasSet, WasUnset}
-use Rattle.rb_rpc.specs.declared.caller.Kind.{Kind}
+use Rattle.rb_arguments.specs.declared.kind.Kind.{Kind}
 use Rattle.rb_forward.specs.declared.types.Ended.{Ended as EntryEnd}
 use Rattle.rb_forward.specs.Forwards.{can_be_sent}
 use Rattle.rb_arguments.specs.declared.remote.RemoteCall.{RemoteCall}

@@ -3,7 +3,7 @@ use Rattle.std.specs.Prelude.{All, find, option_map}
 use Rattle.std.proofs.Common.{◌≡◌, ℕ, ◌+◌, ◌≤◌, max, Option, Some, None, List, [], ◌∷◌, ◌++◌, refl, sym, ap, subst, ◌∙◌, arith}
 use Rattle.std.proofs.lemmas.List.Elements.{All-cons, All-weaker}
 use Rattle.std.proofs.lemmas.Grind.{common_steps}
-use Rattle.rb_rpc.specs.declared.caller.Caller.{Caller}
+use Rattle.rb_address.specs.declared.caller.Caller.{Caller}
 use Rattle.rb_rpc.specs.declared.reply.ReplyStatus.TheVariants.{SystemErr}
 use Rattle.rb_forward.specs.declared.types.FwdId.{FwdId}
 use Rattle.rb_forward.specs.declared.types.Ended as entry

@@ -5,7 +5,7 @@ use Rattle.std.proofs.lemmas.List.{take-append-drop, take_all, length-take, drop
 use Rattle.std.proofs.lemmas.Grind.{flat_map-append}
 use Rattle.rb_xdr.specs.Xdr.{AreBytes}
 use Rattle.rb_xdr.proofs.Words.{AreBytes-drop, AreBytes-take}
-use Rattle.rb_rpc.specs.declared.caller.Caller.TheVariants.{Tcp}
+use Rattle.rb_address.specs.declared.caller.Caller.TheVariants.{Tcp}
 use Rattle.rb_rpc.specs.RecordLaws.{IsMarked, AreMarked, HasNoRecord, Records}
 use Rattle.rb_rpc.specs.Records.{first_record, data_of}
 use Rattle.rb_rpc.proofs.Markings.{first_is_least, none_where_no_front, data_is_joined}

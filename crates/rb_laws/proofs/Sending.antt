@@ -5,13 +5,13 @@ use Rattle.std.proofs.Common.{◌≡◌, ◌<◌, ℕ, max, Bool, true, cond, eq
 use Rattle.std.proofs.lemmas.Bool.{eq-eqb}
 use Rattle.std.proofs.lemmas.Grind.{common_steps}
 use Rattle.rb_address.specs.declared.who.Who.{Who}
-use Rattle.rb_rpc.specs.declared.caller.Caller.TheVariants.{Tcp}
+use Rattle.rb_address.specs.declared.caller.Caller.TheVariants.{Tcp}
 use Rattle.rb_rpc.specs.Records.{data_of}
 use Rattle.rb_forward.specs.declared.types.Forward.{Forward as Asked}
 use Rattle.rb_forward.specs.Forwards.{Entry, Forwards, is_connection, is_of_connection, next_entry, with_next_entry, unsent_call as unsent_of, unsent}
 use Rattle.rb_proto.specs.declared.context.Context.{Context}
 use Rattle.rb_model.specs.declared.types.CoreFault.{CoreFault}
-use Rattle.rb_model.specs.declared.types.Standing.TheVariants as stands
+use Rattle.rb_rpc.specs.declared.standing.Standing.TheVariants as stands
 use Rattle.rb_model.specs.declared.types.Taken.{Taken}
 use Rattle.rb_model.specs.Calls.{Outcome}
 use Rattle.rb_model.specs.State.{State, Connection, at_moment}

@@ -13,7 +13,7 @@ use Rattle.rb_xdr.proofs.Words.{AreBytes-take, AreBytes-drop}
 use Rattle.rb_rpc.specs.declared.call.CallHead.{CallHead}
 use Rattle.rb_rpc.specs.declared.call.Credential.{Credential}
 use Rattle.rb_rpc.specs.declared.call.Credential.TheVariants as credentials
-use Rattle.rb_rpc.specs.declared.caller.Caller.{Caller}
+use Rattle.rb_address.specs.declared.caller.Caller.{Caller}
 use Rattle.rb_rpc.specs.Records.{is_last, fragment_end, first_record, data_in, data_of}
 use Rattle.rb_rpc.specs.Grammar.{SaysCaller, IsCaller}
 use Rattle.rb_rpc.specs.Messages.{auth, auth_none}

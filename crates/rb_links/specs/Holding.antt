@@ -1,8 +1,8 @@
 -- What is held back of a connection from this machine until it is known whose it is.
 use Rattle.std.specs.Prelude.{◌≡◌, Bool, true, false, ◌&&◌, if◌then◌else◌, None}
 use Rattle.std.specs.Option.{is_some}
-use Rattle.rb_model.specs.declared.types.Standing.{Standing}
-use Rattle.rb_model.specs.declared.types.Standing.TheVariants.{Idle, Reading, Owing, Awaiting, Sends, Lost}
+use Rattle.rb_rpc.specs.declared.standing.Standing.{Standing}
+use Rattle.rb_rpc.specs.declared.standing.Standing.TheVariants.{Idle, Reading, Owing, Awaiting, Sends, Lost}
 use Rattle.rb_policy.specs.declared.asks.Held.{Held}
 use Rattle.rb_policy.specs.declared.asks.Held.TheVariants.{Nothing, Part, Whole}
 use Rattle.rb_policy.specs.Asks.{may_change, held_in}

@@ -1,7 +1,7 @@
 -- Whose the bytes are that a place has: it has the number under which its connection was opened.
 use Rattle.std.specs.Prelude.{◌≡◌, ℕ, List, ◌++◌, drop, slice_get, Option}
 use Rattle.std.specs.Option.{option_and_then}
-use Rattle.rb_sockets.specs.declared.arrival.Arrival.{Arrival}
+use Rattle.rb_arrivals.specs.declared.arrival.Arrival.{Arrival}
 use Rattle.rb_links.specs.declared.link.Link.{Link}
 use Rattle.rb_links.specs.Shown.{arrival_in}
 use Rattle.rb_links.specs.declared.places.Places.{Places}

@@ -4,8 +4,8 @@ use Rattle.rb_policy.specs.Turns.{last_round}
 use Rattle.rb_policy.specs.Rounds.{IsServedIn, IsLeft}
 use Rattle.rb_links.specs.declared.places.Places.{Places}
 use Rattle.rb_links.specs.Served.{is_opened_at}
-use Rattle.rb_sockets.specs.declared.sockets.Shown.{Shown}
-use Rattle.rb_sockets.specs.declared.sockets.Shown.TheVariants.{Connection, Forwards, Calls, Listener}
+use Rattle.rb_arrivals.specs.declared.shown.Shown.{Shown}
+use Rattle.rb_arrivals.specs.declared.shown.Shown.TheVariants.{Connection, Forwards, Calls, Listener}
 
 -- The turn of this number has served the connection at a place.
 abbrev pub IsServedAt : ℕ → ℕ → Places → Type 0

@@ -3,7 +3,7 @@ use Rattle.std.specs.Prelude.{◌≡◌, ◌<◌, ℕ, ◌+◌, ◌-◌, ◌^◌
 use Rattle.std.specs.Option.{is_some}
 use Rattle.std.specs.List.{list_any}
 use Rattle.rb_forward.specs.Deadlines.{soonest_of}
-use Rattle.rb_model.specs.declared.types.Standing.TheVariants.{Owing}
+use Rattle.rb_rpc.specs.declared.standing.Standing.TheVariants.{Owing}
 use Rattle.rb_policy.specs.declared.door.Admission.{Admission}
 use Rattle.rb_policy.specs.declared.door.Admission.TheVariants.{Take, GiveUp, Close}
 use Rattle.rb_policy.specs.declared.door.Holder.{Holder}

@@ -13,11 +13,11 @@ use Rattle.rb_policy.specs.declared.origin.Origin.{Origin}
 use Rattle.rb_policy.specs.declared.origin.Origin.TheVariants.{New}
 use Rattle.rb_policy.specs.Evidence.{IsSightIn, looks_in, evidence_of, looks_again, shown_after}
 use Rattle.rb_policy.specs.Origins.{origin_of}
-use Rattle.rb_sockets.specs.declared.arrival.Arrival.{Arrival}
-use Rattle.rb_sockets.specs.declared.arrival.Ends.{Ends}
-use Rattle.rb_sockets.specs.declared.listener.Visitor.{Visitor}
-use Rattle.rb_sockets.specs.declared.listener.Visitor.TheVariants.{Known, Unknown}
-use Rattle.rb_sockets.specs.Arrivals.{arrival_of, first_arrival, who_of}
+use Rattle.rb_arrivals.specs.declared.arrival.Arrival.{Arrival}
+use Rattle.rb_arrivals.specs.declared.arrival.Ends.{Ends}
+use Rattle.rb_arrivals.specs.declared.visitor.Visitor.{Visitor}
+use Rattle.rb_arrivals.specs.declared.visitor.Visitor.TheVariants.{Known, Unknown}
+use Rattle.rb_arrivals.specs.Arrivals.{arrival_of, first_arrival, who_of}
 use Rattle.rb_links.specs.declared.link.Link.{Link}
 use Rattle.rb_links.specs.declared.link.Sought.{Sought}
 

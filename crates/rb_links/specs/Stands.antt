@@ -2,8 +2,8 @@
 use Rattle.std.specs.Prelude.{◌≡◌, ℕ, List, ◌==◌, ◌+◌, ◌-◌, ◌^◌, min, Bool, true, false, not, ◌&&◌, ◌||◌, if◌then◌else◌, nat_lt, length, drop, Option, Some, None, Result, Ok, Err}
 use Rattle.std.specs.Option.{is_some}
 use Rattle.std.specs.declared.io.Error.{Error}
-use Rattle.rb_model.specs.declared.types.Standing.{Standing}
-use Rattle.rb_model.specs.declared.types.Standing.TheVariants.{Reading, Owing, Awaiting, Sends}
+use Rattle.rb_rpc.specs.declared.standing.Standing.{Standing}
+use Rattle.rb_rpc.specs.declared.standing.Standing.TheVariants.{Reading, Owing, Awaiting, Sends}
 use Rattle.rb_policy.specs.declared.asks.Held.{Held}
 use Rattle.rb_policy.specs.declared.asks.Held.TheVariants.{Nothing, Part}
 use Rattle.rb_policy.specs.declared.door.Holder.{Holder}

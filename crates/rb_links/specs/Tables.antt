@@ -2,7 +2,7 @@
 use Rattle.std.specs.Prelude.{◌≡◌, ℕ, Bool, List, slice_get, Option, Some, None, option_and_then}
 use Rattle.rb_address.specs.declared.host.Family.{Family}
 use Rattle.rb_evidence.specs.declared.sight.Sight.{Sight}
-use Rattle.rb_sockets.specs.declared.listener.Visitor.{Visitor}
+use Rattle.rb_arrivals.specs.declared.visitor.Visitor.{Visitor}
 use Rattle.rb_links.specs.declared.link.Link.{Link}
 use Rattle.rb_links.specs.declared.places.Places.{Places}
 use Rattle.rb_links.specs.Shown.{IsSoughtBy, HasSeen, IsShown}

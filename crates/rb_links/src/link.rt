@@ -1,7 +1,7 @@
 //! The place of an accepted connection: what is known of it, and its socket calls.
 ghost use Rattle.std.specs.Prelude.{◌≡◌, ◌≤◌, ◌==◌, [], true, false, not, ◌&&◌, ◌||◌, nat_lt, length, drop, IfOk, IfSome, IfNone, Some, None, option_map, if◌then◌else◌};
 ghost use Rattle.std.specs.Option.{is_some};
-ghost use Rattle.rb_model.specs.declared.types.Standing.TheVariants.{Owing, Awaiting};
+ghost use Rattle.rb_rpc.specs.declared.standing.Standing.TheVariants.{Owing, Awaiting};
 ghost use Rattle.rb_policy.specs.declared.evidence.Evidence.TheVariants.{NotFound};
 ghost use Rattle.rb_policy.specs.declared.outcome.Next.TheVariants.{AwaitEvent};
 ghost use Rattle.rb_policy.specs.Turns.{is_cut_off};
@@ -15,14 +15,14 @@ use crate::inbox::Inbox;
 use crate::outbox::{OWN_ROOM, Outbox};
 use mio::{Registry, Token};
 use rb_address::Family;
+use rb_arrivals::{Accepted, Arrival, Ends, Stream, Visitor};
 use rb_evidence::Sight;
-use rb_model::Standing;
 use rb_policy::{
     Evidence, Held, Holder, Next, Origin, Round, after_read, after_write, evidence_of, held_in,
     is_cut_off, is_local, looks_in, may_change, origin_now, origin_of, outcome_of_count, reads_on,
     round_of, shown_after, sight_in, standing_outside, stuck_at,
 };
-use rb_sockets::{Accepted, Arrival, Ends, Stream, Visitor};
+use rb_rpc::Standing;
 use std::alloc::{AllocError, Global};
 
 /// A turn of the daemon.

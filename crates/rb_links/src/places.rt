@@ -18,11 +18,11 @@ use crate::link::{Link, Turn};
 use crate::outbox::{LONG_ROOM, Outbox};
 use mio::{Registry, Token};
 use rb_address::Family;
+use rb_arrivals::{Accepted, Arrival};
 use rb_evidence::Sight;
 use rb_forward::sooner;
 use rb_policy::rounds::Rounds;
 use rb_policy::{Admission, Holder, Origin, Round, accept_count, admit, is_unawaited};
-use rb_sockets::{Accepted, Arrival};
 use std::alloc::{AllocError, Global};
 
 /// The places of connections, by the keys that their events show.

@@ -4,6 +4,7 @@ use Rattle.rb_address.specs.declared.who.Owner.{Owner}
 use Rattle.rb_address.specs.declared.who.Owner.TheVariants.{Unknown, Uid}
 use Rattle.rb_address.specs.declared.who.Trust.{Trust}
 use Rattle.rb_address.specs.declared.who.Trust.TheVariants.{Local, Stranger}
+use Rattle.rb_address.specs.Callers.{is_same_owner}
 use Rattle.rb_registry.specs.declared.row.Row.{Row}
 use Rattle.rb_stats.specs.Statistics.{Note}
 use Rattle.rb_stats.specs.Statistics.Note.{Called, WasSet, WasUnset, LookedUp, Forwarded}
@@ -42,12 +43,6 @@ abbrev pub StrangersBringNoKeys : Type 0
 StrangersBringNoKeys =
     (s : State) (event : Event) → BringsFrom s event Stranger
     → All (IsOfTheRegistered (rows_in s.ledger)) (notes_from s (brought_by s event))
-
-abbrev pub is_same_owner : Owner → Owner → Bool
-is_same_owner Unknown Unknown = true
-is_same_owner Unknown (Uid own) = false
-is_same_owner (Uid uid) Unknown = false
-is_same_owner (Uid uid) (Uid own) = uid == own
 
 -- those of them that have another owner, in the same order
 abbrev pub rows_of_others : Owner → List Row → List Row

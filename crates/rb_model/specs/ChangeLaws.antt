@@ -4,8 +4,8 @@ use Rattle.rb_xdr.specs.Xdr.{IsNumber, AreBytes, boolean}
 use Rattle.rb_rpc.specs.declared.call.Credential.{Credential}
 use Rattle.rb_rpc.specs.declared.call.Credential.TheVariants as credentials
 use Rattle.rb_rpc.specs.declared.call.CallHead.{CallHead}
-use Rattle.rb_rpc.specs.declared.caller.Caller.{Caller}
-use Rattle.rb_rpc.specs.declared.caller.Caller.TheVariants.{Tcp, Udp}
+use Rattle.rb_address.specs.declared.caller.Caller.{Caller}
+use Rattle.rb_address.specs.declared.caller.Caller.TheVariants.{Tcp, Udp}
 use Rattle.rb_address.specs.declared.host.Host.TheVariants.{V4}
 use Rattle.rb_address.specs.declared.who.Source.TheVariants as sources
 use Rattle.rb_address.specs.declared.who.Trust.{Trust}

@@ -1,7 +1,7 @@
 -- When a connection becomes Lost, and when it is gone.
 use Rattle.std.specs.Prelude.{◌≡◌, ◌⊎◌, ◌↔◌, ◌<◌, ◌≤◌, ℕ, ◌+◌, true, false, List, ◌++◌, length, take, All, Some}
-use Rattle.rb_rpc.specs.declared.caller.Caller.{Caller}
-use Rattle.rb_rpc.specs.declared.caller.Caller.TheVariants.{Tcp}
+use Rattle.rb_address.specs.declared.caller.Caller.{Caller}
+use Rattle.rb_address.specs.declared.caller.Caller.TheVariants.{Tcp}
 use Rattle.rb_rpc.specs.Records.{first_record, data_of}
 use Rattle.rb_proto.specs.Ledger.{rows_in}
 use Rattle.rb_model.specs.declared.message.Message.TheVariants as says

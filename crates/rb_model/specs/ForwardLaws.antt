@@ -3,8 +3,8 @@ use Rattle.std.specs.Prelude.{◌≡◌, ℕ, ◌+◌, ◌==◌, nat_le, nat_lt,
 use Rattle.std.specs.List.{count_by, list_any}
 use Rattle.rb_address.specs.declared.peer.Peer.{Peer}
 use Rattle.rb_address.specs.declared.who.Who.{Who}
-use Rattle.rb_rpc.specs.declared.caller.Caller.{Caller}
-use Rattle.rb_rpc.specs.declared.caller.Caller.TheVariants.{Tcp, Udp}
+use Rattle.rb_address.specs.declared.caller.Caller.{Caller}
+use Rattle.rb_address.specs.declared.caller.Caller.TheVariants.{Tcp, Udp}
 use Rattle.rb_forward.specs.declared.types.ForwardEnd.TheVariants.{Failed}
 use Rattle.rb_forward.specs.declared.types.FwdId.{FwdId}
 use Rattle.rb_forward.specs.Forwards.{Entry, outcome_of, is_of_connection, id_of, ended_by}
@@ -12,7 +12,7 @@ use Rattle.rb_forward.specs.Ends.{NoneIs, IsFirst, IsReplyTo}
 use Rattle.rb_forward.specs.Laws.{number_of, times}
 use Rattle.rb_proto.specs.declared.listener.Listener.{Listener}
 use Rattle.rb_model.specs.declared.types.Limits.{Limits}
-use Rattle.rb_model.specs.declared.types.Standing.TheVariants.{Sends}
+use Rattle.rb_rpc.specs.declared.standing.Standing.TheVariants.{Sends}
 use Rattle.rb_model.specs.declared.types.Told.{Told}
 use Rattle.rb_model.specs.declared.types.Told.TheVariants.{TcpReady}
 use Rattle.rb_model.specs.declared.types.Expired.{Expired}

@@ -2,7 +2,7 @@
 use Rattle.std.specs.Prelude.{◌≡◌, ◌⊎◌, ◌↔◌, ◌<◌, ◌≤◌, ⊤, ℕ, ◌+◌, ◌==◌, max, Bool, true, false, ◌&&◌, List, [], ◌∷◌, ◌++◌, length, take, drop, filter_map, All, Any, Option, Some, None, IfSome, Result, Ok, Err}
 use Rattle.std.specs.List.{list_any}
 use Rattle.rb_xdr.specs.Xdr.{AreBytes}
-use Rattle.rb_rpc.specs.declared.caller.Caller.TheVariants.{Tcp}
+use Rattle.rb_address.specs.declared.caller.Caller.TheVariants.{Tcp}
 use Rattle.rb_rpc.specs.Records.{first_record, data_of}
 use Rattle.rb_rpc.specs.RecordLaws.{IsFirstRecord, HasNoRecord}
 use Rattle.rb_registry.specs.Rows.{are_distinct}

@@ -4,6 +4,7 @@ ghost use Rattle.rb_model.specs.State.{fault_number};
 
 use rb_address::Who;
 use rb_forward::FwdId;
+use rb_rpc::Standing;
 use thiserror::Error;
 
 /// How much a core may hold.
@@ -57,24 +58,6 @@ pub struct Given {
     pub count: usize,
     /// Where the connection stands then.
     pub standing: Standing,
-}
-
-/// Where a connection stands between two events.
-#[derive(Clone, Copy, Debug, PartialEq, Eq)]
-pub enum Standing {
-    /// It takes the first byte of a record.
-    Idle,
-    /// It takes the next byte of a record.
-    Reading,
-    /// A reply is being given on it.
-    Owing,
-    /// It waits for the end of a forwarded call.
-    Awaiting,
-    /// Its call is forwarded, and waits to be sent: `unsent` of the core lends it. That is told once, after the bytes that
-    /// brought the call; later it is `Awaiting`.
-    Sends,
-    /// It is given up and must be closed, or is closed.
-    Lost,
 }
 
 /// What the caller of a forwarded call gets at its end (RFC 1833 sections 2.2.1 and 3.2).

@@ -12,7 +12,7 @@ use Rattle.rb_address.specs.declared.who.Owner.{Owner}
 use Rattle.rb_address.specs.declared.who.Owner.TheVariants.{Unknown, Uid}
 use Rattle.rb_address.specs.Hosts.{is_same_host}
 use Rattle.rb_policy.specs.declared.caller_rate.LogCaller.{LogCaller}
-use Rattle.rb_model.specs.CallerLaws.{is_same_owner}
+use Rattle.rb_address.specs.Callers.{is_same_owner}
 use Rattle.rb_policy.specs.declared.caller_rate.LogCaller.TheVariants as callers
 use Rattle.rb_policy.specs.declared.caller_rate.Count.{Count}
 use Rattle.rb_policy.specs.declared.caller_rate.CallerCount.{CallerCount}

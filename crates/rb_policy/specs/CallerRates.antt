@@ -1,7 +1,7 @@
 -- How many lines callers get in a second: each of the first few by a count of his own, and all others by one.
 use Rattle.std.specs.Prelude.{ℕ, ◌+◌, ◌-◌, ◌*◌, ◌^◌, ◌/◌, ◌==◌, nat_lt, min, Bool, true, false, ◌&&◌, ◌||◌, if◌then◌else◌, Option, Some, None, List, [], ◌∷◌, replicate, sum_by, position, slice_index_or, slice_set}
 use Rattle.rb_address.specs.Hosts.{is_same_host}
-use Rattle.rb_model.specs.CallerLaws.{is_same_owner}
+use Rattle.rb_address.specs.Callers.{is_same_owner}
 use Rattle.rb_policy.specs.declared.caller_rate.LogCaller.{LogCaller}
 use Rattle.rb_policy.specs.declared.caller_rate.LogCaller.TheVariants as callers
 use Rattle.rb_policy.specs.declared.caller_rate.Count.{Count}

@@ -4,8 +4,8 @@ use Rattle.std.specs.declared.cmp.Ordering.{Ordering}
 use Rattle.std.specs.declared.cmp.Ordering.TheVariants.{Less}
 use Rattle.std.specs.Ordering.{nat_cmp, bool_cmp, on, then_cmp}
 use Rattle.rb_forward.specs.Forwards.{later}
-use Rattle.rb_model.specs.declared.types.Standing.{Standing}
-use Rattle.rb_model.specs.declared.types.Standing.TheVariants.{Idle, Reading, Owing, Awaiting, Sends, Lost}
+use Rattle.rb_rpc.specs.declared.standing.Standing.{Standing}
+use Rattle.rb_rpc.specs.declared.standing.Standing.TheVariants.{Idle, Reading, Owing, Awaiting, Sends, Lost}
 use Rattle.rb_policy.specs.declared.origin.Origin.{Origin}
 use Rattle.rb_policy.specs.declared.door.Holder.{Holder}
 use Rattle.rb_policy.specs.declared.door.Candidate.{Candidate}

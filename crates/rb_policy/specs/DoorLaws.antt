@@ -1,6 +1,6 @@
 -- What follows of who is given up.
 use Rattle.std.specs.Prelude.{◌≡◌, ◌≤◌, ◌<◌, ℕ, ◌+◌, ◌*◌, ◌^◌, ◌/◌, max, Bool, true, false, not, ◌||◌, length, count_by, slice_get, slice_set, Option, Some, None}
-use Rattle.rb_model.specs.declared.types.Standing.TheVariants.{Awaiting}
+use Rattle.rb_rpc.specs.declared.standing.Standing.TheVariants.{Awaiting}
 use Rattle.rb_policy.specs.declared.origin.Origin.{Origin}
 use Rattle.rb_policy.specs.declared.origin.Origin.TheVariants.{User, New, Waiting, Unawaited}
 use Rattle.rb_policy.specs.declared.door.Holder.{Holder}

@@ -1,7 +1,7 @@
 -- What a log has lines of, and of which kind they are.
 use Rattle.std.specs.Prelude.{Option, Some, None}
-use Rattle.rb_proto.specs.declared.reasons.Refusal.{Refusal}
-use Rattle.rb_proto.specs.declared.reasons.Refusal.TheVariants.{NothingToRemove}
+use Rattle.rb_registry.specs.declared.reasons.Refusal.{Refusal}
+use Rattle.rb_registry.specs.declared.reasons.Refusal.TheVariants.{NothingToRemove}
 use Rattle.rb_policy.specs.declared.log_lines.LogKind.{LogKind}
 use Rattle.rb_policy.specs.declared.log_lines.LogKind.TheVariants as kinds
 use Rattle.rb_policy.specs.declared.log_choice.Logged.{Logged}

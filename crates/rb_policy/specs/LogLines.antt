@@ -8,8 +8,8 @@ use Rattle.rb_address.specs.Callers.{owner_text as text_of_owner, source_text}
 use Rattle.rb_address.specs.Peers.{bare_host_text}
 use Rattle.rb_rpc.specs.declared.reply.ReplyStatus.{ReplyStatus}
 use Rattle.rb_rpc.specs.declared.reply.ReplyStatus.TheVariants.{Success, ProgUnavail, ProgMismatch, ProcUnavail, GarbageArgs, SystemErr, RpcMismatch, AuthError}
-use Rattle.rb_proto.specs.declared.reasons.Refusal.{Refusal}
-use Rattle.rb_proto.specs.declared.reasons.Refusal.TheVariants.{MayNotRegister, OwnProgram, NoAddress, Reserved, NoPlace, Taken, NothingToRemove}
+use Rattle.rb_registry.specs.declared.reasons.Refusal.{Refusal}
+use Rattle.rb_registry.specs.declared.reasons.Refusal.TheVariants.{MayNotRegister, OwnProgram, NoAddress, Reserved, NoPlace, Taken, NothingToRemove}
 use Rattle.rb_policy.specs.declared.caller_rate.LogCaller.{LogCaller}
 use Rattle.rb_policy.specs.declared.caller_rate.LogCaller.TheVariants as callers
 use Rattle.rb_policy.specs.declared.log_lines.LogKind.{LogKind}

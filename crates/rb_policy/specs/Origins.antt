@@ -6,8 +6,8 @@ use Rattle.rb_address.specs.declared.who.Source.TheVariants as sources
 use Rattle.rb_address.specs.declared.who.Trust.{Trust}
 use Rattle.rb_address.specs.declared.who.Trust.TheVariants as trusts
 use Rattle.rb_address.specs.Hosts.{is_loopback, is_same_host}
-use Rattle.rb_model.specs.declared.types.Standing.{Standing}
-use Rattle.rb_model.specs.declared.types.Standing.TheVariants.{Idle, Reading, Owing, Awaiting, Sends, Lost}
+use Rattle.rb_rpc.specs.declared.standing.Standing.{Standing}
+use Rattle.rb_rpc.specs.declared.standing.Standing.TheVariants.{Idle, Reading, Owing, Awaiting, Sends, Lost}
 use Rattle.rb_policy.specs.declared.asks.Held.{Held}
 use Rattle.rb_policy.specs.declared.asks.Held.TheVariants.{Nothing, Part, Whole}
 use Rattle.rb_policy.specs.declared.origin.Origin.{Origin}

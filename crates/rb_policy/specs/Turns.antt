@@ -1,8 +1,8 @@
 -- What is done in a turn, and what is left for the next.
 use Rattle.std.specs.Prelude.{ℕ, ◌+◌, ◌-◌, ◌/◌, ◌^◌, min, max, nat_lt, nat_le, Bool, true, false, ◌||◌, ◌==◌, if◌then◌else◌, Option, Some, None}
 use Rattle.rb_forward.specs.Deadlines.{sooner_of}
-use Rattle.rb_model.specs.declared.types.Standing.{Standing}
-use Rattle.rb_model.specs.declared.types.Standing.TheVariants.{Owing}
+use Rattle.rb_rpc.specs.declared.standing.Standing.{Standing}
+use Rattle.rb_rpc.specs.declared.standing.Standing.TheVariants.{Owing}
 use Rattle.rb_policy.specs.declared.turns.Again.{Again}
 use Rattle.rb_policy.specs.declared.turns.Again.TheVariants.{AtOnce, AfterWait}
 use Rattle.rb_policy.specs.declared.turns.Round.{Round}

@@ -7,7 +7,7 @@ use crate::origin::{
     Origin, class_of, goes_by, is_active, is_local, is_roots, is_same_origin, is_unawaited,
     share_of,
 };
-use rb_model::Standing;
+use rb_rpc::Standing;
 
 /// The milliseconds that bytes that are owed may wait for the socket to take some.
 pub const OWED: u64 = 30_000;

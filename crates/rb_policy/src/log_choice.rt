@@ -3,7 +3,7 @@ ghost use Rattle.std.specs.Prelude.{◌≡◌};
 ghost use Rattle.rb_policy.specs.LogChoice.{change_kind, kind_of_all, kind_of_changes, kind_told};
 
 use crate::log_lines::LogKind;
-use rb_proto::Refusal;
+use rb_registry::Refusal;
 
 /// What a daemon has lines of in its log.
 #[derive(Clone, Copy)]

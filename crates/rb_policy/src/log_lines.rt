@@ -5,7 +5,7 @@ ghost use Rattle.rb_policy.specs.LogLines.{shown_byte, shown_text, status_text, 
 use crate::caller_rate::{LeftOut, LogCaller};
 use arrayvec::ArrayString;
 use rb_address::{Owner, Source, Trust, Who};
-use rb_proto::Refusal;
+use rb_registry::Refusal;
 use rb_rpc::ReplyStatus;
 use std::fmt;
 

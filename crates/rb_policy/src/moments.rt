@@ -35,22 +35,21 @@ impl Moments {
         self.last
     }
 
-    /// The moment of a turn. When nothing waits for a deadline, it is the wall clock's if that is later: so a clock
-    /// that is set forward ends nobody's connection, and one that is set back stops no deadline. It is never before the
-    /// last one.
-    pub fn next(&mut self, wall: u64, monotonic: u64, follows_wall: bool) -> u64
+    /// The moment of a turn. When nothing waits for a deadline, the wall clock is given, and it is that one's if that is later:
+    /// so a clock that is set forward ends nobody's connection, and one that is set back stops no deadline. It is never before
+    /// the last one.
+    pub fn next(&mut self, wall: Option<u64>, monotonic: u64) -> u64
         ensures moment { result
-            ≡ next_moment self.old.last self.old.monotonic monotonic wall follows_wall }
+            ≡ next_moment self.old.last self.old.monotonic monotonic wall }
         ensures rises { self.old.last ≤ result }
         ensures last { self.new.last ≡ result }
         ensures monotonic { self.new.monotonic ≡ max self.old.monotonic monotonic }
     {
         let passed = monotonic.saturating_sub(self.monotonic);
         let went_on = self.last.saturating_add(passed);
-        self.last = if follows_wall {
-            went_on.max(wall)
-        } else {
-            went_on
+        self.last = match wall {
+            Some(wall) => went_on.max(wall),
+            None => went_on,
         };
         self.monotonic = self.monotonic.max(monotonic);
         self.last

@@ -3,7 +3,7 @@ ghost use Rattle.std.specs.Prelude.{◌≡◌, ◌||◌, ◌==◌};
 ghost use Rattle.rb_policy.specs.Turns.{after_all_calls, wait_of, accept_count, place_count, others_of, is_cut_off, round_of, serves_another};
 
 use rb_forward::sooner;
-use rb_model::Standing;
+use rb_rpc::Standing;
 
 /// The most socket calls for one socket in a turn.
 pub const SOCKET_CALLS: usize = 64;

@@ -13,8 +13,8 @@ use Rattle.rb_address.specs.declared.who.Source.{Source}
 use Rattle.rb_address.specs.declared.who.Source.TheVariants as sources
 use Rattle.rb_address.specs.Hosts.{family_of}
 use Rattle.rb_address.specs.Callers.{netid_from}
-use Rattle.rb_rpc.specs.declared.caller.Caller.{Caller}
-use Rattle.rb_rpc.specs.declared.caller.Caller.TheVariants as callers
+use Rattle.rb_address.specs.declared.caller.Caller.{Caller}
+use Rattle.rb_address.specs.declared.caller.Caller.TheVariants as callers
 use Rattle.rb_address.specs.Netids.{netid_on, netid_of, transport_of_protocol}
 use Rattle.rb_rpc.specs.declared.call.CallHead.{CallHead}
 use Rattle.rb_registry.specs.declared.row.Row.{Row}

@@ -6,7 +6,7 @@ use Rattle.std.proofs.lemmas.Bool.{and_parts, eqb-false, ne_eqb, not-true, le-lt
 use Rattle.std.proofs.lemmas.List.Elements.{All-contains, All-weaker, Contains-append_left, Contains-push_cases, filter_passes}
 use Rattle.rb_address.specs.declared.who.Who.{Who}
 use Rattle.rb_rpc.specs.Records.{data_of}
-use Rattle.rb_rpc.specs.declared.caller.Caller.TheVariants.{Tcp}
+use Rattle.rb_address.specs.declared.caller.Caller.TheVariants.{Tcp}
 use Rattle.rb_model.specs.declared.types.CoreFault.{CoreFault}
 use Rattle.rb_model.specs.declared.types.CoreFault.TheVariants.{Gone}
 use Rattle.rb_model.specs.declared.types.Taken.{Taken}

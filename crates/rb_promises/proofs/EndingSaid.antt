@@ -4,9 +4,9 @@ use Rattle.std.proofs.Common.{◌≡◌, ◌⊎◌, inl, inr, ℕ, ◌-◌, Bool
 use Rattle.std.proofs.lemmas.Option.{same_Some}
 use Rattle.rb_address.specs.declared.who.Owner.{Owner}
 use Rattle.rb_rpc.specs.declared.call.CallHead.{CallHead}
-use Rattle.rb_rpc.specs.declared.caller.Caller.{Caller}
-use Rattle.rb_rpc.specs.declared.caller.Caller.TheVariants.{Tcp}
-use Rattle.rb_rpc.specs.declared.caller.Kind.{Kind}
+use Rattle.rb_address.specs.declared.caller.Caller.{Caller}
+use Rattle.rb_address.specs.declared.caller.Caller.TheVariants.{Tcp}
+use Rattle.rb_arguments.specs.declared.kind.Kind.{Kind}
 use Rattle.rb_rpc.specs.Feeds.{arguments_of}
 use Rattle.rb_rpc.specs.Records.{first_record, data_of}
 use Rattle.rb_registry.specs.declared.row.Row.{Row}

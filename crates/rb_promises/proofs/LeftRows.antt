@@ -3,7 +3,7 @@ use Rattle.std.proofs.Common.{◌≡◌, Bool, false, inl, inr, ℕ, Option, Som
 use Rattle.std.proofs.lemmas.Bool.{true≢false}
 use Rattle.rb_xdr.specs.Xdr.{AreBytes}
 use Rattle.rb_rpc.specs.declared.call.CallHead.{CallHead}
-use Rattle.rb_rpc.specs.declared.caller.Caller.{Caller}
+use Rattle.rb_address.specs.declared.caller.Caller.{Caller}
 use Rattle.rb_stats.specs.Statistics.{Note}
 use Rattle.rb_forward.specs.declared.types.Ended.{Ended}
 use Rattle.rb_arguments.specs.declared.procedure.MappingProcedure.TheVariants as mappings

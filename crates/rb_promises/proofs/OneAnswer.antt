@@ -19,8 +19,8 @@ use Rattle.rb_address.specs.declared.who.Owner.{Owner}
 use Rattle.rb_address.specs.declared.who.Owner.TheVariants.{Unknown, Uid}
 use Rattle.rb_address.specs.declared.who.Source.{Source}
 use Rattle.rb_address.specs.declared.who.Source.TheVariants as sources
-use Rattle.rb_rpc.specs.declared.caller.Caller.{Caller}
-use Rattle.rb_rpc.specs.declared.caller.Caller.TheVariants as callers
+use Rattle.rb_address.specs.declared.caller.Caller.{Caller}
+use Rattle.rb_address.specs.declared.caller.Caller.TheVariants as callers
 use Rattle.rb_registry.specs.declared.row.Row.{Row}
 use Rattle.rb_proto.specs.declared.context.Context.{Context}
 use Rattle.rb_proto.specs.Callers.{who_of}

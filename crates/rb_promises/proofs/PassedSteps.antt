@@ -6,8 +6,8 @@ use Rattle.std.proofs.lemmas.List.{take_all, length-take, length-drop, take-appe
 use Rattle.std.proofs.lemmas.List.Elements.{All-contains, Contains-push}
 use Rattle.rb_xdr.specs.Xdr.{AreBytes}
 use Rattle.rb_address.specs.declared.who.Who.{Who}
-use Rattle.rb_rpc.specs.declared.caller.Caller.{Caller}
-use Rattle.rb_rpc.specs.declared.caller.Caller.TheVariants.{Tcp, Udp}
+use Rattle.rb_address.specs.declared.caller.Caller.{Caller}
+use Rattle.rb_address.specs.declared.caller.Caller.TheVariants.{Tcp, Udp}
 use Rattle.rb_rpc.specs.Records.{first_record, data_of}
 use Rattle.rb_rpc.specs.RecordLaws.{IsMarked}
 use Rattle.rb_rpc.proofs.Markings.{first_is_least, none_where_no_front, data_is_joined}

@@ -7,8 +7,8 @@ use Rattle.rb_address.specs.Reading.{number_below}
 use Rattle.rb_proto.specs.declared.listener.Forwarding.TheVariants.{Anywhere}
 use Rattle.rb_proto.specs.declared.listener.Terms.{Terms}
 use Rattle.rb_lines.specs.Paths.{is_path}
-use Rattle.rb_sockets.specs.declared.settings.LocalSocket.{LocalSocket}
-use Rattle.rb_sockets.specs.declared.settings.Settings.{Settings}
+use Rattle.rb_settings.specs.declared.settings.LocalSocket.{LocalSocket}
+use Rattle.rb_settings.specs.declared.settings.Settings.{Settings}
 use Rattle.rb_commands.specs.declared.options.Valued.{Valued}
 use Rattle.rb_commands.specs.declared.options.Valued.TheVariants.{LocalMode, Port, UdpLists, ForwardFor, Turns, RecordLimit}
 use Rattle.rb_commands.specs.declared.options.Valued.TheVariants as valueds

@@ -6,8 +6,8 @@ use Rattle.std.specs.Prelude.{◌≡◌, ◌⊎◌, ◌<◌, ◌≤◌, ⊤, ℕ
 use Rattle.rb_xdr.specs.Xdr.{AreBytes}
 use Rattle.rb_address.specs.declared.who.Who.{Who}
 use Rattle.rb_rpc.specs.declared.call.CallHead.{CallHead}
-use Rattle.rb_rpc.specs.declared.caller.Caller.{Caller}
-use Rattle.rb_rpc.specs.declared.caller.Caller.TheVariants.{Tcp, Udp}
+use Rattle.rb_address.specs.declared.caller.Caller.{Caller}
+use Rattle.rb_address.specs.declared.caller.Caller.TheVariants.{Tcp, Udp}
 use Rattle.rb_rpc.specs.Grammar.{IsNoCall}
 use Rattle.rb_rpc.specs.RecordLaws.{IsMarked, HasNoRecord}
 use Rattle.rb_registry.specs.declared.row.Row.{Row}

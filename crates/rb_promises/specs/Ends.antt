@@ -6,9 +6,9 @@ use Rattle.std.specs.List.{count_by}
 use Rattle.rb_xdr.specs.Xdr.{AreBytes}
 use Rattle.rb_address.specs.declared.netid.Netid.{Netid}
 use Rattle.rb_address.specs.declared.who.Who.{Who}
-use Rattle.rb_rpc.specs.declared.caller.Caller.{Caller}
-use Rattle.rb_rpc.specs.declared.caller.Caller.TheVariants.{Tcp, Udp}
-use Rattle.rb_rpc.specs.declared.caller.Kind.{Kind}
+use Rattle.rb_address.specs.declared.caller.Caller.{Caller}
+use Rattle.rb_address.specs.declared.caller.Caller.TheVariants.{Tcp, Udp}
+use Rattle.rb_arguments.specs.declared.kind.Kind.{Kind}
 use Rattle.rb_rpc.specs.declared.reply.ReplyStatus.{ReplyStatus}
 use Rattle.rb_rpc.specs.Grammar.{BeginsWithReply}
 use Rattle.rb_uaddr.specs.declared.address.Uaddr.{Uaddr}

@@ -13,8 +13,8 @@ use Rattle.rb_address.specs.declared.who.Source.TheVariants as sources
 use Rattle.rb_address.specs.declared.who.Trust.TheVariants as trusts
 use Rattle.rb_address.specs.Hosts.{family_of, mapped_front}
 use Rattle.rb_rpc.specs.declared.call.CallHead.{CallHead}
-use Rattle.rb_rpc.specs.declared.caller.Kind.{Kind}
-use Rattle.rb_rpc.specs.declared.caller.Kind.TheVariants.{Indirect}
+use Rattle.rb_arguments.specs.declared.kind.Kind.{Kind}
+use Rattle.rb_arguments.specs.declared.kind.Kind.TheVariants.{Indirect}
 use Rattle.rb_rpc.specs.declared.reply.ReplyStatus.{ReplyStatus}
 use Rattle.rb_rpc.specs.declared.reply.ReplyStatus.TheVariants as replies
 use Rattle.rb_registry.specs.declared.row.Row.{Row}

@@ -2,7 +2,7 @@
 use Rattle.std.specs.Prelude.{◌≡◌, ℕ, true, List, ◌++◌, length, Option, Some, All}
 use Rattle.rb_xdr.specs.Xdr.{IsNumber}
 use Rattle.rb_address.specs.declared.who.Who.{Who}
-use Rattle.rb_rpc.specs.declared.caller.Caller.TheVariants.{Tcp}
+use Rattle.rb_address.specs.declared.caller.Caller.TheVariants.{Tcp}
 use Rattle.rb_rpc.specs.declared.reply.ReplyStatus.TheVariants.{Success}
 use Rattle.rb_rpc.specs.Replies.{reply_head}
 use Rattle.rb_rpc.specs.Grammar.{IsCaller}

@@ -13,8 +13,8 @@ use Rattle.rb_address.specs.declared.who.Source.TheVariants as sources
 use Rattle.rb_address.specs.declared.host.Family.TheVariants.{Inet, Inet6}
 use Rattle.rb_address.specs.Hosts.{IsBytesOf, family_of}
 use Rattle.rb_rpc.specs.declared.call.CallHead.{CallHead}
-use Rattle.rb_rpc.specs.declared.caller.Caller.{Caller}
-use Rattle.rb_rpc.specs.declared.caller.Caller.TheVariants as callers
+use Rattle.rb_address.specs.declared.caller.Caller.{Caller}
+use Rattle.rb_address.specs.declared.caller.Caller.TheVariants as callers
 use Rattle.rb_registry.specs.declared.row.Row.{Row}
 use Rattle.rb_arguments.specs.declared.mapping.Mapping.{Mapping}
 use Rattle.rb_arguments.specs.declared.rpcb.Rpcb.{Rpcb}

@@ -6,8 +6,8 @@ use Rattle.rb_proto.specs.declared.listener.Forwarding.TheVariants.{Anywhere}
 use Rattle.rb_policy.specs.declared.log_choice.Logged.{Logged}
 use Rattle.rb_policy.specs.declared.log_choice.Logged.TheVariants.{Nothing}
 use Rattle.rb_lines.specs.Starts.{MeetsLaws}
-use Rattle.rb_sockets.specs.declared.settings.Settings.{Settings}
-use Rattle.rb_sockets.specs.Settings.{listener_of}
+use Rattle.rb_settings.specs.declared.settings.Settings.{Settings}
+use Rattle.rb_settings.specs.Settings.{listener_of}
 use Rattle.rb_commands.specs.declared.serving.ServeTexts.{ServeTexts}
 use Rattle.rb_commands.specs.declared.serving.Serve.{Serve}
 use Rattle.rb_commands.specs.Serving.{serve_of}

@@ -8,7 +8,7 @@ use Rattle.rb_address.specs.declared.who.Source.TheVariants.{Inet}
 use Rattle.rb_address.specs.declared.who.Trust.{Trust}
 use Rattle.rb_address.specs.declared.who.Trust.TheVariants.{Claims, Stranger}
 use Rattle.rb_address.specs.declared.who.Who.{Who}
-use Rattle.rb_rpc.specs.declared.caller.Caller.TheVariants.{Udp}
+use Rattle.rb_address.specs.declared.caller.Caller.TheVariants.{Udp}
 use Rattle.rb_registry.specs.declared.row.Row.{Row}
 use Rattle.rb_proto.specs.declared.context.Context.{Context}
 use Rattle.rb_proto.specs.declared.listener.Announced.{Announced}

@@ -12,8 +12,8 @@ use Rattle.rb_registry.specs.declared.row.Row.{Row}
 use Rattle.rb_registry.specs.Rows.{rpcb_prog, is_on, is_row, find_exact}
 use Rattle.rb_address.specs.Netids.{is_netid}
 use Rattle.rb_forward.specs.declared.types.Forward.{Forward}
-use Rattle.rb_rpc.specs.declared.caller.Kind.{Kind}
-use Rattle.rb_rpc.specs.declared.caller.Kind.TheVariants.{Callit2, Callit3, Bcast, Indirect}
+use Rattle.rb_arguments.specs.declared.kind.Kind.{Kind}
+use Rattle.rb_arguments.specs.declared.kind.Kind.TheVariants.{Callit2, Callit3, Bcast, Indirect}
 use Rattle.rb_forward.specs.Forwards.{can_start, with_next_entry}
 use Rattle.rb_proto.specs.declared.answers.Answer.{Answer}
 use Rattle.rb_proto.specs.declared.answers.Answer.TheVariants as answers

@@ -3,7 +3,7 @@ use Rattle.std.proofs.Common.{◌≡◌, ℕ, Bool, true, false, List, Some, ref
 use Rattle.std.specs.Prelude.{IsTrue}
 use Rattle.rb_rpc.specs.declared.reply.ReplyStatus.TheVariants as replies
 use Rattle.rb_uaddr.specs.declared.address.Uaddr.{Uaddr}
-use Rattle.rb_rpc.specs.declared.caller.Kind.{Kind}
+use Rattle.rb_arguments.specs.declared.kind.Kind.{Kind}
 use Rattle.rb_forward.specs.Forwards.{can_start}
 use Rattle.rb_proto.specs.declared.answers.Answer.{Answer}
 use Rattle.rb_proto.specs.declared.context.Context.{Context}

@@ -19,8 +19,8 @@ use Rattle.rb_stats.specs.Counting.{HasNoted}
 use Rattle.rb_proto.specs.Callers.{who_of, is_superuser, share_of, share_by}
 use Rattle.rb_proto.specs.Ledger.{Books, Ledger, StandsForLedger, rows_in, version_of}
 use Rattle.rb_proto.specs.Books.{ActsAs, HasRoomFor}
-use Rattle.rb_proto.specs.declared.reasons.Refusal.{Refusal}
-use Rattle.rb_proto.specs.declared.reasons.Refusal.TheVariants as reasons
+use Rattle.rb_registry.specs.declared.reasons.Refusal.{Refusal}
+use Rattle.rb_registry.specs.declared.reasons.Refusal.TheVariants as reasons
 use Rattle.rb_proto.specs.Netids.{is_address}
 use Rattle.rb_proto.specs.Reserved.{may_own}
 use Rattle.rb_proto.specs.Reasons.{refusal_before, refusal_beside}

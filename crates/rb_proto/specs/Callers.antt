@@ -3,8 +3,8 @@ use Rattle.std.specs.Prelude.{ℕ, ◌-◌, ◌/◌, ◌==◌, Bool, true, false
 use Rattle.std.specs.Option.{option_map_or}
 use Rattle.rb_rpc.specs.declared.call.Credential.{Credential}
 use Rattle.rb_rpc.specs.declared.call.Credential.TheVariants as credentials
-use Rattle.rb_rpc.specs.declared.caller.Caller.{Caller}
-use Rattle.rb_rpc.specs.declared.caller.Caller.TheVariants as callers
+use Rattle.rb_address.specs.declared.caller.Caller.{Caller}
+use Rattle.rb_address.specs.declared.caller.Caller.TheVariants as callers
 use Rattle.rb_uaddr.specs.declared.address.Hosts.{Hosts}
 use Rattle.rb_uaddr.specs.declared.address.Uaddr.TheVariants.{V4, V6}
 use Rattle.rb_uaddr.specs.Uaddr.{any_host, any_host6, text_of, merged_host, merged_host6}

@@ -5,8 +5,8 @@ use Rattle.std.specs.Option.{option_or}
 use Rattle.rb_registry.specs.declared.row.Row.{Row}
 use Rattle.rb_registry.specs.Rows.{rpcb_prog, is_of_key, is_change_left}
 use Rattle.rb_proto.specs.declared.context.Context.{Context}
-use Rattle.rb_proto.specs.declared.reasons.Refusal.{Refusal}
-use Rattle.rb_proto.specs.declared.reasons.Refusal.TheVariants as reasons
+use Rattle.rb_registry.specs.declared.reasons.Refusal.{Refusal}
+use Rattle.rb_registry.specs.declared.reasons.Refusal.TheVariants as reasons
 use Rattle.rb_proto.specs.Netids.{is_address}
 use Rattle.rb_proto.specs.Reserved.{may_own}
 use Rattle.rb_proto.specs.Answers.{comes_from_here, has_share}

@@ -1,7 +1,7 @@
 -- On which terms callers are served: for whom another call is made and to what, and what strangers are counted for (RFC 1833
 -- sections 2.1, 2.2.1 and 3.1).
 use Rattle.std.specs.Prelude.{ℕ, ◌==◌, Bool, true, false, not, ◌&&◌, ◌||◌, bytes_eq, Option, Some, None}
-use Rattle.rb_rpc.specs.declared.caller.Caller.{Caller}
+use Rattle.rb_address.specs.declared.caller.Caller.{Caller}
 use Rattle.rb_uaddr.specs.Uaddr.{any_host, any_host6}
 use Rattle.rb_address.specs.declared.host.Host.{Host}
 use Rattle.rb_address.specs.declared.host.Host.TheVariants.{V4, V6}

@@ -4,8 +4,8 @@ use Rattle.rb_xdr.specs.Xdr.{words, opaque}
 use Rattle.rb_rpc.specs.declared.call.CallHead.{CallHead}
 use Rattle.rb_rpc.specs.declared.call.Credential.{Credential}
 use Rattle.rb_rpc.specs.declared.call.Credential.TheVariants as credentials
-use Rattle.rb_rpc.specs.declared.caller.Caller.{Caller}
-use Rattle.rb_rpc.specs.declared.caller.Caller.TheVariants.{Tcp, Udp}
+use Rattle.rb_address.specs.declared.caller.Caller.{Caller}
+use Rattle.rb_address.specs.declared.caller.Caller.TheVariants.{Tcp, Udp}
 use Rattle.rb_address.specs.declared.host.Host.TheVariants.{V4}
 use Rattle.rb_address.specs.declared.netid.Netid.TheVariants as netids
 use Rattle.rb_address.specs.declared.who.Owner.{Owner}

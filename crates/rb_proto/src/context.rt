@@ -5,8 +5,8 @@ ghost use Rattle.rb_proto.specs.Answers.{comes_from_here, owner_in, netid_asked}
 
 use crate::listener::{Announced, Terms};
 use crate::reserved::LentReserved;
-use rb_address::{Netid, Owner, Source, Transport, Trust, Who};
-use rb_rpc::{CallHead, Caller, Credential};
+use rb_address::{Caller, Netid, Owner, Source, Transport, Trust, Who};
+use rb_rpc::{CallHead, Credential};
 use rb_uaddr::Hosts;
 
 /// What the answer to a call depends on beside the books: the announced hosts and the terms, the limits, the moment and

@@ -14,7 +14,6 @@ mod listener;
 mod lookups;
 mod netids;
 mod put;
-mod reasons;
 mod reserved;
 mod rows;
 mod sets;
@@ -30,7 +29,7 @@ pub use laws::{forwards_are_noted_once, forwards_go_to_rows, list_replies_go_on}
 pub use list_reply::{ListPart, ListReply};
 pub use listener::{Announced, Forwarding, Listener, Terms, own_row_count};
 pub use put::{put_forwarded, put_results};
-pub use reasons::Refusal;
+pub use rb_registry::Refusal;
 pub use reserved::{LentReserved, MOST_RESERVED, Reservation, Reserved};
 pub use sets::row_of_rpcb;
 pub use worked::{worked_examples, worked_forwards, worked_lists, worked_netids};

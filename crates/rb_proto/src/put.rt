@@ -16,9 +16,9 @@ use crate::answers::{Listing, Results, Value};
 use crate::books::Books;
 use crate::forwarding::uaddr_at;
 use crate::rows::{room_after_rows, seek_version, write_rows};
+use rb_arguments::Kind;
 use rb_forward::{Forward, LONGEST_RESULTS};
 use rb_registry::Registry;
-use rb_rpc::Kind;
 use rb_stats::Stats;
 use rb_xdr::{Full, Kept, Meter, Opaque, Text, Xdr};
 

@@ -5,10 +5,9 @@ ghost use Rattle.rb_proto.specs.Terms.{goes_by_host, is_any_host, is_this_host, 
 
 use crate::context::{Context, is_stranger, who_of};
 use crate::listener::Forwarding;
-use rb_address::Host;
+use rb_address::{Caller, Host};
 use rb_arguments::RemoteCall;
 use rb_registry::Row;
-use rb_rpc::Caller;
 
 const YPSERV: u32 = 100_004;
 

@@ -137,7 +137,7 @@ fn datagram(
 }
 
 /// Looks for the forwarded call that must be sent.
-#[tactic(auto, unfolding(rb_model::specs::Step::step, rb_rpc::specs::Forwarded::longest_forwarded))]
+#[tactic(auto, unfolding(rb_model::specs::Step::step, rb_arguments::specs::Forwarded::longest_forwarded))]
 fn unsent(alloc: Global, core: &mut Metered) -> Result<Output, NoMemory>
     ensures ok { MayHappen Unsent core.old core.new result }
     ensures err { OnErr result (core.new ≡ core.old) }

@@ -2,7 +2,6 @@ use Rattle.std.specs.Prelude.{⊤}
 use Rattle.rb_xdr.proofs.OnLiterals.{rb_xdr_on_literals}
 use Rattle.rb_rpc.specs.CallBytes.{call_bytes}
 use Rattle.rb_rpc.specs.Feeds.{arguments_of}
-use Rattle.rb_rpc.specs.Forwarded.{longest_forwarded}
 use Rattle.rb_rpc.specs.Messages.{body_of_sys, auth_stat_of}
 use Rattle.rb_rpc.specs.ReadReplies.{read_prog_mismatch, read_accept_stat, read_accepted, read_rpc_mismatch, read_denied, read_reply}
 use Rattle.rb_rpc.specs.Records.{fragment_header, first_record, data_of, reply_fragments, marked_reply}
@@ -14,7 +13,6 @@ unfoldable pub rb_rpc_on_literals : ⊤
 unfolding rb_xdr_on_literals
     call_bytes
     arguments_of
-    longest_forwarded
     body_of_sys auth_stat_of
     read_prog_mismatch read_accept_stat read_accepted read_rpc_mismatch read_denied read_reply
     fragment_header first_record data_of reply_fragments marked_reply

@@ -7,7 +7,6 @@ pub mod Records
 pub mod RecordLaws
 pub mod Grammar
 pub mod Worked
-pub mod Forwarded
 pub mod Marks
 pub mod Streams
 pub mod SysFields

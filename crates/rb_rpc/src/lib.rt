@@ -3,7 +3,6 @@
 
 mod auth;
 mod call;
-mod caller;
 mod feed;
 mod integers;
 mod laws;
@@ -12,13 +11,13 @@ mod opaque_auth;
 mod reply;
 mod saved;
 mod stage;
+mod standing;
 mod sys;
 mod sys_fields;
 mod worked;
 
 pub use auth::AuthStat;
 pub use call::{CALL, CallHead, Credential, RPC_VERSION, Verdict, put_call, read_call};
-pub use caller::{Caller, Kind, LONGEST_FORWARDED};
 pub use feed::CallFeed;
 pub use laws::{
     calls_stay_calls, data_is_joined, fed_bytes_have_no_record, first_record_is_least,
@@ -31,5 +30,6 @@ pub use marks::{
 };
 pub use opaque_auth::{AUTH_NONE, AUTH_SYS, MAX_AUTH_BODY};
 pub use reply::{BadReply, ReplyHead, ReplyStatus, put_reply, read_reply};
+pub use standing::Standing;
 pub use sys::{MAX_GIDS, MAX_MACHINE};
 pub use worked::{worked_calls, worked_records, worked_replies};

@@ -7,7 +7,7 @@ use Rattle.rb_rpc.specs.Verdict.{verdict}
 use Rattle.rb_rpc.specs.declared.call.Verdict.{Verdict}
 use Rattle.rb_rpc.specs.declared.call.Verdict.TheVariants.{NoCall, RpcMismatch, AuthError, Call}
 use Rattle.rb_rpc.specs.Feeds.{arguments_of}
-use Rattle.rb_rpc.specs.Forwarded.{longest_forwarded as longest_args}
+use Rattle.rb_arguments.specs.Forwarded.{longest_forwarded as longest_args}
 use Rattle.rb_arguments.specs.declared.procedure.Procedure.{Procedure}
 use Rattle.rb_arguments.specs.declared.procedure.Procedure.TheVariants as procedures
 use Rattle.rb_arguments.specs.declared.request.Request.{Request}

@@ -3,10 +3,9 @@ ghost use Rattle.std.specs.Prelude.{◌≡◌, ◌≤◌};
 ghost use Rattle.rb_model.specs.Calls.{longest_reply, longest_for};
 ghost use Rattle.rb_model.specs.Step.{longest_to};
 
-use rb_address::Who;
+use rb_address::{Caller, Who};
 use rb_model::LONGEST_REPLY;
 use rb_proto::{Terms, is_stranger};
-use rb_rpc::Caller;
 
 /// The length of a reply without results, in bytes, which each call may be answered with (RFC 5531 section 9).
 const SHORTEST_REPLY: usize = 24;

@@ -20,12 +20,13 @@ ghost use Rattle.rb_serving.specs.Costs.{PaysForResults, PaysToServe, ListsAnswe
 ghost use Rattle.rb_model.specs.Costs.{put_end_cost};
 
 use crate::lengths::longest_for;
+use rb_address::Caller;
 use rb_forward::{Ended, Forward, ForwardEnd as End};
 use rb_model::{Message, Response, Served};
 use rb_proto::{
     Answer, Books, Context, Listing, Results, answer, put_forwarded, put_results, refusal,
 };
-use rb_rpc::{CallHead, Caller, ReplyHead, ReplyStatus, put_reply};
+use rb_rpc::{CallHead, ReplyHead, ReplyStatus, put_reply};
 use rb_xdr::{Kept, Meter};
 
 /// Writes the head of a reply into an empty buffer.
@@ -215,7 +216,7 @@ pub fn serve_null(books: &mut Books, head: &CallHead, out: &mut Kept, meter: &mu
 
 /// Writes the results that a target gave into an empty buffer, or SYSTEM_ERR if the reply would be too long for its
 /// caller.
-#[tactic(auto, using(rb_model::proofs::ReplyHeads::some_fitting), unfolding(rb_model::specs::Calls::fitting_reply, rb_model::specs::Calls::longest_reply, rb_rpc::specs::Forwarded::longest_forwarded, rb_forward::specs::Forwards::longest_results))]
+#[tactic(auto, using(rb_model::proofs::ReplyHeads::some_fitting), unfolding(rb_model::specs::Calls::fitting_reply, rb_model::specs::Calls::longest_reply, rb_arguments::specs::Forwarded::longest_forwarded, rb_forward::specs::Forwards::longest_results))]
 fn put_passed(forward: &Forward, results: &[u8], out: &mut Kept, meter: &mut Meter)
     requires results { length results.now ≤ longest_results }
     requires out { IsEmptyReply meter.old.tie out.old }

@@ -10,7 +10,7 @@ use Rattle.std.specs.List.{AllByRecursion}
 use Rattle.rb_address.specs.Netids.{netid_text}
 use Rattle.rb_address.specs.declared.netid.Netid.{Netid}
 use Rattle.rb_address.specs.declared.netid.Netid.TheVariants.{Tcp, Udp, Tcp6, Udp6, Local}
-use Rattle.rb_rpc.specs.Forwarded.{longest_forwarded}
+use Rattle.rb_arguments.specs.Forwarded.{longest_forwarded}
 use Rattle.rb_arguments.specs.Remote.{SpellsRemote}
 use Rattle.rb_show.specs.Asks.{netid_text_of, rpcb_of, mapping_of, callit_arguments}
 use Rattle.rb_show.specs.AskLaws.{remote_of, QuestionsAreRequests}

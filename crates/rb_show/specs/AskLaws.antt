@@ -2,7 +2,7 @@
 use Rattle.std.specs.Prelude.{⊤, Option, Some, None}
 use Rattle.rb_xdr.specs.Xdr.{IsNumber}
 use Rattle.std.specs.Prelude.{ℕ}
-use Rattle.rb_rpc.specs.declared.caller.Kind.TheVariants as kinds
+use Rattle.rb_arguments.specs.declared.kind.Kind.TheVariants as kinds
 use Rattle.rb_arguments.specs.declared.remote.RemoteCall.{RemoteCall}
 use Rattle.rb_arguments.specs.declared.request.Request.{Request}
 use Rattle.rb_arguments.specs.Grammar.{Asks}

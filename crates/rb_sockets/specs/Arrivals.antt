@@ -1,18 +1,11 @@
--- How callers came in, and who they are by that.
+-- How callers come in on each socket.
 use Rattle.std.specs.Prelude.{◌≡◌, ◌≤◌, ◌+◌, ◌%◌, ◌^◌, ◌==◌, ℕ, Bool, true, false, List, length, slice_get, if◌then◌else◌, Option, Some, None, is_none, Result, IfOk, IfSome}
 use Rattle.rb_address.specs.declared.peer.Peer.{Peer}
-use Rattle.rb_address.specs.declared.who.Source.{Source}
-use Rattle.rb_address.specs.declared.who.Source.TheVariants.{Inet, Local}
-use Rattle.rb_address.specs.declared.who.Who.{Who}
-use Rattle.rb_policy.specs.declared.evidence.Evidence.{Evidence}
 use Rattle.rb_policy.specs.declared.trust.Entrance.{Entrance}
 use Rattle.rb_policy.specs.declared.trust.Entrance.TheVariants.{RootSocket, OpenSocket, Tcp, Udp}
-use Rattle.rb_policy.specs.Trusts.{trust_of}
-use Rattle.rb_sockets.specs.declared.arrival.Arrival.{Arrival}
-use Rattle.rb_policy.specs.declared.evidence.Evidence.TheVariants.{NotFound}
-use Rattle.rb_policy.specs.Evidence.{is_shown}
-use Rattle.rb_sockets.specs.declared.arrival.Ends.{Ends}
-use Rattle.rb_sockets.specs.declared.calls.Asker.{Asker}
+use Rattle.rb_arrivals.specs.declared.arrival.Arrival.{Arrival}
+use Rattle.rb_arrivals.specs.declared.arrival.Ends.{Ends}
+use Rattle.rb_arrivals.specs.declared.asker.Asker.{Asker}
 use Rattle.rb_sockets.specs.declared.calls.CallSocket.{CallSocket}
 use Rattle.rb_sockets.specs.declared.watched.Watched.{Watched}
 use Rattle.rb_address.specs.declared.host.Host.TheVariants.{V4}
@@ -22,33 +15,9 @@ use Rattle.rb_sockets.specs.declared.listener.Listener.{Listener}
 use Rattle.rb_sockets.specs.declared.listener.Listener.TheVariants as listeners
 use Rattle.rb_sockets.specs.declared.local.LocalListener.{LocalListener}
 use Rattle.rb_sockets.specs.declared.local.AbstractName.{AbstractName}
-use Rattle.rb_sockets.specs.declared.listener.Visitor.{Visitor}
-use Rattle.rb_sockets.specs.declared.listener.Visitor.TheVariants.{Known, Unknown}
-
-abbrev pub source_of : Entrance → Source
-source_of RootSocket = Local
-source_of OpenSocket = Local
-source_of (Tcp peer evidence) = Inet peer
-source_of (Udp bound peer) = Inet peer
-
--- TRUST-14: A caller is trusted as its entrance says, and in no other way.
-abbrev pub who_of : Arrival → Who
-who_of a = record { source = source_of a.entrance; asked = a.asked; trust = trust_of a.beliefs a.entrance }
-
--- Whoever is at the other end of a connection over TCP, of which the kernel's tables show this, asked the host of our end.
--- ASKED-2
-abbrev pub arrival_of : Ends → Evidence → Arrival
-arrival_of ends evidence = record { beliefs = ends.beliefs; entrance = Tcp ends.theirs evidence; asked = ends.ours.address.host }
-
--- Whoever came over TCP: of a connection of this host the kernel's tables show whose it is.
--- TABLES-1
-abbrev pub visitor_of : Ends → Visitor
-visitor_of ends = if is_shown ends.beliefs.claims ends.theirs then Unknown ends else Known (arrival_of ends NotFound)
-
--- How it came in, before the tables show whose it is.
-abbrev pub first_arrival : Visitor → Arrival
-first_arrival (Known arrival) = arrival
-first_arrival (Unknown ends) = arrival_of ends NotFound
+use Rattle.rb_arrivals.specs.Arrivals.{visitor_of}
+use Rattle.rb_arrivals.specs.declared.visitor.Visitor.{Visitor}
+use Rattle.rb_arrivals.specs.declared.visitor.Visitor.TheVariants.{Known}
 
 -- Whoever sent a datagram asked the host to which its socket is bound.
 -- ASKED-1

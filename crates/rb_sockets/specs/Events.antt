@@ -2,8 +2,8 @@
 use Rattle.std.specs.Prelude.{ℕ, ◌-◌, ◌^◌, ◌<◌, ◌==◌, nat_lt, if◌then◌else◌}
 use Rattle.rb_address.specs.declared.host.Family.{Family}
 use Rattle.rb_address.specs.declared.host.Family.TheVariants.{Inet, Inet6}
-use Rattle.rb_sockets.specs.declared.sockets.Shown.{Shown}
-use Rattle.rb_sockets.specs.declared.sockets.Shown.TheVariants.{Connection, Forwards, Calls, Listener}
+use Rattle.rb_arrivals.specs.declared.shown.Shown.{Shown}
+use Rattle.rb_arrivals.specs.declared.shown.Shown.TheVariants.{Connection, Forwards, Calls, Listener}
 
 -- of the sockets for forwarded calls 1025 is that of IPv6
 abbrev pub family_at : ℕ → Family

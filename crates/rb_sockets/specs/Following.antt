@@ -3,8 +3,8 @@ use Rattle.std.specs.Prelude.{◌≡◌, ℕ, nat_lt, nat_le, Bool, true, false,
 use Rattle.rb_address.specs.declared.host.Host.{Host}
 use Rattle.rb_address.specs.Hosts.{is_same_host}
 use Rattle.rb_policy.specs.LocalFile.{next_try}
-use Rattle.rb_sockets.specs.declared.faults.BindFault.{BindFault}
-use Rattle.rb_sockets.specs.declared.faults.BindFault.TheVariants.{Memory, Socket}
+use Rattle.rb_settings.specs.declared.faults.BindFault.{BindFault}
+use Rattle.rb_settings.specs.declared.faults.BindFault.TheVariants.{Memory, Socket}
 use Rattle.rb_sockets.specs.declared.tables.TableFault.{TableFault}
 use Rattle.rb_sockets.specs.declared.follow.Follower.{Follower}
 use Rattle.rb_sockets.specs.declared.follow.AddressNews.{AddressNews}

@@ -1,12 +1,9 @@
-pub mod Settings
 pub mod Events
-pub mod Faults
 pub mod Machine
 pub mod MachineExamples
 pub mod News
 pub mod Room
 pub mod Tables
-pub mod Dispatches
 pub mod Arrivals
 pub mod Handed
 pub mod Watching

@@ -9,8 +9,8 @@ use Rattle.rb_policy.specs.declared.turns.Again.TheVariants.{AtEvent, AtOnce, Af
 use Rattle.rb_sockets.specs.declared.calls.CallSockets.{CallSockets}
 use Rattle.rb_sockets.specs.declared.calls.ForwardSocket.{ForwardSocket}
 use Rattle.rb_sockets.specs.declared.calls.ForwardSockets.{ForwardSockets}
-use Rattle.rb_sockets.specs.declared.sockets.Shown.{Shown}
-use Rattle.rb_sockets.specs.declared.sockets.Shown.TheVariants.{Connection, Forwards, Calls, Listener}
+use Rattle.rb_arrivals.specs.declared.shown.Shown.{Shown}
+use Rattle.rb_arrivals.specs.declared.shown.Shown.TheVariants.{Connection, Forwards, Calls, Listener}
 use Rattle.rb_sockets.specs.declared.sockets.Sockets.{Sockets}
 use Rattle.rb_sockets.specs.declared.watched.Watched.{Watched}
 

@@ -5,14 +5,14 @@ ghost use Rattle.rb_sockets.specs.Arrivals.{datagram_arrival, IsReceived, CameOn
 ghost use Rattle.rb_sockets.specs.Room.{is_free_beside, IsBoundAt};
 ghost use Rattle.rb_sockets.specs.Watching.{is_at_once, is_after_wait, holds_of, of_calls, of_forwards, shown_now, forwards_shown};
 
-use crate::arrival::Arrival;
-use crate::faults::{BindFault, Step};
 use crate::watched::Watched;
 use mio::net::UdpSocket;
 use mio::{Interest, Registry, Token};
 use rb_address::{Family, Host, Network, Peer};
+use rb_arrivals::{Arrival, Asker, Returned};
 use rb_descriptors::{share, udp_socket};
 use rb_policy::{Beliefs, Entrance, address_of, asker, has_host, ip_of, sender};
+use rb_settings::{BindFault, Step};
 use std::io;
 use std::io::ErrorKind;
 use std::net::{Net, SocketAddr};
@@ -142,39 +142,6 @@ impl CallSocket {
     }
 }
 
-/// Who asked by a datagram, on the socket of which number, and how many bytes it has.
-#[derive(Clone, Copy)]
-pub struct Asker {
-    arrival: Arrival,
-    socket: usize,
-    len: usize,
-}
-
-impl Asker {
-    ghost use Rattle.std.specs.Prelude.{◌≡◌};
-
-    /// How it came in.
-    pub fn arrival(self) -> Arrival
-        ensures { result ≡ self.arrival }
-    {
-        self.arrival
-    }
-
-    /// The number of the socket.
-    pub fn socket(self) -> usize
-        ensures { result ≡ self.socket }
-    {
-        self.socket
-    }
-
-    /// How many bytes the datagram has, with which the room begins where it was received.
-    pub fn len(self) -> usize
-        ensures { result ≡ self.len }
-    {
-        self.len
-    }
-}
-
 /// All sockets where calls come in as datagrams.
 #[derive(Drop)]
 pub struct CallSockets {
@@ -238,31 +205,6 @@ impl CallSockets {
         ensures { result ≡ of_calls is_after_wait self.now }
     {
         self.all.iter().any(|calls| calls.is_tried_again())
-    }
-}
-
-/// From whom a datagram came back, and how many bytes it has.
-#[derive(Clone, Copy)]
-pub struct Returned {
-    peer: Peer,
-    len: usize,
-}
-
-impl Returned {
-    ghost use Rattle.std.specs.Prelude.{◌≡◌};
-
-    /// Who sent it.
-    pub fn peer(self) -> Peer
-        ensures { result ≡ self.peer }
-    {
-        self.peer
-    }
-
-    /// How many bytes it has, with which the room begins where it was received.
-    pub fn len(self) -> usize
-        ensures { result ≡ self.len }
-    {
-        self.len
     }
 }
 

@@ -2,8 +2,6 @@
 ghost use Rattle.std.specs.Prelude.{◌≡◌};
 ghost use Rattle.rb_sockets.specs.Following.{put_behind, all_but};
 
-use crate::faults::{BindFault, SocketFault};
-use crate::few::{Few, MOST};
 use crate::hosts::is_missing;
 use crate::machine::{Listing, Search};
 use crate::sockets::is_no_host;
@@ -11,6 +9,7 @@ use crate::tables::TableFault;
 use rb_address::Host;
 use rb_policy::machine::{AddressChange, next_change};
 use rb_policy::{ANY, LOOPBACK, has_host, is_nothing_there, next_try};
+use rb_settings::{BindFault, Few, MOST, SocketFault};
 use std::alloc::{AllocError, Global};
 use std::fs::{File, Files};
 use std::io;

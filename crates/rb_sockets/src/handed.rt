@@ -4,13 +4,12 @@ ghost use Rattle.std.specs.List.{list_any};
 ghost use Rattle.rb_address.specs.Hosts.{is_same_host};
 ghost use Rattle.rb_sockets.specs.Handed.{has_all_of};
 
-use crate::few::{Few, MOST};
-use crate::settings::Settings;
 use mio::net::{TcpListener, UdpSocket, UnixListener};
 use rb_address::{Host, Peer};
 use rb_descriptors::{Asked, Descriptors, ask};
 use rb_policy::ANY;
 use rb_policy::handed::{InetSaid, Mismatch, Role, Said, Wanted, mismatch_text, new_host, settle};
+use rb_settings::{Few, MOST, Settings};
 use std::alloc::{AllocError, Global};
 use std::fmt;
 use std::fmt::{Display, Formatter};

@@ -1,10 +1,10 @@
 //! Hosts that the machine does not have, or not yet.
 use crate::handed::Handed;
-use crate::settings::Settings;
 use crate::sockets::is_no_host;
 use rb_address::Host;
 use rb_descriptors::udp_socket;
 use rb_policy::{LOOPBACK6, ip_of};
+use rb_settings::Settings;
 use std::net::{Net, SocketAddr};
 
 /// The first host of `--bind` that the machine does not have now, so that no socket can be bound there, and for which sockets

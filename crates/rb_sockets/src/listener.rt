@@ -1,53 +1,22 @@
 //! Where connections come in, and who comes there.
 ghost use Rattle.std.specs.Prelude.{◌≡◌, Some, IfOk, IfSome};
-ghost use Rattle.rb_sockets.specs.Arrivals.{visitor_of, first_arrival, IsLetIn};
+ghost use Rattle.rb_sockets.specs.Arrivals.{IsLetIn};
 ghost use Rattle.rb_sockets.specs.News.{is_changed, when_told};
 ghost use Rattle.rb_sockets.specs.Room.{is_closed, beliefs_of};
 
-use crate::arrival::{Arrival, Ends};
-use crate::faults::{BindFault, Step};
 use crate::local::LocalListener;
-use crate::stream::Stream;
 use mio::net::TcpListener;
 use mio::{Interest, Registry, Token};
 use rb_address::{Host, Network, Peer};
+use rb_arrivals::{Accepted, Ends, Stream, Visitor};
 use rb_descriptors::tcp_listener;
-use rb_policy::{Beliefs, Evidence, asker, ip_of, is_shown, sender};
+use rb_policy::{Beliefs, asker, ip_of, sender};
+use rb_settings::{BindFault, Step};
 use std::fs::Files;
 use std::io;
 use std::io::ErrorKind;
 use std::net::{Net, SocketAddr};
 use std::os::fd::{AsRawFd, RawFd};
-
-/// Whose a connection is, as far as its accept tells.
-#[derive(Clone, Copy)]
-pub enum Visitor {
-    /// All is known of it.
-    Known(Arrival),
-    /// It is from this host over TCP: the kernel's tables show whose it is.
-    Unknown(Ends),
-}
-
-impl Visitor {
-    /// How it came in, before the kernel's tables show whose it is.
-    pub fn arrival(self) -> Arrival
-        ensures { result ≡ first_arrival self }
-    {
-        match self {
-            Visitor::Known(arrival) => arrival,
-            Visitor::Unknown(ends) => ends.arrival(Evidence::NotFound),
-        }
-    }
-}
-
-/// A connection that was accepted, and whose it is. Nothing else has its ends.
-#[derive(Drop)]
-pub struct Accepted {
-    /// Its socket.
-    pub stream: Stream,
-    /// Whose it is, by the two ends of that socket.
-    pub visitor: Visitor,
-}
 
 /// Where connections come in.
 #[derive(Drop)]
@@ -101,7 +70,7 @@ impl Listener {
                 };
                 Ok(Some(Accepted {
                     stream,
-                    visitor: visitor_of(ends),
+                    visitor: Visitor::of(ends),
                 }))
             }
             Listener::Local(local) => {
@@ -172,16 +141,5 @@ impl Listener {
             }
             Listener::Closed => Ok(()),
         }
-    }
-}
-
-/// Whose a connection over TCP of these ends is.
-fn visitor_of(ends: Ends) -> Visitor
-    ensures { result ≡ visitor_of ends }
-{
-    if is_shown(ends.beliefs.claims, ends.theirs) {
-        Visitor::Unknown(ends)
-    } else {
-        Visitor::Known(ends.arrival(Evidence::NotFound))
     }
 }

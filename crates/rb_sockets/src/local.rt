@@ -4,15 +4,15 @@ ghost use Rattle.rb_sockets.specs.Arrivals.{local_arrival, IsLookedAt, next_name
 ghost use Rattle.rb_policy.specs.LocalFile.{IsRootsByMode};
 ghost use Rattle.rb_sockets.specs.News.{is_due, has_name_news, HasTried};
 
-use crate::arrival::Arrival;
-use crate::settings::LocalSocket;
 use mio::net::{UnixListener, UnixStream};
 use rb_address::Host;
+use rb_arrivals::Arrival;
 use rb_policy::handed::entrance_handed;
 use rb_policy::{
     ANY, Beliefs, Entrance, FileAction, FileState, SeenFile, entrance_now, entrance_of,
     file_action, is_nothing_there, next_try, obstacle_text, state_by_connect,
 };
+use rb_settings::LocalSocket;
 use std::alloc::{AllocError, Global};
 use std::fs::{Files, Permissions};
 use std::io::ErrorKind;

@@ -3,11 +3,11 @@ ghost use Rattle.std.specs.Prelude.{◌≡◌, [], ◌∷◌};
 ghost use Rattle.rb_policy.specs.Machine.{named};
 ghost use Rattle.rb_sockets.specs.Machine.{is_lo, own_networks};
 
-use crate::few::{Few, MOST};
 use rb_address::Host;
 use rb_evidence::around;
 use rb_policy::has_host;
 use rb_policy::machine::{Reached, TrieLine, inet6_at, is_inet_of, reached_by, trie_line};
+use rb_settings::{Few, MOST};
 
 /// A list of the kernel's.
 #[derive(Clone, Copy)]

@@ -8,25 +8,23 @@ ghost use Rattle.rb_sockets.specs.Room.{closed_door, free_door, free_place_in, p
 ghost use Rattle.rb_sockets.specs.Watching.{is_at_once, is_after_wait, of_datagrams, of_listeners, of_all, unserved, are_listeners_ready, NotesShown};
 
 use crate::calls::{CallSocket, CallSockets, ForwardSocket, ForwardSockets};
-use crate::datagrams::Datagrams;
-use crate::faults::{BindFault, Step};
-use crate::few::MOST;
 use crate::follow::{AddressNews, Follower};
 use crate::handed::Handed;
 use crate::listener::Listener;
 use crate::local::{AbstractName, LocalListener};
-use crate::settings::{LocalSocket, Settings};
 use crate::user_namespace::unmapped;
 use crate::watched::Watched;
 use mio::net::UnixListener;
 use mio::{Registry, Token};
 use rb_address::{Family, Host, Peer, Source};
+use rb_arrivals::{Datagrams, Shown};
 use rb_descriptors::least_free;
 use rb_policy::machine::AddressChange;
 use rb_policy::{
     ANY, Beliefs, LOOPBACK, LOOPBACK6, binds_every_inet, binds_loopback6, forwards_inet,
     forwards_inet6, has_every_host, has_every_inet, ip_of, takes_abstract_name,
 };
+use rb_settings::{BindFault, LocalSocket, MOST, Settings, Step};
 use std::alloc::{AllocError, Global};
 use std::fs::{File, Files};
 use std::io;
@@ -42,19 +40,6 @@ const FORWARDS6: usize = 1025;
 const CALLS: usize = 2048;
 
 const LISTENERS: usize = 4096;
-
-/// What an event shows.
-#[derive(Clone, Copy)]
-pub enum Shown {
-    /// The connection that has the place of this number.
-    Connection(usize),
-    /// The socket for calls that are forwarded to targets of a family.
-    Forwards(Family),
-    /// The socket of this number where calls come in.
-    Calls(usize),
-    /// The listener of this number.
-    Listener(usize),
-}
 
 /// More bytes than a turn needs of the stack.
 const STACK: usize = 49_152;

@@ -7,8 +7,8 @@ use Rattle.rb_files.specs.declared.trusted.KeptFileFault.TheVariants as files
 use Rattle.rb_keep.specs.declared.fault.KeepFault.TheVariants as texts
 use Rattle.rb_startup.specs.declared.keep.KeepReadFault.{KeepReadFault}
 use Rattle.rb_startup.specs.declared.keep.KeepReadFault.TheVariants.{File, Text}
-use Rattle.rb_sockets.specs.declared.faults.DaemonFault.{DaemonFault}
-use Rattle.rb_sockets.specs.declared.faults.DaemonFault.TheVariants.{Memory, Limits as OfLimits, Socket}
+use Rattle.rb_settings.specs.declared.faults.DaemonFault.{DaemonFault}
+use Rattle.rb_settings.specs.declared.faults.DaemonFault.TheVariants.{Memory, Limits as OfLimits, Socket}
 use Rattle.rb_sockets.specs.declared.handed.HandedFault.{HandedFault}
 use Rattle.rb_sockets.specs.declared.handed.HandedFault.TheVariants as handed
 use Rattle.rb_startup.specs.declared.ending.End.{End as Ending}

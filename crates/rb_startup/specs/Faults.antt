@@ -5,10 +5,10 @@ use Rattle.rb_lines.specs.declared.faults.Ending.{Ending}
 use Rattle.rb_lines.specs.declared.faults.Fault.{Fault}
 use Rattle.rb_lines.specs.declared.faults.Fault.TheVariants.{NoMemory, BadLimits, SocketFailed, ReadFailed, WriteFailed}
 use Rattle.rb_lines.specs.Faults.{fault_line, fault_lines}
-use Rattle.rb_sockets.specs.declared.settings.Settings.{Settings}
-use Rattle.rb_sockets.specs.Settings.{listener_of}
-use Rattle.rb_sockets.specs.declared.faults.DaemonFault.{DaemonFault}
-use Rattle.rb_sockets.specs.declared.faults.DaemonFault.TheVariants.{Memory, Limits as OfLimits, Socket}
+use Rattle.rb_settings.specs.declared.settings.Settings.{Settings}
+use Rattle.rb_settings.specs.Settings.{listener_of}
+use Rattle.rb_settings.specs.declared.faults.DaemonFault.{DaemonFault}
+use Rattle.rb_settings.specs.declared.faults.DaemonFault.TheVariants.{Memory, Limits as OfLimits, Socket}
 use Rattle.rb_startup.specs.declared.telling.Front.TheVariants.{Own, At, Make}
 use Rattle.rb_startup.specs.Fronts.{step_front, front_text}
 use Rattle.rb_startup.specs.declared.ending.StartFault.{StartFault}

@@ -1,9 +1,9 @@
 -- What stands before a word for what is wrong.
 use Rattle.std.specs.Prelude.{ℕ, List, ◌++◌, codes, Option, Some}
-use Rattle.rb_sockets.specs.declared.settings.LocalSocket.{LocalSocket}
-use Rattle.rb_sockets.specs.Faults.{step_text}
-use Rattle.rb_sockets.specs.declared.faults.Step.{Step}
-use Rattle.rb_sockets.specs.declared.faults.Step.TheVariants.{BindLocal}
+use Rattle.rb_settings.specs.declared.settings.LocalSocket.{LocalSocket}
+use Rattle.rb_settings.specs.Faults.{step_text}
+use Rattle.rb_settings.specs.declared.faults.Step.{Step}
+use Rattle.rb_settings.specs.declared.faults.Step.TheVariants.{BindLocal}
 use Rattle.rb_startup.specs.declared.telling.Front.{Front}
 use Rattle.rb_startup.specs.declared.telling.Front.TheVariants.{Own, At, Read, Make, OfStep}
 

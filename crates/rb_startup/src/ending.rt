@@ -3,7 +3,8 @@ ghost use Rattle.std.specs.Prelude.{◌≡◌};
 ghost use Rattle.rb_startup.specs.Ends.{end_at_start, end_after};
 
 use crate::keep::KeepReadFault;
-use rb_sockets::{DaemonFault, HandedFault};
+use rb_settings::DaemonFault;
+use rb_sockets::HandedFault;
 use std::alloc::AllocError;
 use std::io;
 

@@ -3,7 +3,8 @@ ghost use Rattle.std.specs.Prelude.{◌≡◌};
 
 use crate::interfaces::Binds;
 use crate::telling::{say_address, say_silent};
-use rb_sockets::{Follower, Handed, HandedFault, MOST, Settings, take_handed};
+use rb_settings::{MOST, Settings};
+use rb_sockets::{Follower, Handed, HandedFault, take_handed};
 use std::alloc::AllocError;
 use std::env::Env;
 use std::fs::Files;

@@ -14,7 +14,7 @@ use rb_lines::longest_input;
 use rb_policy::ANY;
 use rb_proto::Announced;
 use rb_registry::Row;
-use rb_sockets::{Few, Settings};
+use rb_settings::{Few, Settings};
 use std::alloc::{AllocError, Global};
 use std::fmt;
 use std::fmt::{Display, Formatter};

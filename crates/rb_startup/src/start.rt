@@ -1,7 +1,7 @@
 //! What a start says, on standard output and before it on standard error.
 use rb_address::Host;
 use rb_policy::binds_loopback6;
-use rb_sockets::{LocalSocket, Settings, Shortage};
+use rb_settings::{LocalSocket, Settings, Shortage};
 use std::fmt;
 use std::fmt::{Display, Formatter};
 

@@ -14,9 +14,8 @@ use rb_address::Host;
 use rb_lines::{Ending, Fault, explain, explain_run};
 use rb_policy::is_no_address;
 use rb_proto::Announced;
-use rb_sockets::{
-    AddressNews, DaemonFault, LocalSocket, MOST, Settings, Shortage, SocketFault, Step, TableFault,
-};
+use rb_settings::{DaemonFault, LocalSocket, MOST, Settings, Shortage, SocketFault, Step};
+use rb_sockets::{AddressNews, TableFault};
 use std::fmt::{Display, Formatter};
 use std::io::Write;
 use std::{fmt, io};

@@ -1,6 +1,6 @@
 //! Reads the words of a command line.
-ghost use Rattle.std.specs.Prelude.{◌≡◌, ◌<◌};
-ghost use Rattle.rb_words.specs.Words.{flag_of, option_number, number_at, program_of, program_at, ends_at, source_of, source_at, host_at, show_plan, entries_plan, ping_plan, ping_plan_at_host, program_and_version, option_netid, option_address, by_netid, by_transport, without_flag, delete_plan, plan_of, is_ping, is_broadcast, broadcast_plan, may_have_netid, is_here, wanted_with, has_layout, layout_of, only_where, check_options, request_of};
+ghost use Rattle.std.specs.Prelude.{◌≡◌, ◌<◌, slice_get};
+ghost use Rattle.rb_words.specs.Words.{flag_of, option_number, number_at, program_of, program_at, ends_at, source_of, source_at, host_at, show_plan, entries_plan, version_in, ping_plan, ping_plan_at_host, program_and_version, option_netid, option_address, by_netid, by_transport, without_flag, delete_plan, plan_of, is_ping, is_broadcast, broadcast_plan, may_have_netid, is_here, wanted_with, has_layout, layout_of, only_where, check_options, request_of};
 
 use crate::number::number_in;
 use crate::plan::{Layout, Listing, Plan, Request, Source, Way};
@@ -148,18 +148,27 @@ fn entries_plan(shape: &Shape<'_, '_, '_>) -> Result<Plan, Refusal>
     Ok(Plan::Entries(source, prog, vers))
 }
 
+/// VERSION, if it is there, and nothing after it.
+fn version_in(words: &[&str], at: usize) -> Result<Option<u32>, Refusal>
+    requires { at < 3 }
+    ensures { result ≡ version_in words.now at (slice_get words.now at) }
+{
+    if words.get(at).is_none() {
+        return Ok(None);
+    }
+    let vers = number_at(words, at, Expected::Version)?;
+    ends_at(words, at + 1)?;
+    Ok(Some(vers))
+}
+
 /// PROGRAM, and VERSION if it is there, from this place on.
 fn ping_plan(way: Way, shape: &Shape<'_, '_, '_>, i: usize) -> Result<Plan, Refusal>
     requires { i < 2 }
     ensures { result ≡ ping_plan way shape.now i }
 {
     let prog = program_at(shape, i)?;
-    if shape.words.get(i + 1).is_none() {
-        return Ok(Plan::Ping(way, prog, None));
-    }
-    let vers = number_at(shape.words, i + 1, Expected::Version)?;
-    ends_at(shape.words, i + 2)?;
-    Ok(Plan::Ping(way, prog, Some(vers)))
+    let vers = version_in(shape.words, i + 1)?;
+    Ok(Plan::Ping(way, prog, vers))
 }
 
 /// HOST PROGRAM, and VERSION if it is there.

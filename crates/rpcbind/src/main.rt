@@ -1,16 +1,12 @@
 //! `rpcbind serve` is the daemon; `rpcbind replay` reads event lines and prints what each event gives.
 #![tactic(auto)]
 
-mod manager;
-mod news;
-mod record;
-mod service;
-
 use rb_commands::{Words, read_words};
+use rb_daemon::Daemon;
 use rb_lines::{Beginning, Ending, Fault, explain};
 use rb_replay::{Meter, run_check, run_replay};
+use rb_service::run_service;
 use rb_startup::{Leveled, explain_words, given_words, is_journal, say_hosts};
-use service::run_service;
 use std::io;
 use std::io::BufWriter;
 use std::process::ExitCode;
@@ -55,7 +51,13 @@ fn main(rt: HostRuntime) -> ExitCode {
     let ending = match read_words(rt.alloc(), &words, &mut io::writer(&rt), &mut faults) {
         Ok(Words::Serve(serve)) => {
             say_hosts(&rt, &mut faults);
-            run_service(&rt, serve, binds, &mut faults)
+            run_service::<_, Daemon<'_, HostRuntime, HostRuntime>, _, _>(
+                &rt,
+                &rt,
+                serve,
+                binds,
+                &mut faults,
+            )
         }
         Ok(Words::Replay(beginning)) => replay(&rt, &beginning),
         Ok(Words::Check(beginning)) => check(&rt, &beginning),

@@ -1,7 +1,7 @@
 //! Memory that is refused as a daemon is made. As the gate runs it nothing is refused; `tests/run-tests.sh
 //! rb_daemon_tests -- --fail-alloc N` refuses the allocation of number N.
 use crate::turns::{HERE, Stopped, plain};
-use rb_daemon::{Daemon, DaemonFault, Handed};
+use rb_daemon::{Daemon, DaemonFault, Handed, Starts};
 
 #[test]
 fn refused_memory_of_a_daemon(rt: HostRuntime) {

@@ -3,7 +3,7 @@ use crate::tables::Tables;
 use rb_address::{Host as Address, Network};
 use rb_daemon::{
     Announced, Daemon, DaemonFault, Few, Handed, Limits, LocalSocket, Logged, Reserved, Settings,
-    Shortage, SocketFault, Terms,
+    Shortage, SocketFault, Starts, Terms, Turns,
 };
 use std::cell::Cell;
 use std::fs::Files;

@@ -2,7 +2,8 @@
 //! thread.
 use rb_address::{Host, Network, Transport};
 use rb_daemon::{
-    Announced, Daemon, Few, Handed, Limits, LocalSocket, Logged, Reserved, Settings, Terms,
+    Announced, Daemon, Few, Handed, Limits, LocalSocket, Logged, Reserved, Settings, Starts, Terms,
+    Turns,
 };
 use rb_plans::{Aim, Answer, Course, End, Stage, asked, begin, called_at, next};
 use rb_show::{

@@ -1,7 +1,9 @@
 //! A daemon and a client in one process, on port 20113 of 127.0.0.1. The client never waits: the test itself takes the
 //! daemon's turns.
 use rb_address::{Host, Network};
-use rb_daemon::{Announced, Daemon, Few, Handed, Limits, Logged, Reserved, Settings, Terms};
+use rb_daemon::{
+    Announced, Daemon, Few, Handed, Limits, Logged, Reserved, Settings, Starts, Terms, Turns,
+};
 use std::alloc::AllocError;
 use std::io::{Read, Write};
 use std::net::{Ipv4Addr, SocketAddr, TcpStream};

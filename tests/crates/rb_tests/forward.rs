@@ -1,7 +1,7 @@
 use crate::address::claims;
-use rb_address::{Host, Peer};
+use rb_address::{Caller, Host, Peer};
+use rb_arguments::Kind;
 use rb_forward::{Forward, Forwards};
-use rb_rpc::{Caller, Kind};
 use rb_xdr::Meter;
 use std::test::Fail;
 

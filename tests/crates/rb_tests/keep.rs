@@ -1,10 +1,8 @@
 //! Rows that are kept: written, read and set again.
 use crate::proto::listener;
 use rb_core::{Limits, Metered, Response};
-use rb_keep::{
-    KeepFault, Owners, read_rows, set_call, this_machine, unset_call, whole_part, write_change,
-    write_rows,
-};
+use rb_engine::{write_change, write_rows};
+use rb_keep::{KeepFault, Owners, read_rows, set_call, this_machine, unset_call, whole_part};
 use std::test::Fail;
 
 const LIMITS: Limits = Limits {

@@ -1,13 +1,13 @@
 use crate::address::claims;
-use rb_address::{Host, Peer};
-use rb_arguments::{ArgumentFault, read_args};
+use rb_address::{Caller, Host, Peer};
+use rb_arguments::{ArgumentFault, Kind, read_args};
 use rb_forward::{Forward, FwdId};
 use rb_proto::{
     Announced, Answer, Books, Call, Context, ListReply, Listener, Listing, Reserved, Terms, answer,
     own_row_count, put_forwarded, put_results, refusal,
 };
 use rb_registry::RegistryFault;
-use rb_rpc::{CallHead, Caller, Credential, Kind, ReplyStatus};
+use rb_rpc::{CallHead, Credential, ReplyStatus};
 use rb_uaddr::AddressText;
 use rb_xdr::{Kept, Meter};
 use std::alloc::Global;

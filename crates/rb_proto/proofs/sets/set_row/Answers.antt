@@ -1,7 +1,7 @@
 use Rattle.std.proofs.Common.{sym, ◌∙◌, refl, ap, true, false, Some, if◌then◌else◌}
 use Rattle.rb_registry.specs.Registry.{Registry}
 use Rattle.rb_registry.specs.Rows.{is_change_left}
-use Rattle.rb_proto.specs.declared.reasons.Refusal.TheVariants.{Taken, NoPlace}
+use Rattle.rb_registry.specs.declared.reasons.Refusal.TheVariants.{Taken, NoPlace}
 use Rattle.rb_proto.proofs.RowChanges.{nothing_before, something_before, reason_after, reason_is, may_not_set, no_share, set_acts, set_refused}
 use Rattle.rb_proto.proofs.sets.set_row.Goals as goal
 

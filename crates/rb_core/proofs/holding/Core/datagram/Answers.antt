@@ -1,7 +1,7 @@
 use Rattle.std.proofs.Common.{◌≡◌, List, ℕ, length, refl, subst, rules}
 use Rattle.rb_rpc.specs.declared.call.Verdict.{Verdict}
 use Rattle.rb_rpc.specs.Verdict.{verdict}
-use Rattle.rb_rpc.specs.declared.caller.Caller.TheVariants.{Udp}
+use Rattle.rb_address.specs.declared.caller.Caller.TheVariants.{Udp}
 use Rattle.rb_rpc.specs.Feeds.{arguments_of}
 use Rattle.rb_forward.specs.StandsFor.{slots_of}
 use Rattle.rb_forward.specs.Table.{OnlyWaitsAnew}

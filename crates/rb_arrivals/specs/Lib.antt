@@ -1,0 +1,2 @@
+pub mod Dispatches
+pub mod Arrivals
