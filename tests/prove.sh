@@ -2,9 +2,9 @@
 # Proves each crate of crates.txt and builds the programs, as many crates side by side as processors and memory allow.
 #
 # A crate begins as soon as those that it stands on are proved, the one with the longest chain of others above it first, and
-# no more crates at a time than there are processors. A crate whose chain has 97 % of the longest one's seconds works in two
-# processes. Others work in one, since a proof in four takes half more processor time, and give way (nice) to those with a
-# chain of 85 %. Processors that nothing else waits for go to the crate that begins, four at most.
+# no more crates and processes at a time than one more than there are processors. A crate whose chain has 97 % of the longest
+# one's seconds works in two processes. Others work in one, since a proof in four takes half more processor time, and give way
+# (nice) to those with a chain of 50 %. Processors that nothing else waits for go to the crate that begins, four at most.
 #
 # `rt` lets one command at a time work in a crate's folder or in one below it. So each crate is proved in a room
 # of its own: a folder with links to its files and to the libraries below it, which has its out/ meanwhile. The crates'
@@ -23,12 +23,14 @@ memory_of_one=3000 # in MiB
 refused_warning='^(\./)?(src|specs)/\S+ (warning: this pattern binds a variable spelled like a constructor|(note|warning): `search` stands in)|^warning: calls of a tactic that chose a term'
 
 names=()         # the crates
-declare -A uses  # of each crate those of ours that it stands on, as crates.txt has them
+declare -A uses  # of each crate those of ours that it names, as crates.txt has them
+declare -A under # all crates of ours below it
 declare -A costs # its seconds by docs/TIMINGS.md, or a guess by its lines of code
 declare -A chain # its seconds and those of the longest chain of crates above it
 declare -A state # waiting, running, proved, failed or skipped
 declare -A since # when it began
 declare -A share # in how many processes
+declare -A way   # how far these give way to others
 declare -A pids  # its process
 
 # ---- crates
@@ -66,13 +68,12 @@ measure_chains() {
     done
 }
 
-# All crates of ours below a crate, one a line.
-list_below() {
-    local below
-    for below in ${uses[$1]}; do
-        echo "$below"
-        list_below "$below"
-    done | sort -u
+# Each crate stands in crates.txt after those that it names.
+collect_under() {
+    local name used
+    for name in "${names[@]}"; do
+        under[$name]=$(for used in ${uses[$name]}; do printf '%s\n' "$used" ${under[$used]}; done | sort -u)
+    done
 }
 
 # Those that wait for nothing but a processor, the longest chain first.
@@ -110,7 +111,7 @@ link_folder() {
 furnish() {
     local name=$1 room=$rooms/$1 crate part
     mkdir -p "$room/crates/$name" || return 1
-    for crate in $(list_below "$name") "$name"; do
+    for crate in ${under[$name]} "$name"; do
         grep -E "^$crate([: ]|\$)" crates.txt >> "$room/crates.txt" || return 1
         for part in src specs proofs; do
             link_folder "crates/$crate/$part" "$room/crates/$crate" || return 1
@@ -192,37 +193,36 @@ longest_running() {
     echo "$longest"
 }
 
-# The processors, less the processes that work.
-count_idle() {
-    local name idle=$slots
+# How many processes work that give way so far at most.
+count_working() {
+    local name working=0
     for name in "${names[@]}"; do
-        [ "${state[$name]}" != running ] || idle=$((idle - share[$name]))
+        if [ "${state[$name]}" = running ] && [ "${way[$name]}" -le "$1" ]; then
+            working=$((working + share[$name]))
+        fi
     done
-    echo "$idle"
+    echo "$working"
 }
 
 # Begins the crates that are ready, as far as there are processors.
 start_ready() {
-    local ready name way longest running spare waiting
+    local ready name longest running spare waiting
     mapfile -t ready < <(list_ready)
     waiting=${#ready[@]}
     longest=$(longest_to_come "${ready[@]}")
     for name in "${ready[@]}"; do
         [ "$free" -gt 0 ] || return 0
         share[$name]=1
-        way=10
+        way[$name]=10
         running=$(longest_running)
         [ "$running" -le "$longest" ] || longest=$running
-        if [ $((chain[$name] * 100)) -ge $((longest * 97)) ]; then
-            share[$name]=$((slots < 2 ? slots : 2))
-            way=0
-        elif [ $((chain[$name] * 100)) -ge $((longest * 85)) ]; then
-            way=0
-        fi
-        spare=$(($(count_idle) / waiting))
+        [ $((chain[$name] * 100)) -lt $((longest * 50)) ] || way[$name]=0
+        [ $((chain[$name] * 100)) -lt $((longest * 97)) ] || share[$name]=$((slots < 2 ? slots : 2))
+        [ "$(count_working "${way[$name]}")" -le "$slots" ] || return 0
+        spare=$(((slots - $(count_working 10)) / waiting))
         spare=$((spare < 4 ? spare : 4))
         [ "$spare" -le "${share[$name]}" ] || share[$name]=$spare
-        prove "$name" "${share[$name]}" "$way" > "$logs/$name" 2>&1 &
+        prove "$name" "${share[$name]}" "${way[$name]}" > "$logs/$name" 2>&1 &
         pids[$name]=$!
         state[$name]=running
         since[$name]=$SECONDS
@@ -236,7 +236,7 @@ start_ready() {
 skip_above() {
     local name
     for name in "${names[@]}"; do
-        if [ "${state[$name]}" = waiting ] && list_below "$name" | grep -qx "$1"; then
+        if [ "${state[$name]}" = waiting ] && grep -qx "$1" <<< "${under[$name]}"; then
             state[$name]=skipped
         fi
     done
@@ -307,8 +307,9 @@ tell_outcome() {
 say_kit || exit 1
 cores=$(count_cores)
 slots=$(count_slots "$memory_of_one")
-free=$slots
+free=$((slots + 1))
 read_crates
+collect_under
 measure_chains
 lock_crates || exit 1
 logs=$(mktemp -d) || exit 1
