@@ -237,8 +237,9 @@ class Book:
                 out.append(f"## {room[0].upper()}{room[1:]}\n")
             for crate in crates:
                 if crate in tables:
-                    lines = [COLUMNS, ["---"] * len(COLUMNS), *tables[crate]]
-                    out.append(f"### {crate}\n\n" + "\n".join(f"| {' | '.join(line)} |" for line in lines) + "\n")
+                    lines = [f"| {' | '.join(line)} |" for line in (COLUMNS, *tables[crate])]
+                    lines.insert(1, "|---" * len(COLUMNS) + "|")
+                    out.append(f"### {crate}\n\n" + "\n".join(lines) + "\n")
         return "\n".join(out)
 
     def check(self):
