@@ -4,7 +4,8 @@
 # A crate begins as soon as those that it stands on are proved, the one with the longest chain of others above it first, and
 # no more crates and processes at a time than one more than there are processors. A crate whose chain has 97 % of the longest
 # one's seconds works in two processes. Others work in one, since a proof in four takes half more processor time, and give way
-# (nice) to those with a chain of 50 %. Processors that nothing else waits for go to the crate that begins, four at most.
+# (nice) to those with a chain of 50 %. Processors that nothing else waits for go to the crate that begins, four at most. A
+# program works in one, as three do it no sooner.
 #
 # `rt` lets one command at a time work in a crate's folder or in one below it. So each crate is proved in a room
 # of its own: a folder with links to its files and to the libraries below it, which has its out/ meanwhile. The crates'
@@ -222,6 +223,7 @@ start_ready() {
         spare=$(((slots - $(count_working 10)) / waiting))
         spare=$((spare < 4 ? spare : 4))
         [ "$spare" -le "${share[$name]}" ] || share[$name]=$spare
+        [ ! -f "crates/$name/src/main.rt" ] || share[$name]=1
         prove "$name" "${share[$name]}" "${way[$name]}" > "$logs/$name" 2>&1 &
         pids[$name]=$!
         state[$name]=running
