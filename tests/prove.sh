@@ -2,10 +2,10 @@
 # Proves each crate of crates.txt and builds the programs, as many crates side by side as processors and memory allow.
 #
 # A crate begins as soon as those that it stands on are proved, the one with the longest chain of others above it first, and
-# no more crates and processes at a time than one more than there are processors. A crate whose chain has 97 % of the longest
-# one's seconds works in two processes. Others work in one, since a proof in four takes half more processor time, and give way
-# (nice) to those with a chain of 50 %. Processors that nothing else waits for go to the crate that begins, four at most. A
-# program works in one, as three do it no sooner.
+# no more crates and processes at a time than one more than there are processors. The crate with the longest chain works in
+# two processes, if no other does: two take a third more processor time, and three quarters of the time. Others work in one,
+# and give way (nice) if their chain has less than 80 % of the longest one's seconds. Processors that nothing else waits for go
+# to the crate that begins, four at most. A program works in one, as three do it no sooner.
 #
 # `rt` lets one command at a time work in a crate's folder or in one below it. So each crate is proved in a room
 # of its own: a folder with links to its files and to the libraries below it, which has its out/ meanwhile. The crates'
@@ -129,7 +129,10 @@ put_back() {
         rm -rf "crates/$1/out"
         mv "$made" "crates/$1/out"
     fi
-    rm -rf "${rooms:?}/$1"
+    if [ -d "${rooms:?}/$1" ]; then
+        mv "$rooms/$1" "$rooms/$1.gone"
+        rm -rf "$rooms/$1.gone" & # which takes seconds
+    fi
 }
 
 # Proves a crate, and says on `ended` how that ended. Its `rt` ends with it, and ends all that it started.
@@ -205,6 +208,15 @@ count_working() {
     echo "$working"
 }
 
+# Whether a crate works in several processes.
+are_two_at_work() {
+    local name
+    for name in "${names[@]}"; do
+        [ "${state[$name]}" != running ] || [ "${share[$name]}" -le 1 ] || return 0
+    done
+    return 1
+}
+
 # Begins the crates that are ready, as far as there are processors.
 start_ready() {
     local ready name longest running spare waiting
@@ -217,10 +229,10 @@ start_ready() {
         way[$name]=10
         running=$(longest_running)
         [ "$running" -le "$longest" ] || longest=$running
-        [ $((chain[$name] * 100)) -lt $((longest * 50)) ] || way[$name]=0
-        [ $((chain[$name] * 100)) -lt $((longest * 97)) ] || share[$name]=$((slots < 2 ? slots : 2))
+        [ $((chain[$name] * 100)) -lt $((longest * 80)) ] || way[$name]=0
+        [ "${chain[$name]}" -lt "$longest" ] || are_two_at_work || share[$name]=$((slots < 2 ? slots : 2))
         [ "$(count_working "${way[$name]}")" -le "$slots" ] || return 0
-        spare=$(((slots - $(count_working 10)) / waiting))
+        spare=$((slots - $(count_working 10) - waiting + 1))
         spare=$((spare < 4 ? spare : 4))
         [ "$spare" -le "${share[$name]}" ] || share[$name]=$spare
         [ ! -f "crates/$name/src/main.rt" ] || share[$name]=1
@@ -283,6 +295,7 @@ clean_up() {
     for name in "${names[@]}"; do
         put_back "$name"
     done
+    wait
     rm -rf "$rooms" "$logs"
 }
 

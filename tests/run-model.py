@@ -46,7 +46,7 @@ HOST = enum("rb_address.declared.host.Host")
 SOURCE = enum("rb_address.declared.who.Source")
 TRUST = enum("rb_address.declared.who.Trust")
 OWNER = enum("rb_address.declared.who.Owner")
-FORWARDING = enum("rb_proto.declared.listener.Forwarding")
+FORWARDING = enum("rb_answers.declared.listener.Forwarding")
 
 
 # ---- words

@@ -1,2 +1,3 @@
 pub mod Dispatches
 pub mod Arrivals
+pub mod PlainCallers

@@ -8,7 +8,7 @@ use Rattle.rb_address.specs.declared.host.Host.{Host}
 use Rattle.rb_address.specs.declared.network.Network.{Network}
 use Rattle.rb_address.specs.Reading.{cut, number_below}
 use Rattle.rb_address.specs.Networks.{network_of, plain_host_of}
-use Rattle.rb_proto.specs.declared.listener.Terms.{Terms}
+use Rattle.rb_answers.specs.declared.listener.Terms.{Terms}
 use Rattle.rb_policy.specs.declared.brake.Rate.{Rate}
 use Rattle.rb_settings.specs.declared.settings.LocalSocket.{LocalSocket}
 use Rattle.rb_policy.specs.declared.log_choice.Logged.{Logged}

@@ -7,9 +7,9 @@ ghost use Rattle.rb_lines.specs.Paths.{is_quotable};
 ghost use Rattle.rb_commands.specs.Options.{value_of, with_host, announce_at, announced_of, read_local, local_address, port, limits_of, udp_lists, forward_for, forwarding_of, number32, programs_in, reservation_of, reserve_at, reserved_from, beginning_of};
 
 use rb_address::{Host, cut, number_below};
+use rb_answers::{Announced, Forwarding, Listener, MOST_RESERVED, Reservation, Reserved, Terms};
 use rb_lines::Beginning;
 use rb_model::Limits;
-use rb_proto::{Announced, Forwarding, Listener, MOST_RESERVED, Reservation, Reserved, Terms};
 use rb_uaddr::AddressText;
 
 /// The longest path of a local socket, in bytes.

@@ -11,8 +11,8 @@ use crate::options::{
 };
 use crate::wanted::texts_of;
 use rb_address::{Host, Network, cut, number_below};
+use rb_answers::Terms;
 use rb_policy::{ANY, Rate};
-use rb_proto::Terms;
 use rb_settings::{Few, LocalSocket, Logged, MOST, Settings};
 
 /// The values of the options of `serve`, as texts.

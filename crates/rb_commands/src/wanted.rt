@@ -3,7 +3,7 @@ ghost use Rattle.std.specs.Prelude.{◌≡◌};
 ghost use Rattle.rb_commands.specs.Wanted.{said, option_texts, texts_of, announced_text, bound_text, served_text, reserve_text};
 
 use crate::options::Valued;
-use rb_proto::MOST_RESERVED;
+use rb_answers::MOST_RESERVED;
 use rb_settings::MOST;
 use std::fmt;
 use std::fmt::{Display, Formatter};

@@ -3,11 +3,11 @@ use Rattle.std.proofs.Common.{◌<◌, ℕ, List, length, ap, arith, length-appe
 use Rattle.rb_rpc.specs.Replies.{reply_head}
 use Rattle.rb_rpc.specs.declared.reply.ReplyStatus.TheVariants.{Success}
 use Rattle.rb_registry.specs.Registry.{Registry, rows_of}
-use Rattle.rb_proto.specs.Results.{list_bytes}
-use Rattle.rb_proto.specs.declared.answers.Listing.{Listing}
-use Rattle.rb_proto.specs.declared.list_reply.ListReply.{ListReply}
-use Rattle.rb_proto.specs.ListParts.{ListsRows}
-use Rattle.rb_proto.specs.ListReplies.{rest_of}
+use Rattle.rb_answers.specs.Results.{list_bytes}
+use Rattle.rb_answers.specs.declared.answers.Listing.{Listing}
+use Rattle.rb_answers.specs.declared.list_reply.ListReply.{ListReply}
+use Rattle.rb_answers.specs.ListParts.{ListsRows}
+use Rattle.rb_answers.specs.ListReplies.{rest_of}
 use Rattle.rb_model.proofs.ReplyHeads.{some_head}
 
 module _ (registry : Registry) (xid : ℕ) (listing : Listing) (list : ListReply) (rest : ListsRows xid listing registry list) where

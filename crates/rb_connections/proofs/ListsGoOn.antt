@@ -9,7 +9,7 @@ use Rattle.rb_xdr.specs.Kept.{Kept}
 use Rattle.rb_registry.specs.Registry.{Registry}
 use Rattle.rb_registry.specs.Table.{stamp_named}
 use Rattle.rb_registry.specs.Cursors.{GoesOn}
-use Rattle.rb_proto.proofs.ListReplies.{list_reply_goes_on}
+use Rattle.rb_answers.proofs.ListReplies.{list_reply_goes_on}
 use Rattle.rb_model.specs.State.{Owed, Phase, Connection, Connections}
 use Rattle.rb_model.specs.Losses.{list_stamps}
 use Rattle.rb_connections.specs.declared.slot.Slot.{Slot}

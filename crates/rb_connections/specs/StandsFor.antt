@@ -7,7 +7,7 @@ use Rattle.rb_rpc.specs.Marks.{StandsForFed}
 use Rattle.rb_rpc.specs.Records.{fragment_size, data_of, marked_reply}
 use Rattle.rb_rpc.specs.declared.feed.CallFeed.{CallFeed}
 use Rattle.rb_rpc.specs.Feeds.{StandsForCall}
-use Rattle.rb_proto.specs.ListReplies.{rest_of}
+use Rattle.rb_answers.specs.ListReplies.{rest_of}
 use Rattle.rb_model.specs.Calls.{longest_reply, kept_of, longest_kept}
 use Rattle.rb_registry.specs.Registry.{Registry}
 use Rattle.rb_model.specs.State.{Owed, Phase, Connection, Connections}

@@ -15,7 +15,7 @@ ghost use Rattle.rb_connections.specs.Costs.{fragments_cost, next_cost, row_coun
 ghost use Rattle.rb_connections.specs.Giving.{IsGivenWhole, whole_cost, whole_length};
 ghost use Rattle.rb_connections.specs.declared.giving.Rest.TheVariants.{Listed};
 
-use rb_proto::ListReply;
+use rb_answers::ListReply;
 use rb_registry::Registry;
 use rb_rpc::{FRAGMENT_HEADER, FRAGMENT_SIZE, LONGEST_FRAGMENT, fragment_header};
 use rb_xdr::{Kept, Meter};

@@ -4,9 +4,9 @@ use Rattle.std.proofs.Common.{◌≡◌, ◌≤◌, false, ℕ, List, sym, ap, s
 use Rattle.rb_address.specs.declared.caller.Caller.{Caller}
 use Rattle.rb_registry.specs.Cursors.{GoesOn}
 use Rattle.rb_proto.specs.declared.books.Books.{Books}
-use Rattle.rb_proto.specs.declared.context.Context.{Context}
+use Rattle.rb_answers.specs.declared.context.Context.{Context}
 use Rattle.rb_proto.specs.Books.{ActsAs, SameFrame}
-use Rattle.rb_proto.specs.Ledger.{Ledger}
+use Rattle.rb_answers.specs.Ledger.{Ledger}
 use Rattle.rb_model.specs.declared.message.Message.{Message}
 use Rattle.rb_model.specs.Calls.{Outcome, outcome}
 use Rattle.rb_model.specs.Losses.{asks_room}

@@ -11,7 +11,7 @@ use Rattle.rb_registry.specs.Registry.{slots_of}
 use Rattle.rb_forward.specs.Costs.{sent_cost, unsent_cost}
 use Rattle.rb_forward.specs.Deadlines.{soonest_cost}
 use Rattle.rb_arguments.specs.Forwarded.{longest_forwarded as longest_args}
-use Rattle.rb_proto.specs.Costs.{zero_cost}
+use Rattle.rb_answers.specs.Costs.{zero_cost}
 use Rattle.rb_model.specs.Calls.{Outcome, longest_reply, longest_kept, kept_of, message_of}
 use Rattle.rb_model.specs.State.{State, Setting, Connection, Connections, at_moment}
 use Rattle.rb_model.specs.declared.types.CoreFault.{CoreFault}

@@ -10,12 +10,13 @@ use Rattle.rb_registry.specs.declared.slot.Slot.{Slot as RowSlot}
 use Rattle.rb_registry.specs.Registry.{Registry, removals_of}
 use Rattle.rb_registry.specs.Table.{stamp_named, later_than, IsLeast}
 use Rattle.rb_registry.specs.Slots.{is_dropped, removed_by, all_slots}
-use Rattle.rb_proto.specs.declared.context.Context.{Context}
-use Rattle.rb_proto.specs.declared.call.Call.{Call}
+use Rattle.rb_answers.specs.declared.context.Context.{Context}
+use Rattle.rb_answers.specs.declared.call.Call.{Call}
 use Rattle.rb_proto.specs.declared.books.Books.{Books}
-use Rattle.rb_proto.specs.Ledger.{Ledger, StandsForLedger}
+use Rattle.rb_answers.specs.Ledger.{Ledger}
+use Rattle.rb_proto.specs.Ledger.{StandsForLedger}
 use Rattle.rb_proto.specs.Books.{removals_after}
-use Rattle.rb_proto.proofs.ListReplies.{removals_kept}
+use Rattle.rb_proto.proofs.Removals.{removals_kept}
 use Rattle.rb_model.specs.declared.message.Message.{Message}
 use Rattle.rb_model.specs.declared.message.Message.TheVariants as says
 use Rattle.rb_model.specs.State.{Connections}

@@ -28,8 +28,8 @@ use Rattle.rb_forward.specs.Forwards.{Entry, Forwards, held_call, question, head
 use Rattle.rb_forward.specs.StandsFor.{Table as Entries, StandsForForwards, slots_of as calls_of, held_in as held_of_calls, longest_forwarded_call}
 use Rattle.rb_forward.proofs.Heads.{length-head}
 use Rattle.rb_forward.proofs.Stands.{held_alike}
-use Rattle.rb_proto.specs.declared.listener.Listener.{Listener}
-use Rattle.rb_proto.specs.Callers.{own_row, own_pair, own_three, own_inet6, own_inet, own_local, own_rows}
+use Rattle.rb_answers.specs.declared.listener.Listener.{Listener}
+use Rattle.rb_answers.specs.Callers.{own_row, own_pair, own_three, own_inet6, own_inet, own_local, own_rows}
 use Rattle.rb_model.specs.Calls.{longest_reply, longest_kept, kept_of}
 use Rattle.rb_model.specs.Connections.{longest_fragment}
 use Rattle.rb_model.specs.State.{State, Phase, Connection}

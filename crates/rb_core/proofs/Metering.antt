@@ -9,7 +9,7 @@ use Rattle.rb_forward.specs.Costs.{sent_cost, unsent_cost}
 use Rattle.rb_forward.specs.Table.{count_lent, plain_unsent}
 use Rattle.rb_address.specs.declared.peer.Peer.{Peer}
 use Rattle.rb_address.specs.declared.who.Who.{Who}
-use Rattle.rb_proto.specs.Callers.{may_register}
+use Rattle.rb_answers.specs.Callers.{may_register}
 use Rattle.rb_model.specs.declared.types.CoreFault.{CoreFault}
 use Rattle.rb_model.specs.declared.types.CoreFault.TheVariants.{BadLimits}
 use Rattle.rb_model.specs.declared.types.Expired.{Expired}

@@ -2,8 +2,8 @@
 use Rattle.std.proofs.Common.{◌≡◌, ◌≤◌, ℕ, ◌+◌, Bool, List, length, Option, Some, None, refl, ap, subst, arith}
 use Rattle.rb_xdr.specs.Meter.{Meter, PaysAtMost}
 use Rattle.rb_xdr.specs.Ordered.{looks}
-use Rattle.rb_proto.specs.declared.listener.Announced.{Announced}
-use Rattle.rb_proto.specs.Callers.{may_register}
+use Rattle.rb_answers.specs.declared.listener.Announced.{Announced}
+use Rattle.rb_answers.specs.Callers.{may_register}
 use Rattle.rb_model.specs.State.{State, Setting, Connection}
 use Rattle.rb_model.specs.Connections.{Taking, taking_of}
 use Rattle.rb_model.specs.Connections.Taking.{TakesNone, GoesOn, Ends}

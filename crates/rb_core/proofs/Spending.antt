@@ -8,10 +8,10 @@ use Rattle.rb_address.specs.declared.caller.Caller.{Caller}
 use Rattle.rb_xdr.specs.Ordered.{looks}
 use Rattle.rb_registry.specs.Registry.{Registry, slots_of}
 use Rattle.rb_proto.specs.declared.books.Books.{Books}
-use Rattle.rb_proto.specs.declared.context.Context.{Context}
-use Rattle.rb_proto.specs.declared.listener.Announced.{Announced}
-use Rattle.rb_proto.specs.Answers.{comes_from_here}
-use Rattle.rb_proto.specs.Callers.{who_of, may_register}
+use Rattle.rb_answers.specs.declared.context.Context.{Context}
+use Rattle.rb_answers.specs.declared.listener.Announced.{Announced}
+use Rattle.rb_answers.specs.Answers.{comes_from_here}
+use Rattle.rb_answers.specs.Callers.{who_of, may_register}
 use Rattle.rb_model.specs.declared.message.Message.{Message}
 use Rattle.rb_model.specs.declared.message.Message.TheVariants as says
 use Rattle.rb_model.specs.declared.served.Served.{Served}

@@ -13,11 +13,12 @@ use Rattle.rb_rpc.specs.Feeds.{arguments_of}
 use Rattle.rb_registry.specs.Registry.{Registry}
 use Rattle.rb_forward.specs.declared.types.Ended.{Ended}
 use Rattle.rb_forward.specs.Forwards.{Unsent as UnsentCall, unsent, can_be_sent}
-use Rattle.rb_proto.specs.declared.context.Context.{Context}
+use Rattle.rb_answers.specs.declared.context.Context.{Context}
 use Rattle.rb_proto.specs.declared.books.Books.{Books}
-use Rattle.rb_proto.specs.Ledger.{Ledger, StandsForLedger}
+use Rattle.rb_answers.specs.Ledger.{Ledger}
+use Rattle.rb_proto.specs.Ledger.{StandsForLedger}
 use Rattle.rb_proto.specs.Books.{ActsAs, Becomes, SameFrame}
-use Rattle.rb_proto.specs.Forwarding.{target_replied, fell_due, caller_dropped, call_sent}
+use Rattle.rb_answers.specs.Forwarding.{target_replied, fell_due, caller_dropped, call_sent}
 use Rattle.rb_model.specs.declared.message.Message.{Message}
 use Rattle.rb_model.specs.declared.types.CoreFault.{CoreFault}
 use Rattle.rb_model.specs.declared.types.CoreFault.TheVariants.{Gone}

@@ -9,11 +9,11 @@ use Rattle.rb_forward.specs.Costs.{unsent_cost}
 use Rattle.rb_forward.specs.Deadlines.{soonest_cost}
 use Rattle.rb_address.specs.declared.who.Who.{Who}
 use Rattle.rb_proto.specs.declared.books.Books.{Books}
-use Rattle.rb_proto.specs.declared.context.Context.{Context}
-use Rattle.rb_proto.specs.declared.listener.Announced.{Announced}
-use Rattle.rb_proto.specs.Answers.{comes_from_here}
-use Rattle.rb_proto.specs.Callers.{may_register, own_rows}
-use Rattle.rb_proto.specs.declared.listener.Listener.{Listener}
+use Rattle.rb_answers.specs.declared.context.Context.{Context}
+use Rattle.rb_answers.specs.declared.listener.Announced.{Announced}
+use Rattle.rb_answers.specs.Answers.{comes_from_here}
+use Rattle.rb_answers.specs.Callers.{may_register, own_rows}
+use Rattle.rb_answers.specs.declared.listener.Listener.{Listener}
 use Rattle.rb_model.specs.declared.types.Limits.{Limits}
 use Rattle.rb_model.specs.declared.types.CoreFault.{CoreFault}
 use Rattle.rb_model.specs.declared.types.Given.{Given}

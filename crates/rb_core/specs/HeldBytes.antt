@@ -6,7 +6,7 @@ use Rattle.rb_registry.specs.Registry.{slots_of as rows_of}
 use Rattle.rb_registry.specs.Slots.{held_in as held_of_rows}
 use Rattle.rb_stats.specs.Stats.{key_count}
 use Rattle.rb_forward.specs.StandsFor.{slots_of as calls_of, held_in as held_of_calls}
-use Rattle.rb_proto.specs.declared.listener.Listener.{Listener}
+use Rattle.rb_answers.specs.declared.listener.Listener.{Listener}
 use Rattle.rb_model.specs.State.{Connection, State}
 use Rattle.rb_model.specs.Connections.{fed_in}
 use Rattle.rb_model.specs.Calls.{longest_kept}

@@ -1,7 +1,7 @@
 -- How much memory a core has.
 use Rattle.std.specs.Prelude.{◌≡◌, IsTrue}
 use Rattle.rb_proto.specs.Books.{SameMemory}
-use Rattle.rb_proto.specs.declared.listener.Listener.{Listener}
+use Rattle.rb_answers.specs.declared.listener.Listener.{Listener}
 use Rattle.rb_model.specs.declared.types.CoreFault.{CoreFault}
 use Rattle.rb_model.specs.declared.types.CoreFault.TheVariants.{NoMemory}
 use Rattle.rb_model.specs.declared.types.Limits.{Limits}

@@ -1,6 +1,6 @@
 -- A worked example: the bytes that a new core holds.
 use Rattle.std.specs.Prelude.{◌≡◌}
-use Rattle.rb_model.specs.Worked.{fresh}
+use Rattle.rb_laws.specs.Worked.{fresh}
 use Rattle.rb_core.specs.StandsFor.{CoreView, StandsFor}
 use Rattle.rb_core.specs.HeldBytes.{held}
 

@@ -17,12 +17,11 @@ ghost use Rattle.rb_connections.specs.Listings.{CanContinueAll};
 ghost use Rattle.rb_connections.specs.Slots.{IsDraft};
 
 use crate::eviction::make_room;
-use crate::seen::{Seen, seen_of};
 use rb_connections::{Connections, EndedRecord, Received, write_whole};
 use rb_model::{CoreFault, Message, Response, Served, Standing};
 use rb_proto::{Books, Context, Refusal};
 use rb_rpc::{FRAGMENT_HEADER, Verdict, read_call};
-use rb_serving::{kept_arguments, procedure_of, serve, serve_null};
+use rb_serving::{Seen, kept_arguments, procedure_of, seen_of, serve, serve_null};
 use rb_xdr::{Kept, Meter};
 
 /// What came of a piece of bytes. The arguments of the record that ended with it lie in the piece if the record

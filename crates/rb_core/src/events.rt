@@ -6,14 +6,13 @@ use crate::calls::{
     Piece, lend_arguments, serve_verdict, standing_behind, take_piece, write_at_once,
 };
 use crate::holding::Core;
-use crate::seen::{Seen, forget};
 use rb_address::{Caller, Peer, Who};
 use rb_connections::{EndedRecord, Received};
 use rb_forward::{Ended, FwdId, sooner};
 use rb_model::{CoreFault, Exchanged, Expired, Limits, Response, Served, Standing, Taken, Told};
 use rb_proto::{Context, Listener};
 use rb_rpc::read_call;
-use rb_serving::{arguments_behind, longest_to, put_end};
+use rb_serving::{Seen, arguments_behind, forget, longest_to, put_end};
 use rb_xdr::Meter;
 
 /// What the answer to a call of this caller depends on beside the books.
@@ -425,7 +424,7 @@ impl Core {
     ghost use Rattle.rb_connections.specs.Slots.{Acts, Shows};
     ghost use Rattle.rb_core.specs.CallCosts.{deadline_cost};
     ghost use Rattle.rb_core.specs.StandsFor.{StandsFor};
-    ghost use Rattle.rb_proto.specs.Costs.{zero_cost};
+    ghost use Rattle.rb_answers.specs.Costs.{zero_cost};
     ghost use Rattle.rb_model.specs.Step.{zero_stats};
     ghost use Rattle.rb_core.specs.Memory.{KeepsMemory};
     ghost use Rattle.rb_core.specs.Events.{count_shown, BeginsAt};

@@ -1,16 +1,16 @@
 //! What a core holds: how it is made, how many bytes it holds, and their bound.
 ghost use Rattle.std.specs.Prelude.{◌≡◌, ◌≤◌, length, IsTrue};
-ghost use Rattle.rb_proto.specs.Callers.{own_rows};
+ghost use Rattle.rb_answers.specs.Callers.{own_rows};
 ghost use Rattle.rb_model.specs.State.{are_good};
 ghost use Rattle.rb_model.specs.Bounds.{bytes_bound};
 
-use crate::seen::Seen;
 use rb_connections::{BUFFER_SIZE, CONNECTION_CHARGE, Connections};
 use rb_forward::{ENTRY_CHARGE, LONGEST_FORWARDED_CALL};
 use rb_model::{CoreFault, LONGEST_REPLY, Limits};
 use rb_proto::{Books, Listener, own_row_count};
 use rb_registry::ROW_CHARGE;
 use rb_rpc::LONGEST_FRAGMENT;
+use rb_serving::Seen;
 use rb_xdr::{Kept, Meter};
 use std::alloc::Global;
 use std::marker::Model;

@@ -13,7 +13,6 @@ mod laws;
 mod lending;
 mod looks;
 mod metered;
-mod seen;
 
 pub use holding::{Core, MOST_KEYS};
 pub use laws::{held_bytes_are_bounded, worked_held};
@@ -23,5 +22,5 @@ pub use rb_forward::{FwdId, Unsent};
 pub use rb_model::{CoreFault, Exchanged, Expired, Given, Limits, Response, Standing, Taken, Told};
 pub use rb_proto::Listener;
 pub use rb_registry::{Cursor, Row};
+pub use rb_serving::{ChangeAsked, ChangeKind, RefusedCall, RowNamed, Seen};
 pub use rb_xdr::NoMemory;
-pub use seen::{ChangeAsked, ChangeKind, RefusedCall, RowNamed, Seen};

@@ -1,7 +1,7 @@
 //! Looks at a core between two events: how many changes it accepted, its clock, and its live rows.
 ghost use Rattle.std.specs.Prelude.{◌≡◌, ◌+◌, ◌*◌, length, Some, IfSome, IfNone};
 ghost use Rattle.rb_xdr.specs.Meter.{PaysAtMost};
-ghost use Rattle.rb_proto.specs.Ledger.{rows_in};
+ghost use Rattle.rb_answers.specs.Ledger.{rows_in};
 ghost use Rattle.rb_connections.specs.Slots.{Shows};
 ghost use Rattle.rb_core.specs.StandsFor.{StandsFor};
 ghost use Rattle.rb_core.specs.Looks.{rows_shown, StandsAmong, IsAtStart, row_behind, PassesOne, IsAtEnd, slot_count, slots_behind, PaysForRow, PaysIfLent};

@@ -2,12 +2,12 @@
 ghost use Rattle.rb_core.specs.HeldBytes.{IsListener};
 
 use crate::holding::Core;
-use crate::seen::Seen;
 use rb_address::{Netid, Peer, Who};
 use rb_forward::{FwdId, Unsent};
 use rb_model::{CoreFault, Exchanged, Expired, Given, Limits, Response, Standing, Taken, Told};
 use rb_proto::Listener;
 use rb_registry::{Cursor, Row};
+use rb_serving::Seen;
 use rb_xdr::Meter;
 use std::alloc::Global;
 use std::marker::Model;
@@ -45,7 +45,7 @@ impl Metered {
     ghost use Rattle.std.specs.Prelude.{◌≡◌, ◌+◌, ◌*◌, ◌≤◌, ◌↔◌, length, Some, IsTrue, IfOk, IfErr, IfSome, IfNone, IsErrOf, OnErr, not};
     ghost use Rattle.std.specs.Borrow.{sem};
     ghost use Rattle.rb_xdr.specs.Meter.{PaysAtMost};
-    ghost use Rattle.rb_proto.specs.Ledger.{rows_in};
+    ghost use Rattle.rb_answers.specs.Ledger.{rows_in};
     ghost use Rattle.rb_forward.specs.StandsFor.{longest_forwarded_call};
     ghost use Rattle.rb_forward.specs.Table.{plain_unsent};
     ghost use Rattle.rb_model.specs.State.{are_good, opening};

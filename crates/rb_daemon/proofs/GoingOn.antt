@@ -3,7 +3,7 @@ use Rattle.std.specs.Prelude.{slice_get}
 use Rattle.std.proofs.Common.{◌≡◌, ◌≢◌, ◌<◌, ◌≤◌, ◌+◌, ℕ, zero, suc, List, [], ◌∷◌, length, get_or, set, drop, refl, ap, ◌∙◌}
 use Rattle.std.proofs.lemmas.List.{drop_more, drop_all}
 use Rattle.rb_links.specs.declared.places.Places.{Places}
-use Rattle.rb_daemon.specs.declared.held.HeldLink.{HeldLink}
+use Rattle.rb_around.specs.declared.held.HeldLink.{HeldLink}
 use Rattle.rb_daemon.specs.Turning.{ServesNone, ServesOnly, ServesEach}
 
 -- what is written at one place is not found at others

@@ -1,5 +1,4 @@
 pub mod Rooms
 pub mod Openings
 pub mod LastRounds
-pub mod Leavings
 pub mod GoingOn

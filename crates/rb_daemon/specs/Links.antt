@@ -12,7 +12,7 @@ use Rattle.rb_links.specs.declared.link.Link.{Link}
 use Rattle.rb_links.specs.declared.places.Places.{Places}
 use Rattle.rb_links.specs.Numbers.{number_at, arrival_at}
 use Rattle.rb_engine.specs.declared.engine.Engine.{Engine}
-use Rattle.rb_engine.specs.PlainCallers.{plain_who}
+use Rattle.rb_arrivals.specs.PlainCallers.{plain_who}
 use Rattle.rb_engine.specs.Moves.{Moves, ActsNow}
 use Rattle.rb_daemon.specs.Outboxes.{FillsOutbox, WritesToOutbox}
 

@@ -4,7 +4,7 @@ use Rattle.rb_policy.specs.Rounds.{StayBut}
 use Rattle.rb_links.specs.declared.places.Places.{Places}
 use Rattle.rb_sockets.specs.declared.sockets.Sockets.{Sockets}
 use Rattle.rb_sockets.specs.Watching.{is_at_once, of_datagrams}
-use Rattle.rb_daemon.specs.declared.held.HeldLink.{HeldLink}
+use Rattle.rb_around.specs.declared.held.HeldLink.{HeldLink}
 use Rattle.rb_engine.specs.Waiting.{Between}
 
 -- No connection counts as served that did not before.

@@ -1,25 +1,21 @@
 //! The daemon and its turns.
 ghost use Rattle.std.specs.Prelude.{◌≡◌, ◌↔◌, IsTrue, IsErrOf, OnOk, nat_lt, false, not, OnErr, is_some, true, None};
 ghost use Rattle.rb_lines.specs.Starts.{MeetsLaws};
-ghost use Rattle.rb_policy.specs.Turns.{others_of};
 ghost use Rattle.rb_settings.specs.Settings.{listener_of};
 ghost use Rattle.rb_engine.specs.Served.{has_good_limits};
-ghost use Rattle.rb_daemon.specs.FirstFaults.{end_of};
+ghost use Rattle.rb_around.specs.FirstFaults.{end_of};
 ghost use Rattle.rb_engine.specs.Recording.{WritesRecord};
 
-use crate::room::Room;
-use crate::secrets::{brake_of, draw, first_xid};
 use crate::serving::Serving;
-use crate::waiting::{EVENTS, Times, Waiting, read_clocks};
-use mio::Registry;
+use rb_around::{Around, EVENTS, Times, Waiting, brake_of, draw, first_xid, open, read_clocks};
 use rb_engine::{Begun, begin};
 use rb_lines::bad_limit;
 use rb_model::Limits;
-use rb_policy::{Brake, others_of, place_count, wait_of};
+use rb_policy::{Brake, wait_of};
 use rb_registry::Row;
-use rb_settings::{BindFault, DaemonFault, KeepNews, Settings, Shortage, SocketFault, Step};
-use rb_sockets::{AddressNews, Follower, Handed, Sockets, TableFault};
-use rb_turns::{Load, Starts, TurnFailed, Turns};
+use rb_settings::{DaemonFault, Settings, Shortage, Step};
+use rb_sockets::{AddressNews, Follower, Handed};
+use rb_turns::{Load, News, Starts, TurnFailed, Turns};
 use std::alloc::{AllocError, Global};
 use std::fs::Files;
 use std::io;
@@ -79,7 +75,6 @@ impl<'a, R: Clock, H: Files> Daemon<'a, R, H> {
         ensures others { IsErrOf result DaemonFault.Limits → IsTrue false }
     {
         let outer = open(alloc, host, settings, first, handed)?;
-        outer.sockets.write_stack(host);
         Ok(Daemon::of(clock, settings.limits, inner, outer, brake))
     }
 
@@ -88,7 +83,7 @@ impl<'a, R: Clock, H: Files> Daemon<'a, R, H> {
         clock: &'a R,
         limits: Limits,
         inner: Begun<H>,
-        outer: Outer<H>,
+        outer: Around<H>,
         brake: Option<Brake>,
     ) -> Daemon<'a, R, H> {
         Daemon {
@@ -97,6 +92,7 @@ impl<'a, R: Clock, H: Files> Daemon<'a, R, H> {
             serving: Serving::new(
                 inner.engine,
                 inner.keeper,
+                inner.replies,
                 outer.sockets,
                 outer.room,
                 limits,
@@ -208,33 +204,22 @@ impl<R: Clock, H: Files> Turns<H> for Daemon<'_, R, H> {
         self.waiting.has_news() || self.serving.has_news()
     }
 
-    fn take_fault(&mut self) -> Option<SocketFault> {
-        match self.waiting.take_fault() {
-            Some(fault) => Some(fault),
-            None => self.serving.fault.take(),
-        }
-    }
-
-    fn take_keep_news(&mut self) -> Option<KeepNews>
-        ensures { result ≡ self.old.serving.keeper.news }
-    {
-        self.serving.keeper.take_news()
-    }
-
-    fn take_table_fault(&mut self) -> Option<TableFault>
-        ensures fault { result ≡ self.old.serving.tables.fault }
+    fn take_news<N: Files + Net>(&mut self, host: &N) -> News
+        ensures keep { result.keep ≡ self.old.serving.keeper.news }
+        ensures table { result.table ≡ self.old.serving.tables.fault }
         ensures told { self.new.serving.tables.fault ≡ None }
     {
-        self.serving.tables.fault.take()
-    }
-
-    fn take_local_change(&mut self) -> bool {
-        self.serving.sockets.take_local_change()
-    }
-
-    fn take_name<N: Files + Net>(&mut self, host: &N) -> Option<io::Result<()>> {
-        let moment = self.serving.turn.moment;
-        self.serving.sockets.take_name(host, moment)
+        let serving = &mut self.serving;
+        News {
+            fault: match self.waiting.take_fault() {
+                Some(fault) => Some(fault),
+                None => serving.fault.take(),
+            },
+            keep: serving.keeper.take_news(),
+            table: serving.tables.fault.take(),
+            is_local_changed: serving.sockets.take_local_change(),
+            name: serving.sockets.take_name(host, serving.turn.moment),
+        }
     }
 
     fn follow_by(&mut self, follower: Follower) -> Result<(), AllocError> {
@@ -264,7 +249,7 @@ impl<R: Clock, H: Files> Turns<H> for Daemon<'_, R, H> {
 /// Serves what the wait showed.
 fn serve_events<H: Files>(serving: &mut Serving<H>, host: &H, waiting: &Waiting) {
     serving.begin_turn(waiting.moment());
-    note_ready(&mut serving.sockets, waiting);
+    waiting.note_ready(&mut serving.sockets);
     serving.answer_calls(host);
     serving.take_forward_replies(host);
     serve_shown(serving, host, waiting);
@@ -272,50 +257,11 @@ fn serve_events<H: Files>(serving: &mut Serving<H>, host: &H, waiting: &Waiting)
     serving.answer_changes(host);
 }
 
-/// Notes what the wait showed of the daemon's own sockets.
-fn note_ready(sockets: &mut Sockets, waiting: &Waiting) {
-    for event in &waiting.events {
-        sockets.note_ready(event.token());
-    }
-}
-
 /// Serves the connections that the wait showed.
 fn serve_shown<H: Files>(serving: &mut Serving<H>, host: &H, waiting: &Waiting) {
     for event in &waiting.events {
         serving.serve(host, event);
     }
-}
-
-// PLACES-1
-/// How many descriptors are for no connection, if so many are for no connection and no file.
-fn others_beside(sockets: u64, settings: &Settings<'_>) -> u64
-    ensures { result
-        ≡ others_of sockets (nat_lt 0 settings.now.record_limit) (is_some settings.now.keep) }
-{
-    others_of(sockets, settings.record_limit > 0, settings.keep.is_some())
-}
-
-// START-2
-/// How many places there are for connections, and the shortage, if they are fewer than the settings ask for.
-fn places_of<N: Net>(
-    host: &N,
-    settings: &Settings<'_>,
-    sockets: &Sockets,
-) -> (usize, Option<Shortage>) {
-    let asked = settings.limits.conns;
-    let limit = settings.open_files;
-    let others = others_beside(sockets.count_descriptors(host), settings);
-    let places = place_count(asked, limit, others);
-    if places == asked {
-        return (places, None);
-    }
-    let shortage = Shortage {
-        limit,
-        needed: others.saturating_add(asked as u64).saturating_add(1),
-        asked,
-        places,
-    };
-    (places, Some(shortage))
 }
 
 /// `Limits` if a limit is out of its range.
@@ -327,76 +273,5 @@ fn check_limits(settings: &Settings<'_>) -> Result<(), DaemonFault>
     match bad_limit(&settings.limits, &settings.listener()) {
         None => Ok(()),
         Some(_) => Err(DaemonFault::Limits),
-    }
-}
-
-/// What is around the core: the wait, the sockets whose events it shows, and the memory with which they are served.
-#[derive(Drop)]
-struct Outer<H: Files> {
-    waiting: Waiting,
-    sockets: Sockets,
-    room: Room<H>,
-    shortage: Option<Shortage>,
-}
-
-/// Binds sockets to all that the settings name and that was not handed over, and waits on them from this first moment on.
-/// `Memory` or `Socket`, whichever occurs first.
-fn open<B: Files + Net, H: Files>(
-    alloc: Global,
-    host: &B,
-    settings: &Settings<'_>,
-    first: Times,
-    handed: Handed,
-) -> Result<Outer<H>, DaemonFault>
-    ensures others { IsErrOf result DaemonFault.Limits → IsTrue false }
-{
-    let waiting = Waiting::new(alloc, host, first)?;
-    let sockets = bind(alloc, host, settings, handed, waiting.registry())?;
-    furnish(alloc, host, settings, waiting, sockets)
-}
-
-/// Takes the memory with which sockets are served. `Memory` if an allocation is refused.
-fn furnish<B: Net, H: Files>(
-    alloc: Global,
-    host: &B,
-    settings: &Settings<'_>,
-    waiting: Waiting,
-    sockets: Sockets,
-) -> Result<Outer<H>, DaemonFault>
-    ensures others { IsErrOf result DaemonFault.Limits → IsTrue false }
-{
-    let (places, shortage) = places_of(host, settings, &sockets);
-    let networks = settings.from.as_slice();
-    let forwards = settings.limits.forwards;
-    let are_tables_read = !sockets.are_claims_believed;
-    match Room::new(alloc, networks, places, forwards, are_tables_read) {
-        Ok(room) => Ok(Outer {
-            waiting,
-            sockets,
-            room,
-            shortage,
-        }),
-        Err(error) => Err(DaemonFault::Memory(error)),
-    }
-}
-
-/// The sockets that the settings name, registered where their events are shown.
-fn bind<B: Files + Net>(
-    alloc: Global,
-    host: &B,
-    settings: &Settings<'_>,
-    handed: Handed,
-    registry: &Registry,
-) -> Result<Sockets, DaemonFault>
-    ensures others { IsErrOf result DaemonFault.Limits → IsTrue false }
-{
-    let mut sockets = match Sockets::bind(alloc, host, settings, handed) {
-        Ok(sockets) => sockets,
-        Err(BindFault::Memory(error)) => return Err(DaemonFault::Memory(error)),
-        Err(BindFault::Socket(fault)) => return Err(DaemonFault::Socket(fault)),
-    };
-    match sockets.register(registry) {
-        Ok(()) => Ok(sockets),
-        Err(error) => Err(DaemonFault::Socket(Step::Prepare.failed(error))),
     }
 }

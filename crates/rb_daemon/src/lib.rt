@@ -3,21 +3,16 @@
 
 mod daemon;
 mod draining;
-mod held;
 mod opening;
 mod outbox;
-mod room;
-mod secrets;
 mod served;
 mod serving;
 mod steps;
-mod tables;
-mod waiting;
 
 pub use daemon::Daemon;
+pub use rb_answers::{Announced, Forwarding, Reserved, Terms};
 pub use rb_model::Limits;
 pub use rb_policy::Rate;
-pub use rb_proto::{Announced, Forwarding, Reserved, Terms};
 pub use rb_settings::{
     DaemonFault, Few, KeepNews, LocalSocket, Logged, Settings, Shortage, SocketFault, Step,
 };

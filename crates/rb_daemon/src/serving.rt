@@ -2,17 +2,15 @@
 ghost use Rattle.std.specs.Prelude.{◌≡◌};
 ghost use Rattle.rb_daemon.specs.Turning.{is_due};
 
-use crate::held::Held;
 use crate::opening::{close_at, open_again, open_at};
-use crate::room::Room;
 use crate::served::{go_on_each, note_served};
 use crate::steps::{Progress, serve};
-use crate::tables::Tables;
 use mio::Registry;
 use mio::event::Event;
 use rb_address::Network;
+use rb_around::{HeldLinks, Room, Tables};
 use rb_arrivals::{Accepted, Shown, Visitor};
-use rb_engine::{Due, Engine, Keeper};
+use rb_engine::{Due, Engine, Keeper, Replies};
 use rb_forward::sooner;
 use rb_links::{Places, Turn};
 use rb_model::Limits;
@@ -23,6 +21,13 @@ use rb_settings::SocketFault;
 use rb_sockets::Sockets;
 use rb_turns::Load;
 use std::fs::Files;
+
+/// What waits until the changes of a turn are kept.
+#[derive(Drop)]
+pub(crate) struct Held {
+    pub(crate) replies: Replies,
+    pub(crate) links: HeldLinks,
+}
 
 /// The core with its sockets, the places of connections, and what is left for the next turn.
 #[derive(Drop)]
@@ -83,6 +88,7 @@ impl<H: Files> Serving<H> {
     pub(crate) fn new(
         engine: Engine,
         keeper: Keeper<H>,
+        replies: Replies,
         sockets: Sockets,
         room: Room<H>,
         limits: Limits,
@@ -93,7 +99,7 @@ impl<H: Files> Serving<H> {
             places,
             datagram,
             ways_back,
-            held,
+            held: links,
             tables,
         } = room;
         Serving {
@@ -106,7 +112,7 @@ impl<H: Files> Serving<H> {
             most_due: limits.conns.saturating_add(limits.forwards),
             datagram,
             ways_back,
-            held,
+            held: Held { replies, links },
             brake,
             tables,
             turn: Turn {

@@ -7,8 +7,8 @@ ghost use Rattle.rb_links.specs.Holding.{must_wait};
 ghost use Rattle.rb_daemon.specs.Links.{HandsIn, TakesOver};
 ghost use Rattle.rb_engine.specs.Served.{change_count};
 
-use crate::held::HeldLink;
 use crate::outbox::{exchange, write_into};
+use rb_around::HeldLink;
 use rb_arrivals::Datagrams;
 use rb_core::Standing;
 use rb_engine::{Engine, Keeper, Kept};

@@ -10,7 +10,7 @@ use Rattle.rb_address.specs.declared.who.Who.{Who}
 use Rattle.rb_address.specs.Callers.{IsWho}
 use Rattle.rb_address.specs.Peers.{IsPeer}
 use Rattle.rb_forward.specs.Forwards.{Unsent as UnsentCall}
-use Rattle.rb_proto.specs.declared.listener.Listener.{Listener}
+use Rattle.rb_answers.specs.declared.listener.Listener.{Listener}
 use Rattle.rb_model.specs.declared.types.CoreFault.{CoreFault}
 use Rattle.rb_model.specs.declared.types.CoreFault.TheVariants.{BadLimits}
 use Rattle.rb_model.specs.declared.types.Limits.{Limits}

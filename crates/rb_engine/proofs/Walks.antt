@@ -12,8 +12,8 @@ use Rattle.rb_xdr.specs.Meter.{Meter, PaysAtMost}
 use Rattle.rb_registry.specs.declared.row.Row.{Row}
 use Rattle.rb_registry.specs.Registry.{AreOwn}
 use Rattle.rb_registry.specs.Rows.{rpcb_prog}
-use Rattle.rb_proto.specs.Answers.{can_be_set}
-use Rattle.rb_proto.proofs.Lists.{Passes, passed_bytes, none_passed, one_passed}
+use Rattle.rb_answers.specs.Answers.{can_be_set}
+use Rattle.rb_answers.proofs.Lists.{Passes, passed_bytes, none_passed, one_passed}
 use Rattle.rb_model.specs.State.{State}
 use Rattle.rb_model.specs.Step.{IsReached}
 use Rattle.rb_model.specs.ChangeLaws.{set_rows}

@@ -4,10 +4,6 @@ pub mod Counting
 pub mod Moves
 pub mod Recording
 pub mod ServedLaws
-pub mod PlainCallers
 pub mod Keeping
 pub mod Sending
-pub mod LogRates
-pub mod LoggedChanges
 pub mod Waiting
-pub mod Logs

@@ -1,6 +1,6 @@
 -- What a call of the engine does, at the engine's moment.
 use Rattle.std.specs.Prelude.{◌≡◌, ℕ, ◌+◌, List, [], ◌∷◌, Option, Result}
-use Rattle.rb_proto.specs.declared.listener.Listener.{Listener}
+use Rattle.rb_answers.specs.declared.listener.Listener.{Listener}
 use Rattle.rb_model.specs.declared.types.Limits.{Limits}
 use Rattle.rb_model.specs.State.{State, opening}
 use Rattle.rb_model.specs.declared.types.CoreFault.{CoreFault}

@@ -1,7 +1,7 @@
 -- Laws of the core between two events of the daemon: bounds that hold with no premise on its limits or its listener.
 use Rattle.std.specs.Prelude.{◌≡◌, ◌≤◌, ◌<◌, ℕ, ◌^◌, true, List, [], length, take, ◌⊎◌, Ok}
 use Rattle.std.specs.List.{concat}
-use Rattle.rb_proto.specs.Ledger.{rows_in}
+use Rattle.rb_answers.specs.Ledger.{rows_in}
 use Rattle.rb_model.specs.ChangeLaws.{set_rows, restored, IsReachedByBytes}
 use Rattle.rb_model.specs.State.{State, opening, are_good}
 use Rattle.rb_model.specs.Bounds.{bytes_bound, bound_at}

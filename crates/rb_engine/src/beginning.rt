@@ -9,6 +9,7 @@ ghost use Rattle.rb_engine.specs.Moves.{IsNewEngine, Moves};
 
 use crate::engine::Engine;
 use crate::keeping::Keeper;
+use crate::replies::Replies;
 use rb_registry::Row;
 use rb_settings::{DaemonFault, Settings};
 use std::alloc::{AllocError, Global};
@@ -21,6 +22,8 @@ pub struct Begun<H: Files> {
     pub engine: Engine,
     /// What keeps them.
     pub keeper: Keeper<H>,
+    /// Replies that wait until changes are kept: none.
+    pub replies: Replies,
     /// Which of the rows are not set again.
     pub left_out: Vec<usize>,
 }
@@ -65,6 +68,7 @@ pub fn begin<H: Files>(
     requires { MeetsLaws (listener_of settings.now) settings.now.record_limit }
     ensures others { IsErrOf result DaemonFault.Limits → IsTrue false }
 {
+    let replies = Replies::new(alloc).map_err(DaemonFault::Memory)?;
     let mut engine = engine_of(alloc, settings, xid, moment)?;
     let rows = settings.limits.rows;
     let mut keeper = Keeper::new(alloc, settings.keep, rows).map_err(DaemonFault::Memory)?;
@@ -72,6 +76,7 @@ pub fn begin<H: Files>(
         Ok(left_out) => Ok(Begun {
             engine,
             keeper,
+            replies,
             left_out,
         }),
         Err(error) => Err(DaemonFault::Memory(error)),

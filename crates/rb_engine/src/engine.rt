@@ -19,7 +19,6 @@ ghost use Rattle.rb_engine.specs.Served.{ready_of};
 
 use crate::callers::{Asked, Caller, Sender};
 use crate::keeping::Kept;
-use crate::log::Log;
 use crate::replies::Replies;
 use crate::showing::{
     count_given, record_datagram, record_exchange, record_pieces, record_unsent, show_done,
@@ -33,6 +32,7 @@ use rb_core::{
 };
 use rb_keep::{Owners, set_call};
 use rb_lines::{Start, Tape};
+use rb_log::Log;
 use rb_model::{Event, Output};
 use rb_policy::WaysBack;
 use rb_registry::Row;
@@ -207,7 +207,7 @@ impl Engine {
     ghost use Rattle.rb_model.specs.Ending.{forward_reply, expire};
     ghost use Rattle.rb_engine.specs.Sending.{reply_after, ways_after, reply_due, ways_due, call_sent};
     ghost use Rattle.rb_engine.specs.Waiting.{waiting};
-    ghost use Rattle.rb_engine.specs.Logs.{next_line};
+    ghost use Rattle.rb_log.specs.Logs.{next_line};
 
     /// A new core at this moment, which is the first, and whose first forwarded call has this xid. Up to `record_limit` bytes of its events are recorded, and `logged` says of what the log has lines. `BadLimits`
     /// if a limit is out of its range, else `NoMemory` if an allocation is refused.

@@ -7,7 +7,6 @@ mod datagrams;
 mod engine;
 mod keeping;
 mod laws;
-mod log;
 mod replies;
 mod showing;
 mod writing;
@@ -21,5 +20,5 @@ pub use laws::{
     served_cores_are_bounded, served_meters_are_bounded, served_premises_are_met,
     served_records_are_read, served_rows_are_kept,
 };
-pub use replies::{MOST_HELD, Replies};
+pub use replies::Replies;
 pub use writing::{write_change, write_rows};

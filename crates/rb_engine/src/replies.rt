@@ -6,11 +6,9 @@ use crate::keeping::Kept;
 use arrayvec::ArrayVec;
 use rb_address::Source;
 use rb_arrivals::Datagrams;
+use rb_policy::MOST_HELD;
 use std::alloc::{AllocError, Global};
 use std::marker::Model;
-
-/// The most replies to datagrams that wait, and the most connections.
-pub const MOST_HELD: usize = 64;
 
 /// The longest reply to a datagram that waits: one to a SET or an UNSET has 28 bytes.
 const LONGEST_HELD: usize = 64;

@@ -20,7 +20,7 @@ use Rattle.rb_registry.specs.Rows.{Change, covers, left_by, rpcb_prog, is_among,
 use Rattle.rb_registry.specs.Rows.Change.{Added, Removed}
 use Rattle.rb_registry.specs.Index.{rank}
 use Rattle.rb_registry.proofs.RowLaws.{set_appends, unset_filters}
-use Rattle.rb_proto.specs.Answers.{can_be_set}
+use Rattle.rb_answers.specs.Answers.{can_be_set}
 use Rattle.rb_model.specs.State.{State}
 use Rattle.rb_model.specs.ChangeLaws.{set_rows, IsSpelled, HasShortCall, credential_for}
 use Rattle.rb_keep.specs.Kept.{row_line, gone_line, kept_text, owner_number, owner_numbered, AreOwners, named_row, line_on, with_owner, owners_on, lines_on, owners_on_each, all_netids, change_text, owners_after, Changed, changes_text, last_state}

@@ -35,9 +35,9 @@ use Rattle.rb_arguments.specs.Types.{IsRpcb, rpcb_spelling}
 use Rattle.rb_arguments.specs.Arguments.{procedure_at, is_known, request, or_garbage, read_request}
 use Rattle.rb_arguments.specs.Grammar.{Asks}
 use Rattle.rb_arguments.proofs.Requests.{asked_request}
-use Rattle.rb_proto.specs.Callers.{owner_named}
-use Rattle.rb_proto.proofs.RowLengths.{netid_is_content}
-use Rattle.rb_proto.specs.Answers.{can_be_set, row_of_rpcb}
+use Rattle.rb_answers.specs.Callers.{owner_named}
+use Rattle.rb_answers.proofs.RowLengths.{netid_is_content}
+use Rattle.rb_answers.specs.Answers.{can_be_set, row_of_rpcb}
 use Rattle.rb_model.specs.Step.{Event}
 use Rattle.rb_model.specs.Step.Event.{Datagram, Open, Bytes, Pending, Gave, Closed, NextLost, Unsent, Sent, Forward, Expire, ZeroStats}
 use Rattle.rb_model.specs.ChangeLaws.{credential_for, set_rows, IsSpelled, this_machine, set_head, rpcb_for, set_bytes, set_call, HasShortCall}

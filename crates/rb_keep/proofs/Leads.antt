@@ -15,7 +15,7 @@ use Rattle.rb_registry.specs.declared.row.Row.{Row}
 use Rattle.rb_registry.specs.Rows.{is_on, is_row}
 use Rattle.rb_arguments.specs.declared.rpcb.Rpcb.{Rpcb}
 use Rattle.rb_arguments.specs.Types.{IsRpcb, rpcb_spelling}
-use Rattle.rb_proto.specs.Answers.{can_be_set}
+use Rattle.rb_answers.specs.Answers.{can_be_set}
 use Rattle.rb_model.specs.State.{State}
 use Rattle.rb_model.specs.ChangeLaws.{set_rows, set_call, IsSpelled, HasShortCall}
 use Rattle.rb_laws.proofs.Ledgers.{settable-short, ledgers_are_well_kept}

@@ -20,8 +20,8 @@ use Rattle.rb_arguments.specs.declared.request.ArgumentFault.{ArgumentFault}
 use Rattle.rb_arguments.specs.Arguments.{read_request}
 use Rattle.rb_arguments.specs.declared.request.Request.TheVariants as requests
 use Rattle.rb_arguments.specs.declared.procedure.RpcbProcedure.TheVariants as rpcbs
-use Rattle.rb_proto.specs.Callers.{owner_named}
-use Rattle.rb_proto.specs.Answers.{row_of_rpcb}
+use Rattle.rb_answers.specs.Callers.{owner_named}
+use Rattle.rb_answers.specs.Answers.{row_of_rpcb}
 use Rattle.rb_model.specs.Step.{Event}
 use Rattle.rb_model.specs.Step.Event.{Datagram}
 use Rattle.rb_address.specs.Callers.{is_same_owner}

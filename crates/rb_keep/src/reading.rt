@@ -7,10 +7,10 @@ ghost use Rattle.rb_keep.specs.Reading.{is_this_machine, row_of_request, row_ask
 use crate::call::{SET, UNSET, set_call, this_machine, unset_call};
 use crate::fault::KeepFault;
 use rb_address::{Owner, Who};
+use rb_answers::{owner_named, row_of_rpcb};
 use rb_arguments::{Request, RpcbProcedure, read_args};
 use rb_lines::{Line, longest_input, read_line};
 use rb_model::Event;
-use rb_proto::{owner_named, row_of_rpcb};
 use rb_registry::Row;
 use rb_rpc::{Verdict, read_call};
 use rb_xdr::NoMemory;

@@ -4,10 +4,10 @@ use Rattle.std.proofs.lemmas.Grind.{common_steps}
 use Rattle.std.proofs.lemmas.Bool.{and_parts}
 use Rattle.rb_registry.specs.declared.row.Row.{Row}
 use Rattle.rb_registry.specs.Rows.{has_place}
-use Rattle.rb_proto.specs.declared.context.Context.{Context}
-use Rattle.rb_proto.specs.declared.call.Call.{Call}
-use Rattle.rb_proto.specs.Answers.{adds, adds_row, row_to_set}
-use Rattle.rb_proto.specs.Ledger.{Ledger, rows_in}
+use Rattle.rb_answers.specs.declared.context.Context.{Context}
+use Rattle.rb_answers.specs.declared.call.Call.{Call}
+use Rattle.rb_answers.specs.Answers.{adds, adds_row, row_to_set}
+use Rattle.rb_answers.specs.Ledger.{Ledger, rows_in}
 use Rattle.rb_model.specs.declared.message.Message.{Message}
 use Rattle.rb_model.specs.declared.message.Message.TheVariants as says
 use Rattle.rb_model.specs.State.{Connection, Connections}

@@ -6,8 +6,8 @@ use Rattle.rb_forward.specs.declared.types.ForwardEnd.TheVariants.{Failed}
 use Rattle.rb_forward.specs.declared.types.Ended as entry
 use Rattle.rb_forward.specs.Forwards.{Entry, is_due as entry_is_due, id_of, ended_by, without_first, due}
 use Rattle.rb_forward.proofs.Tables.{all_stay}
-use Rattle.rb_proto.specs.Ledger.{Ledger}
-use Rattle.rb_proto.specs.Forwarding.{noted_end, fell_due}
+use Rattle.rb_answers.specs.Ledger.{Ledger}
+use Rattle.rb_answers.specs.Forwarding.{noted_end, fell_due}
 use Rattle.rb_model.specs.declared.types.Expired.{Expired}
 use Rattle.rb_model.specs.declared.types.Expired.TheVariants.{Nothing, ConnectionLost}
 use Rattle.rb_model.specs.State.{State, Connection}

@@ -18,18 +18,18 @@ use Rattle.rb_forward.specs.declared.types.Ended.{Ended}
 use Rattle.rb_forward.specs.declared.types.FwdId.{FwdId}
 use Rattle.rb_arguments.specs.Forwarded.{longest_forwarded}
 use Rattle.rb_forward.specs.Forwards.{Entry, Forwards, can_start, with_next_entry, next_entry, sent, can_be_sent, without_first, change_first, as_sent, is_unsent, reply, due, drop_caller, counts_for, is_due, is_of_connection}
-use Rattle.rb_proto.specs.declared.context.Context.{Context}
+use Rattle.rb_answers.specs.declared.context.Context.{Context}
 use Rattle.rb_arguments.specs.declared.mapping.Mapping.{Mapping}
 use Rattle.rb_arguments.specs.declared.remote.RemoteCall.{RemoteCall}
 use Rattle.rb_arguments.specs.declared.procedure.MappingProcedure.TheVariants as mappings
 use Rattle.rb_arguments.specs.declared.procedure.RpcbProcedure.TheVariants as rpcbs
 use Rattle.rb_arguments.specs.declared.request.Request.{Request}
 use Rattle.rb_arguments.specs.declared.request.Request.TheVariants as requests
-use Rattle.rb_proto.specs.Ledger.{Ledger, rows_in, with_call_noted}
+use Rattle.rb_answers.specs.Ledger.{Ledger, rows_in, with_call_noted}
 use Rattle.rb_arguments.specs.Remote.{args_of, HasContent}
 use Rattle.rb_arguments.specs.Arguments.{HasArgs}
-use Rattle.rb_proto.specs.Forwarding.{address_asked, forward_of, forward_to, forward_call, target_replied, fell_due, caller_dropped, call_sent}
-use Rattle.rb_proto.specs.Answers.{set_row, unset_rows, getport, getaddr, getversaddr, answer_to, answer}
+use Rattle.rb_answers.specs.Forwarding.{address_asked, forward_of, forward_to, forward_call, target_replied, fell_due, caller_dropped, call_sent}
+use Rattle.rb_answers.specs.Answers.{set_row, unset_rows, getport, getaddr, getversaddr, answer_to, answer}
 use Rattle.rb_model.specs.Grammar.{HasArgsIn}
 use Rattle.rb_model.specs.declared.message.Message.{Message}
 use Rattle.rb_model.specs.declared.message.Message.TheVariants as says

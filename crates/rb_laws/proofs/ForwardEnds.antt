@@ -10,8 +10,8 @@ use Rattle.rb_forward.specs.declared.types.FwdId.{FwdId}
 use Rattle.rb_forward.specs.Forwards.{Entry, Forwards, id_of, ended_by, with_end, without_first, counts_for, is_due, outcome_of, reply, due}
 use Rattle.rb_forward.specs.Ends.{IsFirst, IsReplyTo, EndsFirst as TableEnds}
 use Rattle.rb_forward.proofs.Ends.{ends_first, reply_means, reply_tested, due_means, due_tested}
-use Rattle.rb_proto.specs.Ledger.{Ledger}
-use Rattle.rb_proto.specs.Forwarding.{noted_end, target_replied, fell_due}
+use Rattle.rb_answers.specs.Ledger.{Ledger}
+use Rattle.rb_answers.specs.Forwarding.{noted_end, target_replied, fell_due}
 use Rattle.rb_model.specs.declared.types.Told.{Told}
 use Rattle.rb_model.specs.Calls.{Outcome}
 use Rattle.rb_model.specs.State.{State}

@@ -18,7 +18,7 @@ use Rattle.rb_rpc.proofs.Calls.{verdict_agrees}
 use Rattle.rb_rpc.proofs.Refusals.{mismatches_agree, auth_errors_agree, the_rest}
 use Rattle.rb_rpc.specs.Feeds.{behind_head, arguments_of}
 use Rattle.rb_registry.specs.Rows.{rpcb_prog}
-use Rattle.rb_proto.specs.declared.call.Call.{Call}
+use Rattle.rb_answers.specs.declared.call.Call.{Call}
 use Rattle.rb_arguments.specs.declared.procedure.Procedure.{Procedure}
 use Rattle.rb_arguments.specs.declared.request.ArgumentFault.TheVariants as faults
 use Rattle.rb_arguments.specs.declared.request.Request.{Request}

@@ -11,8 +11,8 @@ use Rattle.rb_address.specs.declared.netid.Transport.{Transport}
 use Rattle.rb_registry.specs.declared.row.Which.{Which}
 use Rattle.rb_registry.specs.Rows.{Change, find_exact, find_row}
 use Rattle.rb_stats.specs.declared.key.Target.{Target}
-use Rattle.rb_proto.specs.Callers.{who_of}
-use Rattle.rb_proto.specs.Terms.{counts_look_up, counts_forward}
+use Rattle.rb_answers.specs.Callers.{who_of}
+use Rattle.rb_answers.specs.Terms.{counts_look_up, counts_forward}
 use Rattle.rb_registry.specs.Rows.Change.{Added}
 use Rattle.rb_stats.specs.Statistics.{Note}
 use Rattle.rb_stats.specs.Statistics.Note.{WasSet, WasUnset, LookedUp}
@@ -24,14 +24,14 @@ use Rattle.rb_arguments.specs.declared.procedure.RpcbProcedure.TheVariants as rp
 use Rattle.rb_arguments.specs.declared.request.Request.{Request}
 use Rattle.rb_arguments.specs.declared.request.Request.TheVariants as requests
 use Rattle.rb_arguments.specs.Remote.{args_of}
-use Rattle.rb_proto.specs.declared.answers.Answer.{Answer}
-use Rattle.rb_proto.specs.declared.answers.Value.TheVariants as values
-use Rattle.rb_proto.specs.declared.context.Context.{Context}
-use Rattle.rb_proto.specs.Ledger.{Ledger, rows_in, version_of, with_call_noted, note_where, notes_where}
+use Rattle.rb_answers.specs.declared.answers.Answer.{Answer}
+use Rattle.rb_answers.specs.declared.answers.Value.TheVariants as values
+use Rattle.rb_answers.specs.declared.context.Context.{Context}
+use Rattle.rb_answers.specs.Ledger.{Ledger, rows_in, version_of, with_call_noted, note_where, notes_where}
 use Rattle.rb_address.specs.Netids.{netid_of, transport_of_protocol}
-use Rattle.rb_proto.specs.Results.{result_bytes}
-use Rattle.rb_proto.specs.Answers.{target_of, netid_asked, with_lookup, accepts_row, set_row, accepts_removal, removal_of, unset_rows, change_if, port_on, getport, getaddr, getversaddr, answer_to, answer, tell_done}
-use Rattle.rb_proto.specs.Forwarding.{outcome_note, address_asked, forward_to, forward_call, end_notes, target_replied, fell_due, caller_dropped, call_sent}
+use Rattle.rb_answers.specs.Results.{result_bytes}
+use Rattle.rb_answers.specs.Answers.{target_of, netid_asked, with_lookup, accepts_row, set_row, accepts_removal, removal_of, unset_rows, change_if, port_on, getport, getaddr, getversaddr, answer_to, answer, tell_done}
+use Rattle.rb_answers.specs.Forwarding.{outcome_note, address_asked, forward_to, forward_call, end_notes, target_replied, fell_due, caller_dropped, call_sent}
 use Rattle.rb_model.specs.declared.message.Message.{Message}
 use Rattle.rb_model.specs.declared.message.Message.TheVariants as says
 use Rattle.rb_model.specs.Calls.{message_of, outcome, reply_with}

@@ -11,7 +11,7 @@ use Rattle.rb_registry.specs.declared.slot.Slot.{Slot}
 use Rattle.rb_registry.specs.Rows.{Change, covers, left_by}
 use Rattle.rb_registry.specs.Rows.Change.{Added, Removed}
 use Rattle.rb_registry.specs.Slots.{slot_of, removal_of, slots_by, all_slots}
-use Rattle.rb_proto.specs.Ledger.{Ledger, rows_in}
+use Rattle.rb_answers.specs.Ledger.{Ledger, rows_in}
 use Rattle.rb_model.specs.State.{Connection}
 use Rattle.rb_model.specs.Connections.{change_first}
 use Rattle.rb_model.specs.Losses.{stamp_in, list_stamps, is_needed_for, needed_removals, evict_early}

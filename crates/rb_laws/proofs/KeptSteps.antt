@@ -19,18 +19,18 @@ use Rattle.rb_stats.specs.Statistics.Note.{WasSet, WasUnset}
 use Rattle.rb_arguments.specs.declared.kind.Kind.{Kind}
 use Rattle.rb_forward.specs.declared.types.Ended.{Ended as EntryEnd}
 use Rattle.rb_forward.specs.Forwards.{can_be_sent}
-use Rattle.rb_proto.specs.declared.context.Context.{Context}
+use Rattle.rb_answers.specs.declared.context.Context.{Context}
 use Rattle.rb_arguments.specs.declared.mapping.Mapping.{Mapping}
 use Rattle.rb_arguments.specs.declared.procedure.MappingProcedure.TheVariants as mappings
 use Rattle.rb_arguments.specs.declared.procedure.RpcbProcedure.TheVariants as rpcbs
 use Rattle.rb_arguments.specs.declared.remote.RemoteCall.{RemoteCall}
 use Rattle.rb_arguments.specs.declared.request.Request.{Request}
 use Rattle.rb_arguments.specs.declared.request.Request.TheVariants as requests
-use Rattle.rb_proto.specs.Answers.{owner_in, accepts, accepts_row, accepts_removal, adds, adds_row, row_asked, row_to_set, removal_of, change_if, set_row, unset_rows, getport, getaddr, getversaddr, answer_to, answer}
-use Rattle.rb_proto.specs.Callers.{own_rows}
-use Rattle.rb_proto.specs.declared.listener.Listener.{Listener}
-use Rattle.rb_proto.specs.Forwarding.{forward_call, target_replied, fell_due, caller_dropped, call_sent}
-use Rattle.rb_proto.specs.Ledger.{Ledger, rows_in, version_of, with_call_noted}
+use Rattle.rb_answers.specs.Answers.{owner_in, accepts, accepts_row, accepts_removal, adds, adds_row, row_asked, row_to_set, removal_of, change_if, set_row, unset_rows, getport, getaddr, getversaddr, answer_to, answer}
+use Rattle.rb_answers.specs.Callers.{own_rows}
+use Rattle.rb_answers.specs.declared.listener.Listener.{Listener}
+use Rattle.rb_answers.specs.Forwarding.{forward_call, target_replied, fell_due, caller_dropped, call_sent}
+use Rattle.rb_answers.specs.Ledger.{Ledger, rows_in, version_of, with_call_noted}
 use Rattle.rb_model.specs.declared.message.Message.{Message}
 use Rattle.rb_model.specs.declared.message.Message.TheVariants as says
 use Rattle.rb_model.specs.declared.types.Limits.{Limits}

@@ -12,8 +12,8 @@ use Rattle.rb_forward.specs.declared.types.FwdId.{FwdId}
 use Rattle.rb_forward.specs.Forwards.{Entry, outcome_of, counts_for, is_due, id_of, ended_by, without_first, reply, due}
 use Rattle.rb_forward.specs.Ends.{NoneIs, IsFirst, IsReplyTo}
 use Rattle.rb_forward.proofs.Ends.{reply_means, reply_tested, due_means, due_tested}
-use Rattle.rb_proto.specs.Ledger.{Ledger}
-use Rattle.rb_proto.specs.Forwarding.{noted_end, target_replied, fell_due}
+use Rattle.rb_answers.specs.Ledger.{Ledger}
+use Rattle.rb_answers.specs.Forwarding.{noted_end, target_replied, fell_due}
 use Rattle.rb_model.specs.declared.types.Told.{Told}
 use Rattle.rb_model.specs.Calls.{Outcome}
 use Rattle.rb_model.specs.State.{State}

@@ -21,20 +21,20 @@ use Rattle.rb_arguments.specs.declared.kind.Kind.{Kind}
 use Rattle.rb_forward.specs.declared.types.Ended.{Ended as EntryEnd}
 use Rattle.rb_forward.specs.Forwards.{can_be_sent}
 use Rattle.rb_arguments.specs.declared.remote.RemoteCall.{RemoteCall}
-use Rattle.rb_proto.specs.Forwarding.{forward_call, target_replied, fell_due, caller_dropped, call_sent}
-use Rattle.rb_proto.specs.declared.listener.Listener.{Listener}
-use Rattle.rb_proto.specs.declared.context.Context.{Context}
+use Rattle.rb_answers.specs.Forwarding.{forward_call, target_replied, fell_due, caller_dropped, call_sent}
+use Rattle.rb_answers.specs.declared.listener.Listener.{Listener}
+use Rattle.rb_answers.specs.declared.context.Context.{Context}
 use Rattle.rb_arguments.specs.declared.procedure.MappingProcedure.TheVariants as mappings
 use Rattle.rb_arguments.specs.declared.procedure.RpcbProcedure.TheVariants as rpcbs
 use Rattle.rb_arguments.specs.declared.request.Request.{Request}
 use Rattle.rb_arguments.specs.declared.request.Request.TheVariants as requests
-use Rattle.rb_proto.specs.Callers.{own_inet6, own_inet, own_local, own_rows}
-use Rattle.rb_proto.specs.Ledger.{Ledger, rows_in, version_of, with_call_noted}
+use Rattle.rb_answers.specs.Callers.{own_inet6, own_inet, own_local, own_rows}
+use Rattle.rb_answers.specs.Ledger.{Ledger, rows_in, version_of, with_call_noted}
 use Rattle.rb_arguments.specs.declared.mapping.Mapping.{Mapping}
-use Rattle.rb_proto.specs.Netids.{is_address}
-use Rattle.rb_proto.specs.Reserved.{may_own}
-use Rattle.rb_proto.specs.Answers.{comes_from_here, can_be_set, has_share, accepts_row, set_row, accepts_removal, removal_of, unset_rows, change_if, getport, getaddr, getversaddr, answer_to, answer}
-use Rattle.rb_proto.proofs.Addresses.{address_short}
+use Rattle.rb_answers.specs.Netids.{is_address}
+use Rattle.rb_answers.specs.Reserved.{may_own}
+use Rattle.rb_answers.specs.Answers.{comes_from_here, can_be_set, has_share, accepts_row, set_row, accepts_removal, removal_of, unset_rows, change_if, getport, getaddr, getversaddr, answer_to, answer}
+use Rattle.rb_answers.proofs.Addresses.{address_short}
 use Rattle.rb_model.specs.declared.types.Told.{Told}
 use Rattle.rb_model.specs.declared.types.CoreFault.TheVariants.{Gone}
 use Rattle.rb_model.specs.Losses.{first_due, with_lost, expire_first}

@@ -23,16 +23,16 @@ use Rattle.rb_forward.specs.declared.types.ForwardEnd.TheVariants.{Passed, Refus
 use Rattle.rb_forward.specs.declared.types.FwdId.{FwdId}
 use Rattle.rb_forward.specs.Forwards.{Entry, Forwards, is_unsent, as_sent, change_first as change_entry, sent, can_be_sent, next_entry, with_next_entry, without_first, id_of, ended_by, is_of_connection, counts_for, is_due, outcome_of, reply, due, drop_caller}
 use Rattle.rb_forward.proofs.Tables.{all_stay, sum-without}
-use Rattle.rb_proto.specs.declared.answers.Answer.{Answer}
-use Rattle.rb_proto.specs.declared.answers.Answer.TheVariants as answers
-use Rattle.rb_proto.specs.declared.answers.Results.{Results}
-use Rattle.rb_proto.specs.declared.answers.Results.TheVariants as results
-use Rattle.rb_proto.specs.declared.context.Context.{Context}
-use Rattle.rb_proto.specs.Callers.{is_stranger}
-use Rattle.rb_proto.specs.Ledger.{Ledger, with_call_noted}
-use Rattle.rb_proto.specs.Results.{result_bytes, shown_of}
-use Rattle.rb_proto.specs.Answers.{answer}
-use Rattle.rb_proto.specs.Forwarding.{forwarded_bytes, noted_end, target_replied, fell_due, caller_dropped, call_sent}
+use Rattle.rb_answers.specs.declared.answers.Answer.{Answer}
+use Rattle.rb_answers.specs.declared.answers.Answer.TheVariants as answers
+use Rattle.rb_answers.specs.declared.answers.Results.{Results}
+use Rattle.rb_answers.specs.declared.answers.Results.TheVariants as results
+use Rattle.rb_answers.specs.declared.context.Context.{Context}
+use Rattle.rb_answers.specs.Callers.{is_stranger}
+use Rattle.rb_answers.specs.Ledger.{Ledger, with_call_noted}
+use Rattle.rb_answers.specs.Results.{result_bytes, shown_of}
+use Rattle.rb_answers.specs.Answers.{answer}
+use Rattle.rb_answers.specs.Forwarding.{forwarded_bytes, noted_end, target_replied, fell_due, caller_dropped, call_sent}
 use Rattle.rb_model.specs.declared.message.Message.{Message}
 use Rattle.rb_model.specs.declared.message.Message.TheVariants as says
 use Rattle.rb_model.specs.declared.types.CoreFault.{CoreFault}

@@ -3,7 +3,7 @@ use Rattle.std.proofs.Common.{◌≤◌, ℕ, List, length, arith}
 use Rattle.std.proofs.lemmas.Grind.{common_steps}
 use Rattle.rb_address.specs.declared.peer.Peer.{Peer}
 use Rattle.rb_address.specs.declared.who.Who.{Who}
-use Rattle.rb_proto.specs.Ledger.{Ledger}
+use Rattle.rb_answers.specs.Ledger.{Ledger}
 use Rattle.rb_model.specs.State.{State}
 use Rattle.rb_model.specs.Ending.{at_fresh_moment, forward_reply, expire_connection, expire}
 use Rattle.rb_model.specs.Step.{Output, datagram, unsent_call, step}

@@ -10,10 +10,10 @@ use Rattle.rb_address.specs.declared.who.Owner.TheVariants.{Unknown, Uid}
 use Rattle.rb_registry.specs.declared.row.Row.{Row}
 use Rattle.rb_registry.specs.Rows.{Change}
 use Rattle.rb_registry.specs.Rows.Change.{Added}
-use Rattle.rb_proto.specs.declared.listener.Listener.{Listener}
-use Rattle.rb_proto.specs.declared.reserved.Reservation.{Reservation}
-use Rattle.rb_proto.specs.Callers.{own_inet6, own_inet, own_local, own_rows, is_superuser}
-use Rattle.rb_proto.specs.Reserved.{is_reserved, is_its_owner, may_own}
+use Rattle.rb_answers.specs.declared.listener.Listener.{Listener}
+use Rattle.rb_answers.specs.declared.reserved.Reservation.{Reservation}
+use Rattle.rb_answers.specs.Callers.{own_inet6, own_inet, own_local, own_rows, is_superuser}
+use Rattle.rb_answers.specs.Reserved.{is_reserved, is_its_owner, may_own}
 use Rattle.rb_model.specs.State.{State}
 use Rattle.rb_model.specs.Step.{Event, step, IsReached}
 use Rattle.rb_model.specs.ChangeLaws.{MayBeMade, ChangesAtMostOnce, ReservedRowsAreSetByTheirOwners, ReservedRowsAreOwned, set_rows}

@@ -32,15 +32,15 @@ use Rattle.rb_arguments.specs.Types.{IsRpcb, rpcb_spelling}
 use Rattle.rb_arguments.specs.Arguments.{procedure_at, is_known, request}
 use Rattle.rb_arguments.specs.Grammar.{Asks}
 use Rattle.rb_arguments.proofs.Requests.{asked_request}
-use Rattle.rb_proto.specs.declared.call.Call.{Call}
-use Rattle.rb_proto.specs.declared.context.Context.{Context}
-use Rattle.rb_proto.specs.Callers.{is_local, owner_named, own_rows}
-use Rattle.rb_proto.specs.Results.{result_bytes}
-use Rattle.rb_proto.specs.declared.listener.Listener.{Listener}
-use Rattle.rb_proto.specs.Ledger.{Ledger, rows_in, with_call_noted}
-use Rattle.rb_proto.specs.declared.reserved.Reservation.{Reservation}
-use Rattle.rb_proto.specs.Reserved.{may_own}
-use Rattle.rb_proto.specs.Answers.{comes_from_here, owner_in, can_be_set, has_share, accepts_row, set_row, row_of_rpcb, answer}
+use Rattle.rb_answers.specs.declared.call.Call.{Call}
+use Rattle.rb_answers.specs.declared.context.Context.{Context}
+use Rattle.rb_answers.specs.Callers.{is_local, owner_named, own_rows}
+use Rattle.rb_answers.specs.Results.{result_bytes}
+use Rattle.rb_answers.specs.declared.listener.Listener.{Listener}
+use Rattle.rb_answers.specs.Ledger.{Ledger, rows_in, with_call_noted}
+use Rattle.rb_answers.specs.declared.reserved.Reservation.{Reservation}
+use Rattle.rb_answers.specs.Reserved.{may_own}
+use Rattle.rb_answers.specs.Answers.{comes_from_here, owner_in, can_be_set, has_share, accepts_row, set_row, row_of_rpcb, answer}
 use Rattle.rb_model.specs.declared.message.Message.{Message}
 use Rattle.rb_model.specs.declared.message.Message.TheVariants as says
 use Rattle.rb_model.specs.declared.types.Limits.{Limits}

@@ -8,8 +8,8 @@ use Rattle.rb_address.specs.declared.caller.Caller.{Caller}
 use Rattle.rb_forward.specs.declared.types.Ended.{Ended}
 use Rattle.rb_forward.specs.declared.types.FwdId.{FwdId}
 use Rattle.rb_forward.specs.Forwards.{can_be_sent}
-use Rattle.rb_proto.specs.Ledger.{Ledger}
-use Rattle.rb_proto.specs.Forwarding.{call_sent}
+use Rattle.rb_answers.specs.Ledger.{Ledger}
+use Rattle.rb_answers.specs.Forwarding.{call_sent}
 use Rattle.rb_model.specs.Losses.{removals_in_the_way, evict_early}
 use Rattle.rb_model.specs.declared.types.CoreFault.{CoreFault}
 use Rattle.rb_model.specs.declared.types.CoreFault.TheVariants.{Gone}

@@ -9,7 +9,7 @@ use Rattle.rb_address.specs.declared.caller.Caller.TheVariants.{Tcp}
 use Rattle.rb_rpc.specs.Records.{data_of}
 use Rattle.rb_forward.specs.declared.types.Forward.{Forward as Asked}
 use Rattle.rb_forward.specs.Forwards.{Entry, Forwards, is_connection, is_of_connection, next_entry, with_next_entry, unsent_call as unsent_of, unsent}
-use Rattle.rb_proto.specs.declared.context.Context.{Context}
+use Rattle.rb_answers.specs.declared.context.Context.{Context}
 use Rattle.rb_model.specs.declared.types.CoreFault.{CoreFault}
 use Rattle.rb_rpc.specs.declared.standing.Standing.TheVariants as stands
 use Rattle.rb_model.specs.declared.types.Taken.{Taken}

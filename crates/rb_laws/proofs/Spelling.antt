@@ -41,10 +41,10 @@ use Rattle.rb_arguments.specs.declared.request.Request.TheVariants as requests
 use Rattle.rb_arguments.specs.Types.{IsMapping, IsRpcb, rpcb_spelling}
 use Rattle.rb_arguments.proofs.Readings.{rpcb_bounded}
 use Rattle.rb_arguments.specs.Grammar.{SpellsRequest}
-use Rattle.rb_proto.specs.declared.call.Call.{Call}
-use Rattle.rb_proto.specs.Callers.{owner_named, owner_of, who_of}
-use Rattle.rb_proto.specs.Netids.{which_of}
-use Rattle.rb_proto.specs.Answers.{can_be_set, row_of_mapping, row_of_rpcb}
+use Rattle.rb_answers.specs.declared.call.Call.{Call}
+use Rattle.rb_answers.specs.Callers.{owner_named, owner_of, who_of}
+use Rattle.rb_answers.specs.Netids.{which_of}
+use Rattle.rb_answers.specs.Answers.{can_be_set, row_of_mapping, row_of_rpcb}
 use Rattle.rb_model.specs.declared.message.Message.TheVariants as says
 use Rattle.rb_model.specs.Calls.{Outcome, message_of}
 use Rattle.rb_model.specs.State.{State, Phase, Connection, Connections, opening}

@@ -4,7 +4,7 @@ use Rattle.std.proofs.lemmas.List.{length-take}
 use Rattle.rb_xdr.specs.Ordered.{looks}
 use Rattle.rb_rpc.specs.Feeds.{arguments_of}
 use Rattle.rb_arguments.specs.Forwarded.{longest_forwarded as longest_args}
-use Rattle.rb_proto.specs.Callers.{may_register}
+use Rattle.rb_answers.specs.Callers.{may_register}
 use Rattle.rb_model.specs.State.{State, Connection, at_moment, opening, are_good}
 use Rattle.rb_model.specs.Connections.{Taking, taking_of, live_connection}
 use Rattle.rb_model.specs.Connections.Taking.{TakesNone, GoesOn, Ends}

@@ -25,14 +25,14 @@ use Rattle.rb_arguments.specs.declared.procedure.MappingProcedure.TheVariants as
 use Rattle.rb_arguments.specs.declared.procedure.RpcbProcedure.TheVariants as rpcbs
 use Rattle.rb_arguments.specs.declared.request.Request.{Request}
 use Rattle.rb_arguments.specs.declared.request.Request.TheVariants as requests
-use Rattle.rb_proto.specs.declared.answers.Value.TheVariants as values
-use Rattle.rb_proto.specs.declared.context.Context.{Context}
-use Rattle.rb_proto.specs.Callers.{who_of}
-use Rattle.rb_proto.specs.Netids.{which_of}
-use Rattle.rb_proto.specs.Ledger.{Ledger, rows_in, version_of, with_call_noted, notes_where}
-use Rattle.rb_proto.specs.Results.{result_bytes}
-use Rattle.rb_proto.specs.Answers.{comes_from_here, owner_in, row_of_mapping, row_of_rpcb, set_row, unset_rows, target_of, netid_asked, answer_to, answer, tell_done}
-use Rattle.rb_proto.specs.Forwarding.{outcome_note}
+use Rattle.rb_answers.specs.declared.answers.Value.TheVariants as values
+use Rattle.rb_answers.specs.declared.context.Context.{Context}
+use Rattle.rb_answers.specs.Callers.{who_of}
+use Rattle.rb_answers.specs.Netids.{which_of}
+use Rattle.rb_answers.specs.Ledger.{Ledger, rows_in, version_of, with_call_noted, notes_where}
+use Rattle.rb_answers.specs.Results.{result_bytes}
+use Rattle.rb_answers.specs.Answers.{comes_from_here, owner_in, row_of_mapping, row_of_rpcb, set_row, unset_rows, target_of, netid_asked, answer_to, answer, tell_done}
+use Rattle.rb_answers.specs.Forwarding.{outcome_note}
 use Rattle.rb_model.specs.declared.message.Message.{Message}
 use Rattle.rb_model.specs.declared.message.Message.TheVariants as says
 use Rattle.rb_model.specs.Calls.{Outcome, Outcome as outcomes, message_of, outcome, reply_with}

@@ -8,7 +8,7 @@ use Rattle.rb_rpc.specs.Records.{first_record, data_of}
 use Rattle.rb_rpc.proofs.RecordCuts.{ends_later}
 use Rattle.rb_xdr.specs.Ordered.{looks}
 use Rattle.rb_rpc.specs.Feeds.{arguments_of}
-use Rattle.rb_proto.specs.Callers.{may_register}
+use Rattle.rb_answers.specs.Callers.{may_register}
 use Rattle.rb_model.specs.Calls.{longest_reply, longest_kept, kept_of, message_of}
 use Rattle.rb_model.specs.State.{Setting, State, Phase, Connection, at_moment, are_good}
 use Rattle.rb_model.specs.Connections.{Taking, taking_of, fed_in, taking_up_to, live_connection, keep_reading}

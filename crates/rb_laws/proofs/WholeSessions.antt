@@ -6,7 +6,7 @@ use Rattle.std.proofs.lemmas.Bool.{and_parts, eqb-true}
 use Rattle.std.proofs.lemmas.Grind.{common_steps}
 use Rattle.rb_rpc.specs.Records.{first_record}
 use Rattle.rb_rpc.proofs.Streams.{are_unique}
-use Rattle.rb_proto.specs.declared.listener.Listener.{Listener}
+use Rattle.rb_answers.specs.declared.listener.Listener.{Listener}
 use Rattle.rb_model.specs.declared.types.CoreFault.{CoreFault}
 use Rattle.rb_model.specs.declared.types.Limits.{Limits}
 use Rattle.rb_model.specs.State.{State, Phase, Connection, Connections, opening}

@@ -5,6 +5,7 @@
 #![tactic(auto)]
 
 mod laws;
+mod worked;
 
 pub use laws::{
     bytes_are_taken_exactly, callers_change_their_own, calls_are_noted, calls_end_by_their_own,
@@ -15,4 +16,8 @@ pub use laws::{
     owed_replies_stay, refused_events_change_nothing, replies_are_given_whole,
     reserved_rows_are_owned, runs_append, sends_are_unsent, sessions_are_whole, steps_are_bounded,
     strangers_are_sent_at_most_twice, whole_runs_are_bounded,
+};
+pub use worked::{
+    worked_bounds, worked_callers, worked_changes, worked_connections, worked_deadlines,
+    worked_examples, worked_forwards, worked_history, worked_lists, worked_strangers,
 };

@@ -24,11 +24,11 @@ use Rattle.rb_address.specs.CallerTexts.{SpellsWho}
 use Rattle.rb_address.proofs.HostTexts.{IsWithout, host_without}
 use Rattle.rb_address.proofs.CallerWords.{who_without}
 use Rattle.rb_forward.specs.Forwards.{Unsent as UnsentCall}
-use Rattle.rb_proto.specs.declared.listener.Forwarding.{Forwarding}
-use Rattle.rb_proto.specs.declared.listener.Forwarding.TheVariants.{Anywhere, ForAll, ForLocal}
-use Rattle.rb_proto.specs.declared.listener.Listener.{Listener}
-use Rattle.rb_proto.specs.declared.reserved.Reservation.{Reservation}
-use Rattle.rb_proto.specs.declared.listener.Terms.{Terms}
+use Rattle.rb_answers.specs.declared.listener.Forwarding.{Forwarding}
+use Rattle.rb_answers.specs.declared.listener.Forwarding.TheVariants.{Anywhere, ForAll, ForLocal}
+use Rattle.rb_answers.specs.declared.listener.Listener.{Listener}
+use Rattle.rb_answers.specs.declared.reserved.Reservation.{Reservation}
+use Rattle.rb_answers.specs.declared.listener.Terms.{Terms}
 use Rattle.rb_model.specs.declared.types.Limits.{Limits}
 use Rattle.rb_model.specs.declared.types.CoreFault.{CoreFault}
 use Rattle.rb_model.specs.declared.types.CoreFault.TheVariants.{NoMemory, BadLimits, Full, Spent, Gone}

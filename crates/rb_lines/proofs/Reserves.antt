@@ -1,7 +1,7 @@
 -- The reservations in the options of a replay, one after the other.
 use Rattle.std.proofs.Common.{◌≡◌, ◌<◌, ◌+◌, ◌++◌, length, take, get_or, ℕ, List, ap, sym, ◌∙◌}
 use Rattle.std.proofs.lemmas.List.{take_more, flat_map_more}
-use Rattle.rb_proto.specs.declared.reserved.Reservation.{Reservation}
+use Rattle.rb_answers.specs.declared.reserved.Reservation.{Reservation}
 use Rattle.rb_lines.specs.Entries.{reserve_text, reserved_text}
 
 pub one_more : (old front text : List ℕ) (all : List Reservation) (i : ℕ) (d : Reservation) → i < length all → front ≡ old ++ reserved_text (take i all) → text ≡ front ++ reserve_text (get_or all i d)

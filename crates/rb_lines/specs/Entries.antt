@@ -7,11 +7,11 @@ use Rattle.rb_address.specs.declared.host.Host.TheVariants.{V4, V6}
 use Rattle.rb_address.specs.declared.who.Who.{Who}
 use Rattle.rb_address.specs.Callers.{who_text}
 use Rattle.rb_address.specs.Peers.{bare_host_text}
-use Rattle.rb_proto.specs.declared.listener.Forwarding.{Forwarding}
-use Rattle.rb_proto.specs.declared.listener.Forwarding.TheVariants.{Anywhere, ForAll, ForLocal}
-use Rattle.rb_proto.specs.declared.listener.Listener.{Listener}
-use Rattle.rb_proto.specs.declared.listener.Terms.{Terms}
-use Rattle.rb_proto.specs.declared.reserved.Reservation.{Reservation}
+use Rattle.rb_answers.specs.declared.listener.Forwarding.{Forwarding}
+use Rattle.rb_answers.specs.declared.listener.Forwarding.TheVariants.{Anywhere, ForAll, ForLocal}
+use Rattle.rb_answers.specs.declared.listener.Listener.{Listener}
+use Rattle.rb_answers.specs.declared.listener.Terms.{Terms}
+use Rattle.rb_answers.specs.declared.reserved.Reservation.{Reservation}
 use Rattle.rb_model.specs.declared.types.Limits.{Limits}
 use Rattle.rb_model.specs.declared.events.Event as event_type
 use Rattle.rb_model.specs.Plain.{LentEvent, LentOutput, plain_event, lent_event, lent_output}

@@ -2,7 +2,7 @@
 use Rattle.std.specs.Prelude.{◌≡◌, ℕ, ◌++◌, true, List, [], codes, Option, Some, None}
 use Rattle.std.specs.Fmt.{decimal}
 use Rattle.rb_model.specs.declared.types.Limits.{Limits}
-use Rattle.rb_proto.specs.declared.listener.Listener.{Listener}
+use Rattle.rb_answers.specs.declared.listener.Listener.{Listener}
 use Rattle.rb_lines.specs.Printing.{Writes}
 use Rattle.rb_lines.specs.declared.lines.ReadFault.TheVariants as reading
 use Rattle.rb_lines.specs.declared.faults.Fault.{Fault}

@@ -2,8 +2,8 @@
 use Rattle.std.specs.Prelude.{ℕ, ◌+◌, Bool, ◌||◌, nat_lt, if◌then◌else◌, List, ◌++◌, length, codes, Option, Some, None}
 use Rattle.std.specs.Fmt.{decimal}
 use Rattle.rb_model.specs.declared.types.Limits.{Limits}
-use Rattle.rb_proto.specs.declared.listener.Listener.{Listener}
-use Rattle.rb_proto.specs.Callers.{own_rows}
+use Rattle.rb_answers.specs.declared.listener.Listener.{Listener}
+use Rattle.rb_answers.specs.Callers.{own_rows}
 use Rattle.rb_lines.specs.declared.limits.BadLimit.{BadLimit}
 use Rattle.rb_lines.specs.declared.limits.BadLimit.TheVariants.{Conns, Rows, Forwards}
 

@@ -3,7 +3,7 @@ use Rattle.std.specs.Prelude.{◌≡◌, ◌≤◌, ◌<◌, ℕ, suc, ◌^◌, 
 use Rattle.std.specs.List.{AllByRecursion}
 use Rattle.rb_address.specs.Peers.{IsPeer}
 use Rattle.rb_address.specs.Callers.{IsWho}
-use Rattle.rb_proto.specs.declared.listener.Listener.{Listener}
+use Rattle.rb_answers.specs.declared.listener.Listener.{Listener}
 use Rattle.rb_model.specs.declared.types.Limits.{Limits}
 use Rattle.rb_model.specs.State.{opening}
 use Rattle.rb_model.specs.Step.{Event, Output, run}

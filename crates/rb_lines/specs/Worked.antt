@@ -10,8 +10,8 @@ use Rattle.rb_address.specs.declared.who.Trust.TheVariants as trusts
 use Rattle.rb_address.specs.declared.who.Who.{Who}
 use Rattle.rb_address.specs.Callers.{unknown_host}
 use Rattle.rb_address.specs.Reading.{number_below, peer}
-use Rattle.rb_proto.specs.declared.listener.Forwarding.TheVariants.{Anywhere, ForLocal}
-use Rattle.rb_proto.specs.declared.listener.Terms.{Terms}
+use Rattle.rb_answers.specs.declared.listener.Forwarding.TheVariants.{Anywhere, ForLocal}
+use Rattle.rb_answers.specs.declared.listener.Terms.{Terms}
 use Rattle.rb_model.specs.Step.Event.{Datagram, Open, Bytes, Pending, Gave, Closed, NextLost, Unsent, Sent, Forward, Expire, ZeroStats}
 use Rattle.rb_model.specs.declared.types.CoreFault.TheVariants.{Full, Spent, Gone}
 use Rattle.rb_model.specs.Step.Output.{Replied, Silent, Opened, Refused, Took, TookAndLost, IsPending, Done, TooMuch, LostIs, Forwarded, UnsentIs, Ignored, Nothing, Ready, RepliedTo}

@@ -1,6 +1,6 @@
 //! What the core of a replay begins with.
+use rb_answers::Listener;
 use rb_model::Limits;
-use rb_proto::Listener;
 
 /// What the core of a replay begins with.
 #[derive(Drop)]

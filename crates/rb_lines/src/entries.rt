@@ -4,8 +4,8 @@ ghost use Rattle.rb_lines.specs.Entries.{limits_text, announce_text, inet_text, 
 
 use crate::front::Front;
 use rb_address::Host;
+use rb_answers::{Forwarding, Listener, Reservation, Terms};
 use rb_model::Limits;
-use rb_proto::{Forwarding, Listener, Reservation, Terms};
 use rb_uaddr::AddressText;
 
 /// The room for the options of a replay, in bytes, which have less with 20 digits for each number.

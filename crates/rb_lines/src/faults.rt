@@ -5,8 +5,8 @@ ghost use Rattle.rb_lines.specs.Faults.{status_of, Says, fault_line, limit_line,
 
 use crate::limits::{BadLimit, bad_limit};
 use crate::lines::ReadFault;
+use rb_answers::Listener;
 use rb_model::Limits;
-use rb_proto::Listener;
 use std::io;
 use std::io::Write;
 

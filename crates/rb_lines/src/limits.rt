@@ -3,8 +3,8 @@ ghost use Rattle.std.specs.Prelude.{◌≡◌, ◌↔◌, IsSome, IsTrue, not};
 ghost use Rattle.rb_model.specs.State.{are_good};
 ghost use Rattle.rb_lines.specs.Limits.{least_rows, bad_limit};
 
+use rb_answers::{Listener, own_row_count};
 use rb_model::Limits;
-use rb_proto::{Listener, own_row_count};
 use std::fmt;
 use std::fmt::{Display, Formatter};
 

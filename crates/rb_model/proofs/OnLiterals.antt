@@ -1,6 +1,6 @@
 use Rattle.std.specs.Prelude.{⊤}
 use Rattle.rb_rpc.proofs.OnLiterals.{rb_rpc_on_literals}
-use Rattle.rb_proto.proofs.OnLiterals.{rb_proto_on_literals}
+use Rattle.rb_answers.proofs.OnLiterals.{rb_answers_on_literals}
 use Rattle.rb_model.specs.Calls.{longest_reply, is_served, request_of, call_of, message_of, fitting_reply, outcome}
 use Rattle.rb_model.specs.Connections.{longest_fragment, taking_of, keep_reading, settle, with_given, give, is_live, live_connection, number_for, open_in_table, next_lost_in_table, is_there, without_number, close_in_table, pending_of}
 use Rattle.rb_model.specs.Ending.{forward_reply, expire, expire_connection}
@@ -12,7 +12,7 @@ use Rattle.rb_model.specs.Step.{serve, serve_record, bytes, pending, gave, open_
 
 -- What is unfolded to compute the definitions of this crate, and of those below, on literals.
 unfoldable pub rb_model_on_literals : ⊤
-unfolding rb_rpc_on_literals rb_proto_on_literals
+unfolding rb_rpc_on_literals rb_answers_on_literals
     longest_reply is_served request_of call_of message_of fitting_reply outcome
     longest_fragment taking_of keep_reading settle with_given give is_live live_connection
     number_for open_in_table next_lost_in_table is_there without_number close_in_table pending_of

@@ -8,8 +8,8 @@ use Rattle.rb_address.specs.Callers.{is_same_owner}
 use Rattle.rb_registry.specs.declared.row.Row.{Row}
 use Rattle.rb_stats.specs.Statistics.{Note}
 use Rattle.rb_stats.specs.Statistics.Note.{Called, WasSet, WasUnset, LookedUp, Forwarded}
-use Rattle.rb_proto.specs.Callers.{who_of, is_superuser}
-use Rattle.rb_proto.specs.Ledger.{rows_in}
+use Rattle.rb_answers.specs.Callers.{who_of, is_superuser}
+use Rattle.rb_answers.specs.Ledger.{rows_in}
 use Rattle.rb_model.specs.State.{State}
 use Rattle.rb_model.specs.Step.{Event, step, IsReached}
 use Rattle.rb_model.specs.ChangeLaws.{Brought, brought_by}

@@ -14,15 +14,15 @@ use Rattle.rb_registry.specs.Rows.{rpcb_prog}
 use Rattle.rb_arguments.specs.declared.request.ArgumentFault.{ArgumentFault}
 use Rattle.rb_arguments.specs.declared.request.ArgumentFault.TheVariants as faults
 use Rattle.rb_arguments.specs.declared.request.Request.{Request}
-use Rattle.rb_proto.specs.declared.context.Context.{Context}
+use Rattle.rb_answers.specs.declared.context.Context.{Context}
 use Rattle.rb_arguments.specs.Arguments.{read_request}
-use Rattle.rb_proto.specs.Ledger.{Ledger, with_call_noted}
-use Rattle.rb_proto.specs.declared.answers.Answer.{Answer}
-use Rattle.rb_proto.specs.declared.answers.Results.{Results}
-use Rattle.rb_proto.specs.declared.answers.Results.TheVariants as results
-use Rattle.rb_proto.specs.declared.answers.Answer.TheVariants as answers
-use Rattle.rb_proto.specs.Answers.{answer}
-use Rattle.rb_proto.specs.Results.{result_bytes, shown_of}
+use Rattle.rb_answers.specs.Ledger.{Ledger, with_call_noted}
+use Rattle.rb_answers.specs.declared.answers.Answer.{Answer}
+use Rattle.rb_answers.specs.declared.answers.Results.{Results}
+use Rattle.rb_answers.specs.declared.answers.Results.TheVariants as results
+use Rattle.rb_answers.specs.declared.answers.Answer.TheVariants as answers
+use Rattle.rb_answers.specs.Answers.{answer}
+use Rattle.rb_answers.specs.Results.{result_bytes, shown_of}
 use Rattle.rb_model.specs.declared.message.Message.{Message}
 use Rattle.rb_model.specs.declared.message.Message.TheVariants as says
 

@@ -28,14 +28,14 @@ use Rattle.rb_arguments.specs.declared.procedure.RpcbProcedure.TheVariants as rp
 use Rattle.rb_arguments.specs.declared.request.Request.{Request}
 use Rattle.rb_arguments.specs.declared.request.Request.TheVariants as requests
 use Rattle.rb_arguments.specs.Types.{rpcb_spelling}
-use Rattle.rb_proto.specs.declared.call.Call.{Call}
-use Rattle.rb_proto.specs.declared.listener.Listener.{Listener}
-use Rattle.rb_proto.specs.Callers.{may_register, own_rows, owner_of, who_of}
-use Rattle.rb_proto.specs.declared.reserved.Reservation.{Reservation}
-use Rattle.rb_proto.specs.Reserved.{may_own}
-use Rattle.rb_proto.specs.Ledger.{rows_in}
-use Rattle.rb_proto.specs.Netids.{which_of}
-use Rattle.rb_proto.specs.Answers.{row_of_mapping, row_of_rpcb, can_be_set}
+use Rattle.rb_answers.specs.declared.call.Call.{Call}
+use Rattle.rb_answers.specs.declared.listener.Listener.{Listener}
+use Rattle.rb_answers.specs.Callers.{may_register, own_rows, owner_of, who_of}
+use Rattle.rb_answers.specs.declared.reserved.Reservation.{Reservation}
+use Rattle.rb_answers.specs.Reserved.{may_own}
+use Rattle.rb_answers.specs.Ledger.{rows_in}
+use Rattle.rb_answers.specs.Netids.{which_of}
+use Rattle.rb_answers.specs.Answers.{row_of_mapping, row_of_rpcb, can_be_set}
 use Rattle.rb_model.specs.declared.message.Message.{Message}
 use Rattle.rb_model.specs.declared.message.Message.TheVariants as says
 use Rattle.rb_model.specs.declared.types.Limits.{Limits}

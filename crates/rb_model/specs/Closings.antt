@@ -3,7 +3,7 @@ use Rattle.std.specs.Prelude.{◌≡◌, ◌⊎◌, ◌↔◌, ◌<◌, ◌≤�
 use Rattle.rb_address.specs.declared.caller.Caller.{Caller}
 use Rattle.rb_address.specs.declared.caller.Caller.TheVariants.{Tcp}
 use Rattle.rb_rpc.specs.Records.{first_record, data_of}
-use Rattle.rb_proto.specs.Ledger.{rows_in}
+use Rattle.rb_answers.specs.Ledger.{rows_in}
 use Rattle.rb_model.specs.declared.message.Message.TheVariants as says
 use Rattle.rb_model.specs.Calls.{message_of}
 use Rattle.rb_model.specs.State.{Connection, State, at_moment}

@@ -3,11 +3,11 @@ use Rattle.std.specs.Prelude.{ℕ, ◌+◌, ◌*◌, Bool, false, if◌then◌el
 use Rattle.rb_xdr.specs.Ordered.{looks}
 use Rattle.rb_forward.specs.Costs.{end_cost, sent_cost, unsent_cost}
 use Rattle.rb_forward.specs.Forwards.{Unsent as UnsentCall}
-use Rattle.rb_proto.specs.Costs.{note_cost, forward_cost, statistics_cost, zero_cost}
-use Rattle.rb_proto.specs.ListReplies.{part_room}
-use Rattle.rb_proto.specs.Puts.{lists_rows, walks_rows}
-use Rattle.rb_proto.specs.declared.listener.Announced.{Announced}
-use Rattle.rb_proto.specs.Callers.{may_register}
+use Rattle.rb_answers.specs.Costs.{note_cost, forward_cost, statistics_cost, zero_cost}
+use Rattle.rb_answers.specs.ListReplies.{part_room}
+use Rattle.rb_answers.specs.Walks.{lists_rows, walks_rows}
+use Rattle.rb_answers.specs.declared.listener.Announced.{Announced}
+use Rattle.rb_answers.specs.Callers.{may_register}
 use Rattle.rb_model.specs.declared.message.Message.{Message}
 use Rattle.rb_model.specs.declared.message.Message.TheVariants as says
 use Rattle.rb_model.specs.Calls.{longest_reply, kept_of, message_of}

@@ -12,10 +12,10 @@ use Rattle.rb_forward.specs.declared.types.FwdId.{FwdId}
 use Rattle.rb_forward.specs.declared.types.ForwardEnd as target
 use Rattle.rb_forward.specs.declared.types.ForwardEnd.TheVariants.{Passed, Refused, Failed, Dropped}
 use Rattle.rb_forward.specs.declared.types.Ended as entry
-use Rattle.rb_proto.specs.declared.answers.Answer.{Answer}
-use Rattle.rb_proto.specs.declared.answers.Answer.TheVariants as answers
-use Rattle.rb_proto.specs.Ledger.{Ledger}
-use Rattle.rb_proto.specs.Forwarding.{refusal, target_replied, fell_due, forwarded_bytes}
+use Rattle.rb_answers.specs.declared.answers.Answer.{Answer}
+use Rattle.rb_answers.specs.declared.answers.Answer.TheVariants as answers
+use Rattle.rb_answers.specs.Ledger.{Ledger}
+use Rattle.rb_answers.specs.Forwarding.{refusal, target_replied, fell_due, forwarded_bytes}
 use Rattle.rb_model.specs.declared.types.Told.TheVariants.{TcpReady, Datagram}
 use Rattle.rb_model.specs.declared.types.Told.TheVariants as told
 use Rattle.rb_model.specs.declared.types.Expired.TheVariants.{Nothing, Ended, ConnectionLost}

@@ -10,7 +10,7 @@ use Rattle.rb_forward.specs.declared.types.FwdId.{FwdId}
 use Rattle.rb_forward.specs.Forwards.{Entry, outcome_of, is_of_connection, id_of, ended_by}
 use Rattle.rb_forward.specs.Ends.{NoneIs, IsFirst, IsReplyTo}
 use Rattle.rb_forward.specs.Laws.{number_of, times}
-use Rattle.rb_proto.specs.declared.listener.Listener.{Listener}
+use Rattle.rb_answers.specs.declared.listener.Listener.{Listener}
 use Rattle.rb_model.specs.declared.types.Limits.{Limits}
 use Rattle.rb_rpc.specs.declared.standing.Standing.TheVariants.{Sends}
 use Rattle.rb_model.specs.declared.types.Told.{Told}

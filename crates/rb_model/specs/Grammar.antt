@@ -6,7 +6,7 @@ use Rattle.rb_rpc.specs.declared.reply.ReplyStatus.{ReplyStatus}
 use Rattle.rb_rpc.specs.declared.reply.ReplyStatus.TheVariants.{RpcMismatch, AuthError, ProgUnavail, ProgMismatch, ProcUnavail}
 use Rattle.rb_rpc.specs.Grammar.{BeginsWithCall, BeginsWithOtherVersion, HasBadAuth, IsNoCall}
 use Rattle.rb_registry.specs.Rows.{rpcb_prog}
-use Rattle.rb_proto.specs.declared.call.Call.{Call}
+use Rattle.rb_answers.specs.declared.call.Call.{Call}
 use Rattle.rb_arguments.specs.declared.procedure.Procedure.{Procedure}
 use Rattle.rb_arguments.specs.declared.request.Request.{Request}
 use Rattle.rb_arguments.specs.Arguments.{procedure_at, HasArgs}

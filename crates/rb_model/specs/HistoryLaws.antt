@@ -17,13 +17,13 @@ use Rattle.rb_arguments.specs.declared.procedure.MappingProcedure.TheVariants as
 use Rattle.rb_arguments.specs.declared.procedure.RpcbProcedure.TheVariants as rpcbs
 use Rattle.rb_arguments.specs.declared.request.Request.{Request}
 use Rattle.rb_arguments.specs.declared.request.Request.TheVariants as requests
-use Rattle.rb_proto.specs.declared.context.Context.{Context}
-use Rattle.rb_proto.specs.declared.listener.Listener.{Listener}
-use Rattle.rb_proto.specs.Callers.{who_of}
-use Rattle.rb_proto.specs.Terms.{counts_look_up, counts_forward}
-use Rattle.rb_proto.specs.Ledger.{rows_in, version_of, notes_where}
-use Rattle.rb_proto.specs.Answers.{target_of, netid_asked}
-use Rattle.rb_proto.specs.Forwarding.{outcome_note, end_notes, target_replied, fell_due, caller_dropped}
+use Rattle.rb_answers.specs.declared.context.Context.{Context}
+use Rattle.rb_answers.specs.declared.listener.Listener.{Listener}
+use Rattle.rb_answers.specs.Callers.{who_of}
+use Rattle.rb_answers.specs.Terms.{counts_look_up, counts_forward}
+use Rattle.rb_answers.specs.Ledger.{rows_in, version_of, notes_where}
+use Rattle.rb_answers.specs.Answers.{target_of, netid_asked}
+use Rattle.rb_answers.specs.Forwarding.{outcome_note, end_notes, target_replied, fell_due, caller_dropped}
 use Rattle.rb_model.specs.declared.message.Message.{Message}
 use Rattle.rb_model.specs.declared.message.Message.TheVariants as says
 use Rattle.rb_model.specs.declared.types.Limits.{Limits}

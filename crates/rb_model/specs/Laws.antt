@@ -7,8 +7,8 @@ use Rattle.rb_rpc.specs.Records.{first_record, data_of}
 use Rattle.rb_rpc.specs.RecordLaws.{IsFirstRecord, HasNoRecord}
 use Rattle.rb_registry.specs.Rows.{are_distinct}
 use Rattle.rb_registry.specs.Laws.{are_accepted}
-use Rattle.rb_proto.specs.Callers.{own_rows}
-use Rattle.rb_proto.specs.Ledger.{rows_in}
+use Rattle.rb_answers.specs.Callers.{own_rows}
+use Rattle.rb_answers.specs.Ledger.{rows_in}
 use Rattle.rb_model.specs.declared.types.CoreFault.{CoreFault}
 use Rattle.rb_model.specs.declared.types.Taken.{Taken}
 use Rattle.rb_model.specs.State.{Owed, Phase, Connection, State, are_good, at_moment}

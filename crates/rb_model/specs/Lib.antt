@@ -25,13 +25,3 @@ pub mod CallerLaws
 pub mod Reflections
 pub mod BoundLaws
 pub mod OutsiderCosts
-pub mod Worked
-pub mod WorkedConnections
-pub mod WorkedForwards
-pub mod WorkedDeadlines
-pub mod WorkedLists
-pub mod WorkedBounds
-pub mod WorkedChanges
-pub mod WorkedHistory
-pub mod WorkedCallers
-pub mod WorkedStrangers

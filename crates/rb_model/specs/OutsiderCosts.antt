@@ -4,9 +4,9 @@ use Rattle.std.specs.Prelude.{◌≡◌, ◌≤◌, ℕ, ◌+◌, ◌*◌, max, 
 use Rattle.std.specs.Option.{option_map, option_map_or}
 use Rattle.rb_address.specs.declared.who.Who.{Who}
 use Rattle.rb_forward.specs.Forwards.{Entry, is_unsent, counts_for, is_due as entry_is_due}
-use Rattle.rb_proto.specs.declared.listener.Listener.{Listener}
-use Rattle.rb_proto.specs.Callers.{who_of, may_register}
-use Rattle.rb_proto.specs.Puts.{changes_rows}
+use Rattle.rb_answers.specs.declared.listener.Listener.{Listener}
+use Rattle.rb_answers.specs.Callers.{who_of, may_register}
+use Rattle.rb_answers.specs.Walks.{changes_rows}
 use Rattle.rb_model.specs.declared.message.Message.{Message}
 use Rattle.rb_model.specs.declared.message.Message.TheVariants as says
 use Rattle.rb_model.specs.declared.types.Limits.{Limits}

@@ -2,8 +2,8 @@
 -- is what anybody can have sent to a host that never asked.
 use Rattle.std.specs.Prelude.{◌≡◌, ◌≤◌, ℕ, ◌*◌, Bool, true, false, if◌then◌else◌, List, length}
 use Rattle.rb_address.specs.declared.who.Who.{Who}
-use Rattle.rb_proto.specs.declared.listener.Listener.{Listener}
-use Rattle.rb_proto.specs.Callers.{is_stranger}
+use Rattle.rb_answers.specs.declared.listener.Listener.{Listener}
+use Rattle.rb_answers.specs.Callers.{is_stranger}
 use Rattle.rb_model.specs.declared.types.Limits.{Limits}
 use Rattle.rb_model.specs.Calls.{reply_in}
 use Rattle.rb_model.specs.State.{State, opening}

@@ -1,8 +1,8 @@
 -- What the code answers a message with, as the model says it: a reply that is written, or a list that is given in fragments.
 use Rattle.std.specs.Prelude.{◌≡◌, ◌<◌, ℕ, Bool, List, [], length, Some, None}
 use Rattle.rb_registry.specs.Registry.{Registry, rows_of}
-use Rattle.rb_proto.specs.declared.answers.Listing.{Listing}
-use Rattle.rb_proto.specs.ListParts.{list_reply}
+use Rattle.rb_answers.specs.declared.answers.Listing.{Listing}
+use Rattle.rb_answers.specs.ListParts.{list_reply}
 use Rattle.rb_model.specs.Calls.{Outcome, Outcome as said, is_no_call}
 use Rattle.rb_model.specs.declared.served.Served.{Served}
 use Rattle.rb_model.specs.declared.served.Served.TheVariants.{Answered, Listed}

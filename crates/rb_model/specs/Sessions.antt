@@ -8,8 +8,8 @@ use Rattle.rb_rpc.specs.Records.{first_record, data_of, marked_reply}
 use Rattle.rb_rpc.specs.RecordLaws.{Records}
 use Rattle.rb_forward.specs.declared.types.Ended.{Ended}
 use Rattle.rb_forward.specs.Forwards.{is_connection}
-use Rattle.rb_proto.specs.declared.listener.Listener.{Listener}
-use Rattle.rb_proto.specs.Forwarding.{target_replied, fell_due}
+use Rattle.rb_answers.specs.declared.listener.Listener.{Listener}
+use Rattle.rb_answers.specs.Forwarding.{target_replied, fell_due}
 use Rattle.rb_model.specs.declared.types.CoreFault.{CoreFault}
 use Rattle.rb_model.specs.declared.types.Limits.{Limits}
 use Rattle.rb_model.specs.Calls.{Outcome}

@@ -1,9 +1,9 @@
 -- What the daemon knows between two events, as plain data.
 use Rattle.std.specs.Prelude.{ℕ, ◌+◌, ◌-◌, ◌^◌, nat_le, max, Bool, ◌&&◌, List, [], length, Option}
 use Rattle.rb_address.specs.declared.who.Who.{Who}
-use Rattle.rb_proto.specs.declared.listener.Listener.{Listener}
-use Rattle.rb_proto.specs.Callers.{own_rows}
-use Rattle.rb_proto.specs.Ledger.{Ledger, fresh_ledger}
+use Rattle.rb_answers.specs.declared.listener.Listener.{Listener}
+use Rattle.rb_answers.specs.Callers.{own_rows}
+use Rattle.rb_answers.specs.Ledger.{Ledger, fresh_ledger}
 use Rattle.rb_model.specs.declared.types.Limits.{Limits}
 use Rattle.rb_model.specs.declared.types.CoreFault.{CoreFault}
 use Rattle.rb_model.specs.declared.types.CoreFault.TheVariants.{NoMemory, Full, BadLimits, Gone, Spent}

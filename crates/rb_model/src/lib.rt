@@ -8,14 +8,9 @@ mod events;
 mod message;
 mod served;
 mod types;
-mod worked;
 
 pub use events::{Event, Output, UnsentCall};
 pub use message::{LONGEST_KEPT, Message};
 pub use rb_rpc::Standing;
 pub use served::{LONGEST_REPLY, Response, Served};
 pub use types::{CoreFault, Exchanged, Expired, Given, Limits, Taken, Told};
-pub use worked::{
-    worked_bounds, worked_callers, worked_changes, worked_connections, worked_deadlines,
-    worked_examples, worked_forwards, worked_history, worked_lists, worked_strangers,
-};

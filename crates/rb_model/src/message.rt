@@ -1,5 +1,5 @@
 //! What a message says.
-use rb_proto::Call;
+use rb_answers::Call;
 use rb_rpc::{CallHead, ReplyHead};
 
 /// The greatest length of arguments that are served.

@@ -1,5 +1,5 @@
 //! What a message is answered with.
-use rb_proto::Listing;
+use rb_answers::Listing;
 
 /// The greatest length of a reply that is no streamed list, in bytes.
 pub const LONGEST_REPLY: usize = 9_000;

@@ -4,7 +4,7 @@ ghost use Rattle.rb_policy.specs.Deadlines.{is_behind, puts_off};
 
 /// This many turns in a row put off what is due, at most. This many show and serve each socket that there may be, even
 /// if each of 256 connections is owed bytes.
-pub const MOST_PUT_OFF: u32 = 64;
+const MOST_PUT_OFF: u32 = 64;
 
 /// Whether a turn may have left unread what came before its moment: if it is not fresh (a fresh one looked for events
 /// after it read its moment); if its look showed as many sockets as it can show; or if something is left for the next

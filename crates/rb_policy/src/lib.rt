@@ -42,7 +42,7 @@ pub use addresses::{
 pub use asks::{Held, held_in, may_change};
 pub use brake::{Brake, Rate};
 pub use checked::checked_at;
-pub use deadlines::{Deadlines, MOST_PUT_OFF, is_behind};
+pub use deadlines::{Deadlines, is_behind};
 pub use door::{Admission, Holder, OWED, admit, standing_outside, stuck_at};
 pub use evidence::{Evidence, evidence_of, is_shown, looks_in, shown_after, sight_in};
 pub use keep_file::{Distrust, KeepAction, KeepState, Writers, keep_action};
@@ -63,8 +63,8 @@ pub use record_file::{RecordAction, RecordState, record_action};
 pub use share::Share;
 pub use trust::{Beliefs, Entrance, lets_in_root_alone, trust_of};
 pub use turns::{
-    Again, LAST_ROUND, RETRY, Round, SOCKET_CALLS, STEP, accept_count, after_all_calls, is_cut_off,
-    others_of, place_count, reads_on, round_of, serves_another, wait_of,
+    Again, LAST_ROUND, MOST_HELD, RETRY, Round, SOCKET_CALLS, STEP, accept_count, after_all_calls,
+    is_cut_off, others_of, place_count, reads_on, round_of, serves_another, wait_of,
 };
 pub use user_namespace::unmapped_uid;
 pub use waits::{AfterWait, Waits};

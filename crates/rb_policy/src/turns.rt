@@ -14,6 +14,9 @@ pub const STEP: usize = 65_536;
 /// The number of connections that are served in the last round of a turn.
 pub const LAST_ROUND: usize = 8;
 
+/// The most replies to datagrams that wait until changes are kept, and the most connections whose replies do.
+pub const MOST_HELD: usize = 64;
+
 /// The milliseconds after which what failed is tried again: a socket that is served after a wait, and a wait that a
 /// signal ended.
 pub const RETRY: u64 = 100;

@@ -26,14 +26,14 @@ use Rattle.rb_arguments.specs.declared.procedure.MappingProcedure.TheVariants as
 use Rattle.rb_arguments.specs.declared.procedure.RpcbProcedure.TheVariants as rpcbs
 use Rattle.rb_arguments.specs.declared.request.Request.{Request}
 use Rattle.rb_arguments.specs.declared.request.Request.TheVariants as requests
-use Rattle.rb_proto.specs.declared.answers.Answer.{Answer}
-use Rattle.rb_proto.specs.declared.context.Context.{Context}
-use Rattle.rb_proto.specs.Callers.{who_of, is_superuser, share_by}
-use Rattle.rb_proto.specs.Ledger.{Ledger, rows_in, version_of}
-use Rattle.rb_proto.specs.Answers.{owner_in, comes_from_here, can_be_set, has_share, accepts_row, row_of_mapping, row_of_rpcb, row_asked, set_row, answer_to, tell_done}
-use Rattle.rb_proto.specs.declared.answers.Answer.TheVariants as answers
-use Rattle.rb_proto.specs.declared.answers.Results.TheVariants as results
-use Rattle.rb_proto.specs.declared.answers.Value.TheVariants as values
+use Rattle.rb_answers.specs.declared.answers.Answer.{Answer}
+use Rattle.rb_answers.specs.declared.context.Context.{Context}
+use Rattle.rb_answers.specs.Callers.{who_of, is_superuser, share_by}
+use Rattle.rb_answers.specs.Ledger.{Ledger, rows_in, version_of}
+use Rattle.rb_answers.specs.Answers.{owner_in, comes_from_here, can_be_set, has_share, accepts_row, row_of_mapping, row_of_rpcb, row_asked, set_row, answer_to, tell_done}
+use Rattle.rb_answers.specs.declared.answers.Answer.TheVariants as answers
+use Rattle.rb_answers.specs.declared.answers.Results.TheVariants as results
+use Rattle.rb_answers.specs.declared.answers.Value.TheVariants as values
 use Rattle.rb_promises.specs.LocalCallers.{CallsAs}
 use Rattle.rb_promises.proofs.Owned.{owned_is, owned_of}
 use Rattle.rb_promises.specs.Sets.{IsByProtocol, IsOfMapping, IsOfRpcb, AsksToSet, LeavesAQuarter, IsAccepted, IsAddedTo, IsSetRequest, told, SetsARow, AnswersSet, SetsAreAcceptedExactly}

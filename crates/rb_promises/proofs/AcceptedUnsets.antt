@@ -21,13 +21,13 @@ use Rattle.rb_arguments.specs.declared.procedure.MappingProcedure.TheVariants as
 use Rattle.rb_arguments.specs.declared.procedure.RpcbProcedure.TheVariants as rpcbs
 use Rattle.rb_arguments.specs.declared.request.Request.{Request}
 use Rattle.rb_arguments.specs.declared.request.Request.TheVariants as requests
-use Rattle.rb_proto.specs.declared.answers.Value.TheVariants as values
-use Rattle.rb_proto.specs.declared.answers.Answer.{Answer}
-use Rattle.rb_proto.specs.declared.context.Context.{Context}
-use Rattle.rb_proto.specs.Callers.{who_of}
-use Rattle.rb_proto.specs.Ledger.{Ledger, rows_in, version_of}
-use Rattle.rb_proto.specs.Netids.{which_of}
-use Rattle.rb_proto.specs.Answers.{owner_in, comes_from_here, accepts_removal, removal_of, unset_rows, answer_to, tell_done}
+use Rattle.rb_answers.specs.declared.answers.Value.TheVariants as values
+use Rattle.rb_answers.specs.declared.answers.Answer.{Answer}
+use Rattle.rb_answers.specs.declared.context.Context.{Context}
+use Rattle.rb_answers.specs.Callers.{who_of}
+use Rattle.rb_answers.specs.Ledger.{Ledger, rows_in, version_of}
+use Rattle.rb_answers.specs.Netids.{which_of}
+use Rattle.rb_answers.specs.Answers.{owner_in, comes_from_here, accepts_removal, removal_of, unset_rows, answer_to, tell_done}
 use Rattle.rb_promises.specs.Addresses.{IsOverIpv4}
 use Rattle.rb_promises.specs.Sets.{told}
 use Rattle.rb_promises.specs.Unsets.{IsMeant, IsNamed, MayRemove, IsCovered, AreWithout, AreThePortmappers, IsRemovedFrom, RemovesARow, AnswersUnset, UnsetsAreAcceptedExactly}

@@ -12,7 +12,7 @@ use Rattle.rb_uaddr.proofs.Families.{ipv4_is_read, ipv6_is_read}
 use Rattle.rb_uaddr.proofs.LocalTexts.{local_is_any_text}
 use Rattle.rb_address.specs.declared.netid.Netid.{Netid}
 use Rattle.rb_address.specs.declared.netid.Netid.TheVariants.{Tcp, Udp, Tcp6, Udp6, Local}
-use Rattle.rb_proto.specs.Netids.{address_in, has_port, is_address}
+use Rattle.rb_answers.specs.Netids.{address_in, has_port, is_address}
 use Rattle.rb_promises.specs.Addresses.{IsAddressOfV4, IsAddressOfV6, IsAddressOn}
 
 some_port : (port : ℕ) → not (port == 0) ≡ true → port ≢ 0

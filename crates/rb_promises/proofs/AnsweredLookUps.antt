@@ -23,14 +23,14 @@ use Rattle.rb_arguments.specs.declared.mapping.Mapping.{Mapping}
 use Rattle.rb_arguments.specs.declared.rpcb.Rpcb.{Rpcb}
 use Rattle.rb_arguments.specs.declared.procedure.MappingProcedure.TheVariants as mappings
 use Rattle.rb_arguments.specs.declared.request.Request.TheVariants as requests
-use Rattle.rb_proto.specs.declared.answers.Answer.TheVariants as answers
-use Rattle.rb_proto.specs.declared.answers.Results.TheVariants as results
-use Rattle.rb_proto.specs.declared.answers.Value.TheVariants as values
-use Rattle.rb_proto.specs.declared.answers.Answer.{Answer}
-use Rattle.rb_proto.specs.declared.context.Context.{Context}
-use Rattle.rb_proto.specs.Callers.{netid_of_caller, hosts_in}
-use Rattle.rb_proto.specs.Ledger.{Ledger, rows_in}
-use Rattle.rb_proto.specs.Answers.{netid_asked, addr_found, text_found, shown_port, port_found, port_told, port_on, getaddr, getversaddr, getport, answer_to, tell_done}
+use Rattle.rb_answers.specs.declared.answers.Answer.TheVariants as answers
+use Rattle.rb_answers.specs.declared.answers.Results.TheVariants as results
+use Rattle.rb_answers.specs.declared.answers.Value.TheVariants as values
+use Rattle.rb_answers.specs.declared.answers.Answer.{Answer}
+use Rattle.rb_answers.specs.declared.context.Context.{Context}
+use Rattle.rb_answers.specs.Callers.{netid_of_caller, hosts_in}
+use Rattle.rb_answers.specs.Ledger.{Ledger, rows_in}
+use Rattle.rb_answers.specs.Answers.{netid_asked, addr_found, text_found, shown_port, port_found, port_told, port_on, getaddr, getversaddr, getport, answer_to, tell_done}
 use Rattle.rb_promises.specs.Addresses.{IsAddressOfV4, IsAddressOn}
 use Rattle.rb_promises.specs.LookUps.{IsOver, CameBy, IsFound, IsFoundExactly, TellsPort, LeavesRows, HasHosts, AreAtAddresses, told_text, TellsAddress, GetaddrAnswers, GetversaddrAnswers, TellsPortOn, AnswersGetport, GetportAnswers}
 use Rattle.rb_promises.proofs.Found.{row_is_found, row_is_found_exactly, found_live, found_netid, exactly_live, found_none, exactly_none}

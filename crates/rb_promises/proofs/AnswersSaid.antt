@@ -18,16 +18,16 @@ use Rattle.rb_arguments.specs.declared.procedure.VoidProcedure.TheVariants as vo
 use Rattle.rb_arguments.specs.declared.request.Request.{Request}
 use Rattle.rb_arguments.specs.declared.request.Request.TheVariants as requests
 use Rattle.rb_arguments.specs.Grammar.{Asks}
-use Rattle.rb_proto.specs.declared.answers.Answer.{Answer}
-use Rattle.rb_proto.specs.declared.answers.Answer.TheVariants as answers
-use Rattle.rb_proto.specs.declared.answers.Results.{Results}
-use Rattle.rb_proto.specs.declared.answers.Results.TheVariants as results
-use Rattle.rb_proto.specs.declared.call.Call.{Call}
-use Rattle.rb_proto.specs.declared.context.Context.{Context}
-use Rattle.rb_proto.specs.Callers.{who_of}
-use Rattle.rb_proto.specs.Ledger.{Ledger, rows_in, with_call_noted}
-use Rattle.rb_proto.specs.Answers.{answer, answer_to}
-use Rattle.rb_proto.specs.Results.{shown_of, result_bytes}
+use Rattle.rb_answers.specs.declared.answers.Answer.{Answer}
+use Rattle.rb_answers.specs.declared.answers.Answer.TheVariants as answers
+use Rattle.rb_answers.specs.declared.answers.Results.{Results}
+use Rattle.rb_answers.specs.declared.answers.Results.TheVariants as results
+use Rattle.rb_answers.specs.declared.call.Call.{Call}
+use Rattle.rb_answers.specs.declared.context.Context.{Context}
+use Rattle.rb_answers.specs.Callers.{who_of}
+use Rattle.rb_answers.specs.Ledger.{Ledger, rows_in, with_call_noted}
+use Rattle.rb_answers.specs.Answers.{answer, answer_to}
+use Rattle.rb_answers.specs.Results.{shown_of, result_bytes}
 use Rattle.rb_model.specs.declared.message.Message.{Message}
 use Rattle.rb_model.specs.declared.message.Message.TheVariants as says
 use Rattle.rb_model.specs.Calls.{Outcome, Outcome as outcomes, outcome, message_of, longest_for, fitting_reply, success, results_outcome, answer_outcome, reply_with}

@@ -20,10 +20,10 @@ use Rattle.rb_arguments.specs.declared.procedure.RpcbProcedure.TheVariants as rp
 use Rattle.rb_arguments.specs.declared.remote.RemoteCall.{RemoteCall}
 use Rattle.rb_arguments.specs.declared.request.Request.{Request}
 use Rattle.rb_arguments.specs.declared.request.Request.TheVariants as requests
-use Rattle.rb_proto.specs.declared.context.Context.{Context}
-use Rattle.rb_proto.specs.Answers.{accepts, accepts_row, change_if, set_row, adds, adds_row, row_asked, row_to_set, accepts_removal, removal_of, owner_in, unset_rows, getport, getaddr, getversaddr, answer_to, answer}
-use Rattle.rb_proto.specs.Forwarding.{forward_call}
-use Rattle.rb_proto.specs.Ledger.{Ledger, rows_in, version_of, with_call_noted}
+use Rattle.rb_answers.specs.declared.context.Context.{Context}
+use Rattle.rb_answers.specs.Answers.{accepts, accepts_row, change_if, set_row, adds, adds_row, row_asked, row_to_set, accepts_removal, removal_of, owner_in, unset_rows, getport, getaddr, getversaddr, answer_to, answer}
+use Rattle.rb_answers.specs.Forwarding.{forward_call}
+use Rattle.rb_answers.specs.Ledger.{Ledger, rows_in, version_of, with_call_noted}
 use Rattle.rb_model.specs.declared.message.Message.{Message}
 use Rattle.rb_model.specs.declared.message.Message.TheVariants as says
 use Rattle.rb_model.specs.declared.types.CoreFault.{CoreFault}

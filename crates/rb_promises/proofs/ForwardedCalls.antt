@@ -21,13 +21,13 @@ use Rattle.rb_registry.specs.declared.row.Row.{Row}
 use Rattle.rb_registry.specs.Rows.{rpcb_prog, find_exact}
 use Rattle.rb_arguments.specs.declared.remote.RemoteCall.{RemoteCall}
 use Rattle.rb_arguments.specs.Remote.{args_of}
-use Rattle.rb_proto.specs.declared.answers.Answer.{Answer}
-use Rattle.rb_proto.specs.declared.answers.Answer.TheVariants as answers
-use Rattle.rb_proto.specs.declared.context.Context.{Context}
-use Rattle.rb_proto.specs.Callers.{who_of}
-use Rattle.rb_proto.specs.Ledger.{Ledger, rows_in}
-use Rattle.rb_proto.specs.Terms.{may_go}
-use Rattle.rb_proto.specs.Forwarding.{netid_to_forward, address_of_row, address_to_forward, peer_of_address, if_may_go, address_asked, refusal, forward_to, forward_call}
+use Rattle.rb_answers.specs.declared.answers.Answer.{Answer}
+use Rattle.rb_answers.specs.declared.answers.Answer.TheVariants as answers
+use Rattle.rb_answers.specs.declared.context.Context.{Context}
+use Rattle.rb_answers.specs.Callers.{who_of}
+use Rattle.rb_answers.specs.Ledger.{Ledger, rows_in}
+use Rattle.rb_answers.specs.Terms.{may_go}
+use Rattle.rb_answers.specs.Forwarding.{netid_to_forward, address_of_row, address_to_forward, peer_of_address, if_may_go, address_asked, refusal, forward_to, forward_call}
 use Rattle.rb_promises.specs.Forwards.{GoesBy, CanGo, GoesTo, HasRoom, IsRefused, AnswersForward, CallsAreForwardedExactly}
 use Rattle.rb_promises.proofs.Found.{row_is_found_exactly}
 use Rattle.rb_promises.proofs.MayGo.{registered_at, has_address, may_exactly}

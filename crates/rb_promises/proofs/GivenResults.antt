@@ -19,16 +19,16 @@ use Rattle.rb_arguments.specs.declared.procedure.VoidProcedure.TheVariants as vo
 use Rattle.rb_arguments.specs.declared.request.Request.{Request}
 use Rattle.rb_arguments.specs.declared.request.Request.TheVariants as requests
 use Rattle.rb_arguments.specs.Types.{netbuf_spelling}
-use Rattle.rb_proto.specs.declared.answers.Answer.{Answer}
-use Rattle.rb_proto.specs.declared.answers.Answer.TheVariants as answers
-use Rattle.rb_proto.specs.declared.context.Context.{Context}
+use Rattle.rb_answers.specs.declared.answers.Answer.{Answer}
+use Rattle.rb_answers.specs.declared.answers.Answer.TheVariants as answers
+use Rattle.rb_answers.specs.declared.context.Context.{Context}
 use Rattle.rb_registry.specs.Items.{owner_text}
-use Rattle.rb_proto.specs.Callers.{hosts_in}
-use Rattle.rb_proto.specs.Ledger.{Ledger, rows_in}
-use Rattle.rb_proto.specs.Netids.{prot_on, semantics_of, family_text, proto_text}
-use Rattle.rb_proto.specs.Answers.{shown_text, shown_port, answer_to}
+use Rattle.rb_answers.specs.Callers.{hosts_in}
+use Rattle.rb_answers.specs.Ledger.{Ledger, rows_in}
+use Rattle.rb_answers.specs.Netids.{prot_on, semantics_of, family_text, proto_text}
+use Rattle.rb_answers.specs.Answers.{shown_text, shown_port, answer_to}
 use Rattle.rb_registry.specs.Rows.{is_of_version}
-use Rattle.rb_proto.specs.Results.{is_inet, mapping_of, rpcb_of, entry_of, shown_of, result_bytes}
+use Rattle.rb_answers.specs.Results.{is_inet, mapping_of, rpcb_of, entry_of, shown_of, result_bytes}
 use Rattle.rb_promises.specs.Addresses.{IsOverIpv4}
 use Rattle.rb_promises.specs.Sets.{IsByProtocol, told, AnswersSet}
 use Rattle.rb_promises.specs.Unsets.{AnswersUnset}

@@ -15,8 +15,8 @@ use Rattle.rb_forward.specs.declared.types.ForwardEnd.TheVariants.{Failed, Dropp
 use Rattle.rb_forward.specs.Forwards.{can_be_sent, counts_for, is_due, is_connection, is_of_connection, outcome_read, outcome_of, reply, due, drop_caller, unsent}
 use Rattle.rb_forward.specs.Ends.{EndsFirst, IsReplyTo, IsOf}
 use Rattle.rb_forward.proofs.Ends.{ends_first, reply_means, reply_tested, due_means, due_tested, of_means, of_tested}
-use Rattle.rb_proto.specs.Forwarding.{end_notes, target_replied, fell_due, caller_dropped, call_sent}
-use Rattle.rb_proto.specs.Ledger.{Ledger}
+use Rattle.rb_answers.specs.Forwarding.{end_notes, target_replied, fell_due, caller_dropped, call_sent}
+use Rattle.rb_answers.specs.Ledger.{Ledger}
 use Rattle.rb_model.specs.declared.types.CoreFault.{CoreFault}
 use Rattle.rb_model.specs.declared.types.CoreFault.TheVariants.{Gone}
 use Rattle.rb_model.specs.declared.types.Told.{Told}

@@ -7,8 +7,8 @@ use Rattle.std.proofs.lemmas.Grind.{common_steps}
 use Rattle.rb_address.specs.declared.caller.Caller.TheVariants.{Tcp}
 use Rattle.rb_rpc.specs.Records.{first_record, data_of}
 use Rattle.rb_forward.specs.declared.types.Ended.{Ended as EntryEnd}
-use Rattle.rb_proto.specs.Ledger.{Ledger}
-use Rattle.rb_proto.specs.Forwarding.{target_replied, fell_due}
+use Rattle.rb_answers.specs.Ledger.{Ledger}
+use Rattle.rb_answers.specs.Forwarding.{target_replied, fell_due}
 use Rattle.rb_model.specs.declared.types.Told.{Told}
 use Rattle.rb_model.specs.Bounds.{count_in}
 use Rattle.rb_model.specs.Calls.{Outcome, Outcome as outcomes, is_no_call}

@@ -15,7 +15,7 @@ use Rattle.rb_address.specs.declared.netid.Netid.{Netid}
 use Rattle.rb_address.specs.declared.netid.Netid.TheVariants.{Tcp, Local}
 use Rattle.rb_address.specs.declared.who.Trust.TheVariants.{Claims, Stranger}
 use Rattle.rb_address.specs.Hosts.{is_loopback}
-use Rattle.rb_proto.specs.Callers.{is_local}
+use Rattle.rb_answers.specs.Callers.{is_local}
 use Rattle.rb_promises.specs.LocalCallers.{IsLocal}
 use Rattle.rb_promises.specs.LocalCallers.IsLocal.{AtTheLoopback, AtTheAnnounced}
 use Rattle.rb_promises.specs.Addresses.{IsAddressOfV4, IsAddressOn}

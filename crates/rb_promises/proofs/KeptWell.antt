@@ -11,10 +11,10 @@ use Rattle.rb_registry.specs.declared.row.Row.{Row}
 use Rattle.rb_registry.specs.Registry.{AreOwn}
 use Rattle.rb_registry.specs.Rows.{rpcb_prog, left_by, is_of_key, are_distinct}
 use Rattle.rb_registry.proofs.RowLaws.{head_or_tail}
-use Rattle.rb_proto.specs.declared.listener.Listener.{Listener}
-use Rattle.rb_proto.specs.Callers.{own_inet6, own_inet, own_local, own_rows}
-use Rattle.rb_proto.specs.Ledger.{rows_in}
-use Rattle.rb_proto.specs.Answers.{can_be_set}
+use Rattle.rb_answers.specs.declared.listener.Listener.{Listener}
+use Rattle.rb_answers.specs.Callers.{own_inet6, own_inet, own_local, own_rows}
+use Rattle.rb_answers.specs.Ledger.{rows_in}
+use Rattle.rb_answers.specs.Answers.{can_be_set}
 use Rattle.rb_model.specs.State.{State}
 use Rattle.rb_model.specs.Step.{IsReached}
 use Rattle.rb_laws.proofs.Ledgers.{are-own, ledgers_are_well_kept}

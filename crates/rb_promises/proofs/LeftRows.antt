@@ -10,10 +10,10 @@ use Rattle.rb_arguments.specs.declared.procedure.MappingProcedure.TheVariants as
 use Rattle.rb_arguments.specs.declared.procedure.RpcbProcedure.TheVariants as rpcbs
 use Rattle.rb_arguments.specs.declared.request.Request.{Request}
 use Rattle.rb_arguments.specs.declared.request.Request.TheVariants as requests
-use Rattle.rb_proto.specs.declared.context.Context.{Context}
-use Rattle.rb_proto.specs.Ledger.{Ledger, rows_in, with_call_noted}
-use Rattle.rb_proto.specs.Answers.{answer, answer_to}
-use Rattle.rb_proto.specs.Forwarding.{end_notes}
+use Rattle.rb_answers.specs.declared.context.Context.{Context}
+use Rattle.rb_answers.specs.Ledger.{Ledger, rows_in, with_call_noted}
+use Rattle.rb_answers.specs.Answers.{answer, answer_to}
+use Rattle.rb_answers.specs.Forwarding.{end_notes}
 use Rattle.rb_rpc.specs.Feeds.{arguments_of}
 use Rattle.rb_model.specs.declared.message.Message.{Message}
 use Rattle.rb_model.specs.declared.message.Message.TheVariants as says

@@ -35,12 +35,12 @@ use Rattle.rb_arguments.specs.Types.{IsMapping, IsRpcb}
 use Rattle.rb_arguments.specs.Numbers.{is_void, is_mapping, is_rpcb, is_procedure, number_of}
 use Rattle.rb_arguments.specs.Arguments.{procedure_at, is_known, request}
 use Rattle.rb_arguments.proofs.Requests.{asked_request}
-use Rattle.rb_proto.specs.declared.listener.Listener.{Listener}
+use Rattle.rb_answers.specs.declared.listener.Listener.{Listener}
 use Rattle.rb_registry.specs.Items.{owner_text}
-use Rattle.rb_proto.specs.Ledger.{rows_in, with_call_noted}
-use Rattle.rb_proto.specs.Results.{is_inet, mapping_of, rpcb_of, result_bytes}
-use Rattle.rb_proto.specs.Netids.{prot_on, address_in}
-use Rattle.rb_proto.specs.Answers.{answer, can_be_set, shown_port}
+use Rattle.rb_answers.specs.Ledger.{rows_in, with_call_noted}
+use Rattle.rb_answers.specs.Results.{is_inet, mapping_of, rpcb_of, result_bytes}
+use Rattle.rb_answers.specs.Netids.{prot_on, address_in}
+use Rattle.rb_answers.specs.Answers.{answer, can_be_set, shown_port}
 use Rattle.rb_model.specs.declared.message.Message.{Message}
 use Rattle.rb_model.specs.declared.message.Message.TheVariants as says
 use Rattle.rb_model.specs.declared.types.Limits.{Limits}

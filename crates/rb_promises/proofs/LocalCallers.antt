@@ -14,8 +14,8 @@ use Rattle.rb_address.specs.declared.who.Who.{Who}
 use Rattle.rb_address.specs.Hosts.{is_loopback}
 use Rattle.rb_rpc.specs.declared.call.Credential.{Credential}
 use Rattle.rb_rpc.specs.declared.call.Credential.TheVariants as credentials
-use Rattle.rb_proto.specs.declared.listener.Announced.{Announced}
-use Rattle.rb_proto.specs.Callers.{is_announced_as, is_local, is_trusted, may_register, owner_named, owner_of}
+use Rattle.rb_answers.specs.declared.listener.Announced.{Announced}
+use Rattle.rb_answers.specs.Callers.{is_announced_as, is_local, is_trusted, may_register, owner_named, owner_of}
 use Rattle.rb_promises.specs.LocalCallers.{IsLoopback, IsAnnounced, IsLocal, IsUnknown, RegistersAs}
 use Rattle.rb_promises.specs.LocalCallers.IsLocal.{OverTheSocket, AtTheLoopback, AtTheAnnounced, AsTheOwner}
 use Rattle.rb_promises.specs.LocalCallers.RegistersAs.{AsItself, AsTheUid, AsNobody}

@@ -20,13 +20,13 @@ use Rattle.rb_address.specs.Hosts.{mapped_front, is_mapped, plain_host}
 use Rattle.rb_address.proofs.HostLaws.{same_host_is, same_host_of}
 use Rattle.rb_registry.specs.declared.row.Row.{Row}
 use Rattle.rb_arguments.specs.declared.remote.RemoteCall.{RemoteCall}
-use Rattle.rb_proto.specs.declared.context.Context.{Context}
-use Rattle.rb_proto.specs.declared.listener.Forwarding.{Forwarding}
-use Rattle.rb_proto.specs.declared.listener.Forwarding.TheVariants.{Anywhere, ForAll, ForLocal}
-use Rattle.rb_proto.specs.Callers.{who_of, is_local, is_of_a_stranger, is_stranger}
-use Rattle.rb_proto.specs.Netids.{address_in}
-use Rattle.rb_proto.specs.Terms.{goes_by_host, is_any_host, is_this_host, is_harmless, may_go_by, may_go}
-use Rattle.rb_proto.specs.Forwarding.{address_of_row, peer_of_address}
+use Rattle.rb_answers.specs.declared.context.Context.{Context}
+use Rattle.rb_answers.specs.declared.listener.Forwarding.{Forwarding}
+use Rattle.rb_answers.specs.declared.listener.Forwarding.TheVariants.{Anywhere, ForAll, ForLocal}
+use Rattle.rb_answers.specs.Callers.{who_of, is_local, is_of_a_stranger, is_stranger}
+use Rattle.rb_answers.specs.Netids.{address_in}
+use Rattle.rb_answers.specs.Terms.{goes_by_host, is_any_host, is_this_host, is_harmless, may_go_by, may_go}
+use Rattle.rb_answers.specs.Forwarding.{address_of_row, peer_of_address}
 use Rattle.rb_promises.specs.Addresses.{IsOverIpv4, IsOverIpv6}
 use Rattle.rb_promises.specs.Forwards.{StandsForHost, IsAt, IsEveryHost, IsOfHere, GoesByHost, IsHarmless, MayGo}
 use Rattle.rb_promises.specs.Forwards.StandsForHost.{ForV4, ForItself}

@@ -22,8 +22,8 @@ use Rattle.rb_address.specs.declared.who.Source.TheVariants as sources
 use Rattle.rb_address.specs.declared.caller.Caller.{Caller}
 use Rattle.rb_address.specs.declared.caller.Caller.TheVariants as callers
 use Rattle.rb_registry.specs.declared.row.Row.{Row}
-use Rattle.rb_proto.specs.declared.context.Context.{Context}
-use Rattle.rb_proto.specs.Callers.{who_of}
+use Rattle.rb_answers.specs.declared.context.Context.{Context}
+use Rattle.rb_answers.specs.Callers.{who_of}
 use Rattle.rb_promises.specs.Addresses.{IsOverIpv4, IsOverIpv6}
 use Rattle.rb_promises.specs.Sets.{IsByProtocol, HasSameKey}
 use Rattle.rb_promises.specs.LookUps.{IsOn, IsOf, IsFound, IsFoundExactly, IsOver, CameBy, AsksForNone, StandsIn, TellsV4, TellsV6, PrintsV6, SpellsNone, TellsRow, TellsText, HasPort, TellsPort}

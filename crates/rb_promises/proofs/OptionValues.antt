@@ -21,9 +21,9 @@ use Rattle.rb_address.specs.Hosts.{mapped_front, is_mapped, plain_host, is_same_
 use Rattle.rb_address.specs.Networks.{host_of, plain_host_of}
 use Rattle.rb_address.specs.Reading.{number_below, ipv4_host}
 use Rattle.rb_address.proofs.Words as words
-use Rattle.rb_proto.specs.declared.listener.Announced.{Announced}
-use Rattle.rb_proto.specs.declared.listener.Forwarding.{Forwarding}
-use Rattle.rb_proto.specs.declared.listener.Forwarding.TheVariants.{Anywhere, ForAll, ForLocal}
+use Rattle.rb_answers.specs.declared.listener.Announced.{Announced}
+use Rattle.rb_answers.specs.declared.listener.Forwarding.{Forwarding}
+use Rattle.rb_answers.specs.declared.listener.Forwarding.TheVariants.{Anywhere, ForAll, ForLocal}
 use Rattle.rb_words.specs.Services.{borrowed_texts}
 use Rattle.rb_lines.specs.Paths.{is_quotable, is_path}
 use Rattle.rb_commands.specs.declared.options.Valued.{Valued}

@@ -8,7 +8,7 @@ use Rattle.rb_uaddr.specs.declared.address.Uaddr.TheVariants.{V4, V6}
 use Rattle.rb_uaddr.specs.Uaddr.{IsUaddr, port_bytes, text_of, parse, transport_of, from_transport}
 use Rattle.rb_uaddr.proofs.GrammarLaws.{read_is_spelled, read_is_address, printed_is_spelled, high_byte_fits, low_byte_fits, port_is_its_bytes}
 use Rattle.rb_uaddr.proofs.TransportLaws.{transport_is_exact, transport_is_address}
-use Rattle.rb_proto.specs.Answers.{seconds, taddr_of, uaddr_of}
+use Rattle.rb_answers.specs.Answers.{seconds, taddr_of, uaddr_of}
 use Rattle.rb_promises.specs.TurnedAddresses.{IsWrittenOf, TurnsText, Prints, TurnsBytes, AreSeconds, TextsAreTurned, FormsAreTurned, TimesAreTold}
 use Rattle.rb_promises.specs.TurnedAddresses.TurnsText.{AsSpelled, AsNone}
 use Rattle.rb_promises.specs.TurnedAddresses.TurnsBytes.{AsForm, AsNoForm}

@@ -7,8 +7,8 @@ use Rattle.std.proofs.lemmas.List.Folds.{Any-from_list_any, list_any-from_Any}
 use Rattle.rb_address.specs.declared.who.Owner.{Owner}
 use Rattle.rb_address.specs.declared.who.Owner.TheVariants.{Unknown, Uid}
 use Rattle.rb_registry.specs.declared.row.Row.{Row}
-use Rattle.rb_proto.specs.declared.reserved.Reservation.{Reservation}
-use Rattle.rb_proto.specs.Reserved.{is_covered, is_reserved, is_reserved_by, is_its_owner, may_own}
+use Rattle.rb_answers.specs.declared.reserved.Reservation.{Reservation}
+use Rattle.rb_answers.specs.Reserved.{is_covered, is_reserved, is_reserved_by, is_its_owner, may_own}
 use Rattle.rb_promises.specs.Sets.{Covers, IsReservedFor, IsItsOwners}
 
 any_also : {X : Type 0} (P Q : X → Type 0) → ((x : X) → P x → Q x) → (xs : List X) → Any P xs → Any Q xs

@@ -2,7 +2,7 @@
 use Rattle.std.proofs.Common.{◌≡◌, ℕ, Option, Some, None, List, [], ◌∷◌, ◌++◌, refl, subst, ◌∙◌, arith}
 use Rattle.std.specs.Prelude.{Contains}
 use Rattle.rb_address.specs.declared.who.Who.{Who}
-use Rattle.rb_proto.specs.declared.listener.Listener.{Listener}
+use Rattle.rb_answers.specs.declared.listener.Listener.{Listener}
 use Rattle.rb_model.specs.declared.types.Limits.{Limits}
 use Rattle.rb_rpc.specs.Records.{first_record}
 use Rattle.rb_model.specs.State.{Setting, State, Connection, opening}

@@ -13,7 +13,7 @@ use Rattle.rb_rpc.specs.RecordLaws.{IsMarked}
 use Rattle.rb_rpc.proofs.Markings.{first_is_least, none_where_no_front, data_is_joined}
 use Rattle.rb_forward.specs.declared.types.Ended.{Ended as EntryEnd}
 use Rattle.rb_forward.specs.Forwards.{is_connection}
-use Rattle.rb_proto.specs.Forwarding.{target_replied, fell_due}
+use Rattle.rb_answers.specs.Forwarding.{target_replied, fell_due}
 use Rattle.rb_registry.specs.Rows.{Change}
 use Rattle.rb_model.specs.declared.types.CoreFault.{CoreFault}
 use Rattle.rb_model.specs.declared.types.CoreFault.TheVariants.{Gone}

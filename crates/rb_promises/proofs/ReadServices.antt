@@ -4,8 +4,8 @@ use Rattle.std.specs.Borrow.{Bor}
 use Rattle.std.proofs.Common.{◌≡◌, ◌≢◌, ◌<◌, ◌≤◌, ◌+◌, ◌^◌, ℕ, Bool, true, false, cond, eqb, List, length, Option, Some, None, Result, Ok, Err, refl, sym, ap, subst, ◌∙◌, arith, lit<}
 use Rattle.std.proofs.lemmas.Bool.{eqb-false, ne_eqb}
 use Rattle.rb_address.specs.Reading.{number_below}
-use Rattle.rb_proto.specs.declared.listener.Forwarding.TheVariants.{Anywhere}
-use Rattle.rb_proto.specs.declared.listener.Terms.{Terms}
+use Rattle.rb_answers.specs.declared.listener.Forwarding.TheVariants.{Anywhere}
+use Rattle.rb_answers.specs.declared.listener.Terms.{Terms}
 use Rattle.rb_lines.specs.Paths.{is_path}
 use Rattle.rb_settings.specs.declared.settings.LocalSocket.{LocalSocket}
 use Rattle.rb_settings.specs.declared.settings.Settings.{Settings}

@@ -6,7 +6,7 @@ use Rattle.std.proofs.lemmas.Bool.{lt-ltb, ltb-true, ltb-false, eq-eqb, eqb-true
 use Rattle.std.proofs.lemmas.List.Elements.{All-nil, All-cons, All-head, All-tail}
 use Rattle.rb_address.specs.declared.who.Who.{Who}
 use Rattle.rb_forward.specs.Forwards.{Entry, is_unsent, can_be_sent}
-use Rattle.rb_proto.specs.Forwarding.{call_sent}
+use Rattle.rb_answers.specs.Forwarding.{call_sent}
 use Rattle.rb_model.specs.declared.types.CoreFault.{CoreFault}
 use Rattle.rb_model.specs.declared.types.CoreFault.TheVariants.{NoMemory, Full, BadLimits, Gone, Spent}
 use Rattle.rb_model.specs.declared.types.Taken.{Taken}

@@ -8,7 +8,7 @@ use Rattle.std.specs.Prelude.{unwrap_or}
 use Rattle.rb_address.specs.Reading.{cut}
 use Rattle.rb_address.proofs.HostTexts.{IsWithout}
 use Rattle.rb_address.proofs.Words as words
-use Rattle.rb_proto.specs.declared.reserved.Reservation.{Reservation}
+use Rattle.rb_answers.specs.declared.reserved.Reservation.{Reservation}
 use Rattle.rb_commands.specs.declared.options.Valued.{Valued}
 use Rattle.rb_commands.specs.declared.options.Valued.TheVariants.{Reserve}
 use Rattle.rb_commands.specs.Options.{value_of, values_from, number32, programs_in, reservation_of, reserve_at}

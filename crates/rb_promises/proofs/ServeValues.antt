@@ -23,8 +23,8 @@ use Rattle.rb_address.specs.Networks.{octet_bits, bits_of, is_clear, network_at,
 use Rattle.rb_address.specs.Reading.{◌>>=◌ as ◌>>?◌, number_below, plain_number, cut}
 use Rattle.rb_address.proofs.HostTexts.{IsWithout}
 use Rattle.rb_address.proofs.Words as words
-use Rattle.rb_proto.specs.declared.listener.Forwarding.{Forwarding}
-use Rattle.rb_proto.specs.declared.listener.Forwarding.TheVariants.{Anywhere, ForAll, ForLocal}
+use Rattle.rb_answers.specs.declared.listener.Forwarding.{Forwarding}
+use Rattle.rb_answers.specs.declared.listener.Forwarding.TheVariants.{Anywhere, ForAll, ForLocal}
 use Rattle.rb_words.specs.Services.{borrowed_texts}
 use Rattle.rb_commands.specs.declared.options.Valued.{Valued}
 use Rattle.rb_commands.specs.declared.options.Valued.TheVariants as valueds

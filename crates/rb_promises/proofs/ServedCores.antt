@@ -1,7 +1,7 @@
 -- What a new core gives for a list of events is what the pages say.
 use Rattle.std.proofs.Common.{◌≡◌, ℕ, List, [], ◌++◌, sym, ap, subst, ◌∙◌}
 use Rattle.std.specs.Global.{Vec}
-use Rattle.rb_proto.specs.declared.listener.Listener.{Listener}
+use Rattle.rb_answers.specs.declared.listener.Listener.{Listener}
 use Rattle.rb_model.specs.declared.types.Limits.{Limits}
 use Rattle.rb_model.specs.Plain.{OwnedEvent, OwnedOutput, events_of, outputs_of}
 use Rattle.rb_model.specs.State.{State, opening}

@@ -15,14 +15,14 @@ use Rattle.rb_address.specs.declared.netid.Netid.TheVariants.{Tcp, Udp, Tcp6, Ud
 use Rattle.rb_address.specs.declared.who.Owner.{Owner}
 use Rattle.rb_address.specs.declared.who.Owner.TheVariants.{Unknown, Uid}
 use Rattle.rb_registry.specs.declared.row.Row.{Row}
-use Rattle.rb_proto.specs.declared.context.Context.{Context}
+use Rattle.rb_answers.specs.declared.context.Context.{Context}
 use Rattle.rb_registry.specs.Items.{owner_text}
-use Rattle.rb_proto.specs.Callers.{hosts_in}
-use Rattle.rb_proto.specs.Ledger.{rows_in}
-use Rattle.rb_proto.specs.Netids.{prot_on, semantics_of, family_text, proto_text, address_in}
-use Rattle.rb_proto.specs.Answers.{told_text, shown_text}
+use Rattle.rb_answers.specs.Callers.{hosts_in}
+use Rattle.rb_answers.specs.Ledger.{rows_in}
+use Rattle.rb_answers.specs.Netids.{prot_on, semantics_of, family_text, proto_text, address_in}
+use Rattle.rb_answers.specs.Answers.{told_text, shown_text}
 use Rattle.rb_registry.specs.Rows.{is_of_version}
-use Rattle.rb_proto.specs.Results.{is_inet, mapping_of, rpcb_of, entry_of, result_bytes}
+use Rattle.rb_answers.specs.Results.{is_inet, mapping_of, rpcb_of, entry_of, result_bytes}
 use Rattle.rb_promises.specs.Addresses.{IsOverIpv4, IsOverIpv6}
 use Rattle.rb_promises.specs.Sets.{IsByProtocol}
 use Rattle.rb_promises.specs.LookUps.{SpellsNone, HasHosts}

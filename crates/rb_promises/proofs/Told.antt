@@ -20,11 +20,11 @@ use Rattle.rb_address.specs.declared.netid.Netid.{Netid}
 use Rattle.rb_address.specs.declared.netid.Netid.TheVariants.{Tcp, Udp, Tcp6, Udp6, Local}
 use Rattle.rb_address.specs.Hosts.{IsBytesOf}
 use Rattle.rb_registry.specs.declared.row.Row.{Row}
-use Rattle.rb_proto.specs.declared.listener.Announced.{Announced}
-use Rattle.rb_proto.specs.declared.context.Context.{Context}
-use Rattle.rb_proto.specs.Callers.{who_of, hosts_told, hosts_in}
-use Rattle.rb_proto.specs.Netids.{address_in}
-use Rattle.rb_proto.specs.Answers.{shown_address, shown_port, addr_told, addr_found}
+use Rattle.rb_answers.specs.declared.listener.Announced.{Announced}
+use Rattle.rb_answers.specs.declared.context.Context.{Context}
+use Rattle.rb_answers.specs.Callers.{who_of, hosts_told, hosts_in}
+use Rattle.rb_answers.specs.Netids.{address_in}
+use Rattle.rb_answers.specs.Answers.{shown_address, shown_port, addr_told, addr_found}
 use Rattle.rb_promises.specs.Addresses.{IsAddressOfV4, IsAddressOn}
 use Rattle.rb_promises.specs.LookUps.{AsksForNone, StandsIn, StandsInV4, StandsInV6, TellsV4, PrintsV6, TellsV6, SpellsNone, TellsRow, TellsText, HasPort, HasHosts}
 use Rattle.rb_promises.specs.LookUps.StandsIn.{TheAsked, TheAnnounced, EveryHost}

@@ -5,7 +5,7 @@ use Rattle.rb_rpc.specs.declared.call.CallHead.{CallHead}
 use Rattle.rb_stats.specs.declared.key.Version.{Version}
 use Rattle.rb_stats.specs.declared.key.Version.TheVariants.{Two, Three, Four}
 use Rattle.rb_stats.specs.Statistics.Note.{Called}
-use Rattle.rb_proto.specs.Ledger.{Ledger, version_of, with_call_noted}
+use Rattle.rb_answers.specs.Ledger.{Ledger, version_of, with_call_noted}
 use Rattle.rb_promises.specs.Sets.{IsVersion}
 use Rattle.rb_promises.specs.Sets.IsVersion.{Second, Third, Fourth}
 use Rattle.rb_promises.specs.Answers.{IsCounted}

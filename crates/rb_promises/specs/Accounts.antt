@@ -13,9 +13,9 @@ use Rattle.rb_rpc.specs.RecordLaws.{IsMarked, HasNoRecord}
 use Rattle.rb_registry.specs.declared.row.Row.{Row}
 use Rattle.rb_stats.specs.Statistics.{Note}
 use Rattle.rb_arguments.specs.declared.request.Request.{Request}
-use Rattle.rb_proto.specs.declared.context.Context.{Context}
-use Rattle.rb_proto.specs.declared.listener.Listener.{Listener}
-use Rattle.rb_proto.specs.Ledger.{Ledger, rows_in}
+use Rattle.rb_answers.specs.declared.context.Context.{Context}
+use Rattle.rb_answers.specs.declared.listener.Listener.{Listener}
+use Rattle.rb_answers.specs.Ledger.{Ledger, rows_in}
 use Rattle.rb_model.specs.declared.message.Message.{Message}
 use Rattle.rb_model.specs.declared.message.Message.TheVariants as says
 use Rattle.rb_model.specs.declared.types.Limits.{Limits}

@@ -22,10 +22,10 @@ use Rattle.rb_forward.specs.Ends.{EndsFirst, IsReplyTo, IsOf}
 use Rattle.rb_arguments.specs.declared.remote.RemoteCall.{RemoteCall}
 use Rattle.rb_arguments.specs.declared.request.Request.TheVariants as requests
 use Rattle.rb_arguments.specs.Remote.{args_of}
-use Rattle.rb_proto.specs.declared.call.Call.{Call}
-use Rattle.rb_proto.specs.Callers.{who_of}
-use Rattle.rb_proto.specs.Ledger.{rows_in}
-use Rattle.rb_proto.specs.Forwarding.{address_of_row, forward_of, end_notes}
+use Rattle.rb_answers.specs.declared.call.Call.{Call}
+use Rattle.rb_answers.specs.Callers.{who_of}
+use Rattle.rb_answers.specs.Ledger.{rows_in}
+use Rattle.rb_answers.specs.Forwarding.{address_of_row, forward_of, end_notes}
 use Rattle.rb_model.specs.declared.types.CoreFault.{CoreFault}
 use Rattle.rb_model.specs.declared.types.CoreFault.TheVariants.{Gone}
 use Rattle.rb_model.specs.Grammar.{BeginsWithRequest}

@@ -20,13 +20,13 @@ use Rattle.rb_rpc.specs.declared.reply.ReplyStatus.TheVariants as replies
 use Rattle.rb_registry.specs.declared.row.Row.{Row}
 use Rattle.rb_arguments.specs.declared.remote.RemoteCall.{RemoteCall}
 use Rattle.rb_arguments.specs.declared.request.Request.TheVariants as requests
-use Rattle.rb_proto.specs.declared.answers.Answer.{Answer}
-use Rattle.rb_proto.specs.declared.answers.Answer.TheVariants as answers
-use Rattle.rb_proto.specs.declared.context.Context.{Context}
-use Rattle.rb_proto.specs.declared.listener.Forwarding.TheVariants.{Anywhere, ForAll, ForLocal}
-use Rattle.rb_proto.specs.Callers.{who_of}
-use Rattle.rb_proto.specs.Ledger.{Ledger, rows_in}
-use Rattle.rb_proto.specs.Answers.{answer_to}
+use Rattle.rb_answers.specs.declared.answers.Answer.{Answer}
+use Rattle.rb_answers.specs.declared.answers.Answer.TheVariants as answers
+use Rattle.rb_answers.specs.declared.context.Context.{Context}
+use Rattle.rb_answers.specs.declared.listener.Forwarding.TheVariants.{Anywhere, ForAll, ForLocal}
+use Rattle.rb_answers.specs.Callers.{who_of}
+use Rattle.rb_answers.specs.Ledger.{Ledger, rows_in}
+use Rattle.rb_answers.specs.Answers.{answer_to}
 use Rattle.rb_promises.specs.Addresses.{IsOverIpv4, IsOverIpv6}
 use Rattle.rb_promises.specs.LocalCallers.{IsLoopback, IsAnnounced}
 use Rattle.rb_promises.specs.LookUps.{IsFoundExactly}

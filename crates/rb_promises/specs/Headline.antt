@@ -1,7 +1,7 @@
 -- What is promised of every run, in one contract.
 use Rattle.std.specs.Prelude.{ℕ, List, [], ◌∷◌}
 use Rattle.rb_address.specs.declared.who.Who.{Who}
-use Rattle.rb_proto.specs.declared.listener.Listener.{Listener}
+use Rattle.rb_answers.specs.declared.listener.Listener.{Listener}
 use Rattle.rb_model.specs.declared.types.Limits.{Limits}
 use Rattle.rb_model.specs.State.{State, opening}
 use Rattle.rb_model.specs.Sessions.{Session, empty_session}

@@ -17,13 +17,13 @@ use Rattle.rb_arguments.specs.declared.procedure.RpcbProcedure.TheVariants as rp
 use Rattle.rb_arguments.specs.declared.procedure.VoidProcedure.TheVariants as voids
 use Rattle.rb_arguments.specs.declared.request.Request.TheVariants as requests
 use Rattle.rb_arguments.specs.Types.{mapping_spelling, rpcb_spelling, entry_spelling}
-use Rattle.rb_proto.specs.declared.answers.Answer.{Answer}
-use Rattle.rb_proto.specs.declared.answers.Answer.TheVariants as answers
-use Rattle.rb_proto.specs.declared.answers.Results.{Results}
-use Rattle.rb_proto.specs.declared.context.Context.{Context}
-use Rattle.rb_proto.specs.Ledger.{Ledger, rows_in}
-use Rattle.rb_proto.specs.Results.{shown_of, result_bytes}
-use Rattle.rb_proto.specs.Answers.{answer_to}
+use Rattle.rb_answers.specs.declared.answers.Answer.{Answer}
+use Rattle.rb_answers.specs.declared.answers.Answer.TheVariants as answers
+use Rattle.rb_answers.specs.declared.answers.Results.{Results}
+use Rattle.rb_answers.specs.declared.context.Context.{Context}
+use Rattle.rb_answers.specs.Ledger.{Ledger, rows_in}
+use Rattle.rb_answers.specs.Results.{shown_of, result_bytes}
+use Rattle.rb_answers.specs.Answers.{answer_to}
 use Rattle.rb_promises.specs.Addresses.{IsOverIpv4, IsOverIpv6}
 use Rattle.rb_promises.specs.Sets.{IsByProtocol}
 use Rattle.rb_promises.specs.LookUps.{StandsInV6, TellsV4, PrintsV6, SpellsNone, HasPort, HasHosts}

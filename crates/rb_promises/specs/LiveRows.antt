@@ -8,9 +8,9 @@ use Rattle.rb_rpc.specs.Replies.{reply_head}
 use Rattle.rb_rpc.specs.Grammar.{IsCaller}
 use Rattle.rb_registry.specs.declared.row.Row.{Row}
 use Rattle.rb_arguments.specs.Types.{IsRpcb}
-use Rattle.rb_proto.specs.Callers.{own_rows}
-use Rattle.rb_proto.specs.Ledger.{rows_in}
-use Rattle.rb_proto.specs.Results.{rpcb_of}
+use Rattle.rb_answers.specs.Callers.{own_rows}
+use Rattle.rb_answers.specs.Ledger.{rows_in}
+use Rattle.rb_answers.specs.Results.{rpcb_of}
 use Rattle.rb_model.specs.Calls.Outcome.{Reply}
 use Rattle.rb_model.specs.State.{State, are_good}
 use Rattle.rb_model.specs.Step.{serve}

@@ -8,13 +8,13 @@ use Rattle.rb_address.specs.declared.host.Host.TheVariants.{V4, V6}
 use Rattle.rb_address.specs.declared.network.Network.{Network}
 use Rattle.rb_address.specs.Hosts.{mapped_front, octets_of_host, bit_count}
 use Rattle.rb_address.specs.Networks.{bits_of}
-use Rattle.rb_proto.specs.declared.listener.Announced.{Announced}
-use Rattle.rb_proto.specs.declared.listener.Forwarding.{Forwarding}
-use Rattle.rb_proto.specs.declared.listener.Forwarding.TheVariants.{Anywhere, ForAll, ForLocal}
+use Rattle.rb_answers.specs.declared.listener.Announced.{Announced}
+use Rattle.rb_answers.specs.declared.listener.Forwarding.{Forwarding}
+use Rattle.rb_answers.specs.declared.listener.Forwarding.TheVariants.{Anywhere, ForAll, ForLocal}
 use Rattle.rb_policy.specs.declared.brake.Rate.{Rate}
 use Rattle.rb_policy.specs.declared.log_choice.Logged.{Logged}
 use Rattle.rb_policy.specs.declared.log_choice.Logged.TheVariants.{Nothing, Changes, All as Everything}
-use Rattle.rb_proto.specs.declared.reserved.Reservation.{Reservation}
+use Rattle.rb_answers.specs.declared.reserved.Reservation.{Reservation}
 use Rattle.rb_promises.specs.WordForms.{SpellsWithin, SpellsNumber}
 
 -- ---- numbers

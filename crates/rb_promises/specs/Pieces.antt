@@ -1,7 +1,7 @@
 -- Where the bytes end that are taken of a piece (RFC 5531 section 11).
 use Rattle.std.specs.Prelude.{◌≡◌, ◌⊎◌, ℕ, false, List, [], ◌++◌, length, Some, None}
 use Rattle.rb_rpc.specs.Records.{first_record}
-use Rattle.rb_proto.specs.declared.listener.Listener.{Listener}
+use Rattle.rb_answers.specs.declared.listener.Listener.{Listener}
 use Rattle.rb_model.specs.declared.types.Limits.{Limits}
 use Rattle.rb_model.specs.State.{Connection, State, opening}
 use Rattle.rb_model.specs.Laws.{IsLive, owed_in, is_awaiting}

@@ -1,7 +1,7 @@
 -- What is so of the rows in each state that a run reaches, as the laws of UNSET and of look-ups presuppose it.
 use Rattle.std.specs.Prelude.{◌≡◌, List, Contains}
 use Rattle.rb_registry.specs.declared.row.Row.{Row}
-use Rattle.rb_proto.specs.Ledger.{rows_in}
+use Rattle.rb_answers.specs.Ledger.{rows_in}
 use Rattle.rb_model.specs.State.{State}
 use Rattle.rb_model.specs.Step.{IsReached}
 use Rattle.rb_lines.specs.Starts.{IsAtAddresses}

@@ -9,9 +9,9 @@ use Rattle.rb_arguments.specs.declared.mapping.Mapping.{Mapping}
 use Rattle.rb_arguments.specs.declared.rpcb.Rpcb.{Rpcb}
 use Rattle.rb_arguments.specs.declared.entry.Entry.{Entry}
 use Rattle.rb_arguments.specs.Types.{IsMapping, IsRpcb, IsEntry}
-use Rattle.rb_proto.specs.declared.answers.Listing.TheVariants.{Mappings, Rpcbs, Entries}
+use Rattle.rb_answers.specs.declared.answers.Listing.TheVariants.{Mappings, Rpcbs, Entries}
 use Rattle.rb_registry.specs.Rows.{is_of_version}
-use Rattle.rb_proto.specs.Results.{is_inet, mapping_of, rpcb_of, entry_of, list_bytes}
+use Rattle.rb_answers.specs.Results.{is_inet, mapping_of, rpcb_of, entry_of, list_bytes}
 use Rattle.rb_show.specs.declared.fault.InfoFault.{InfoFault}
 use Rattle.rb_show.specs.Telling.Told.{Done}
 use Rattle.rb_show.specs.Lists.{greatest_list}

@@ -2,7 +2,7 @@
 use Rattle.std.specs.Prelude.{◌≡◌, ◌≢◌, ◌↔◌, ⊤, ℕ, ◌<◌, ◌≤◌, false, List, length, codes, Option, Some, None, option_map, Ok}
 use Rattle.std.specs.Borrow.{Bor}
 use Rattle.rb_words.specs.Services.{borrowed_texts}
-use Rattle.rb_proto.specs.declared.listener.Forwarding.TheVariants.{Anywhere}
+use Rattle.rb_answers.specs.declared.listener.Forwarding.TheVariants.{Anywhere}
 use Rattle.rb_policy.specs.declared.log_choice.Logged.{Logged}
 use Rattle.rb_policy.specs.declared.log_choice.Logged.TheVariants.{Nothing}
 use Rattle.rb_lines.specs.Starts.{MeetsLaws}

@@ -8,13 +8,13 @@ use Rattle.rb_rpc.specs.declared.call.CallHead.{CallHead}
 use Rattle.rb_arguments.specs.declared.netbuf.Netbuf.{Netbuf}
 use Rattle.rb_arguments.specs.declared.procedure.VoidProcedure.TheVariants as voids
 use Rattle.rb_arguments.specs.declared.request.Request.TheVariants as requests
-use Rattle.rb_proto.specs.declared.answers.Answer.{Answer}
-use Rattle.rb_proto.specs.declared.answers.Answer.TheVariants as answers
-use Rattle.rb_proto.specs.declared.answers.Results.TheVariants as results
-use Rattle.rb_proto.specs.declared.answers.Value.TheVariants as values
-use Rattle.rb_proto.specs.declared.context.Context.{Context}
-use Rattle.rb_proto.specs.Ledger.{Ledger}
-use Rattle.rb_proto.specs.Answers.{answer_to}
+use Rattle.rb_answers.specs.declared.answers.Answer.{Answer}
+use Rattle.rb_answers.specs.declared.answers.Answer.TheVariants as answers
+use Rattle.rb_answers.specs.declared.answers.Results.TheVariants as results
+use Rattle.rb_answers.specs.declared.answers.Value.TheVariants as values
+use Rattle.rb_answers.specs.declared.context.Context.{Context}
+use Rattle.rb_answers.specs.Ledger.{Ledger}
+use Rattle.rb_answers.specs.Answers.{answer_to}
 use Rattle.rb_promises.specs.LookUps.{PrintsV6, told_text, told_number}
 
 -- ---- from a text

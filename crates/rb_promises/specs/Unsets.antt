@@ -13,11 +13,11 @@ use Rattle.rb_arguments.specs.declared.procedure.MappingProcedure.TheVariants as
 use Rattle.rb_arguments.specs.declared.procedure.RpcbProcedure.TheVariants as rpcbs
 use Rattle.rb_arguments.specs.declared.request.Request.{Request}
 use Rattle.rb_arguments.specs.declared.request.Request.TheVariants as requests
-use Rattle.rb_proto.specs.declared.answers.Answer.{Answer}
-use Rattle.rb_proto.specs.declared.context.Context.{Context}
-use Rattle.rb_proto.specs.Callers.{who_of}
-use Rattle.rb_proto.specs.Ledger.{Ledger, rows_in}
-use Rattle.rb_proto.specs.Answers.{answer_to}
+use Rattle.rb_answers.specs.declared.answers.Answer.{Answer}
+use Rattle.rb_answers.specs.declared.context.Context.{Context}
+use Rattle.rb_answers.specs.Callers.{who_of}
+use Rattle.rb_answers.specs.Ledger.{Ledger, rows_in}
+use Rattle.rb_answers.specs.Answers.{answer_to}
 use Rattle.rb_promises.specs.LocalCallers.{IsLocal, CallsAs}
 use Rattle.rb_promises.specs.Addresses.{IsOverIpv4}
 use Rattle.rb_promises.specs.Sets.{IsVersion, told}

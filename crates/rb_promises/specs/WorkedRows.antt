@@ -10,10 +10,10 @@ use Rattle.rb_address.specs.declared.who.Trust.TheVariants.{Claims, Stranger}
 use Rattle.rb_address.specs.declared.who.Who.{Who}
 use Rattle.rb_address.specs.declared.caller.Caller.TheVariants.{Udp}
 use Rattle.rb_registry.specs.declared.row.Row.{Row}
-use Rattle.rb_proto.specs.declared.context.Context.{Context}
-use Rattle.rb_proto.specs.declared.listener.Announced.{Announced}
-use Rattle.rb_proto.specs.Terms.{open_terms}
-use Rattle.rb_proto.specs.Ledger.{Ledger, fresh_ledger}
+use Rattle.rb_answers.specs.declared.context.Context.{Context}
+use Rattle.rb_answers.specs.declared.listener.Announced.{Announced}
+use Rattle.rb_answers.specs.Terms.{open_terms}
+use Rattle.rb_answers.specs.Ledger.{Ledger, fresh_ledger}
 use Rattle.rb_promises.specs.LocalCallers.{IsLocal}
 use Rattle.rb_promises.specs.Sets.{IsAccepted}
 use Rattle.rb_promises.specs.Unsets.{AreWithout}

@@ -15,16 +15,16 @@ use Rattle.rb_forward.specs.declared.types.Forward.{Forward}
 use Rattle.rb_arguments.specs.declared.kind.Kind.{Kind}
 use Rattle.rb_arguments.specs.declared.kind.Kind.TheVariants.{Callit2, Callit3, Bcast, Indirect}
 use Rattle.rb_forward.specs.Forwards.{can_start, with_next_entry}
-use Rattle.rb_proto.specs.declared.answers.Answer.{Answer}
-use Rattle.rb_proto.specs.declared.answers.Answer.TheVariants as answers
-use Rattle.rb_proto.specs.declared.context.Context.{Context}
+use Rattle.rb_answers.specs.declared.answers.Answer.{Answer}
+use Rattle.rb_answers.specs.declared.answers.Answer.TheVariants as answers
+use Rattle.rb_answers.specs.declared.context.Context.{Context}
 use Rattle.rb_arguments.specs.declared.remote.RemoteCall.{RemoteCall}
 use Rattle.rb_arguments.specs.Remote.{args_of}
-use Rattle.rb_proto.specs.Ledger.{Ledger, rows_in}
-use Rattle.rb_proto.specs.Netids.{address_in}
-use Rattle.rb_proto.specs.Callers.{who_of}
-use Rattle.rb_proto.specs.Terms.{may_go}
-use Rattle.rb_proto.specs.Forwarding.{netid_to_forward, address_of_row, address_to_forward, peer_of_address, if_may_go, address_asked, refusal, refuse, forward_of, forward_to, forward_call}
+use Rattle.rb_answers.specs.Ledger.{Ledger, rows_in}
+use Rattle.rb_answers.specs.Netids.{address_in}
+use Rattle.rb_answers.specs.Callers.{who_of}
+use Rattle.rb_answers.specs.Terms.{may_go}
+use Rattle.rb_answers.specs.Forwarding.{netid_to_forward, address_of_row, address_to_forward, peer_of_address, if_may_go, address_asked, refusal, refuse, forward_of, forward_to, forward_call}
 use Rattle.rb_proto.specs.ForwardLaws.{IsRegisteredAt, AsksRegistered, ForwardsGoToRows}
 
 -- ---- the row

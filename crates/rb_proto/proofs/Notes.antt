@@ -16,14 +16,14 @@ use Rattle.rb_forward.specs.declared.types.ForwardEnd.{ForwardEnd}
 use Rattle.rb_forward.specs.declared.types.ForwardEnd.TheVariants.{Failed, Dropped}
 use Rattle.rb_forward.specs.Forwards.{Entry, without_first, change_first, as_sent, is_unsent, ended_by, with_end, can_start, next_entry, with_next_entry, sent, counts_for, outcome_of, reply, is_due, due, is_of_connection, drop_caller}
 use Rattle.rb_forward.proofs.Tables.{all_stay}
-use Rattle.rb_proto.specs.declared.answers.Answer.{Answer}
-use Rattle.rb_proto.specs.declared.answers.Answer.TheVariants as answers
-use Rattle.rb_proto.specs.declared.context.Context.{Context}
+use Rattle.rb_answers.specs.declared.answers.Answer.{Answer}
+use Rattle.rb_answers.specs.declared.answers.Answer.TheVariants as answers
+use Rattle.rb_answers.specs.declared.context.Context.{Context}
 use Rattle.rb_arguments.specs.declared.remote.RemoteCall.{RemoteCall}
 use Rattle.rb_arguments.specs.Remote.{args_of}
-use Rattle.rb_proto.specs.Ledger.{Ledger, rows_in, note_where, notes_where}
-use Rattle.rb_proto.specs.Terms.{counts_forward}
-use Rattle.rb_proto.specs.Forwarding.{outcome_note, counts_end, end_note, end_notes, noted_end, address_asked, forward_of, refuse, forward_to, forward_call, target_replied, fell_due, caller_dropped, call_sent}
+use Rattle.rb_answers.specs.Ledger.{Ledger, rows_in, note_where, notes_where}
+use Rattle.rb_answers.specs.Terms.{counts_forward}
+use Rattle.rb_answers.specs.Forwarding.{outcome_note, counts_end, end_note, end_notes, noted_end, address_asked, forward_of, refuse, forward_to, forward_call, target_replied, fell_due, caller_dropped, call_sent}
 use Rattle.rb_proto.specs.ForwardLaws.{is_outcome, asked_so_far, uncounted_at_once, uncounted_at_end, CountsOn, ForwardsAreNotedOnce}
 
 -- ---- how many entries there are

@@ -5,12 +5,13 @@ use Rattle.rb_rpc.specs.declared.reply.ReplyStatus.TheVariants as replies
 use Rattle.rb_uaddr.specs.declared.address.Uaddr.{Uaddr}
 use Rattle.rb_arguments.specs.declared.kind.Kind.{Kind}
 use Rattle.rb_forward.specs.Forwards.{can_start}
-use Rattle.rb_proto.specs.declared.answers.Answer.{Answer}
-use Rattle.rb_proto.specs.declared.context.Context.{Context}
+use Rattle.rb_answers.specs.declared.answers.Answer.{Answer}
+use Rattle.rb_answers.specs.declared.context.Context.{Context}
 use Rattle.rb_arguments.specs.declared.remote.RemoteCall.{RemoteCall}
-use Rattle.rb_proto.specs.Ledger.{Books, Ledger, StandsForLedger, rows_in}
+use Rattle.rb_answers.specs.Ledger.{Ledger, rows_in}
+use Rattle.rb_proto.specs.Ledger.{Books, StandsForLedger}
 use Rattle.rb_proto.specs.Books.{ActsAs}
-use Rattle.rb_proto.specs.Forwarding.{address_asked, refuse, forward_call}
+use Rattle.rb_answers.specs.Forwarding.{address_asked, refuse, forward_call}
 
 -- a test that can't be passed
 pub is_false : (b : Bool) → (IsTrue b → false ≡ true) → b ≡ false

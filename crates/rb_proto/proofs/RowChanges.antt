@@ -16,15 +16,17 @@ use Rattle.rb_registry.specs.Registry.{Registry, rows_of, retained_count}
 use Rattle.rb_registry.specs.Table.{takes, StandsForMore}
 use Rattle.rb_stats.specs.Statistics.Note.{WasSet, WasUnset}
 use Rattle.rb_stats.specs.Counting.{HasNoted}
-use Rattle.rb_proto.specs.Callers.{who_of, is_superuser, share_of, share_by}
-use Rattle.rb_proto.specs.Ledger.{Books, Ledger, StandsForLedger, rows_in, version_of}
+use Rattle.rb_answers.specs.Callers.{who_of, is_superuser, share_of, share_by}
+use Rattle.rb_answers.specs.Ledger.{Ledger, rows_in, version_of}
+use Rattle.rb_proto.specs.Ledger.{Books, StandsForLedger}
 use Rattle.rb_proto.specs.Books.{ActsAs, HasRoomFor}
 use Rattle.rb_registry.specs.declared.reasons.Refusal.{Refusal}
 use Rattle.rb_registry.specs.declared.reasons.Refusal.TheVariants as reasons
-use Rattle.rb_proto.specs.Netids.{is_address}
-use Rattle.rb_proto.specs.Reserved.{may_own}
+use Rattle.rb_answers.specs.Netids.{is_address}
+use Rattle.rb_answers.specs.Reserved.{may_own}
 use Rattle.rb_proto.specs.Reasons.{refusal_before, refusal_beside}
-use Rattle.rb_proto.specs.Answers.{Context, accepts, comes_from_here, can_be_set, has_share, accepts_row, set_row, accepts_removal, removal_of, unset_rows}
+use Rattle.rb_answers.specs.declared.context.Context.{Context}
+use Rattle.rb_answers.specs.Answers.{accepts, comes_from_here, can_be_set, has_share, accepts_row, set_row, accepts_removal, removal_of, unset_rows}
 
 one_more : (changes : List Change) (change : Change) → changes ++ change ∷ [] ≡ changes → ⊥
 one_more changes change e =

@@ -2,8 +2,10 @@
 use Rattle.std.proofs.Common.{◌≡◌, refl}
 use Rattle.rb_stats.specs.Statistics.{statistics}
 use Rattle.rb_stats.specs.Counting.{spelling}
-use Rattle.rb_proto.specs.Ledger.{Books, Ledger, StandsForLedger}
-use Rattle.rb_proto.specs.Results.{shown_of, shown_in}
+use Rattle.rb_answers.specs.Ledger.{Ledger}
+use Rattle.rb_proto.specs.Ledger.{Books, StandsForLedger}
+use Rattle.rb_answers.specs.Results.{shown_of}
+use Rattle.rb_proto.specs.Showing.{shown_in}
 
 pub shown_where_standing : (books : Books) (l : Ledger) → StandsForLedger books l → shown_in books ≡ shown_of l
 unfolding spelling statistics

@@ -18,17 +18,18 @@ use Rattle.rb_forward.specs.Forwards.{Unsent, unsent}
 use Rattle.rb_arguments.specs.declared.kind.Kind.{Kind}
 use Rattle.rb_forward.specs.declared.types.Ended.{Ended}
 use Rattle.rb_proto.specs.declared.books.Books.{Books}
-use Rattle.rb_proto.specs.declared.call.Call.{Call}
-use Rattle.rb_proto.specs.declared.context.Context.{Context}
+use Rattle.rb_answers.specs.declared.call.Call.{Call}
+use Rattle.rb_answers.specs.declared.context.Context.{Context}
 use Rattle.rb_proto.specs.declared.forwarding.ForwardNote.{ForwardNote}
 use Rattle.rb_arguments.specs.declared.remote.RemoteCall.{RemoteCall}
-use Rattle.rb_proto.specs.declared.answers.Answer.{Answer}
-use Rattle.rb_proto.specs.declared.answers.Answer.TheVariants as answers
-use Rattle.rb_proto.specs.Callers.{who_of}
-use Rattle.rb_proto.specs.Terms.{counts_forward, counts_look_up}
-use Rattle.rb_proto.specs.Ledger.{Ledger, StandsForLedger, version_of}
-use Rattle.rb_proto.specs.Answers.{adds, adds_row}
-use Rattle.rb_proto.specs.Forwarding.{outcome_note, forward_call, target_replied}
+use Rattle.rb_answers.specs.declared.answers.Answer.{Answer}
+use Rattle.rb_answers.specs.declared.answers.Answer.TheVariants as answers
+use Rattle.rb_answers.specs.Callers.{who_of}
+use Rattle.rb_answers.specs.Terms.{counts_forward, counts_look_up}
+use Rattle.rb_answers.specs.Ledger.{Ledger, version_of}
+use Rattle.rb_proto.specs.Ledger.{StandsForLedger}
+use Rattle.rb_answers.specs.Answers.{adds, adds_row}
+use Rattle.rb_answers.specs.Forwarding.{outcome_note, forward_call, target_replied}
 
 -- the changes after the first n that removed rows, in the order of these rows
 abbrev pub removals_after : ℕ → Ledger → List ℕ

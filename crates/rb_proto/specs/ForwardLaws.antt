@@ -12,16 +12,16 @@ use Rattle.rb_arguments.specs.declared.kind.Kind.{Kind}
 use Rattle.rb_forward.specs.declared.types.Forward.{Forward}
 use Rattle.rb_forward.specs.declared.types.Ended.{Ended}
 use Rattle.rb_forward.specs.Forwards.{with_next_entry}
-use Rattle.rb_proto.specs.declared.answers.Answer.{Answer}
-use Rattle.rb_proto.specs.declared.answers.Answer.TheVariants as answers
-use Rattle.rb_proto.specs.declared.context.Context.{Context}
+use Rattle.rb_answers.specs.declared.answers.Answer.{Answer}
+use Rattle.rb_answers.specs.declared.answers.Answer.TheVariants as answers
+use Rattle.rb_answers.specs.declared.context.Context.{Context}
 use Rattle.rb_arguments.specs.declared.remote.RemoteCall.{RemoteCall}
 use Rattle.rb_arguments.specs.Remote.{args_of}
-use Rattle.rb_proto.specs.Ledger.{Ledger, rows_in}
-use Rattle.rb_proto.specs.Callers.{who_of, hosts_in}
-use Rattle.rb_proto.specs.Netids.{address_in}
-use Rattle.rb_proto.specs.Terms.{may_go, counts_forward}
-use Rattle.rb_proto.specs.Forwarding.{netid_to_forward, peer_of_address, counts_end, loopbacks, merged_peer, forward_call, target_replied, fell_due, caller_dropped, call_sent}
+use Rattle.rb_answers.specs.Ledger.{Ledger, rows_in}
+use Rattle.rb_answers.specs.Callers.{who_of, hosts_in}
+use Rattle.rb_answers.specs.Netids.{address_in}
+use Rattle.rb_answers.specs.Terms.{may_go, counts_forward}
+use Rattle.rb_answers.specs.Forwarding.{netid_to_forward, peer_of_address, counts_end, loopbacks, merged_peer, forward_call, target_replied, fell_due, caller_dropped, call_sent}
 
 -- ---- where calls go
 

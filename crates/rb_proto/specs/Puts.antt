@@ -14,26 +14,22 @@ use Rattle.rb_arguments.specs.declared.procedure.MappingProcedure.TheVariants as
 use Rattle.rb_arguments.specs.declared.procedure.RpcbProcedure.TheVariants as rpcbs
 use Rattle.rb_arguments.specs.declared.request.Request.{Request}
 use Rattle.rb_arguments.specs.declared.request.Request.TheVariants as requests
-use Rattle.rb_proto.specs.declared.answers.Answer.{Answer}
-use Rattle.rb_proto.specs.declared.answers.Answer.TheVariants as answers
-use Rattle.rb_proto.specs.declared.answers.Results.{Results}
-use Rattle.rb_proto.specs.declared.answers.Results.TheVariants as results
+use Rattle.rb_answers.specs.declared.answers.Answer.{Answer}
+use Rattle.rb_answers.specs.declared.answers.Answer.TheVariants as answers
+use Rattle.rb_answers.specs.declared.answers.Results.{Results}
+use Rattle.rb_answers.specs.declared.answers.Results.TheVariants as results
 use Rattle.rb_proto.specs.declared.books.Books.{Books}
-use Rattle.rb_proto.specs.declared.call.Call.{Call}
-use Rattle.rb_proto.specs.declared.context.Context.{Context}
-use Rattle.rb_proto.specs.Answers.{comes_from_here}
-use Rattle.rb_proto.specs.Netids.{which_of}
-use Rattle.rb_proto.specs.Costs.{note_cost, forward_cost, statistics_cost}
-use Rattle.rb_proto.specs.ListReplies.{part_room}
-use Rattle.rb_proto.specs.Searching.{walk_cost}
+use Rattle.rb_answers.specs.declared.call.Call.{Call}
+use Rattle.rb_answers.specs.declared.context.Context.{Context}
+use Rattle.rb_answers.specs.Answers.{comes_from_here}
+use Rattle.rb_answers.specs.Netids.{which_of}
+use Rattle.rb_answers.specs.Costs.{note_cost, forward_cost, statistics_cost}
+use Rattle.rb_answers.specs.ListReplies.{part_room}
+use Rattle.rb_answers.specs.Searching.{walk_cost}
 
 -- one step for the length, and one for each byte that was put
 abbrev pub put_cost : Kept → Kept → ℕ
 put_cost old new = 1 + (length new.bytes - length old.bytes)
-
--- a walk over the rows, live or retained, or those of a version, and one step for each byte that was put
-abbrev pub write_cost : Option Version → Registry → Kept → Kept → ℕ
-write_cost sought kept old new = walk_cost sought kept + 2 + (length new.bytes - length old.bytes)
 
 -- two walks over the rows beside it
 abbrev pub list_cost : Registry → Kept → Kept → ℕ
@@ -93,14 +89,6 @@ PaysToUnset context kept which before now = PaysToRegister context (removal_cost
 abbrev pub room_cost : Books → ℕ
 room_cost books = looks books.registry.limit + 2
 
--- a walk over the rows, with a look at how much is written after each, and what is written in the room of a part
-abbrev pub part_cost : Registry → ℕ
-part_cost kept = 3 * length (slots_of kept) + part_room + 6
-
--- a walk over the rows, with a look at how much is written after each, and what is written
-abbrev pub fill_cost : Registry → Kept → ℕ
-fill_cost kept out = 3 * length (slots_of kept) + length out.bytes + 5
-
 -- an unsent entry is looked for, and this many bytes of its call are lent
 abbrev pub lending_cost : Books → ℕ → ℕ
 lending_cost books count = unsent_cost books.forwards.cap count
@@ -114,41 +102,3 @@ abbrev pub results_cost : Books → Results → Kept → Kept → ℕ
 results_cost books (results.Value value) old new = put_cost old new
 results_cost books (results.Rows list) old new = list_cost books.registry old new
 results_cost books results.Statistics old new = statistics_cost + 3 + put_cost old new
-
--- ---- which calls walk rows
-
--- a list of rows is asked for
-abbrev pub lists_rows : Request → Bool
-lists_rows (requests.Void voids.PmapDump) = true
-lists_rows (requests.Void voids.Dump) = true
-lists_rows (requests.Rpcb rpcbs.Getaddrlist r) = true
-lists_rows _ = false
-
--- a SET or an UNSET
-abbrev pub changes_rows : Request → Bool
-changes_rows (requests.Mapping mappings.Set m) = true
-changes_rows (requests.Mapping mappings.Unset m) = true
-changes_rows (requests.Rpcb rpcbs.Set r) = true
-changes_rows (requests.Rpcb rpcbs.Unset r) = true
-changes_rows _ = false
-
--- A list walks rows, and so does a SET or an UNSET of a caller that may register: that of another is refused before.
--- REGISTER-3
-abbrev pub walks_rows : Bool → Request → Bool
-walks_rows may request = lists_rows request || may && changes_rows request
-
--- rows are shown
-abbrev pub are_rows : Results → Bool
-are_rows (results.Value value) = false
-are_rows (results.Rows list) = true
-are_rows results.Statistics = false
-
-abbrev pub shows_rows : Answer → Bool
-shows_rows (answers.Results given) = are_rows given
-shows_rows (answers.Refused status) = false
-shows_rows answers.Forwarded = false
-shows_rows answers.Silent = false
-
--- a list answers a call for one alone
-abbrev pub ListsIfAsked : Call → Answer → Type 0
-ListsIfAsked call given = IsTrue (shows_rows given) → IsTrue (lists_rows call.request)

@@ -4,12 +4,12 @@ use Rattle.std.specs.List.{list_any}
 use Rattle.std.specs.Option.{option_or}
 use Rattle.rb_registry.specs.declared.row.Row.{Row}
 use Rattle.rb_registry.specs.Rows.{rpcb_prog, is_of_key, is_change_left}
-use Rattle.rb_proto.specs.declared.context.Context.{Context}
+use Rattle.rb_answers.specs.declared.context.Context.{Context}
 use Rattle.rb_registry.specs.declared.reasons.Refusal.{Refusal}
 use Rattle.rb_registry.specs.declared.reasons.Refusal.TheVariants as reasons
-use Rattle.rb_proto.specs.Netids.{is_address}
-use Rattle.rb_proto.specs.Reserved.{may_own}
-use Rattle.rb_proto.specs.Answers.{comes_from_here, has_share}
+use Rattle.rb_answers.specs.Netids.{is_address}
+use Rattle.rb_answers.specs.Reserved.{may_own}
+use Rattle.rb_answers.specs.Answers.{comes_from_here, has_share}
 
 -- why the caller may not set the row, whatever rows there are
 abbrev pub refusal_before : Context → Row → Option Refusal

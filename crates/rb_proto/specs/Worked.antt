@@ -15,20 +15,23 @@ use Rattle.rb_address.specs.declared.who.Trust.TheVariants.{Claims}
 use Rattle.rb_address.specs.declared.who.Who.{Who}
 use Rattle.rb_registry.specs.declared.row.Row.{Row}
 use Rattle.rb_registry.specs.Rows.{rpcb_prog}
-use Rattle.rb_proto.specs.declared.listener.Listener.{Listener}
+use Rattle.rb_answers.specs.declared.listener.Listener.{Listener}
 use Rattle.rb_arguments.specs.declared.request.ArgumentFault.{ArgumentFault}
 use Rattle.rb_arguments.specs.declared.request.ArgumentFault.TheVariants.{ProcUnavail, GarbageArgs}
-use Rattle.rb_proto.specs.declared.answers.Answer.TheVariants as answers
-use Rattle.rb_proto.specs.declared.answers.Listing.TheVariants.{Mappings}
+use Rattle.rb_answers.specs.declared.answers.Answer.TheVariants as answers
+use Rattle.rb_answers.specs.declared.answers.Listing.TheVariants.{Mappings}
 use Rattle.rb_arguments.specs.declared.request.Request.{Request}
 use Rattle.rb_arguments.specs.Arguments.{read_request}
-use Rattle.rb_proto.specs.declared.reserved.Reservation.{Reservation}
-use Rattle.rb_proto.specs.Reserved.{may_own}
-use Rattle.rb_proto.specs.Callers.{own_rows}
-use Rattle.rb_proto.specs.Ledger.{Ledger, fresh_ledger, with_call_noted}
-use Rattle.rb_proto.specs.Answers.{Answer, Call, Context, answer}
-use Rattle.rb_proto.specs.Terms.{open_terms}
-use Rattle.rb_proto.specs.Results.{list_bytes, result_bytes, shown_of}
+use Rattle.rb_answers.specs.declared.reserved.Reservation.{Reservation}
+use Rattle.rb_answers.specs.Reserved.{may_own}
+use Rattle.rb_answers.specs.Callers.{own_rows}
+use Rattle.rb_answers.specs.Ledger.{Ledger, fresh_ledger, with_call_noted}
+use Rattle.rb_answers.specs.declared.answers.Answer.{Answer}
+use Rattle.rb_answers.specs.declared.call.Call.{Call}
+use Rattle.rb_answers.specs.declared.context.Context.{Context}
+use Rattle.rb_answers.specs.Answers.{answer}
+use Rattle.rb_answers.specs.Terms.{open_terms}
+use Rattle.rb_answers.specs.Results.{list_bytes, result_bytes, shown_of}
 
 -- ---- calls one after another
 

@@ -19,14 +19,15 @@ use Rattle.rb_forward.specs.declared.types.Ended.{Ended}
 use Rattle.rb_forward.specs.declared.types.ForwardEnd.{ForwardEnd}
 use Rattle.rb_forward.specs.declared.types.ForwardEnd.TheVariants as outcomes
 use Rattle.rb_forward.specs.Forwards.{no_forwards, with_next_entry}
-use Rattle.rb_proto.specs.declared.answers.Answer.TheVariants as answers
+use Rattle.rb_answers.specs.declared.answers.Answer.TheVariants as answers
 use Rattle.rb_arguments.specs.declared.request.ArgumentFault.{ArgumentFault}
 use Rattle.rb_arguments.specs.declared.request.Request.{Request}
 use Rattle.rb_arguments.specs.Arguments.{read_request}
-use Rattle.rb_proto.specs.Callers.{own_rows}
-use Rattle.rb_proto.specs.Ledger.{Ledger, fresh_ledger, with_note}
-use Rattle.rb_proto.specs.Answers.{Answer, answer}
-use Rattle.rb_proto.specs.Forwarding.{target_replied, fell_due, caller_dropped, call_sent, forwarded_bytes}
+use Rattle.rb_answers.specs.Callers.{own_rows}
+use Rattle.rb_answers.specs.Ledger.{Ledger, fresh_ledger, with_note}
+use Rattle.rb_answers.specs.declared.answers.Answer.{Answer}
+use Rattle.rb_answers.specs.Answers.{answer}
+use Rattle.rb_answers.specs.Forwarding.{target_replied, fell_due, caller_dropped, call_sent, forwarded_bytes}
 use Rattle.rb_proto.specs.Worked.{Message, listener, listener_host, loopback, who_at, call, call_with, context_of, call_of, outcome, results_behind, says, rpcb_args}
 
 -- ---- calls

@@ -4,15 +4,15 @@ use Rattle.rb_registry.specs.declared.row.Row.{Row}
 use Rattle.rb_registry.specs.Rows.Change.{Added}
 use Rattle.rb_registry.specs.Worked.{own, first, second, one_removed, of_eight}
 use Rattle.rb_arguments.specs.declared.request.ArgumentFault.{ArgumentFault}
-use Rattle.rb_proto.specs.declared.answers.Listing.TheVariants.{Mappings}
-use Rattle.rb_proto.specs.declared.list_reply.ListReply.{ListReply}
+use Rattle.rb_answers.specs.declared.answers.Listing.TheVariants.{Mappings}
+use Rattle.rb_answers.specs.declared.list_reply.ListReply.{ListReply}
 use Rattle.rb_arguments.specs.declared.request.Request.{Request}
 use Rattle.rb_arguments.specs.Arguments.{read_request}
-use Rattle.rb_proto.specs.Callers.{own_rows}
-use Rattle.rb_proto.specs.Ledger.{Ledger, fresh_ledger}
-use Rattle.rb_proto.specs.Answers.{wants_room}
-use Rattle.rb_proto.specs.ListParts.{list_reply}
-use Rattle.rb_proto.specs.ListReplies.{rest_of}
+use Rattle.rb_answers.specs.Callers.{own_rows}
+use Rattle.rb_answers.specs.Ledger.{Ledger, fresh_ledger}
+use Rattle.rb_answers.specs.Answers.{wants_room}
+use Rattle.rb_answers.specs.ListParts.{list_reply}
+use Rattle.rb_answers.specs.ListReplies.{rest_of}
 use Rattle.rb_proto.specs.Worked.{Message, listener, from, call, context_of, call_of}
 
 -- ---- room

@@ -1,13 +1,11 @@
 //! What is remembered of calls.
 ghost use Rattle.std.specs.Prelude.{◌≡◌};
-ghost use Rattle.rb_proto.specs.Ledger.{version_of};
+ghost use Rattle.rb_answers.specs.Ledger.{version_of};
 
-use crate::call::Call;
-use crate::context::Context;
 use crate::forwarding::note_end;
-use crate::listener::{Listener, own_rows};
 use crate::sets::{accepts, row_to_set};
 use rb_address::Peer;
+use rb_answers::{Call, Context, Listener, own_rows};
 use rb_forward::{Ended, ForwardEnd, Forwards, FwdId, Gone, Unsent};
 use rb_registry::{Refusal, Registry, RegistryFault};
 use rb_rpc::CallHead;
@@ -45,7 +43,7 @@ fn layout(books: &Books) {
 }
 
 /// The version that counts a call. One of another number than 2, 3 and 4 has no procedures.
-#[tactic(auto, unfolding(crate::specs::Ledger::version_of))]
+#[tactic(auto, unfolding(rb_answers::specs::Ledger::version_of))]
 pub(crate) fn version_of(vers: u32) -> Version
     ensures { result ≡ version_of vers }
 {
@@ -64,16 +62,17 @@ impl Books {
     ghost use Rattle.rb_forward.specs.Outcomes.{PassesWithin};
     ghost use Rattle.rb_forward.specs.StandsFor.{slots_of, longest_forwarded_call};
     ghost use Rattle.rb_forward.specs.Table.{plain_unsent, count_lent, is_waiting, IsNew, NoneWaitsAnew};
-    ghost use Rattle.rb_proto.specs.Forwarding.{fell_due, caller_dropped, call_sent};
+    ghost use Rattle.rb_answers.specs.Forwarding.{fell_due, caller_dropped, call_sent};
     ghost use Rattle.rb_proto.specs.Books.{unsent_of, reply_to, removals_in, wants_room_in, BooksShow, IsOkWhere, ActsAs, Becomes, AreTied, SameFrame};
     ghost use Rattle.rb_proto.specs.Puts.{PaysToRegister, ending_cost, lending_cost, room_cost};
-    ghost use Rattle.rb_proto.specs.Answers.{wants_room};
+    ghost use Rattle.rb_answers.specs.Answers.{wants_room};
     ghost use Rattle.rb_registry.specs.Registry.{rows_of, slots_of as row_slots};
     ghost use Rattle.rb_registry.specs.Table.{floor_raised, later_than};
     ghost use Rattle.rb_registry.specs.Cursors.{GoesOn};
-    ghost use Rattle.rb_proto.specs.Callers.{own_rows};
-    ghost use Rattle.rb_proto.specs.Costs.{zero_cost};
-    ghost use Rattle.rb_proto.specs.Ledger.{Ledger, StandsForLedger, fresh_ledger, with_call_noted};
+    ghost use Rattle.rb_answers.specs.Callers.{own_rows};
+    ghost use Rattle.rb_answers.specs.Costs.{zero_cost};
+    ghost use Rattle.rb_answers.specs.Ledger.{Ledger, fresh_ledger, with_call_noted};
+    ghost use Rattle.rb_proto.specs.Ledger.{StandsForLedger};
 
     /// Books with the listener's own rows alone, for at most `limit` rows and at most `forwards` forwarded calls at a
     /// time, the first with the xid `first_xid`. `BadLimits` if there are more own rows than `limit`, else `NoMemory`
@@ -111,7 +110,7 @@ impl Books {
 
     /// Notes a call of a procedure that its version has, before it is answered: those too whose arguments can't be
     /// read (RFC 1833 section 2.1, rpcb_stat).
-    #[tactic(auto, unfolding(crate::specs::Ledger::with_call_noted))]
+    #[tactic(auto, unfolding(rb_answers::specs::Ledger::with_call_noted))]
     pub fn note_call(&mut self, head: &CallHead)
         ensures called { Becomes (with_call_noted head.now) self.old self.new }
         ensures registry { self.new.registry ≡ self.old.registry }
@@ -134,7 +133,7 @@ impl Books {
     }
 
     /// Returns whether the call is a SET that is accepted: then there has to be room for its row.
-    #[tactic(auto, unfolding(crate::specs::Answers::adds_row))]
+    #[tactic(auto, unfolding(rb_answers::specs::Answers::adds_row))]
     pub fn wants_room(&self, context: &Context, call: &Call, meter: &mut Meter) -> bool
         requires tied { AreTied meter.old.tie self.now }
         requires limit { self.now.registry.limit ≡ context.now.limit }
@@ -180,7 +179,7 @@ impl Books {
 
     /// Notes that the forwarded call of this number was sent: from now on a reply counts, and its bytes are held no longer.
     /// `Gone` if there is no such call, or it was sent before: then nothing changes.
-    #[tactic(auto, unfolding(crate::specs::Forwarding::call_sent))]
+    #[tactic(auto, unfolding(rb_answers::specs::Forwarding::call_sent))]
     pub fn sent(&mut self, id: FwdId, meter: &mut Meter) -> Result<(), Gone>
         requires { AreTied meter.old.tie self.old }
         ensures there { IsOkWhere (λ l. can_be_sent id.number l.forwards) self.old result }
@@ -197,7 +196,7 @@ impl Books {
     /// Takes a datagram that came from the peer `from` at the moment `clock`, in milliseconds. If it is a reply to
     /// forwarded calls, the one of least number ends, and its outcome is noted. Any other datagram changes nothing, and
     /// the answer is `None`.
-    #[tactic(auto, unfolding(crate::specs::Forwarding::target_replied))]
+    #[tactic(auto, unfolding(rb_answers::specs::Forwarding::target_replied))]
     pub fn reply(
         &mut self,
         clock: u64,
@@ -222,7 +221,7 @@ impl Books {
 
     /// The forwarded call of least number whose deadline has come at the moment `clock`, in milliseconds, ends, as
     /// `Failed`, and that is noted. If there is none, nothing changes, and the answer is `None`.
-    #[tactic(auto, unfolding(crate::specs::Forwarding::fell_due))]
+    #[tactic(auto, unfolding(rb_answers::specs::Forwarding::fell_due))]
     pub fn due(&mut self, clock: u64, meter: &mut Meter) -> Option<Ended>
         requires { AreTied meter.old.tie self.old }
         ensures acts { ActsAs (fell_due clock) self.old self.new result }
@@ -240,7 +239,7 @@ impl Books {
     }
 
     /// The connection of this number is closed: its forwarded call ends, if it has one, and is noted as a failure.
-    #[tactic(auto, unfolding(crate::specs::Forwarding::caller_dropped))]
+    #[tactic(auto, unfolding(rb_answers::specs::Forwarding::caller_dropped))]
     pub fn drop_caller(&mut self, id: u64, meter: &mut Meter)
         requires { AreTied meter.old.tie self.old }
         ensures dropped { Becomes (λ l. (caller_dropped id l).1) self.old self.new }

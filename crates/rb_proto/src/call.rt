@@ -5,29 +5,20 @@ ghost use Rattle.rb_forward.specs.Table.{IsNew};
 ghost use Rattle.rb_proto.specs.Books.{ActsAs, AreTied, OnlyCallerWaits, SameFrame, StayUnlessForwarded, HasRowRoom};
 ghost use Rattle.rb_arguments.specs.Arguments.{HasArgs};
 ghost use Rattle.rb_registry.specs.Cursors.{GoesOn};
-ghost use Rattle.rb_proto.specs.Answers.{answer, answer_void};
-ghost use Rattle.rb_proto.specs.Puts.{ListsIfAsked, PaysForCall};
+ghost use Rattle.rb_answers.specs.Answers.{answer, answer_void};
+ghost use Rattle.rb_answers.specs.Walks.{ListsIfAsked};
+ghost use Rattle.rb_proto.specs.Puts.{PaysForCall};
 
-use crate::answers::{Answer, Listing, Results, Value};
 use crate::books::Books;
-use crate::context::Context;
 use crate::forwarding::forward_call;
 use crate::lookups::{getaddr, getport, gettime, getversaddr, taddr2uaddr, uaddr2taddr};
-use crate::netids::which_of;
-use crate::sets::{row_of_mapping, row_of_rpcb, set_row, unset_rows};
+use crate::sets::{set_row, unset_rows};
+use rb_answers::{
+    Answer, Call, Context, Listing, Results, Value, row_of_mapping, row_of_rpcb, which_of,
+};
 use rb_arguments::{MappingProcedure, Request, RpcbProcedure, VoidProcedure};
 use rb_registry::Which;
-use rb_rpc::CallHead;
 use rb_xdr::Meter;
-
-/// A call of a procedure that is served, with arguments that could be read.
-#[derive(Drop)]
-pub struct Call<'a> {
-    /// Its head.
-    pub head: CallHead,
-    /// What it asks for.
-    pub request: Request<'a>,
-}
 
 /// What a procedure without arguments is answered. It leaves nothing behind.
 fn answer_void(context: &Context, procedure: VoidProcedure) -> Results
@@ -54,7 +45,7 @@ fn value_answer(value: Value) -> Answer
 /// call ends is noted at its end.
 ///
 /// `arguments` are the bytes that the request was read from. A caller on a connection has no other forwarded call.
-#[tactic(auto, using(crate::proofs::ListReplies::goes_on_same), unfolding(crate::specs::Answers::answer, crate::specs::Answers::adds_row, crate::specs::Answers::row_to_set))]
+#[tactic(auto, using(rb_answers::proofs::ListReplies::goes_on_same), unfolding(rb_answers::specs::Answers::answer, rb_answers::specs::Answers::adds_row, rb_answers::specs::Answers::row_to_set))]
 pub fn answer(
     books: &mut Books,
     context: &Context,

@@ -7,17 +7,16 @@ ghost use Rattle.rb_forward.specs.StandsFor.{slots_of};
 ghost use Rattle.rb_forward.specs.Table.{IsNew};
 ghost use Rattle.rb_proto.specs.Books.{ActsAs, ForwardsAs, AreTied, HasNotedWhere, NotesForward, OnlyCallerWaits, SameFrame, StayUnlessForwarded};
 ghost use Rattle.rb_arguments.specs.Remote.{HasContent};
-ghost use Rattle.rb_proto.specs.Forwarding.{version_of_kind, netid_to_forward, address_of_row, address_asked, peer_of_address, merged_peer, uaddr_at, forward_of, refusal, refuse, counts_end, end_note};
-ghost use Rattle.rb_proto.specs.Terms.{counts_forward};
-ghost use Rattle.rb_proto.specs.Costs.{note_cost};
-ghost use Rattle.rb_proto.specs.Puts.{forwarding_cost, shows_rows};
+ghost use Rattle.rb_answers.specs.Forwarding.{version_of_kind, netid_to_forward, address_of_row, address_asked, peer_of_address, merged_peer, uaddr_at, forward_of, refusal, refuse, counts_end, end_note};
+ghost use Rattle.rb_answers.specs.Terms.{counts_forward};
+ghost use Rattle.rb_answers.specs.Costs.{note_cost};
+ghost use Rattle.rb_answers.specs.Walks.{shows_rows};
+ghost use Rattle.rb_proto.specs.Puts.{forwarding_cost};
 
-use crate::answers::Answer;
 use crate::books::Books;
-use crate::context::{Context, netid_of_caller};
-use crate::netids::address_in;
 use crate::terms::{counts_forward, may_go};
 use rb_address::{Caller, Host, Netid, Peer, Source, Transport};
+use rb_answers::{Answer, Context, address_in, netid_of_caller};
 use rb_arguments::{Kind, RemoteCall};
 use rb_forward::{Ended, Forward, ForwardEnd};
 use rb_registry::{RPCB_PROG, Registry, Row};
@@ -53,7 +52,7 @@ struct ForwardNote {
 }
 
 /// Notes a forwarded call at its outcome, if that counts.
-#[tactic(auto, unfolding(crate::specs::Forwarding::outcome_note))]
+#[tactic(auto, unfolding(rb_answers::specs::Forwarding::outcome_note))]
 fn note_outcome(stats: &mut Stats, asked: ForwardNote, passed: bool, meter: &mut Meter)
     requires { meter.old.tie ≡ stats.old.tie }
     ensures history { NotesForward asked passed stats.old stats.new }
@@ -81,7 +80,7 @@ fn note_outcome(stats: &mut Stats, asked: ForwardNote, passed: bool, meter: &mut
 }
 
 /// Notes how an entry ended, if that counts.
-#[tactic(auto, unfolding(crate::specs::Forwarding::end_note))]
+#[tactic(auto, unfolding(rb_answers::specs::Forwarding::end_note))]
 pub(crate) fn note_end(stats: &mut Stats, ended: &Ended, meter: &mut Meter)
     requires { meter.old.tie ≡ stats.old.tie }
     ensures history { HasNotedWhere
@@ -126,7 +125,7 @@ fn address_of_row(row: &Row) -> Option<Uaddr>
 }
 
 /// Where the program's exact version is, for this caller, if the call may be made. The portmapper itself is not called.
-#[tactic(auto, unfolding(crate::specs::Forwarding::address_to_forward))]
+#[tactic(auto, unfolding(rb_answers::specs::Forwarding::address_to_forward))]
 fn address_asked(
     registry: &Registry,
     context: &Context,
@@ -180,7 +179,7 @@ pub(crate) fn uaddr_at(peer: Peer) -> Uaddr
 
 /// What is asked at the registered address, for a call of this xid. In place of 0.0.0.0 the call goes to 127.0.0.1, in
 /// place of :: to ::1, and the caller is shown the host that it is told.
-#[tactic(auto, unfolding(crate::specs::Forwarding::forward_of))]
+#[tactic(auto, unfolding(rb_answers::specs::Forwarding::forward_of))]
 fn forward_of(
     context: &Context,
     xid: u32,
@@ -245,7 +244,7 @@ fn refuse(
 }
 
 /// CALLIT, BCAST and INDIRECT, of this xid: the call that is asked for will be forwarded, or is refused.
-#[tactic(auto, unfolding(crate::specs::Forwarding::forward_call))]
+#[tactic(auto, unfolding(rb_answers::specs::Forwarding::forward_call))]
 pub(crate) fn forward_call(
     books: &mut Books,
     context: &Context,

@@ -1,6 +1,6 @@
 //! What holds of every forwarded call, and of every list.
 ghost use Rattle.rb_proto.specs.ForwardLaws.{ForwardsGoToRows, ForwardsAreNotedOnce};
-ghost use Rattle.rb_proto.specs.ListParts.{ListRepliesGoOn};
+ghost use Rattle.rb_answers.specs.ListParts.{ListRepliesGoOn};
 
 /// If a call is forwarded, it goes to a live row on udp of exactly its program and version, and never to the
 /// portmapper.

@@ -2,19 +2,17 @@
 ghost use Rattle.std.specs.Prelude.{◌≡◌, ◌+◌, option_copied};
 ghost use Rattle.rb_xdr.specs.Meter.{PaysAtMost};
 ghost use Rattle.rb_proto.specs.Books.{ActsAs, AreTied, NotesLookUp, SameFrame};
-ghost use Rattle.rb_proto.specs.Terms.{counts_look_up};
-ghost use Rattle.rb_proto.specs.Ledger.{version_of};
-ghost use Rattle.rb_proto.specs.Answers.{shown_address, shown_text, shown_port, port_found, is_replaced, is_told_anew, addr_told, addr_found, getport, getaddr, getversaddr, target_of, seconds, taddr_of, uaddr_of};
+ghost use Rattle.rb_answers.specs.Terms.{counts_look_up};
+ghost use Rattle.rb_answers.specs.Ledger.{version_of};
+ghost use Rattle.rb_answers.specs.Answers.{shown_address, shown_text, shown_port, port_found, is_replaced, is_told_anew, addr_told, addr_found, getport, getaddr, getversaddr, target_of, seconds, taddr_of, uaddr_of};
 ghost use Rattle.rb_uaddr.specs.Uaddr.{text_of};
-ghost use Rattle.rb_proto.specs.Costs.{note_cost};
+ghost use Rattle.rb_answers.specs.Costs.{note_cost};
 ghost use Rattle.rb_proto.specs.Puts.{lookup_cost};
 
-use crate::address_buf::AddressBuf;
 use crate::books::{Books, version_of};
-use crate::context::Context;
-use crate::netids::address_in;
 use crate::terms::counts_look_up;
 use rb_address::{Family, Netid, Transport};
+use rb_answers::{AddressBuf, Context, address_in, shown_port, text_of};
 use rb_arguments::{LentNetbuf, LentRpcb, LentText, Mapping};
 use rb_registry::Row;
 use rb_rpc::CallHead;
@@ -22,60 +20,12 @@ use rb_stats::{Stats, Target};
 use rb_uaddr::{Hosts, MAX_KEPT, Uaddr};
 use rb_xdr::{Meter, Text};
 
-const ANY_HOST: [u8; 4] = [0; 4];
-
-const ANY_HOST6: [u8; 16] = [0; 16];
-
 /// The row's universal address as a caller is told it: a host of its family stands in for 0.0.0.0 or ::.
-#[tactic(auto, unfolding(crate::specs::Answers::shown_address))]
+#[tactic(auto, unfolding(rb_answers::specs::Answers::shown_address))]
 fn shown_address(hosts: &Hosts, row: &Row) -> Option<Uaddr>
     ensures { result ≡ shown_address hosts.now row.now }
 {
     Some(address_in(row.netid, &row.addr)?.merge(hosts))
-}
-
-/// Whether the IPv6 host is :: and another stands in for it.
-fn is_replaced(hosts: &Hosts, own: [u8; 16]) -> bool
-    ensures { result ≡ is_replaced hosts.now own }
-{
-    own == ANY_HOST6 && hosts.inet6 != ANY_HOST6
-}
-
-/// Whether another host stands in for that of the address.
-fn is_told_anew(hosts: &Hosts, address: Uaddr) -> bool
-    ensures { result ≡ is_told_anew hosts.now address }
-{
-    match address {
-        Uaddr::V4(own, _) => own == ANY_HOST,
-        Uaddr::V6(own, _) => is_replaced(hosts, own),
-    }
-}
-
-/// The text of the row's address as a list of addresses has it: a host of its family stands in for 0.0.0.0 or ::, and
-/// any other text stays as it was set.
-#[tactic(auto, unfolding(crate::specs::Answers::shown_text))]
-pub(crate) fn shown_text(hosts: &Hosts, row: &Row) -> Text<MAX_KEPT>
-    ensures { result ≡ shown_text hosts.now row.now }
-{
-    match address_in(row.netid, &row.addr) {
-        Some(address) if is_told_anew(hosts, address) => text_of(address.merge(hosts)),
-        _ => Text::new(row.addr.as_slice()),
-    }
-}
-
-/// The text of a universal address.
-fn text_of(address: Uaddr) -> Text<MAX_KEPT>
-    ensures { result ≡ text_of address }
-{
-    Text::new(address.text().as_slice())
-}
-
-/// The port of the row's address, or 0 if it has none.
-#[tactic(auto, unfolding(crate::specs::Answers::shown_port))]
-pub(crate) fn shown_port(row: &Row) -> u32
-    ensures { result ≡ shown_port row.now }
-{
-    address_in(row.netid, &row.addr).map_or(0, |address| u32::from(address.port()))
 }
 
 /// The port of a row that was looked up, or 0 if there is none.
@@ -141,7 +91,7 @@ fn note_lookup(
 
 /// PMAPPROC_GETPORT (RFC 1833 section 3.2): the port is ignored, and 0 says that there is no row. A look-up by the
 /// protocol of a transport is noted.
-#[tactic(auto, unfolding(crate::specs::Answers::getport))]
+#[tactic(auto, unfolding(rb_answers::specs::Answers::getport))]
 pub(crate) fn getport(
     books: &mut Books,
     context: &Context,
@@ -175,7 +125,7 @@ pub(crate) fn getport(
 
 /// RPCBPROC_GETADDR (RFC 1833 section 2.2.1), on the netid by which the call came: that of the argument is ignored. The
 /// look-up is noted.
-#[tactic(auto, unfolding(crate::specs::Answers::getaddr))]
+#[tactic(auto, unfolding(rb_answers::specs::Answers::getaddr))]
 pub(crate) fn getaddr(
     books: &mut Books,
     context: &Context,
@@ -200,7 +150,7 @@ pub(crate) fn getaddr(
 }
 
 /// RPCBPROC_GETVERSADDR (RFC 1833 section 2.2.2): as GETADDR, but of the exact version alone.
-#[tactic(auto, unfolding(crate::specs::Answers::getversaddr))]
+#[tactic(auto, unfolding(rb_answers::specs::Answers::getversaddr))]
 pub(crate) fn getversaddr(
     books: &mut Books,
     context: &Context,
@@ -225,7 +175,7 @@ pub(crate) fn getversaddr(
 }
 
 /// RPCBPROC_GETTIME (RFC 1833 section 2.2.1): whole seconds since the start of 1970, or 2^32 - 1 if they are more.
-#[tactic(auto, unfolding(crate::specs::Answers::seconds))]
+#[tactic(auto, unfolding(rb_answers::specs::Answers::seconds))]
 pub(crate) fn gettime(clock: u64) -> u32
     ensures { result ≡ seconds clock }
 {
@@ -233,7 +183,7 @@ pub(crate) fn gettime(clock: u64) -> u32
 }
 
 /// RPCBPROC_UADDR2TADDR (RFC 1833 section 2.2.1): an empty buf if the text is no address.
-#[tactic(auto, unfolding(crate::specs::Answers::taddr_of))]
+#[tactic(auto, unfolding(rb_answers::specs::Answers::taddr_of))]
 pub(crate) fn uaddr2taddr(text: &LentText<128>) -> AddressBuf
     ensures { result ≡ taddr_of text.now }
 {
@@ -244,7 +194,7 @@ pub(crate) fn uaddr2taddr(text: &LentText<128>) -> AddressBuf
 }
 
 /// RPCBPROC_TADDR2UADDR (RFC 1833 section 2.2.1): the empty text if the buf is no address.
-#[tactic(auto, unfolding(crate::specs::Answers::uaddr_of))]
+#[tactic(auto, unfolding(rb_answers::specs::Answers::uaddr_of))]
 pub(crate) fn taddr2uaddr(netbuf: &LentNetbuf) -> Text<MAX_KEPT>
     ensures { result ≡ uaddr_of netbuf.now }
 {

@@ -3,19 +3,20 @@ ghost use Rattle.std.specs.Prelude.{◌≡◌, ◌≤◌, ◌+◌, length};
 ghost use Rattle.rb_xdr.specs.Meter.{PaysAtMost};
 ghost use Rattle.rb_registry.specs.Registry.{rows_of};
 ghost use Rattle.rb_stats.specs.Counting.{spelling};
-ghost use Rattle.rb_proto.specs.Ledger.{Ledger, StandsForLedger};
+ghost use Rattle.rb_answers.specs.Ledger.{Ledger};
+ghost use Rattle.rb_proto.specs.Ledger.{StandsForLedger};
 ghost use Rattle.rb_proto.specs.Books.{AreTied};
 ghost use Rattle.rb_xdr.specs.Puts.{Puts};
 ghost use Rattle.rb_proto.specs.Puts.{put_cost, list_cost, results_cost};
-ghost use Rattle.rb_proto.specs.Costs.{statistics_cost};
+ghost use Rattle.rb_answers.specs.Costs.{statistics_cost};
 ghost use Rattle.rb_forward.specs.Forwards.{longest_results};
-ghost use Rattle.rb_proto.specs.Forwarding.{forwarded_bytes};
-ghost use Rattle.rb_proto.specs.Results.{value_bytes, results_at, rows_bytes, shown_in, shown_of};
+ghost use Rattle.rb_answers.specs.Forwarding.{forwarded_bytes};
+ghost use Rattle.rb_answers.specs.Results.{value_bytes, rows_bytes, shown_of};
+ghost use Rattle.rb_proto.specs.Showing.{results_at, shown_in};
 
-use crate::answers::{Listing, Results, Value};
 use crate::books::Books;
 use crate::forwarding::uaddr_at;
-use crate::rows::{room_after_rows, seek_version, write_rows};
+use rb_answers::{Listing, Results, Value, room_after_rows, seek_version, write_rows};
 use rb_arguments::Kind;
 use rb_forward::{Forward, LONGEST_RESULTS};
 use rb_registry::Registry;
@@ -63,7 +64,7 @@ fn put_value(value: &Value, limit: usize, out: &mut Kept, meter: &mut Meter) -> 
 
 // PUT-1: Results that would be longer than the limit are refused whole, and nothing is put.
 /// Puts the rows that a list shows, and its end: all or nothing.
-#[tactic(auto, using(crate::proofs::Searching::sought_few))]
+#[tactic(auto, using(rb_answers::proofs::Searching::sought_few))]
 fn put_rows(
     list: Listing,
     registry: &Registry,
@@ -112,7 +113,7 @@ fn put_statistics(
 ///
 /// `Full`, and nothing is written, if the buffer would then have more than `limit` bytes. A list walks the rows
 /// twice: to count its bytes, and to write them.
-#[tactic(auto, using(crate::proofs::Shown::shown_where_standing), unfolding(crate::specs::Results::result_bytes))]
+#[tactic(auto, using(crate::proofs::Shown::shown_where_standing), unfolding(rb_answers::specs::Results::result_bytes))]
 pub fn put_results(
     results: &Results,
     books: &Books,
@@ -141,7 +142,7 @@ pub fn put_results(
 /// are at most 8,800 bytes (RFC 1833 section 2.1, rpcb_rmtcallres, and section 3.1, call_result).
 ///
 /// They are refused, and nothing is put, if the buffer would then have more than `limit` bytes.
-#[tactic(auto, unfolding(crate::specs::Forwarding::forwarded_bytes, rb_forward::specs::Forwards::longest_results))]
+#[tactic(auto, unfolding(rb_answers::specs::Forwarding::forwarded_bytes, rb_forward::specs::Forwards::longest_results))]
 pub fn put_forwarded(
     forward: &Forward,
     results: &[u8],

@@ -9,52 +9,19 @@ ghost use Rattle.rb_registry.specs.Cursors.{GoesOn};
 ghost use Rattle.rb_proto.specs.Books.{ActsAs, AreTied, SameFrame, HasRoomFor};
 ghost use Rattle.rb_registry.specs.Rows.{is_change_left};
 ghost use Rattle.rb_proto.specs.Reasons.{refusal_before, refusal_of, removal_refusal};
-ghost use Rattle.rb_proto.specs.Answers.{row_of_mapping, row_of_rpcb, row_to_set, has_share, accepts, set_row, unset_rows};
+ghost use Rattle.rb_answers.specs.Answers.{row_to_set, has_share, accepts, set_row, unset_rows};
 
 use crate::books::{Books, version_of};
-use crate::call::Call;
-use crate::context::Context;
-use crate::netids::is_address;
 use rb_address::{Family, Netid, Owner, Transport};
+use rb_answers::{Call, Context, is_address, row_of_mapping, row_of_rpcb};
 use rb_arguments::{LentRpcb, Mapping, MappingProcedure, Request, RpcbProcedure};
 use rb_registry::{RPCB_PROG, Refusal, Registry, Row, Which};
 use rb_rpc::CallHead;
 use rb_uaddr::{AddressText, Uaddr};
 use rb_xdr::Meter;
 
-/// The row that a SET of version 2 asks for, at every host.
-#[tactic(auto, unfolding(crate::specs::Answers::row_of_mapping))]
-pub(crate) fn row_of_mapping(owner: Owner, mapping: &Mapping) -> Option<Row>
-    ensures { result ≡ row_of_mapping owner mapping.now }
-{
-    let port = u16::try_from(mapping.port).ok()?;
-    let transport = Transport::of_protocol(mapping.prot)?;
-    Some(Row {
-        prog: mapping.prog,
-        vers: mapping.vers,
-        netid: Netid::of(transport, Family::Inet),
-        owner,
-        addr: Uaddr::any(port).text(),
-    })
-}
-
-/// The row that a SET asks for, with the text of its address as it was given.
-#[tactic(auto, unfolding(crate::specs::Answers::row_of_rpcb))]
-pub fn row_of_rpcb(owner: Owner, rpcb: &LentRpcb) -> Option<Row>
-    ensures { result ≡ row_of_rpcb owner rpcb.now }
-{
-    let netid = Netid::named(rpcb.netid())?;
-    Some(Row {
-        prog: rpcb.prog(),
-        vers: rpcb.vers(),
-        netid,
-        owner,
-        addr: AddressText::new(rpcb.addr()),
-    })
-}
-
 /// The row that a call asks to SET, if it does.
-#[tactic(auto, unfolding(crate::specs::Answers::row_to_set))]
+#[tactic(auto, unfolding(rb_answers::specs::Answers::row_to_set))]
 pub(crate) fn row_to_set(context: &Context, call: &Call) -> Option<Row>
     ensures { result ≡ row_to_set context.now call.now }
 {
@@ -110,7 +77,7 @@ fn refusal_by(registry: &Registry) -> Refusal
 }
 
 /// Whether the live rows are fewer than those among which the caller may set one more.
-#[tactic(auto, unfolding(crate::specs::Answers::has_share))]
+#[tactic(auto, unfolding(rb_answers::specs::Answers::has_share))]
 fn has_share(registry: &Registry, context: &Context, meter: &mut Meter) -> bool
     requires { meter.old.tie ≡ registry.now.tie }
     ensures share { result ≡ has_share context.now (rows_of registry.now) }
@@ -142,7 +109,7 @@ pub(crate) fn accepts(registry: &Registry, context: &Context, row: &Row, meter: 
 
 /// Adds the row that a SET asks for, if there is one and it is accepted, and answers whether it was: then the SET is noted.
 /// Why it was not is kept.
-#[tactic(auto, unfolding(crate::specs::Answers::set_row, crate::specs::Answers::accepts_row))]
+#[tactic(auto, unfolding(rb_answers::specs::Answers::set_row, rb_answers::specs::Answers::accepts_row))]
 pub(crate) fn set_row(
     books: &mut Books,
     context: &Context,
@@ -188,7 +155,7 @@ pub(crate) fn set_row(
 
 /// Removes the rows of the program's version on these netids that the caller may remove, and answers
 /// whether there was one: then the UNSET is noted. Why there was none is kept.
-#[tactic(auto, unfolding(crate::specs::Answers::unset_rows, crate::specs::Answers::accepts_removal))]
+#[tactic(auto, unfolding(rb_answers::specs::Answers::unset_rows, rb_answers::specs::Answers::accepts_removal))]
 pub(crate) fn unset_rows(
     books: &mut Books,
     context: &Context,

@@ -1,11 +1,10 @@
 //! On which terms callers are served: for whom another call is made and to what, and what strangers are counted for.
 ghost use Rattle.std.specs.Prelude.{◌≡◌, option_copied};
-ghost use Rattle.rb_proto.specs.Callers.{who_of};
-ghost use Rattle.rb_proto.specs.Terms.{goes_by_host, is_any_host, is_this_host, is_harmless, may_go, counts_look_up, counts_forward};
+ghost use Rattle.rb_answers.specs.Callers.{who_of};
+ghost use Rattle.rb_answers.specs.Terms.{goes_by_host, is_any_host, is_this_host, is_harmless, may_go, counts_look_up, counts_forward};
 
-use crate::context::{Context, is_stranger, who_of};
-use crate::listener::Forwarding;
 use rb_address::{Caller, Host};
+use rb_answers::{Context, Forwarding, is_stranger, who_of};
 use rb_arguments::RemoteCall;
 use rb_registry::Row;
 
@@ -18,7 +17,7 @@ const YPBIND: u32 = 100_007;
 const YPPASSWDD: u32 = 100_009;
 
 /// Whether the program goes by the host of who calls it: for a forwarded call that is this host.
-#[tactic(auto, unfolding(crate::specs::Terms::goes_by_host))]
+#[tactic(auto, unfolding(rb_answers::specs::Terms::goes_by_host))]
 fn goes_by_host(prog: u32, proc: u32) -> bool
     ensures { result ≡ goes_by_host prog proc }
 {
@@ -39,7 +38,7 @@ fn is_any_host(host: Host) -> bool
 }
 
 /// Whether the host is this one: every host, one of the loopback, an announced one, or the one that the caller asked.
-#[tactic(auto, unfolding(crate::specs::Terms::is_this_host))]
+#[tactic(auto, unfolding(rb_answers::specs::Terms::is_this_host))]
 fn is_this_host(context: &Context, host: Host) -> bool
     ensures { result ≡ is_this_host context.now host }
 {
@@ -54,7 +53,7 @@ fn is_harmless(context: &Context, remote: &RemoteCall, host: Host) -> bool
 }
 
 /// Whether the call that is asked for may be made to this host, for this caller.
-#[tactic(auto, unfolding(crate::specs::Terms::may_go))]
+#[tactic(auto, unfolding(rb_answers::specs::Terms::may_go))]
 pub(crate) fn may_go(context: &Context, remote: &RemoteCall, host: Host) -> bool
     ensures { result ≡ may_go context.now remote.now host }
 {

@@ -1,5 +1,5 @@
 //! Worked examples of the definitions.
-#![tactic(auto, unfolding(crate::proofs::OnLiterals::rb_proto_on_literals))]
+#![tactic(auto, unfolding(rb_answers::proofs::OnLiterals::rb_answers_on_literals))]
 
 ghost use Rattle.rb_proto.specs.Worked.{DumpOwnRows, SetGetportSetAgain, GetportGreatestVersion, SetAtRowLimit, VersionTwoRefuses, OwnersRemove, UnsetByOwner, OtherAddressesRefused, GetaddrByTransport, Getaddrlist, AddressTransportForm, LocalityAndGettime, RefusalsOfAcceptedCalls, GetstatFirstCall, GetstatAfterCalls, GetstatOfOtherCalls, GetstatFirstKeys, LongDump, LongPmapDump, ReservedRows};
 ghost use Rattle.rb_proto.specs.WorkedForwards.{WithoutRow, WithOtherRows, PortmapperIsNotCalled, TableIsFull, FailuresAreCounted, AnyHostIsThisMachine, OtherHostsStay, EndsAreNoted, OthersAreNotNoted, PlacesAreShown};

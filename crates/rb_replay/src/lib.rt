@@ -3,12 +3,14 @@
 #![tactic(auto)]
 
 mod checking;
+mod commands;
 mod events;
 mod run;
 mod run_bound;
 mod running;
 
 pub use checking::{check_text, run_check};
+pub use commands::{check_lines, replay_lines};
 pub use rb_core::Core;
 pub use rb_model::{Event, Output};
 pub use rb_xdr::Meter;

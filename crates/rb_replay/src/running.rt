@@ -10,13 +10,13 @@ ghost use Rattle.rb_replay.specs.Running.{first_state, BeginsFrom, AreCounted, I
 
 use crate::run::replay;
 use crate::run_bound::whole_bound;
+use rb_answers::Listener;
 use rb_core::{CoreFault, Metered};
 use rb_lines::{
     Beginning, DONE, Ending, Fault, WriteFailed, explain_run, longest_input, print_outputs,
     print_steps, read_events,
 };
 use rb_model::{Event, Limits, Output};
-use rb_proto::Listener;
 use rb_uaddr::AddressText;
 use rb_xdr::Meter;
 use std::alloc::Global;

@@ -1,7 +1,7 @@
 //! What is told after a turn.
 use rb_settings::{KeepNews, Settings};
 use rb_startup::{Level, Leveled, say_address, say_local_change, say_name, say_table_fault};
-use rb_turns::Turns;
+use rb_turns::{News, Turns};
 use std::fs::Files;
 use std::io::Write;
 use std::net::Net;
@@ -15,14 +15,19 @@ pub fn say_news<D: Turns<R>, R: Files + Net, E: Write>(
 ) {
     let _ = daemon.write_log(&mut Leveled::new(&mut *faults, Level::Info));
     follow_addresses(rt, daemon, settings, faults);
+    say_warnings(settings, daemon.take_news(rt), faults);
+}
+
+/// Says what there is to tell.
+fn say_warnings<E: Write>(settings: &Settings<'_>, news: News, faults: &mut E) {
     let mut warnings = Leveled::new(faults, Level::Warning);
-    if let Some(fault) = daemon.take_fault() {
+    if let Some(fault) = news.fault {
         let _ = writeln!(warnings, "rpcbind: {fault}; it is tried again");
     }
-    say_keep_news(settings, daemon.take_keep_news(), &mut warnings);
-    say_table_fault(daemon.take_table_fault(), &mut warnings);
-    say_local_change(settings, daemon.take_local_change(), &mut warnings);
-    say_name(daemon.take_name(rt), &mut warnings);
+    say_keep_news(settings, news.keep, &mut warnings);
+    say_table_fault(news.table, &mut warnings);
+    say_local_change(settings, news.is_local_changed, &mut warnings);
+    say_name(news.name, &mut warnings);
 }
 
 /// More than can change at once of addresses that are followed.

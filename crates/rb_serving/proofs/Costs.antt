@@ -15,17 +15,18 @@ use Rattle.rb_arguments.specs.declared.procedure.MappingProcedure.TheVariants as
 use Rattle.rb_arguments.specs.declared.procedure.RpcbProcedure.TheVariants as rpcbs
 use Rattle.rb_arguments.specs.declared.request.Request.{Request}
 use Rattle.rb_arguments.specs.declared.request.Request.TheVariants as requests
-use Rattle.rb_proto.specs.declared.answers.Answer.{Answer}
-use Rattle.rb_proto.specs.declared.answers.Results.{Results}
-use Rattle.rb_proto.specs.declared.answers.Results.TheVariants as results
+use Rattle.rb_answers.specs.declared.answers.Answer.{Answer}
+use Rattle.rb_answers.specs.declared.answers.Results.{Results}
+use Rattle.rb_answers.specs.declared.answers.Results.TheVariants as results
 use Rattle.rb_proto.specs.declared.books.Books.{Books}
-use Rattle.rb_proto.specs.declared.call.Call.{Call}
-use Rattle.rb_proto.specs.declared.context.Context.{Context}
-use Rattle.rb_proto.specs.Reserved.{may_own}
-use Rattle.rb_proto.specs.Answers.{comes_from_here, owner_in, row_of_mapping, row_of_rpcb, can_be_set, has_share, row_asked, adds, adds_row, row_to_set}
-use Rattle.rb_proto.specs.Netids.{which_of}
-use Rattle.rb_proto.specs.Costs.{note_cost, forward_cost, statistics_cost}
-use Rattle.rb_proto.specs.Puts.{lists_rows, walks_rows, are_rows, shows_rows, put_cost, registering_cost, removal_cost, request_cost, cost_of, results_cost, ListsIfAsked as Lists}
+use Rattle.rb_answers.specs.declared.call.Call.{Call}
+use Rattle.rb_answers.specs.declared.context.Context.{Context}
+use Rattle.rb_answers.specs.Reserved.{may_own}
+use Rattle.rb_answers.specs.Answers.{comes_from_here, owner_in, row_of_mapping, row_of_rpcb, can_be_set, has_share, row_asked, adds, adds_row, row_to_set}
+use Rattle.rb_answers.specs.Netids.{which_of}
+use Rattle.rb_answers.specs.Costs.{note_cost, forward_cost, statistics_cost}
+use Rattle.rb_answers.specs.Walks.{lists_rows, walks_rows, are_rows, shows_rows, ListsIfAsked as Lists}
+use Rattle.rb_proto.specs.Puts.{put_cost, registering_cost, removal_cost, request_cost, cost_of, results_cost}
 use Rattle.rb_model.specs.declared.message.Message.TheVariants as says
 use Rattle.rb_model.specs.Costs.{walked, change_cost}
 use Rattle.rb_serving.specs.Costs.{row_count_of, PaysForResults, PaysToServe}

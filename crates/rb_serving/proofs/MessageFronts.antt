@@ -15,10 +15,10 @@ use Rattle.rb_arguments.specs.declared.request.Request.TheVariants.{Mapping, Rpc
 use Rattle.rb_arguments.specs.Remote.{read_remote}
 use Rattle.rb_arguments.specs.Types.{read_mapping, read_rpcb, read_netbuf}
 use Rattle.rb_arguments.specs.Arguments.{procedure_at, value_of, front, arguments, request, HasArgs}
-use Rattle.rb_proto.specs.declared.answers.Answer.{Answer}
-use Rattle.rb_proto.specs.declared.context.Context.{Context}
-use Rattle.rb_proto.specs.Ledger.{Ledger, with_call_noted}
-use Rattle.rb_proto.proofs.Fronts.{answer_of_front}
+use Rattle.rb_answers.specs.declared.answers.Answer.{Answer}
+use Rattle.rb_answers.specs.declared.context.Context.{Context}
+use Rattle.rb_answers.specs.Ledger.{Ledger, with_call_noted}
+use Rattle.rb_answers.proofs.Fronts.{answer_of_front}
 use Rattle.rb_model.specs.declared.message.Message.{Message}
 use Rattle.rb_model.specs.declared.message.Message.TheVariants as says
 use Rattle.rb_model.specs.Calls.{call_of, message_with, message_of, reply_with, outcome, longest_kept, kept_of}

@@ -8,10 +8,10 @@ use Rattle.rb_registry.specs.Rows.{rpcb_prog}
 use Rattle.rb_arguments.specs.declared.procedure.Procedure.{Procedure}
 use Rattle.rb_arguments.specs.declared.procedure.Procedure.TheVariants.{Void}
 use Rattle.rb_arguments.specs.declared.procedure.VoidProcedure.TheVariants.{Null}
-use Rattle.rb_proto.specs.declared.context.Context.{Context}
+use Rattle.rb_answers.specs.declared.context.Context.{Context}
 use Rattle.rb_arguments.specs.declared.request.Request.{Request}
 use Rattle.rb_arguments.specs.Arguments.{procedure_at, arguments, is_known, request, or_garbage}
-use Rattle.rb_proto.specs.Ledger.{Ledger}
+use Rattle.rb_answers.specs.Ledger.{Ledger}
 use Rattle.rb_model.specs.declared.message.Message.{Message}
 use Rattle.rb_model.specs.declared.message.Message.TheVariants as says
 use Rattle.rb_model.specs.Calls.{is_served, refusal, request_of, call_of, message_with}

@@ -9,22 +9,23 @@ use Rattle.rb_rpc.specs.declared.reply.ReplyStatus.TheVariants.{Success}
 use Rattle.rb_rpc.specs.Replies.{reply_head}
 use Rattle.rb_registry.specs.declared.row.Row.{Row}
 use Rattle.rb_registry.specs.Registry.{rows_of}
-use Rattle.rb_proto.specs.declared.answers.Answer.{Answer}
-use Rattle.rb_proto.specs.declared.answers.Answer.TheVariants as answers
+use Rattle.rb_answers.specs.declared.answers.Answer.{Answer}
+use Rattle.rb_answers.specs.declared.answers.Answer.TheVariants as answers
 use Rattle.rb_proto.specs.Books.{ActsAs}
 use Rattle.rb_proto.specs.declared.books.Books.{Books}
-use Rattle.rb_proto.specs.declared.call.Call.{Call}
-use Rattle.rb_proto.specs.declared.context.Context.{Context}
-use Rattle.rb_proto.specs.Ledger.{Ledger, StandsForLedger, with_call_noted, rows_in}
-use Rattle.rb_proto.specs.Answers.{answer}
-use Rattle.rb_proto.specs.declared.answers.Value.TheVariants as values
+use Rattle.rb_answers.specs.declared.call.Call.{Call}
+use Rattle.rb_answers.specs.declared.context.Context.{Context}
+use Rattle.rb_answers.specs.Ledger.{Ledger, with_call_noted, rows_in}
+use Rattle.rb_proto.specs.Ledger.{StandsForLedger}
+use Rattle.rb_answers.specs.Answers.{answer}
+use Rattle.rb_answers.specs.declared.answers.Value.TheVariants as values
 use Rattle.rb_arguments.specs.declared.procedure.VoidProcedure.TheVariants as voids
 use Rattle.rb_arguments.specs.declared.request.Request.TheVariants as requests
-use Rattle.rb_proto.specs.Results.{Shown, result_bytes, shown_of}
-use Rattle.rb_proto.specs.declared.answers.Listing.{Listing}
-use Rattle.rb_proto.specs.declared.answers.Results.{Results}
-use Rattle.rb_proto.specs.declared.answers.Results.TheVariants as results
-use Rattle.rb_proto.specs.ListParts.{list_reply}
+use Rattle.rb_answers.specs.Results.{Shown, result_bytes, shown_of}
+use Rattle.rb_answers.specs.declared.answers.Listing.{Listing}
+use Rattle.rb_answers.specs.declared.answers.Results.{Results}
+use Rattle.rb_answers.specs.declared.answers.Results.TheVariants as results
+use Rattle.rb_answers.specs.ListParts.{list_reply}
 use Rattle.rb_model.specs.declared.message.Message.TheVariants as says
 use Rattle.rb_model.specs.Calls.{Outcome, answer_outcome, results_outcome, reply_with, outcome, fitting_reply, success, longest_reply, longest_for}
 use Rattle.rb_model.specs.Calls.Outcome.{Reply}

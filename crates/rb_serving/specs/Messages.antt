@@ -4,13 +4,13 @@ use Rattle.rb_rpc.specs.declared.call.CallHead.{CallHead}
 use Rattle.rb_rpc.specs.declared.call.Verdict.{Verdict}
 use Rattle.rb_rpc.specs.Verdict.{verdict}
 use Rattle.rb_rpc.specs.Feeds.{arguments_of}
-use Rattle.rb_proto.specs.declared.context.Context.{Context}
+use Rattle.rb_answers.specs.declared.context.Context.{Context}
 use Rattle.rb_arguments.specs.declared.procedure.Procedure.{Procedure}
 use Rattle.rb_arguments.specs.declared.procedure.VoidProcedure.TheVariants as voids
 use Rattle.rb_arguments.specs.declared.request.Request.TheVariants as requests
 use Rattle.rb_arguments.specs.declared.request.Request.{Request}
 use Rattle.rb_arguments.specs.Arguments.{arguments}
-use Rattle.rb_proto.specs.Ledger.{Ledger}
+use Rattle.rb_answers.specs.Ledger.{Ledger}
 use Rattle.rb_model.specs.declared.message.Message.{Message}
 use Rattle.rb_serving.specs.declared.message.Called.{Called}
 use Rattle.rb_model.specs.declared.message.Message.TheVariants as says

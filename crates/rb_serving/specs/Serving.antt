@@ -7,17 +7,18 @@ use Rattle.rb_address.specs.declared.caller.Caller.TheVariants.{Tcp, Udp}
 use Rattle.rb_forward.specs.StandsFor.{Table as Entries, slots_of}
 use Rattle.rb_forward.specs.Table.{IsNew}
 use Rattle.rb_forward.specs.declared.types.Forward.{Forward}
-use Rattle.rb_proto.specs.declared.answers.Listing.{Listing}
-use Rattle.rb_proto.specs.declared.answers.Results.{Results}
-use Rattle.rb_proto.specs.declared.answers.Results.TheVariants as results
-use Rattle.rb_proto.specs.declared.answers.Answer.{Answer}
-use Rattle.rb_proto.specs.declared.answers.Answer.TheVariants as answers
+use Rattle.rb_answers.specs.declared.answers.Listing.{Listing}
+use Rattle.rb_answers.specs.declared.answers.Results.{Results}
+use Rattle.rb_answers.specs.declared.answers.Results.TheVariants as results
+use Rattle.rb_answers.specs.declared.answers.Answer.{Answer}
+use Rattle.rb_answers.specs.declared.answers.Answer.TheVariants as answers
 use Rattle.rb_proto.specs.declared.books.Books.{Books}
-use Rattle.rb_proto.specs.declared.context.Context.{Context}
-use Rattle.rb_proto.specs.Forwarding.{forwarded_bytes}
-use Rattle.rb_proto.specs.Ledger.{Ledger, StandsForLedger}
+use Rattle.rb_answers.specs.declared.context.Context.{Context}
+use Rattle.rb_answers.specs.Forwarding.{forwarded_bytes}
+use Rattle.rb_answers.specs.Ledger.{Ledger}
+use Rattle.rb_proto.specs.Ledger.{StandsForLedger}
 use Rattle.rb_proto.specs.Books.{ActsAs, AreTied, HasRowRoom, OnlyCallerWaits, SameFrame}
-use Rattle.rb_proto.specs.Results.{shown_of, result_bytes}
+use Rattle.rb_answers.specs.Results.{shown_of, result_bytes}
 use Rattle.rb_model.specs.Calls.{Outcome, answer_outcome, outcome, success, longest_reply}
 use Rattle.rb_model.specs.declared.message.Message.{Message}
 use Rattle.rb_model.specs.declared.message.Message.TheVariants as says

@@ -1,8 +1,8 @@
 -- What the core is told of a daemon's settings.
 use Rattle.std.specs.Prelude.{ℕ, nat_le, if◌then◌else◌, List, length, Option, Some, None}
 use Rattle.rb_policy.specs.Addresses.{announced_inet, announced_inet6}
-use Rattle.rb_proto.specs.declared.listener.Announced.{Announced}
-use Rattle.rb_proto.specs.declared.listener.Listener.{Listener}
+use Rattle.rb_answers.specs.declared.listener.Announced.{Announced}
+use Rattle.rb_answers.specs.declared.listener.Listener.{Listener}
 use Rattle.rb_settings.specs.declared.settings.LocalSocket.{LocalSocket}
 use Rattle.rb_settings.specs.declared.settings.Settings.{Settings}
 

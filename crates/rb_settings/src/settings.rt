@@ -4,10 +4,10 @@ ghost use Rattle.rb_settings.specs.Settings.{path_of};
 
 use crate::few::Few;
 use rb_address::{Host, Network};
+use rb_answers::{Announced, Listener, Reserved, Terms};
 use rb_model::Limits;
 use rb_policy::log_choice::Logged;
 use rb_policy::{Rate, announced_inet, announced_inet6};
-use rb_proto::{Announced, Listener, Reserved, Terms};
 use rb_uaddr::{AddressText, MAX_KEPT};
 
 /// A stream socket in the file system.

@@ -5,7 +5,7 @@ use Rattle.rb_address.specs.declared.host.Host.{Host}
 use Rattle.rb_address.specs.declared.host.Host.TheVariants.{V4, V6}
 use Rattle.rb_address.specs.Peers.{bare_host_text}
 use Rattle.rb_policy.specs.Addresses.{binds_loopback6}
-use Rattle.rb_proto.specs.declared.listener.Announced.{Announced}
+use Rattle.rb_answers.specs.declared.listener.Announced.{Announced}
 use Rattle.rb_settings.specs.declared.settings.LocalSocket.{LocalSocket}
 use Rattle.rb_settings.specs.declared.descriptors.Shortage.{Shortage}
 use Rattle.rb_settings.specs.declared.settings.Settings.{Settings}

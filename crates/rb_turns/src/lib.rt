@@ -2,7 +2,9 @@
 #![tactic(auto)]
 
 mod load;
+mod news;
 mod turns;
 
 pub use load::Load;
+pub use news::News;
 pub use turns::{Starts, TurnFailed, Turns};

@@ -3,9 +3,10 @@ ghost use Rattle.rb_lines.specs.Starts.{MeetsLaws};
 ghost use Rattle.rb_settings.specs.Settings.{listener_of};
 
 use crate::load::Load;
+use crate::news::News;
 use rb_registry::Row;
-use rb_settings::{DaemonFault, KeepNews, Settings, Shortage, SocketFault};
-use rb_sockets::{AddressNews, Follower, Handed, TableFault};
+use rb_settings::{DaemonFault, Settings, Shortage};
+use rb_sockets::{AddressNews, Follower, Handed};
 use std::alloc::{AllocError, Global};
 use std::fs::Files;
 use std::io;
@@ -42,23 +43,9 @@ pub trait Turns<H> {
     /// this turn.
     fn has_news(&self) -> bool;
 
-    /// The first fault of a listener, or of the wait for events, once: the daemon goes on, and tries it again in each turn.
-    fn take_fault(&mut self) -> Option<SocketFault>;
-
-    /// What there is to tell of the rows that are kept, once: that they could not be written, and the daemon tries again
-    /// at the next change; that they are written again; that another file was in their place.
-    fn take_keep_news(&mut self) -> Option<KeepNews>;
-
-    /// The first fault of one of the kernel's tables, once: while they can't be read whole, nobody registers over TCP.
-    fn take_table_fault(&mut self) -> Option<TableFault>;
-
-    /// Whether it was found since the last question that the file of the local socket is another one, or open to others: from
-    /// then on the owner of whoever comes there is unknown.
-    fn take_local_change(&mut self) -> bool;
-
-    /// Tries again to take the abstract name of the local socket, if it is to be held and is not: every 10 seconds, which a
-    /// turn knows of. What is to be told of it, once each: why it was not taken at the start, and that it was taken later.
-    fn take_name<N: Files + Net>(&mut self, host: &N) -> Option<io::Result<()>>;
+    /// What there is to tell, once. The abstract name of the local socket is tried again, if it is to be held and is not: every
+    /// 10 seconds, which a turn knows of.
+    fn take_news<N: Files + Net>(&mut self, host: &N) -> News;
 
     /// From here on addresses are followed. An error if an allocation is refused.
     fn follow_by(&mut self, follower: Follower) -> Result<(), AllocError>;

@@ -188,11 +188,11 @@ impl<'a> Host<'a> {
     }
 
     pub(crate) fn take_fault(&mut self) -> Option<SocketFault> {
-        self.daemon.take_fault()
+        self.daemon.take_news(&self.tables.rt).fault
     }
 
     pub(crate) fn take_local_change(&mut self) -> bool {
-        self.daemon.take_local_change()
+        self.daemon.take_news(&self.tables.rt).is_local_changed
     }
 
     /// From here on the kernel's table of connections over IPv4 is this file.

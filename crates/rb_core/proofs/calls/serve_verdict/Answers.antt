@@ -1,8 +1,8 @@
 use Rattle.std.proofs.Common.{◌≡◌, false, refl, sym, ◌∙◌}
 use Rattle.rb_rpc.specs.declared.call.CallHead.{CallHead}
-use Rattle.rb_proto.specs.declared.context.Context.{Context}
-use Rattle.rb_proto.specs.Answers.{adds_row, row_to_set}
-use Rattle.rb_proto.specs.Ledger.{Ledger}
+use Rattle.rb_answers.specs.declared.context.Context.{Context}
+use Rattle.rb_answers.specs.Answers.{adds_row, row_to_set}
+use Rattle.rb_answers.specs.Ledger.{Ledger}
 use Rattle.rb_model.specs.Calls.{message_with}
 use Rattle.rb_model.specs.Losses.{asks_room}
 use Rattle.rb_serving.specs.Messages.{null_message}

@@ -1,7 +1,7 @@
 use Rattle.std.proofs.Common.{◌≡◌, ◌≤◌, ◌<◌, ◌+◌, true, false, ℕ, List, length, All, refl, sym, ap, ◌∙◌, arith, rules}
 use Rattle.rb_registry.specs.Registry.{rows_of, removals_of}
-use Rattle.rb_proto.specs.Answers.{comes_from_here}
-use Rattle.rb_proto.specs.Ledger.{rows_in}
+use Rattle.rb_answers.specs.Answers.{comes_from_here}
+use Rattle.rb_answers.specs.Ledger.{rows_in}
 use Rattle.rb_proto.specs.Books.{wants_room_in}
 use Rattle.rb_model.specs.Losses.{asks_room, needed_removals, evict}
 use Rattle.rb_laws.proofs.Crowding.{none_evicted, not_asked, not_crowded, crowded, no_call_asks, row_within}

@@ -9,7 +9,7 @@ use Rattle.rb_stats.specs.Statistics.{stat, items_of, keys_of}
 use Rattle.rb_forward.specs.StandsFor.{slots_of as calls_of, held_in as held_of_calls}
 use Rattle.rb_forward.specs.Forwards.{no_forwards}
 use Rattle.rb_forward.proofs.Stands.{held_alike}
-use Rattle.rb_proto.specs.Callers.{own_rows}
+use Rattle.rb_answers.specs.Callers.{own_rows}
 use Rattle.rb_connections.specs.declared.slot.Slot.{Slot}
 use Rattle.rb_connections.specs.StandsFor.{StandsForConnection, held_in}
 use Rattle.rb_core.proofs.laws.worked_held.Goals as goal

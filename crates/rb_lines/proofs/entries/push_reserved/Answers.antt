@@ -1,5 +1,5 @@
 use Rattle.std.proofs.Common.{arith}
-use Rattle.rb_proto.specs.declared.reserved.Reservation.{Reservation}
+use Rattle.rb_answers.specs.declared.reserved.Reservation.{Reservation}
 use Rattle.rb_lines.proofs.Reserves.{one_more}
 use Rattle.rb_lines.proofs.entries.push_reserved.Goals as goal
 

@@ -1,5 +1,5 @@
 use Rattle.std.proofs.Common.{sym, ◌∙◌, ap}
-use Rattle.rb_proto.specs.Forwarding.{address_asked}
+use Rattle.rb_answers.specs.Forwarding.{address_asked}
 use Rattle.rb_proto.proofs.Refusing.{acts_where_full, is_false}
 use Rattle.rb_proto.proofs.forwarding.forward_call.Goals as goal
 

@@ -1,5 +1,5 @@
-use Rattle.rb_proto.proofs.Lists.{rows_result}
-use Rattle.rb_proto.specs.Results.{shown_in}
+use Rattle.rb_answers.proofs.Lists.{rows_result}
+use Rattle.rb_proto.specs.Showing.{shown_in}
 use Rattle.rb_proto.proofs.put.put_results.Goals as goal
 
 pub returns-in-Rows-clause-puts : goal.returns-in-Rows-clause-puts

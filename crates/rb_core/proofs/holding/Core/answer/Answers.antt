@@ -6,7 +6,7 @@ use Rattle.rb_xdr.specs.Kept.{Kept}
 use Rattle.rb_address.specs.declared.who.Who.{Who}
 use Rattle.rb_address.specs.declared.caller.Caller.TheVariants.{Tcp}
 use Rattle.rb_proto.specs.declared.books.Books.{Books}
-use Rattle.rb_proto.specs.declared.context.Context.{Context}
+use Rattle.rb_answers.specs.declared.context.Context.{Context}
 use Rattle.rb_proto.specs.Books.{SameFrame}
 use Rattle.rb_model.specs.declared.message.Message.{Message}
 use Rattle.rb_model.specs.Connections.{settle, changed_at}

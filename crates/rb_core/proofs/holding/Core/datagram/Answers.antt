@@ -6,7 +6,7 @@ use Rattle.rb_rpc.specs.Feeds.{arguments_of}
 use Rattle.rb_forward.specs.StandsFor.{slots_of}
 use Rattle.rb_forward.specs.Table.{OnlyWaitsAnew}
 use Rattle.rb_proto.specs.declared.books.Books.{Books}
-use Rattle.rb_proto.specs.declared.context.Context.{Context}
+use Rattle.rb_answers.specs.declared.context.Context.{Context}
 use Rattle.rb_model.specs.declared.message.Message.{Message}
 use Rattle.rb_model.specs.Calls.{Outcome, message_with, message_of, reply_in}
 use Rattle.rb_model.specs.Served.{outcome_with, IsWritten}

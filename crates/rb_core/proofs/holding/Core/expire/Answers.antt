@@ -1,5 +1,5 @@
 use Rattle.std.proofs.Common.{[], max}
-use Rattle.rb_proto.specs.Forwarding.{fell_due}
+use Rattle.rb_answers.specs.Forwarding.{fell_due}
 use Rattle.rb_model.specs.Ending.{expire, tell_end, at_fresh_moment}
 use Rattle.rb_core.specs.contracts.holding.Core.{the_view}
 use Rattle.rb_core.proofs.Steps.{none_ended, one_ended, due_alike, one_expired}

@@ -1,5 +1,5 @@
 use Rattle.std.proofs.Common.{max}
-use Rattle.rb_proto.specs.Forwarding.{target_replied}
+use Rattle.rb_answers.specs.Forwarding.{target_replied}
 use Rattle.rb_model.specs.Ending.{forward_reply}
 use Rattle.rb_core.specs.contracts.holding.Core.{the_view}
 use Rattle.rb_core.proofs.Steps.{none_ended, one_ended, replied_alike}

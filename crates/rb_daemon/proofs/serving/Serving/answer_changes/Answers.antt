@@ -1,5 +1,5 @@
 use Rattle.std.proofs.Common.{List, subst}
-use Rattle.rb_daemon.specs.declared.held.HeldLink.{HeldLink}
+use Rattle.rb_around.specs.declared.held.HeldLink.{HeldLink}
 use Rattle.rb_daemon.specs.Turning.{ServesEach}
 use Rattle.rb_daemon.proofs.GoingOn.{each_serves_none}
 use Rattle.rb_daemon.proofs.serving.Serving.answer_changes.Goals as goal

@@ -1,0 +1,11 @@
+pub mod Addresses
+pub mod Fronts
+pub mod Lists
+pub mod Searching
+pub mod ListReplies
+pub mod Filling
+pub mod Parts
+pub mod MappingItems
+pub mod RowLengths
+pub mod OwnRows
+pub mod OnLiterals

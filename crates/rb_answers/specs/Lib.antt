@@ -1,0 +1,13 @@
+pub mod Netids
+pub mod Callers
+pub mod Reserved
+pub mod Terms
+pub mod Ledger
+pub mod Forwarding
+pub mod Answers
+pub mod Results
+pub mod ListReplies
+pub mod ListParts
+pub mod Searching
+pub mod Costs
+pub mod Walks

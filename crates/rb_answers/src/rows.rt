@@ -1,0 +1,223 @@
+//! Rows as a list shows them: the room that they need, and their bytes.
+ghost use Rattle.std.specs.Prelude.{◌≡◌, ◌+◌, ◌≤◌, ◌++◌, [], true, length, None, IfSome, IfNone};
+ghost use Rattle.rb_xdr.specs.Xdr.{number, boolean};
+ghost use Rattle.rb_xdr.specs.Meter.{Pays, PaysAtMost};
+ghost use Rattle.rb_registry.specs.Registry.{Reaches, rows_at};
+ghost use Rattle.rb_registry.specs.Versions.{IsFoundIn};
+ghost use Rattle.rb_registry.specs.Cursors.{StandsIn};
+ghost use Rattle.rb_xdr.specs.Puts.{Appends, HasRoom, Leaves};
+ghost use Rattle.rb_answers.specs.ListParts.{IsShort, FitsIfShort};
+ghost use Rattle.rb_answers.specs.Searching.{IsSought, rows_left, steps_left, sought_cost, walk_cost, PassesRow};
+ghost use Rattle.rb_answers.specs.Costs.{write_cost};
+ghost use Rattle.rb_answers.specs.Results.{mapping_item, entry_item, is_shown, row_bytes, rows_bytes};
+
+use crate::answers::Listing;
+use crate::items::{entry_of, mapping_of};
+use crate::netids::entry_end;
+use crate::shown::shown_text;
+use rb_registry::{Cursor, ListedRow, Registry, Row, Version, Which};
+use rb_uaddr::Hosts;
+use rb_xdr::{Kept, Meter, Xdr, residue};
+
+/// TRUE and a mapping, in bytes.
+const MAPPING_ITEM: usize = 20;
+
+/// Whether the list shows the row.
+fn is_shown(list: Listing, row: &Row) -> bool
+    ensures { result ≡ is_shown list row.now }
+{
+    match list {
+        Listing::Mappings => Which::Inet.includes(row.netid),
+        Listing::Rpcbs => true,
+        Listing::Entries(prog, vers, _) => row.prog == prog && row.vers == vers,
+    }
+}
+
+/// The room that is left of this much after what a row adds to a list, if that fits.
+#[tactic(auto, unfolding(crate::specs::Results::row_bytes))]
+fn room_after_row(list: Listing, listed: &ListedRow, room: usize) -> Option<usize>
+    ensures { Leaves (row_bytes list listed.now) room result }
+{
+    let row = listed.as_row();
+    if !is_shown(list, row) {
+        return Some(room);
+    }
+    match list {
+        Listing::Mappings => room.checked_sub(MAPPING_ITEM),
+        Listing::Rpcbs => room.checked_sub(listed.item().len()),
+        Listing::Entries(_, _, hosts) => (true, entry_of(&hosts, row)).room_after(room),
+    }
+}
+
+/// TRUE and the mapping of a row, which are written at once.
+#[tactic(auto, unfolding(rb_xdr::specs::Xdr::number, rb_xdr::specs::Xdr::boolean))]
+fn mapping_item(row: &Row) -> [u8; MAPPING_ITEM]
+    ensures { result ≡ mapping_item row.now }
+{
+    let mapping = mapping_of(row);
+    let mut item = [0; MAPPING_ITEM];
+    item[..4].copy_from_slice(&u32::from(true).to_be_bytes());
+    item[4..8].copy_from_slice(&mapping.prog.to_be_bytes());
+    item[8..12].copy_from_slice(&mapping.vers.to_be_bytes());
+    item[12..16].copy_from_slice(&mapping.prot.to_be_bytes());
+    item[16..].copy_from_slice(&mapping.port.to_be_bytes());
+    item
+}
+
+/// TRUE, and how many bytes the address of an entry has.
+#[tactic(auto, unfolding(rb_xdr::specs::Xdr::number, rb_xdr::specs::Xdr::boolean))]
+fn entry_head(count: usize) -> [u8; 8]
+    requires { count ≤ 128 }
+    ensures { result ≡ boolean true ++ number count }
+{
+    let mut head = [0; 8];
+    head[..4].copy_from_slice(&u32::from(true).to_be_bytes());
+    head[4..].copy_from_slice(&(count as u32).to_be_bytes());
+    head
+}
+
+/// Writes TRUE and the entry of a row. They are short, and the buffer has room for them if they are.
+fn write_entry(hosts: &Hosts, row: &Row, out: &mut Kept, meter: &mut Meter)
+    requires tie { meter.old.tie ≡ out.old.tie }
+    requires room { FitsIfShort (entry_item hosts.now row.now) out.old }
+    ensures short { IsShort (entry_item hosts.now row.now) }
+    ensures written { Appends (entry_item hosts.now row.now) out.old out.new }
+    ensures cost { Pays meter.old meter.new (length (entry_item hosts.now row.now)) }
+{
+    let maddr = shown_text(hosts, row);
+    let content = maddr.as_slice();
+    let count = content.len();
+    let _ = out.extend(&entry_head(count), meter);
+    let _ = out.extend(content, meter);
+    let _ = out.extend(entry_end(row.netid, residue(count)), meter);
+}
+
+/// Writes what a row adds to a list: TRUE and the item, or nothing if the list doesn't show the row. It is short, and
+/// the buffer has room for it if it is. It is inlined, as `next_row`.
+#[inline(always)]
+#[tactic(auto, unfolding(crate::specs::Results::row_bytes))]
+pub fn write_row(list: Listing, listed: &ListedRow, out: &mut Kept, meter: &mut Meter)
+    requires tie { meter.old.tie ≡ out.old.tie }
+    requires room { FitsIfShort (row_bytes list listed.now) out.old }
+    ensures short { IsShort (row_bytes list listed.now) }
+    ensures written { Appends (row_bytes list listed.now) out.old out.new }
+    ensures cost { PaysAtMost meter.old meter.new (length (row_bytes list listed.now)) }
+{
+    let row = listed.as_row();
+    if !is_shown(list, row) {
+        return;
+    }
+    match list {
+        Listing::Mappings => {
+            let _ = out.extend(&mapping_item(row), meter);
+        }
+        Listing::Rpcbs => {
+            let _ = out.extend(listed.item(), meter);
+        }
+        Listing::Entries(_, _, hosts) => write_entry(&hosts, row, out, meter),
+    }
+}
+
+// LOOKUP-4
+/// Finds the version whose rows are searched for, if the list shows those alone, nothing changed since this many changes, and
+/// they are among many. It is inlined, as `next_row`: most lists have none, and then nothing is written.
+#[inline(always)]
+pub fn seek_version(
+    list: Listing,
+    registry: &Registry,
+    stamp: u64,
+    sought: &mut Option<Version>,
+    meter: &mut Meter,
+)
+    requires tie { meter.old.tie ≡ registry.now.tie }
+    requires none { sought.old ≡ None }
+    ensures sought { IsSought list registry.now stamp sought.new }
+    ensures cost { PaysAtMost meter.old meter.new (sought_cost sought.new registry.now + 1) }
+{
+    let Listing::Entries(prog, vers, _) = list else {
+        return;
+    };
+    if stamp == registry.stamp() && registry.is_long(meter) {
+        *sought = Some(registry.version(prog, vers, meter));
+    }
+}
+
+/// The next row after the cursor, or the next of the version that is searched for, and the cursor after it. It is inlined:
+/// most lists are walked, and each row of one comes by here.
+#[inline(always)]
+pub fn next_row<'a>(
+    sought: &Option<Version>,
+    registry: &'a Registry,
+    stamp: u64,
+    cursor: Cursor,
+    meter: &mut Meter,
+) -> Option<(Cursor, &'a ListedRow)>
+    requires tie { meter.old.tie ≡ registry.now.tie }
+    requires now { IfSome sought.now (λ version. stamp ≡ registry.now.stamp) }
+    requires found { IfSome sought.now (λ version. IsFoundIn registry.now version) }
+    requires place { StandsIn registry.now stamp cursor }
+    ensures row { IfSome result
+        (λ n. PassesRow sought.now registry.now stamp cursor n.1.now n.0) }
+    ensures end { IfNone result (rows_left sought.now registry.now stamp cursor ≡ []) }
+    ensures cost { PaysAtMost meter.old meter.new (steps_left sought.now registry.now cursor + 1) }
+    ensures cost_row { IfSome result (λ n. meter.new.steps + steps_left sought.now registry.now n.0
+        ≤ meter.old.steps + steps_left sought.now registry.now cursor) }
+{
+    match sought {
+        Some(version) => registry.next_of(version, cursor, meter),
+        None => registry.next_row(stamp, cursor, meter),
+    }
+}
+
+/// The room that is left of this much after all rows that a list shows, as they were after this many changes, and its
+/// end, if they fit.
+pub fn room_after_rows(
+    list: Listing,
+    sought: &Option<Version>,
+    registry: &Registry,
+    stamp: u64,
+    room: usize,
+    meter: &mut Meter,
+) -> Option<usize>
+    requires registry { meter.old.tie ≡ registry.now.tie }
+    requires sought { IsSought list registry.now stamp sought.now }
+    requires stamp { Reaches registry.now stamp }
+    ensures room { Leaves (rows_bytes (rows_at registry.now stamp) list) room result }
+    ensures cost { PaysAtMost meter.old meter.new (walk_cost sought.now registry.now + 1) }
+{
+    let mut cursor = Cursor::start();
+    let mut left = room;
+    'rows: while let Some(found) = next_row(sought, registry, stamp, cursor, meter) {
+        let (next, row) = found;
+        left = room_after_row(list, row, left)?;
+        cursor = next;
+    }
+    false.room_after(left)
+}
+
+/// Writes the rows that a list shows, as they were after this many changes, and its end.
+pub fn write_rows(
+    list: Listing,
+    sought: &Option<Version>,
+    registry: &Registry,
+    stamp: u64,
+    out: &mut Kept,
+    meter: &mut Meter,
+)
+    requires registry { meter.old.tie ≡ registry.now.tie }
+    requires sought { IsSought list registry.now stamp sought.now }
+    requires tie { meter.old.tie ≡ out.old.tie }
+    requires stamp { Reaches registry.now stamp }
+    requires room { HasRoom (rows_bytes (rows_at registry.now stamp) list) out.old }
+    ensures written { Appends (rows_bytes (rows_at registry.now stamp) list) out.old out.new }
+    ensures cost { PaysAtMost meter.old meter.new
+        (write_cost sought.now registry.now out.old out.new) }
+{
+    let mut cursor = Cursor::start();
+    'rows: while let Some(found) = next_row(sought, registry, stamp, cursor, meter) {
+        let (next, row) = found;
+        write_row(list, row, out, meter);
+        cursor = next;
+    }
+    false.write(out, meter);
+}

@@ -1,0 +1,19 @@
+//! What is around the core in a daemon: its sockets, the wait for their events, the kernel's tables of connections, and
+//! the memory with which connections and datagrams are served.
+#![tactic(auto)]
+
+mod around;
+mod held;
+mod leaving;
+mod room;
+mod secrets;
+mod tables;
+mod waiting;
+
+pub use around::{Around, open};
+pub use held::{HeldLink, HeldLinks};
+pub use leaving::{is_ready, is_told, leave_calls, leave_listener, leave_of, note_fault};
+pub use room::Room;
+pub use secrets::{Secrets, brake_of, draw, first_xid};
+pub use tables::Tables;
+pub use waiting::{EVENTS, Times, Waiting, read_clocks};

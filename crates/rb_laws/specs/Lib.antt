@@ -1,0 +1,10 @@
+pub mod Worked
+pub mod WorkedConnections
+pub mod WorkedForwards
+pub mod WorkedDeadlines
+pub mod WorkedLists
+pub mod WorkedBounds
+pub mod WorkedChanges
+pub mod WorkedHistory
+pub mod WorkedCallers
+pub mod WorkedStrangers

@@ -1,0 +1,3 @@
+pub mod LogRates
+pub mod Logs
+pub mod LoggedChanges

@@ -1,9 +1,0 @@
-use Rattle.rb_proto.proofs.Lists.{left}
-use Rattle.rb_proto.proofs.Filling.{Filling}
-use Rattle.rb_proto.proofs.list_reply.ListReply.fill.Given as goal
-
-abbrev pub invariant-rows : goal.invariant-rows
-invariant-rows l = Filling l.sought l.registry l.fn.self l.self l.most l.base l.fn.out l.out l.fn.meter l.meter
-
-abbrev pub decreases-rows : goal.decreases-rows
-decreases-rows l = left l.registry l.self.stamp l.self.cursor

@@ -1,9 +1,0 @@
-use Rattle.rb_proto.proofs.Lists.{left}
-use Rattle.rb_proto.proofs.Searching.{Measuring}
-use Rattle.rb_proto.proofs.rows.room_after_rows.Given as goal
-
-abbrev pub invariant-rows : goal.invariant-rows
-invariant-rows l = Measuring l.list l.sought l.registry l.stamp l.cursor l.fn.room l.left l.fn.meter l.meter
-
-abbrev pub decreases-rows : goal.decreases-rows
-decreases-rows l = left l.registry l.stamp l.cursor
