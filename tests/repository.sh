@@ -21,6 +21,15 @@ check_proofs_by_hand() {
     judge $? "proofs by hand other than those of the meter's token"
 }
 
+# `rt ci` refuses a crate that is not laid out as `rt fmt` does it, and `make` doesn't look.
+check_layout() {
+    local rattle
+    rattle=$(dirname "$(readlink -f "$(command -v rt)")")/rattle
+    find crates -name out -prune -o \( -name '*.rt' -o -name '*.antt' \) -print | xargs "$rattle" fmt --check > "$work/layout" 2>&1
+    judge $? "files that rt fmt lays out in another way: $(wc -l < "$work/layout")"
+    cat "$work/layout"
+}
+
 # Each name that the documents give is one of the repository's.
 check_names() {
     tests/check-names.py > "$work/names"
@@ -110,6 +119,7 @@ check_programs() {
 
 check_repository() {
     check_proofs_by_hand
+    check_layout
     check_crates_are_named
     check_figures
     check_names
