@@ -1,2 +1,4 @@
 pub mod FirstFaults
 pub mod Leaving
+pub mod Turning
+pub mod Records

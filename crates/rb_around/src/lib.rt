@@ -7,6 +7,7 @@ mod held;
 mod leaving;
 mod room;
 mod secrets;
+mod serves;
 mod tables;
 mod waiting;
 
@@ -15,5 +16,6 @@ pub use held::{HeldLink, HeldLinks};
 pub use leaving::{is_ready, is_told, leave_calls, leave_listener, leave_of, note_fault};
 pub use room::Room;
 pub use secrets::{Secrets, brake_of, draw, first_xid};
+pub use serves::{Begun, Progress, Serves};
 pub use tables::Tables;
 pub use waiting::{EVENTS, Times, Waiting, read_clocks};

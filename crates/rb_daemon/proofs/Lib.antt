@@ -1,4 +1,2 @@
-pub mod Rooms
-pub mod Openings
 pub mod LastRounds
 pub mod GoingOn

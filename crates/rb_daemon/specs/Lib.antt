@@ -1,3 +1,1 @@
-pub mod Outboxes
-pub mod Links
 pub mod Turning

@@ -2,13 +2,14 @@
 ghost use Rattle.std.specs.Prelude.{◌≡◌, ◌↔◌, IsTrue, IsErrOf, OnOk, nat_lt, false, not, OnErr, is_some, true, None};
 ghost use Rattle.rb_lines.specs.Starts.{MeetsLaws};
 ghost use Rattle.rb_settings.specs.Settings.{listener_of};
-ghost use Rattle.rb_engine.specs.Served.{has_good_limits};
+ghost use Rattle.rb_model.specs.State.{are_good};
 ghost use Rattle.rb_around.specs.FirstFaults.{end_of};
-ghost use Rattle.rb_engine.specs.Recording.{WritesRecord};
+ghost use Rattle.rb_around.specs.Records.{WritesRecord};
 
 use crate::serving::Serving;
-use rb_around::{Around, EVENTS, Times, Waiting, brake_of, draw, first_xid, open, read_clocks};
-use rb_engine::{Begun, begin};
+use rb_around::{
+    Around, Begun, EVENTS, Serves, Times, Waiting, brake_of, draw, first_xid, open, read_clocks,
+};
 use rb_lines::bad_limit;
 use rb_model::Limits;
 use rb_policy::{Brake, wait_of};
@@ -26,17 +27,17 @@ use std::rt::Clock;
 
 /// A core and the sockets around it. What it takes of memory it takes in `new`; `tests/run-memory.sh` shows so.
 #[derive(Drop)]
-pub struct Daemon<'a, R: Clock, H: Files> {
+pub struct Daemon<'a, R: Clock, H: Files, C> {
     clock: &'a R,
     waiting: Waiting,
-    serving: Serving<H>,
+    serving: Serving<H, C>,
     /// That the limit of open files leaves fewer places for connections than the settings ask for, if it does.
     shortage: Option<Shortage>,
     /// Which of the rows that were kept are not set again, by their places, in order.
     left_out: Vec<usize>,
 }
 
-impl<'a, R: Clock, H: Files> Daemon<'a, R, H> {
+impl<'a, R: Clock, H: Files, C: Serves<H>> Daemon<'a, R, H, C> {
     /// One at good limits.
     fn begin<B: Files + Net + RandomSource>(
         alloc: Global,
@@ -45,7 +46,7 @@ impl<'a, R: Clock, H: Files> Daemon<'a, R, H> {
         settings: &Settings<'_>,
         kept: &[Row],
         handed: Handed,
-    ) -> Result<Daemon<'a, R, H>, DaemonFault>
+    ) -> Result<Daemon<'a, R, H, C>, DaemonFault>
         requires { MeetsLaws (listener_of settings.now) settings.now.record_limit }
         ensures others { IsErrOf result DaemonFault.Limits → IsTrue false }
     {
@@ -57,7 +58,7 @@ impl<'a, R: Clock, H: Files> Daemon<'a, R, H> {
         let xid = first_xid(&secrets, first.wall);
         let brake = brake_of(alloc, settings.udp_rate, secrets)?;
         // What is big is made last, and handed on: each `?` lets go what was made before it.
-        let inner = begin(alloc, settings, xid, first.wall, kept)?;
+        let inner = C::begin(alloc, settings, xid, first.wall, kept)?;
         Daemon::around(alloc, host, clock, settings, handed, first, inner, brake)
     }
 
@@ -69,9 +70,9 @@ impl<'a, R: Clock, H: Files> Daemon<'a, R, H> {
         settings: &Settings<'_>,
         handed: Handed,
         first: Times,
-        inner: Begun<H>,
+        inner: Begun<C>,
         brake: Option<Brake>,
-    ) -> Result<Daemon<'a, R, H>, DaemonFault>
+    ) -> Result<Daemon<'a, R, H, C>, DaemonFault>
         ensures others { IsErrOf result DaemonFault.Limits → IsTrue false }
     {
         let outer = open(alloc, host, settings, first, handed)?;
@@ -82,22 +83,14 @@ impl<'a, R: Clock, H: Files> Daemon<'a, R, H> {
     fn of(
         clock: &'a R,
         limits: Limits,
-        inner: Begun<H>,
+        inner: Begun<C>,
         outer: Around<H>,
         brake: Option<Brake>,
-    ) -> Daemon<'a, R, H> {
+    ) -> Daemon<'a, R, H, C> {
         Daemon {
             clock,
             waiting: outer.waiting,
-            serving: Serving::new(
-                inner.engine,
-                inner.keeper,
-                inner.replies,
-                outer.sockets,
-                outer.room,
-                limits,
-                brake,
-            ),
+            serving: Serving::new(inner.core, outer.sockets, outer.room, limits, brake),
             shortage: outer.shortage,
             left_out: inner.left_out,
         }
@@ -123,7 +116,7 @@ impl<'a, R: Clock, H: Files> Daemon<'a, R, H> {
 }
 
 // What each of these does, rb_turns says.
-impl<'a, R: Clock, H: Files> Starts<&'a R, H> for Daemon<'a, R, H> {
+impl<'a, R: Clock, H: Files, C: Serves<H>> Starts<&'a R, H> for Daemon<'a, R, H, C> {
     // LIMITS-2: The fault is `Limits` if and only if a limit is out of its range: before memory is
     // taken and sockets are bound.
     /// A daemon that listens where the settings say: over TCP and UDP on each of their hosts, and also on ::1 and on a
@@ -137,18 +130,18 @@ impl<'a, R: Clock, H: Files> Starts<&'a R, H> for Daemon<'a, R, H> {
         settings: &Settings<'_>,
         kept: &[Row],
         handed: Handed,
-    ) -> Result<Daemon<'a, R, H>, DaemonFault>
+    ) -> Result<Daemon<'a, R, H, C>, DaemonFault>
         requires { MeetsLaws (listener_of settings.now) settings.now.record_limit }
         ensures bad { IsErrOf result DaemonFault.Limits
-            ↔ IsTrue (not (has_good_limits settings.now)) }
-        ensures good { OnOk result (IsTrue (has_good_limits settings.now)) }
+            ↔ IsTrue (not (are_good settings.now.limits (listener_of settings.now))) }
+        ensures good { OnOk result (IsTrue (are_good settings.now.limits (listener_of settings.now))) }
     {
         check_limits(settings)?;
         Daemon::begin(alloc, host, clock, settings, kept, handed)
     }
 }
 
-impl<R: Clock, H: Files> Turns<H> for Daemon<'_, R, H> {
+impl<R: Clock, H: Files, C: Serves<H>> Turns<H> for Daemon<'_, R, H, C> {
     fn moment(&self) -> u64 {
         self.waiting.moment()
     }
@@ -205,7 +198,7 @@ impl<R: Clock, H: Files> Turns<H> for Daemon<'_, R, H> {
     }
 
     fn take_news<N: Files + Net>(&mut self, host: &N) -> News
-        ensures keep { result.keep ≡ self.old.serving.keeper.news }
+        ensures keep { result.keep ≡ C.news self.old.serving.core }
         ensures table { result.table ≡ self.old.serving.tables.fault }
         ensures told { self.new.serving.tables.fault ≡ None }
     {
@@ -215,7 +208,7 @@ impl<R: Clock, H: Files> Turns<H> for Daemon<'_, R, H> {
                 Some(fault) => Some(fault),
                 None => serving.fault.take(),
             },
-            keep: serving.keeper.take_news(),
+            keep: serving.core.take_news(),
             table: serving.tables.fault.take(),
             is_local_changed: serving.sockets.take_local_change(),
             name: serving.sockets.take_name(host, serving.turn.moment),
@@ -236,18 +229,18 @@ impl<R: Clock, H: Files> Turns<H> for Daemon<'_, R, H> {
     /// recorded, and the daemon goes on.
     fn write_record<W: Write>(&mut self, writer: &mut W) -> io::Result<()>
         ensures { OnOk result (WritesRecord W.contents writer.old writer.new
-            self.old.serving.engine.tape self.new.serving.engine.tape) }
+            (C.tape self.old.serving.core) (C.tape self.new.serving.core)) }
     {
-        self.serving.engine.write_record(writer)
+        self.serving.core.write_record(writer)
     }
 
     fn write_log<W: Write>(&mut self, writer: &mut W) -> io::Result<()> {
-        self.serving.engine.write_log(writer)
+        self.serving.core.write_log(writer)
     }
 }
 
 /// Serves what the wait showed.
-fn serve_events<H: Files>(serving: &mut Serving<H>, host: &H, waiting: &Waiting) {
+fn serve_events<H: Files, C: Serves<H>>(serving: &mut Serving<H, C>, host: &H, waiting: &Waiting) {
     serving.begin_turn(waiting.moment());
     waiting.note_ready(&mut serving.sockets);
     serving.answer_calls(host);
@@ -258,7 +251,7 @@ fn serve_events<H: Files>(serving: &mut Serving<H>, host: &H, waiting: &Waiting)
 }
 
 /// Serves the connections that the wait showed.
-fn serve_shown<H: Files>(serving: &mut Serving<H>, host: &H, waiting: &Waiting) {
+fn serve_shown<H: Files, C: Serves<H>>(serving: &mut Serving<H, C>, host: &H, waiting: &Waiting) {
     for event in &waiting.events {
         serving.serve(host, event);
     }
@@ -267,8 +260,8 @@ fn serve_shown<H: Files>(serving: &mut Serving<H>, host: &H, waiting: &Waiting) 
 /// `Limits` if a limit is out of its range.
 fn check_limits(settings: &Settings<'_>) -> Result<(), DaemonFault>
     ensures bad { IsErrOf result DaemonFault.Limits
-        ↔ IsTrue (not (has_good_limits settings.now)) }
-    ensures good { OnOk result (IsTrue (has_good_limits settings.now)) }
+        ↔ IsTrue (not (are_good settings.now.limits (listener_of settings.now))) }
+    ensures good { OnOk result (IsTrue (are_good settings.now.limits (listener_of settings.now))) }
 {
     match bad_limit(&settings.limits, &settings.listener()) {
         None => Ok(()),

@@ -4,9 +4,9 @@ ghost use Rattle.rb_around.specs.Leaving.{IsServedNextAt, IsServedNextOf};
 
 use crate::serving::Serving;
 use mio::Registry;
-use rb_address::{Family, Who};
-use rb_around::{is_ready, is_told, leave_calls, leave_listener, leave_of, note_fault};
-use rb_engine::{Asked, Sender, answer_call, take_back};
+use rb_address::Family;
+use rb_around::{Serves, is_ready, is_told, leave_calls, leave_listener, leave_of, note_fault};
+use rb_arrivals::{Asker, Returned, plain_who};
 use rb_policy::drains::{CallsSoFar, Came, Drains, drain};
 use rb_policy::{Again, Brake, Next, SOCKET_CALLS, after_accept, after_receive, outcome_of};
 use std::fs::Files;
@@ -16,15 +16,15 @@ const DATAGRAMS: usize = SOCKET_CALLS / 2;
 
 /// A socket where calls come in.
 #[derive(Drop)]
-struct Calls<'a, H: Files> {
-    serving: &'a mut Serving<H>,
+struct Calls<'a, H: Files, C> {
+    serving: &'a mut Serving<H, C>,
     host: &'a H,
     /// Its number.
     number: usize,
 }
 
 // What is believed of the system: what a call comes to.
-impl<H: Files> Drains for Calls<'_, H> {
+impl<H: Files, C: Serves<H>> Drains for Calls<'_, H, C> {
     ghost comes = { λ old before came new. ⊤ };
 
     ghost leaves = { λ old again new.
@@ -41,13 +41,13 @@ impl<H: Files> Drains for Calls<'_, H> {
 
 /// The socket where replies to calls come in that were forwarded to targets of a family.
 #[derive(Drop)]
-struct ForwardReplies<'a, H: Files> {
-    serving: &'a mut Serving<H>,
+struct ForwardReplies<'a, H: Files, C> {
+    serving: &'a mut Serving<H, C>,
     host: &'a H,
     family: Family,
 }
 
-impl<H: Files> Drains for ForwardReplies<'_, H> {
+impl<H: Files, C: Serves<H>> Drains for ForwardReplies<'_, H, C> {
     ghost comes = { λ old before came new. ⊤ };
 
     ghost leaves = { λ old again new.
@@ -64,15 +64,15 @@ impl<H: Files> Drains for ForwardReplies<'_, H> {
 
 /// A listener.
 #[derive(Drop)]
-struct Door<'a, H: Files> {
-    serving: &'a mut Serving<H>,
+struct Door<'a, H: Files, C> {
+    serving: &'a mut Serving<H, C>,
     host: &'a H,
     registry: &'a Registry,
     /// Its number.
     number: usize,
 }
 
-impl<H: Files> Drains for Door<'_, H> {
+impl<H: Files, C: Serves<H>> Drains for Door<'_, H, C> {
     ghost comes = { λ old before came new. ⊤ };
 
     ghost leaves = { λ old again new.
@@ -88,15 +88,15 @@ impl<H: Files> Drains for Door<'_, H> {
     }
 }
 
-/// Whether a datagram of this caller is served that came at this moment: each one is, if there is no brake.
-fn passes(brake: &mut Option<Brake>, now: u64, who: &Who) -> bool {
+/// Whether a datagram is served that came so at this moment: each one is, if there is no brake.
+fn passes(brake: &mut Option<Brake>, now: u64, asker: Asker) -> bool {
     match brake {
-        Some(brake) => brake.passes(now, who),
+        Some(brake) => brake.passes(now, &plain_who(asker.arrival.who())),
         None => true,
     }
 }
 
-impl<H: Files> Serving<H> {
+impl<H: Files, C: Serves<H>> Serving<H, C> {
     ghost use Rattle.std.specs.Prelude.{◌≤◌, length};
 
     /// Answers datagrams on each socket where calls come in.
@@ -132,7 +132,7 @@ impl<H: Files> Serving<H> {
         match came {
             Ok(from) => {
                 if let Some(asker) = from {
-                    self.answer(host, Asked::of(asker));
+                    self.answer(host, asker);
                 }
                 Came::Something
             }
@@ -141,20 +141,17 @@ impl<H: Files> Serving<H> {
     }
 
     /// Answers the datagram that came, unless the brake drops it.
-    fn answer(&mut self, host: &H, asked: Asked)
-        requires { asked.len ≤ length self.old.datagram.items }
+    fn answer(&mut self, host: &H, asker: Asker)
+        requires { asker.len ≤ length self.old.datagram.items }
     {
-        if !passes(&mut self.brake, self.turn.moment, &asked.caller.who) {
+        if !passes(&mut self.brake, self.turn.moment, asker) {
             return;
         }
-        answer_call(
+        self.core.answer(
             host,
-            &mut self.engine,
-            &mut self.keeper,
-            &mut self.held.replies,
             &mut self.sockets,
             &mut self.ways_back,
-            asked,
+            asker,
             self.datagram.as_slice(),
         );
     }
@@ -187,7 +184,7 @@ impl<H: Files> Serving<H> {
         match forwards.socket.receive(&mut self.datagram) {
             Ok(from) => {
                 if let Some(returned) = from {
-                    self.take_back(host, Sender::of(returned));
+                    self.take_back(host, returned);
                 }
                 Came::Something
             }
@@ -196,16 +193,14 @@ impl<H: Files> Serving<H> {
     }
 
     /// Takes in the datagram that came. The connection goes on whose forwarded call it ends.
-    fn take_back(&mut self, host: &H, sender: Sender)
-        requires { sender.len ≤ length self.old.datagram.items }
+    fn take_back(&mut self, host: &H, returned: Returned)
+        requires { returned.len ≤ length self.old.datagram.items }
     {
-        let ready = take_back(
+        let ready = self.core.take_back(
             host,
-            &mut self.engine,
-            &mut self.keeper,
             &mut self.sockets,
             &mut self.ways_back,
-            sender,
+            returned,
             self.datagram.as_slice(),
         );
         if let Some(id) = ready {

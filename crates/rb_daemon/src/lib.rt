@@ -3,11 +3,7 @@
 
 mod daemon;
 mod draining;
-mod opening;
-mod outbox;
-mod served;
 mod serving;
-mod steps;
 
 pub use daemon::Daemon;
 pub use rb_answers::{Announced, Forwarding, Reserved, Terms};

@@ -2,15 +2,11 @@
 ghost use Rattle.std.specs.Prelude.{◌≡◌};
 ghost use Rattle.rb_daemon.specs.Turning.{is_due};
 
-use crate::opening::{close_at, open_again, open_at};
-use crate::served::{go_on_each, note_served};
-use crate::steps::{Progress, serve};
 use mio::Registry;
 use mio::event::Event;
 use rb_address::Network;
-use rb_around::{HeldLinks, Room, Tables};
+use rb_around::{HeldLinks, Progress, Room, Serves, Tables};
 use rb_arrivals::{Accepted, Shown, Visitor};
-use rb_engine::{Due, Engine, Keeper, Replies};
 use rb_forward::sooner;
 use rb_links::{Places, Turn};
 use rb_model::Limits;
@@ -22,19 +18,10 @@ use rb_sockets::Sockets;
 use rb_turns::Load;
 use std::fs::Files;
 
-/// What waits until the changes of a turn are kept.
-#[derive(Drop)]
-pub(crate) struct Held {
-    pub(crate) replies: Replies,
-    pub(crate) links: HeldLinks,
-}
-
 /// The core with its sockets, the places of connections, and what is left for the next turn.
 #[derive(Drop)]
-pub(crate) struct Serving<H: Files> {
-    pub(crate) engine: Engine,
-    /// Where the rows are kept that were set.
-    pub(crate) keeper: Keeper<H>,
+pub(crate) struct Serving<H: Files, C> {
+    pub(crate) core: C,
     pub(crate) sockets: Sockets,
     /// The networks whose hosts may ask.
     pub(crate) networks: Vec<Network>,
@@ -46,16 +33,14 @@ pub(crate) struct Serving<H: Files> {
     pub(crate) datagram: Vec<u8>,
     /// On which sockets the calls came that were forwarded.
     pub(crate) ways_back: WaysBack,
-    /// What waits until the changes of the turn are kept.
-    pub(crate) held: Held,
+    /// Connections whose replies wait until the changes of the turn are kept.
+    pub(crate) held: HeldLinks,
     /// What drops datagrams of strangers that come too often, if that is asked for.
     pub(crate) brake: Option<Brake>,
     /// The kernel's tables of connections, which show whose those from this host are.
     pub(crate) tables: Tables<H>,
     pub(crate) turn: Turn,
     deadlines: Deadlines,
-    /// How many changes had been accepted when connections were last closed that the core had given up for one.
-    changes: u64,
     /// The fault of a listener that is yet to be told.
     pub(crate) fault: Option<SocketFault>,
 }
@@ -70,41 +55,35 @@ fn is_due(deadline: Option<u64>, moment: u64) -> bool
     }
 }
 
-impl<H: Files> Serving<H> {
+impl<H: Files, C: Serves<H>> Serving<H, C> {
     ghost use Rattle.std.specs.Prelude.{◌≡◌, vec_len, true};
-    ghost use Rattle.rb_connections.specs.Slots.{Shows};
-    ghost use Rattle.rb_core.specs.StandsFor.{StandsFor};
-    ghost use Rattle.rb_engine.specs.Served.{row_count};
-    ghost use Rattle.rb_engine.specs.Moves.{LooksOnce};
     ghost use Rattle.mio.specs.Event.{event_token};
     ghost use Rattle.rb_policy.specs.Deadlines.{ends, put_off_after, is_behind};
     ghost use Rattle.rb_policy.specs.Rounds.{StayBut};
     ghost use Rattle.rb_sockets.specs.Events.{shown_by};
     ghost use Rattle.rb_links.specs.Rounds.{IsTakenUp, TakesUp, ServesFew};
-    ghost use Rattle.rb_daemon.specs.Turning.{ServesNone, ServesEach, is_due, leaves_some};
+    ghost use Rattle.rb_around.specs.Turning.{ServesNone, ServesEach};
+    ghost use Rattle.rb_daemon.specs.Turning.{is_due, leaves_some};
 
-    /// A core of these limits, what keeps its rows, the sockets around it, which are served with this memory, and what
-    /// drops datagrams of strangers.
+    /// A core of these limits, the sockets around it, which are served with this memory, and what drops datagrams of
+    /// strangers.
     pub(crate) fn new(
-        engine: Engine,
-        keeper: Keeper<H>,
-        replies: Replies,
+        core: C,
         sockets: Sockets,
         room: Room<H>,
         limits: Limits,
         brake: Option<Brake>,
-    ) -> Serving<H> {
+    ) -> Serving<H, C> {
         let Room {
             networks,
             places,
             datagram,
             ways_back,
-            held: links,
+            held,
             tables,
         } = room;
         Serving {
-            engine,
-            keeper,
+            core,
             sockets,
             networks,
             places,
@@ -112,7 +91,7 @@ impl<H: Files> Serving<H> {
             most_due: limits.conns.saturating_add(limits.forwards),
             datagram,
             ways_back,
-            held: Held { replies, links },
+            held,
             brake,
             tables,
             turn: Turn {
@@ -120,7 +99,6 @@ impl<H: Files> Serving<H> {
                 moment: 0,
             },
             deadlines: Deadlines::new(),
-            changes: 0,
             fault: None,
         }
     }
@@ -129,20 +107,19 @@ impl<H: Files> Serving<H> {
     pub(crate) fn has_news(&self) -> bool {
         self.fault.is_some()
             || self.tables.fault.is_some()
-            || self.keeper.has_news()
-            || self.engine.may_have_log_lines()
+            || self.core.has_news()
             || self.sockets.has_news(self.turn.moment)
     }
 
     /// How much is served now. It goes through all rows.
     pub(crate) fn load(&mut self) -> Load
-        ensures rows { Shows StandsFor row_count self.old.engine.core.core result.rows }
+        ensures rows { C.rows self.old.core result.rows }
         ensures most { result.most_rows ≡ self.old.most_rows }
         ensures connections { result.connections ≡ self.old.places.taken }
         ensures places { result.places ≡ vec_len self.old.places.links }
     {
         Load {
-            rows: self.engine.count_rows(),
+            rows: self.core.count_rows(),
             most_rows: self.most_rows,
             connections: self.places.taken(),
             places: self.places.count(),
@@ -162,16 +139,16 @@ impl<H: Files> Serving<H> {
     /// The next deadline, in milliseconds since the start of 1970, if anything has one: of a connection or a forwarded call,
     /// and of a connection whose socket takes nothing of what waits for it.
     pub(crate) fn next_deadline(&mut self) -> Option<u64>
-        ensures looks { LooksOnce self.old.engine self.new.engine }
+        ensures looks { C.looks self.old.core self.new.core }
     {
-        sooner(self.engine.next_deadline(), self.places.next_stuck())
+        sooner(self.core.next_deadline(), self.places.next_stuck())
     }
 
     /// The moment at which the next turn comes though nothing shows it, given that it would otherwise come at this
     /// deadline, if there is one: for a line of the log on those that were left out; for a socket that failed; for the
     /// abstract name; for addresses that are followed.
     pub(crate) fn next_turn(&self, deadline: Option<u64>) -> Option<u64> {
-        let mut next = sooner(deadline, self.engine.next_log_line());
+        let mut next = sooner(deadline, self.core.next_log_line());
         if self.sockets.is_tried_again() {
             next = sooner(next, Some(self.turn.moment.saturating_add(RETRY)));
         }
@@ -181,7 +158,7 @@ impl<H: Files> Serving<H> {
 
     /// A turn at this moment, in milliseconds since the start of 1970.
     pub(crate) fn begin_turn(&mut self, now: u64) {
-        self.engine.set_moment(now);
+        self.core.set_moment(now);
         self.tables.begin_turn(now);
         self.turn = Turn {
             number: self.turn.number.wrapping_add(1),
@@ -264,64 +241,42 @@ impl<H: Files> Serving<H> {
     fn serve_link(&mut self, host: &H, key: usize, may_end: bool)
         ensures { ServesNone self.old.places self.new.places }
     {
-        if self.held.links.is_full() {
+        if self.held.is_full() {
             self.answer_changes(host);
         }
         let Some(link) = self.places.links.get_mut(key) else {
             return;
         };
-        let progress = serve(
+        let progress = self.core.serve(
             host,
             link,
-            &mut self.engine,
-            &mut self.keeper,
             &mut self.sockets,
             &mut self.places.long_outbox,
             self.turn,
             may_end,
         );
         if let Progress::Unkept(calls) = progress {
-            if self.held.links.hold(key, calls, may_end) {
+            if self.held.hold(key, calls, may_end) {
                 return;
             }
         }
-        note_served(&mut self.places, &mut self.engine, key, progress);
+        self.core.note_served(&mut self.places, key, progress);
     }
 
-    // KEEP-18: What changes in a turn, over UDP, TCP and the local socket, is added to the file by one write, if there is room
-    // for its lines, and the replies that waited for it go out then.
+    // KEEP-18
     /// Keeps what changed in the turn, and then sends the replies that waited for it.
     pub(crate) fn answer_changes(&mut self, host: &H)
-        ensures each { ServesEach
-            self.old.held.links.all.items self.old.places self.new.places }
+        ensures each { ServesEach self.old.held.all.items self.old.places self.new.places }
         ensures none { ServesNone self.old.places self.new.places }
     {
-        let kept = self.keeper.keep(host, &mut self.engine);
-        self.held
-            .replies
-            .send(&self.engine, &mut self.sockets, kept);
-        go_on_each(
+        self.core.answer_changes(
             host,
-            &mut self.engine,
-            &mut self.keeper,
+            &mut self.sockets,
             &mut self.places,
             self.turn,
-            self.held.links.as_slice(),
+            self.held.as_slice(),
         );
-        self.held.links.clear();
-    }
-
-    /// Closes the connection at a place, if there is one.
-    fn close(&mut self, key: usize) {
-        close_at(&mut self.places, &mut self.engine, key);
-    }
-
-    /// Closes the connection at a place, which is given up, and tells the log so.
-    fn give_up(&mut self, key: usize) {
-        if let Some(arrival) = self.places.arrival(key) {
-            self.engine.tell_given_up(arrival.source());
-        }
-        self.close(key);
+        self.held.clear();
     }
 
     /// What a turn does after it served all and ended what is due: closes Lost connections, accepts others, reads a slice of the
@@ -330,7 +285,7 @@ impl<H: Files> Serving<H> {
         self.close_lost();
         self.accept_all(host, registry);
         self.look_in_tables(host, is_idle);
-        self.keeper.keep(host, &mut self.engine);
+        self.core.keep(host);
     }
 
     // CLOSE-2: A connection that the core gave up in a turn is closed in it: one that was due at once,
@@ -351,15 +306,14 @@ impl<H: Files> Serving<H> {
         }
         self.close_stuck();
         for _ in 0..=self.most_due {
-            let kept = self.keeper.keep(host, &mut self.engine);
-            match self
-                .engine
-                .expire(&mut self.sockets, &mut self.ways_back, kept)
-            {
-                Due::Nothing => return,
-                Due::Done => {}
-                Due::Ready(id) => self.places.wake(id),
-                Due::Closed(id) => self.close_given_up(id),
+            let is_done = self.core.expire(
+                host,
+                &mut self.sockets,
+                &mut self.ways_back,
+                &mut self.places,
+            );
+            if !is_done {
+                return;
             }
         }
     }
@@ -384,32 +338,14 @@ impl<H: Files> Serving<H> {
         let now = self.turn.moment;
         for key in 0..self.places.count() {
             if self.places.stuck_at(key).is_some_and(|at| at <= now) {
-                self.give_up(key);
+                self.core.give_up(&mut self.places, key);
             }
         }
     }
 
     /// Closes the connections that the core has given up for the room of a row: a change was accepted then.
     pub(crate) fn close_lost(&mut self) {
-        let changes = self.engine.changes();
-        if changes == self.changes {
-            return;
-        }
-        self.changes = changes;
-        for _ in 0..self.places.count() {
-            let Some(id) = self.engine.next_lost() else {
-                return;
-            };
-            self.close_given_up(id);
-        }
-    }
-
-    /// Closes the connection of a number, which the core has given up.
-    fn close_given_up(&mut self, id: u64) {
-        match self.places.key_of(id) {
-            Some(key) => self.give_up(key),
-            None => self.engine.closed(id),
-        }
+        self.core.close_lost(&mut self.places);
     }
 
     // DOOR-7: The connection that is given up is closed for the core before the one that takes its
@@ -425,21 +361,14 @@ impl<H: Files> Serving<H> {
         let key = match self.places.admit(&origin, self.turn) {
             Admission::Take(key) => key,
             Admission::GiveUp(key) => {
-                self.give_up(key);
+                self.core.give_up(&mut self.places, key);
                 key
             }
             Admission::Close => return,
         };
         self.places.seat(key, accepted, origin, self.turn.moment);
-        if !open_at(&mut self.places, &mut self.engine, registry, key) {
-            self.close(key);
-        }
-    }
-
-    /// The connection at a place, of which the core has no part of a record and owes nothing, goes on as who it is.
-    fn open_again(&mut self, key: usize) {
-        if !open_again(&mut self.places, &mut self.engine, key) {
-            self.close(key);
+        if !self.core.open(&mut self.places, registry, key) {
+            self.core.close(&mut self.places, key);
         }
     }
 
@@ -452,7 +381,7 @@ impl<H: Files> Serving<H> {
         }
         for key in 0..self.places.count() {
             if self.places.shown(key, now) {
-                self.open_again(key);
+                self.core.open_again(&mut self.places, key);
             }
         }
     }

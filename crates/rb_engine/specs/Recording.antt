@@ -14,8 +14,7 @@ use Rattle.rb_model.specs.Step.{Event, Output, unsent_call, show_taken, show_tol
 use Rattle.rb_model.specs.Step.Event.{Bytes, Pending, Gave, Datagram, Unsent, Sent}
 use Rattle.rb_model.specs.Step.Output.{Refused, Done, IsPending, UnsentIs, Replied, Forwarded as OutForwarded, Silent}
 use Rattle.rb_lines.specs.Entries.{entry_text, run_entries, options_text}
-use Rattle.rb_lines.specs.Printing.{Writes}
-use Rattle.rb_lines.specs.Tapes.{Tape, IsRecordOf, unwritten, all_written}
+use Rattle.rb_lines.specs.Tapes.{Tape, IsRecordOf}
 use Rattle.rb_model.specs.declared.types.Exchanged.{Exchanged}
 use Rattle.rb_model.specs.Exchanges.{taken_in}
 use Rattle.rb_model.specs.Gives.{piece_events, pieces_of, first_piece}
@@ -54,12 +53,6 @@ entries_of r = options_text r.limits r.listener r.first_xid r.now ∷ run_entrie
 -- is asked for; and nothing else is. What is given into a room is recorded piece by piece.
 abbrev pub HasRecorded : {s : State} → IsReached s → Tape → Type 0
 HasRecorded r tape = IsRecordOf (entries_of r) tape
-
--- The writer got all that it had not got of the tape, and nothing else, if what it holds is known.
--- TAPE-1
-pub record WritesRecord {W : Type 0} (contents : W → Option (List ℕ)) (old new : W) (before after : Tape) : Type 0 where
-  pub written : Writes contents old new (unwritten before)
-  pub all : after ≡ all_written before
 
 -- ---- what a call gave, as an output
 

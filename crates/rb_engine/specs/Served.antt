@@ -21,8 +21,6 @@ use Rattle.rb_core.specs.StandsFor.{CoreView, StandsFor}
 use Rattle.rb_core.specs.HeldBytes.{IsListener}
 use Rattle.rb_lines.specs.RecordLaws.{HasLine}
 use Rattle.rb_lines.specs.Starts.{MeetsLaws}
-use Rattle.rb_settings.specs.declared.settings.Settings.{Settings}
-use Rattle.rb_settings.specs.Settings.{listener_of}
 use Rattle.rb_engine.specs.declared.engine.Answer.{Answer}
 use Rattle.rb_engine.specs.declared.engine.Answer.TheVariants as answers
 use Rattle.rb_engine.specs.declared.engine.Due.{Due}
@@ -41,10 +39,6 @@ pub record IsServed (core : CoreView) (tape : Tape) : Type 0 where
   pub lines : AllByRecursion HasLine reached.events
   pub begins : MeetsLaws state.setting.listener tape.limit
   pub recorded : HasRecorded reached tape
-
--- the limits of the settings are in their ranges, with their listener
-abbrev pub has_good_limits : Settings → Bool
-has_good_limits settings = are_good settings.limits (listener_of settings)
 
 -- ---- datagrams
 

@@ -2,6 +2,7 @@
 #![tactic(auto)]
 
 use rb_daemon::Daemon;
+use rb_inside::Inside;
 use rb_service::{Streams, run};
 use rb_startup::{Leveled, is_journal};
 use std::io;
@@ -14,7 +15,7 @@ fn main(rt: HostRuntime) -> ExitCode {
         output: io::writer(&rt),
         errors: rt.stderr(),
     };
-    let ending = run::<_, Daemon<'_, HostRuntime, HostRuntime>, _, _, _, _>(
+    let ending = run::<_, Daemon<'_, HostRuntime, HostRuntime, Inside<HostRuntime>>, _, _, _, _>(
         &rt,
         &rt,
         streams,

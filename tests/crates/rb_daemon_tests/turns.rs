@@ -5,6 +5,7 @@ use rb_daemon::{
     Announced, Daemon, DaemonFault, Few, Handed, Limits, LocalSocket, Logged, Reserved, Settings,
     Shortage, SocketFault, Starts, Terms, Turns,
 };
+use rb_inside::Inside;
 use std::cell::Cell;
 use std::fs::Files;
 use std::io;
@@ -87,7 +88,7 @@ impl Clock for Stopped {
 /// The daemon, and whether each of its turns was without a fault.
 #[derive(Drop)]
 pub(crate) struct Host<'a> {
-    daemon: Daemon<'a, Stopped, Tables>,
+    daemon: Daemon<'a, Stopped, Tables, Inside<Tables>>,
     /// It has the kernel's tables of connections.
     tables: Tables,
     is_well: bool,

@@ -5,6 +5,7 @@ use rb_daemon::{
     Announced, Daemon, Few, Handed, Limits, LocalSocket, Logged, Reserved, Settings, Starts, Terms,
     Turns,
 };
+use rb_inside::Inside;
 use rb_plans::{Aim, Answer, Course, End, Stage, asked, begin, called_at, next};
 use rb_show::{
     Ask, Form, InfoFault, Shown, show_datagram, show_reply, write_call, write_marked_call,
@@ -36,7 +37,9 @@ pub fn portmapper6() -> SocketAddr {
 }
 
 /// A daemon on 127.0.0.1, [::1] and the local socket, which forwards calls.
-pub fn daemon_everywhere(rt: &HostRuntime) -> Option<Daemon<'_, HostRuntime, HostRuntime>> {
+pub fn daemon_everywhere(
+    rt: &HostRuntime,
+) -> Option<Daemon<'_, HostRuntime, HostRuntime, Inside<HostRuntime>>> {
     let here = Host::V4([127, 0, 0, 1]);
     let mut bind = Few::new(here);
     bind.push(here);
@@ -116,7 +119,7 @@ impl<'r, 'f> Client<'r, 'f> {
     /// Asks over a connection that is there.
     pub fn ask_stream<S: Read + Write>(
         &mut self,
-        daemon: &mut Daemon<'_, HostRuntime, HostRuntime>,
+        daemon: &mut Daemon<'_, HostRuntime, HostRuntime, Inside<HostRuntime>>,
         stream: &mut S,
         ask: &Ask,
         xid: u32,
@@ -140,7 +143,7 @@ impl<'r, 'f> Client<'r, 'f> {
 
     fn ask_datagram(
         &mut self,
-        daemon: &mut Daemon<'_, HostRuntime, HostRuntime>,
+        daemon: &mut Daemon<'_, HostRuntime, HostRuntime, Inside<HostRuntime>>,
         address: SocketAddr,
         ask: &Ask,
         xid: u32,
@@ -157,7 +160,7 @@ impl<'r, 'f> Client<'r, 'f> {
     /// Asks at a place of a host.
     fn ask_at(
         &mut self,
-        daemon: &mut Daemon<'_, HostRuntime, HostRuntime>,
+        daemon: &mut Daemon<'_, HostRuntime, HostRuntime, Inside<HostRuntime>>,
         at: (Transport, SocketAddr),
         ask: &Ask,
         xid: u32,
@@ -176,7 +179,7 @@ impl<'r, 'f> Client<'r, 'f> {
     /// Asks the portmapper over TCP.
     pub fn ask(
         &mut self,
-        daemon: &mut Daemon<'_, HostRuntime, HostRuntime>,
+        daemon: &mut Daemon<'_, HostRuntime, HostRuntime, Inside<HostRuntime>>,
         portmapper: SocketAddr,
         ask: &Ask,
     ) -> Option<Result<Shown, InfoFault>> {
@@ -186,7 +189,7 @@ impl<'r, 'f> Client<'r, 'f> {
     /// Follows a course to its end.
     pub fn follow(
         &mut self,
-        daemon: &mut Daemon<'_, HostRuntime, HostRuntime>,
+        daemon: &mut Daemon<'_, HostRuntime, HostRuntime, Inside<HostRuntime>>,
         portmapper: SocketAddr,
         course: &Course,
         aim: Aim,
@@ -255,7 +258,7 @@ impl Caller {
     pub fn first_word(
         &self,
         rt: &HostRuntime,
-        daemon: &mut Daemon<'_, HostRuntime, HostRuntime>,
+        daemon: &mut Daemon<'_, HostRuntime, HostRuntime, Inside<HostRuntime>>,
     ) -> Option<(u32, SocketAddr)> {
         let mut room = [0; 1024];
         for _ in 0..TURNS {
@@ -272,7 +275,7 @@ impl Caller {
     pub fn receive(
         &self,
         rt: &HostRuntime,
-        daemon: &mut Daemon<'_, HostRuntime, HostRuntime>,
+        daemon: &mut Daemon<'_, HostRuntime, HostRuntime, Inside<HostRuntime>>,
     ) -> Option<Vec<u8>> {
         let mut room = [0; 1024];
         for _ in 0..TURNS {

@@ -2,6 +2,7 @@
 use crate::turns::{daemon_of, receive};
 use rb_address::Transport;
 use rb_daemon::Daemon;
+use rb_inside::Inside;
 use rb_plans::{Aim, Answer, Course, End, Stage, Step, asked, begin, next};
 use rb_show::{Form, InfoFault, Shown, show_reply, write_marked_call};
 use rb_words::Way;
@@ -17,7 +18,7 @@ const QUESTIONS: u32 = 10;
 /// Asks what a stage asks, over a connection of its own, and says what follows of the answer.
 fn step(
     rt: &HostRuntime,
-    daemon: &mut Daemon<'_, HostRuntime, HostRuntime>,
+    daemon: &mut Daemon<'_, HostRuntime, HostRuntime, Inside<HostRuntime>>,
     course: &Course,
     stage: Stage,
     xid: u32,

@@ -2,6 +2,7 @@
 use crate::client::{Caller, Client, LOCAL, daemon_everywhere, portmapper, portmapper6};
 use rb_address::Netid;
 use rb_daemon::Daemon;
+use rb_inside::Inside;
 use rb_show::{Ask, Form, Question, Shown, show_datagram};
 use rb_words::{Service, read_services};
 use std::net::{Ipv4Addr, SocketAddr};
@@ -96,7 +97,7 @@ fn rows_over_the_local_socket(rt: HostRuntime) -> Result<(), Fail> {
 /// SET of program 200001 version 1 over a protocol (6 or 17) at TARGET, by version 2.
 fn sets_target(
     rt: &HostRuntime,
-    daemon: &mut Daemon<'_, HostRuntime, HostRuntime>,
+    daemon: &mut Daemon<'_, HostRuntime, HostRuntime, Inside<HostRuntime>>,
     prot: u32,
 ) -> Option<()> {
     let caller = Caller::new(rt, 0)?;

@@ -4,6 +4,7 @@ use rb_address::{Host, Network};
 use rb_daemon::{
     Announced, Daemon, Few, Handed, Limits, Logged, Reserved, Settings, Starts, Terms, Turns,
 };
+use rb_inside::Inside;
 use std::alloc::AllocError;
 use std::io::{Read, Write};
 use std::net::{Ipv4Addr, SocketAddr, TcpStream};
@@ -47,7 +48,7 @@ pub fn daemon_of(
     rt: &HostRuntime,
     port: u16,
     conns: usize,
-) -> Option<Daemon<'_, HostRuntime, HostRuntime>> {
+) -> Option<Daemon<'_, HostRuntime, HostRuntime, Inside<HostRuntime>>> {
     let limits = Limits {
         conns,
         rows: 8,
@@ -82,7 +83,7 @@ pub fn daemon_of(
 /// Takes turns until something has come, and says how many bytes.
 pub fn receive(
     rt: &HostRuntime,
-    daemon: &mut Daemon<'_, HostRuntime, HostRuntime>,
+    daemon: &mut Daemon<'_, HostRuntime, HostRuntime, Inside<HostRuntime>>,
     stream: &mut TcpStream,
     got: &mut [u8; 256],
 ) -> usize {
@@ -99,7 +100,7 @@ pub fn receive(
 
 fn answers_dump(
     rt: &HostRuntime,
-    daemon: &mut Daemon<'_, HostRuntime, HostRuntime>,
+    daemon: &mut Daemon<'_, HostRuntime, HostRuntime, Inside<HostRuntime>>,
 ) -> Option<bool> {
     let mut stream = TcpStream::connect(rt, SocketAddr::from((Ipv4Addr::LOCALHOST, PORT))).ok()?;
     stream.set_nonblocking(true).ok()?;

@@ -1,7 +1,7 @@
 //! Connections at their places are opened and closed for the core.
 ghost use Rattle.std.specs.Prelude.{◌≡◌, true, IfSome};
-ghost use Rattle.rb_daemon.specs.Links.{OpensAt, ClosesAt, OpensAgain};
-ghost use Rattle.rb_daemon.specs.Turning.{ServesOnly};
+ghost use Rattle.rb_inside.specs.Links.{OpensAt, ClosesAt, OpensAgain};
+ghost use Rattle.rb_around.specs.Turning.{ServesOnly};
 
 use mio::Registry;
 use rb_engine::{Caller, Engine};

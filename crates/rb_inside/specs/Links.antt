@@ -14,7 +14,7 @@ use Rattle.rb_links.specs.Numbers.{number_at, arrival_at}
 use Rattle.rb_engine.specs.declared.engine.Engine.{Engine}
 use Rattle.rb_arrivals.specs.PlainCallers.{plain_who}
 use Rattle.rb_engine.specs.Moves.{Moves, ActsNow}
-use Rattle.rb_daemon.specs.Outboxes.{FillsOutbox, WritesToOutbox}
+use Rattle.rb_inside.specs.Outboxes.{FillsOutbox, WritesToOutbox}
 
 -- LINK-1: What is read from a connection is handed in under its own number, each byte once, in order; and what the core gives
 -- on that number stands in its outbox, in order.

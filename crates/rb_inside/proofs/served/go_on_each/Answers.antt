@@ -1,5 +1,5 @@
-use Rattle.rb_daemon.proofs.GoingOn.{each_more, each_done}
-use Rattle.rb_daemon.proofs.served.go_on_each.Goals as goal
+use Rattle.rb_inside.proofs.GoingOn.{each_more, each_done}
+use Rattle.rb_inside.proofs.served.go_on_each.Goals as goal
 
 pub loop-held-init : goal.loop-held-init
 loop-held-init g c = λ x h. h

@@ -1,6 +1,6 @@
 use Rattle.std.proofs.Common.{◌∙◌}
-use Rattle.rb_daemon.proofs.GoingOn.{others_stay}
-use Rattle.rb_daemon.proofs.served.go_on.Goals as goal
+use Rattle.rb_inside.proofs.GoingOn.{others_stay}
+use Rattle.rb_inside.proofs.served.go_on.Goals as goal
 
 pub returns : goal.returns
 returns g c = record {

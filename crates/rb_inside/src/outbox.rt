@@ -2,7 +2,7 @@
 ghost use Rattle.std.specs.Prelude.{◌≤◌, length, IfOk};
 ghost use Rattle.rb_model.specs.Exchanges.{count_given};
 ghost use Rattle.rb_engine.specs.Moves.{RecordsExchange};
-ghost use Rattle.rb_daemon.specs.Outboxes.{FillsOutbox, WritesToOutbox};
+ghost use Rattle.rb_inside.specs.Outboxes.{FillsOutbox, WritesToOutbox};
 
 use rb_core::{CoreFault, Exchanged, Given};
 use rb_engine::Engine;

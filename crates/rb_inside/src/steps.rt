@@ -4,11 +4,11 @@ ghost use Rattle.std.specs.Prelude.{◌≡◌, length, false};
 ghost use Rattle.rb_connections.specs.Slots.{Shows};
 ghost use Rattle.rb_core.specs.StandsFor.{StandsFor};
 ghost use Rattle.rb_links.specs.Holding.{must_wait};
-ghost use Rattle.rb_daemon.specs.Links.{HandsIn, TakesOver};
+ghost use Rattle.rb_inside.specs.Links.{HandsIn, TakesOver};
 ghost use Rattle.rb_engine.specs.Served.{change_count};
 
 use crate::outbox::{exchange, write_into};
-use rb_around::HeldLink;
+use rb_around::{HeldLink, Progress};
 use rb_arrivals::Datagrams;
 use rb_core::Standing;
 use rb_engine::{Engine, Keeper, Kept};
@@ -19,19 +19,6 @@ use std::fs::Files;
 /// The most calls of the core between two of the socket: each but the last takes or gives a byte at least, or sends the
 /// call that came with the one before it.
 const EXCHANGES: usize = 2 * READ_AHEAD + LONG_ROOM;
-
-/// How a connection stands after it was served.
-#[derive(Clone, Copy)]
-pub(crate) enum Progress {
-    /// It waits for an event.
-    Blocked,
-    /// It used up its socket calls, or wrote enough.
-    CutOff,
-    /// Its replies wait until what changed is kept. It has made this many socket calls.
-    Unkept(usize),
-    /// It must be closed.
-    Over,
-}
 
 /// Hands in, takes over, writes and reads until the socket would block or has used up its calls of this turn.
 /// `may_end` is whether its peer may have ended what it sends. It has the long outbox meanwhile, if that is free, and

@@ -3,8 +3,8 @@ use Rattle.std.proofs.lemmas.List.{with_items_is, length-take}
 use Rattle.std.proofs.lemmas.Result.{err_from_is_err_and}
 use Rattle.rb_links.specs.Outgoing.{Outgoing}
 use Rattle.rb_links.proofs.Outboxes.{waits_more, room_stays, all_is_free}
-use Rattle.rb_daemon.proofs.Rooms.{exchanges_in}
-use Rattle.rb_daemon.proofs.outbox.exchange.Goals as goal
+use Rattle.rb_inside.proofs.Rooms.{exchanges_in}
+use Rattle.rb_inside.proofs.outbox.exchange.Goals as goal
 use borrow.Rule.Slice.PartMut.{post_of}
 
 pub returns-clause-acts : goal.returns-clause-acts

@@ -3,10 +3,10 @@ use Rattle.std.proofs.lemmas.List.{with_items_is, length-take, take_all}
 use Rattle.std.proofs.lemmas.Result.{err_from_is_err_and}
 use Rattle.rb_links.specs.Outgoing.{Outgoing}
 use Rattle.rb_links.proofs.Outboxes.{waits_more, room_stays, all_is_free}
-use Rattle.rb_daemon.proofs.Rooms.{gives_in, idle_stays}
+use Rattle.rb_inside.proofs.Rooms.{gives_in, idle_stays}
 use Rattle.rb_model.specs.Gives.{write_into}
 use Rattle.rb_engine.specs.Moves.{ActsNow}
-use Rattle.rb_daemon.proofs.outbox.write_into.Goals as goal
+use Rattle.rb_inside.proofs.outbox.write_into.Goals as goal
 use borrow.Rule.Slice.PartMut.{post_of}
 
 pub returns : goal.returns

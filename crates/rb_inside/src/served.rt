@@ -1,9 +1,9 @@
 //! What becomes of connections that a turn has served, and of those whose replies waited.
-ghost use Rattle.rb_daemon.specs.Turning.{ServesOnly, ServesEach};
+ghost use Rattle.rb_around.specs.Turning.{ServesOnly, ServesEach};
 
 use crate::opening::close_at;
-use crate::steps::{Progress, serve_kept};
-use rb_around::HeldLink;
+use crate::steps::serve_kept;
+use rb_around::{HeldLink, Progress};
 use rb_engine::{Engine, Keeper};
 use rb_links::{Places, Turn};
 use std::fs::Files;

@@ -1,6 +1,6 @@
 use Rattle.std.proofs.Common.{◌∙◌, sym}
-use Rattle.rb_daemon.proofs.Openings.{opened_as}
-use Rattle.rb_daemon.proofs.opening.open_at.Goals as goal
+use Rattle.rb_inside.proofs.Openings.{opened_as}
+use Rattle.rb_inside.proofs.opening.open_at.Goals as goal
 
 pub returns : goal.returns
 returns c = λ told. record {
