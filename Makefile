@@ -19,8 +19,9 @@ PLACED = sed 's|@PREFIX@|$(PREFIX)|g; s|@SUFFIX@|$(SUFFIX)|g'
 .PHONY: all help documents run quick test rows hosts peers memory hostile attacks units bench measure deb release install uninstall clean
 
 # Proves each crate, side by side, and builds the programs, crates/rpcbind/out/rpcbind and crates/rpcinfo/out/rpcinfo.
+# KEEP=1 keeps each proof for later checks: after a change, `make` and `rt check` then prove what changed.
 all:
-	@tests/prove.sh
+	@KEEP=$(KEEP) tests/prove.sh
 
 # This list: the targets, by the comments above them.
 help:

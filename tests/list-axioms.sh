@@ -1,6 +1,6 @@
 #!/usr/bin/env bash
 # Writes tests/axioms: the functions of C whose contracts the verdicts on the two programs rest on, each with the programs
-# that reach it, by `rattle check --list-axioms`. Needs what `make` proved, and takes some minutes. After this
+# that reach it, by `rattle check --list-axioms`. Needs what `make KEEP=1` proved, and takes some minutes. After this
 # tests/make-believed.py puts them into docs/BELIEVED.md. `make` says if a program reaches another number of them.
 set -uo pipefail
 cd "$(dirname "$0")/.." || exit 1

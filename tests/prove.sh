@@ -7,7 +7,11 @@
 # and give way (nice) if their chain has less than 80 % of the longest one's seconds. Processors that nothing else waits for go
 # to the crate that begins, four at most. A program works in one, as three do it no sooner.
 #
-# `rt` lets one command at a time work in a crate's folder or in one below it. So each crate is proved in a room
+# A crate is proved from nothing over the statements of those below it, by tests/prove-crate.py. With KEEP=1, or if a crate has
+# kept a proof, as `rt check` does, `rt` proves each crate and keeps its proof, which takes four times the disk and a quarter
+# more time; after a change it takes up what stays, and so does `rt check`.
+#
+# `rt` lets one command at a time work in a crate's folder or in one below it. So where it proves a crate it does so in a room
 # of its own: a folder with links to its files and to the libraries below it, which has its out/ meanwhile. The crates'
 # own folders are locked for that time, as `rt` locks them.
 #
@@ -135,24 +139,25 @@ put_back() {
     fi
 }
 
-# Proves a crate, and says on `ended` how that ended. Its `rt` ends with it, and ends all that it started.
+# Proves a crate, and says on `ended` how that ended. What it runs ends with it, and ends all that it started.
 prove() {
-    local name=$1 status words=(lib --jobs "$2") rt
+    local name=$1 status=1 words=(tests/prove-crate.py "$1" "$2") out=crates/$1/out run
     trap '' INT HUP
-    trap 'kill "${rt:-}" 2> /dev/null; wait; exit 1' TERM
-    if [ -f "crates/$name/src/main.rt" ]; then
-        words=(run --jobs "$2" -- --version)
+    trap 'kill "${run:-}" 2> /dev/null; wait; exit 1' TERM
+    if [ -n "$keeps" ]; then
+        words=(rt lib --jobs "$2") out=out
+        [ ! -f "crates/$name/src/main.rt" ] || words=(rt run --jobs "$2" -- --version)
     fi
-    furnish "$name" && cd "$rooms/$name/crates/$name" && {
-        nice -n "$3" rt "${words[@]}" < /dev/null &
-        rt=$!
-        wait "$rt"
-    }
-    status=$?
+    if [ -z "$keeps" ] || { furnish "$name" && cd "$rooms/$name/crates/$name"; }; then
+        nice -n "$3" "${words[@]}" < /dev/null &
+        run=$!
+        wait "$run"
+        status=$?
+    fi
     times > "$logs/$name.times"
     if grep -qE "$refused_warning" "$logs/$name"; then
         echo "rt ci refuses what these warnings name"
-        rm -rf out/rlib out/*.stamp
+        rm -rf "$out"/rlib "$out"/*.stamp "$out"/*.sum
         status=1
     fi
     echo "$name $status" >&"$ended"
@@ -323,6 +328,8 @@ say_kit || exit 1
 cores=$(count_cores)
 slots=$(count_slots "$memory_of_one")
 free=$((slots + 1))
+keeps=${KEEP:-}
+! compgen -G 'crates/*/out/incremental' > /dev/null || keeps=1
 read_crates
 collect_under
 measure_chains

@@ -56,12 +56,12 @@ show_progress() {
     done
 }
 
-# Moves away the libraries that checks left here, which `rt ci` would put back in the place of those that it builds, over
-# which the edits are tried; and what an earlier `rt ci` left, which nothing else takes (they have no stamp).
+# Moves away the libraries that `make` and checks left here, which `rt ci` would put back in the place of those that it builds,
+# over which the edits are tried; and what an earlier `rt ci` left, which nothing else takes (they have no sum).
 set_aside_libraries() {
     local crate
     for crate in $(list_crates); do
-        if [ -f "crates/$crate/out/rlib/stamp" ] && [ -d .git ]; then
+        if [ -d .git ] && { [ -f "crates/$crate/out/rlib/stamp" ] || [ -f "crates/$crate/out/rlib/$crate.rlib.sum" ]; }; then
             mkdir -p "$aside/$crate" && mv "crates/$crate/out/rlib" "$aside/$crate"
         else
             rm -rf "crates/$crate/out/rlib"

@@ -19,9 +19,8 @@ crates are worked on side by side as RT_JOBS says.
 import concurrent.futures, dataclasses, fcntl, functools, glob, hashlib, os, re, shutil, signal, subprocess, sys, tempfile
 import threading, time
 
-from kit import KIT, below, read, read_uses
+from kit import KIT, PARTS, below, files_of, read, read_uses, rlib, words_of
 
-PARTS = "src", "specs", "proofs"
 TICKS = os.sysconf("SC_CLK_TCK")
 KEPT_DAYS = 30  # since it was last asked for
 RUNNING = set()  # the checks
@@ -36,26 +35,6 @@ GONE = re.compile(r"is not in scope|has no (?:field|`)|was not admitted")
 
 
 # ---- crates
-
-
-def rlib(crate):
-    return f"{os.getcwd()}/crates/{crate}/out/rlib/{crate}.rlib"
-
-
-def words_of(uses, crate):
-    """What `rt` hands to rattle for a check of the crate."""
-    words = ["--crate-name", crate, "src/main.rt" if os.path.isfile(f"crates/{crate}/src/main.rt") else "src/lib.rt"]
-    for it in ["std", *uses[crate]]:
-        words += ["--extern", f"{it}={rlib(it) if it in uses else f'{KIT}/rlibs/{it}.rlib'}"]
-    for folder in [f"{KIT}/rlibs", *(os.path.dirname(rlib(it)) for it in below(uses, crate))]:
-        words += ["-L", f"dependency={folder}"]
-    words += ["--antt-project", f"{KIT}/rattle/logic/antt-project.json", "--logic-built", f"{KIT}/logic_built"]
-    return [*words, "--links", f"{crate}=", "--jobs", "1"]
-
-
-def files_of(crate):
-    files = [it for part in PARTS for it in glob.glob(f"crates/{crate}/{part}/**", recursive=True)]
-    return sorted(it for it in files if os.path.isfile(it))
 
 
 @functools.lru_cache(maxsize=None)
