@@ -105,11 +105,10 @@ told_number() {
 }
 
 # About how many minutes `make` takes from nothing on this many processors at this pace. What nobody waits for is proved
-# beside the longest chain, which four processes prove in three quarters of its time.
+# beside the longest chain.
 minutes_of_make() {
     awk -v cores="$1" -v pace="$2" -v proofs="$(told_number '^\| all \|[^|]*\|[^|]*\| ([0-9,]+) min .*')" \
         -v chain="$(told_number '^The longest chain of proofs has ([0-9,]+) minutes.*')" 'BEGIN {
-            chain *= cores < 4 ? 1 : 0.75
             all = 1.1 * proofs / cores
             printf "%.0f\n", pace * (all > chain ? all : chain) + 0.5
         }'

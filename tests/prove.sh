@@ -2,10 +2,10 @@
 # Proves each crate of crates.txt and builds the programs, as many crates side by side as processors and memory allow.
 #
 # A crate begins as soon as those that it stands on are proved, the one with the longest chain of others above it first, and
-# no more crates and processes at a time than one more than there are processors. The crate with the longest chain works in
-# two processes, if no other does: two take a third more processor time, and three quarters of the time. Others work in one,
-# and give way (nice) if their chain has less than 80 % of the longest one's seconds. Processors that nothing else waits for go
-# to the crate that begins, four at most. A program works in one, as three do it no sooner.
+# no more crates and processes at a time than one more than there are processors. It works in one process, as two take a third
+# more processor time for three quarters of the time, and gives way (nice) if its chain has less than 80 % of the longest one's
+# seconds. Processors that nothing else waits for go to the crate that begins, four at most; but a program works in one, as three
+# do it no sooner.
 #
 # A crate is proved from nothing over the statements of those below it, by tests/prove-crate.py. With KEEP=1, or if a crate has
 # kept a proof, as `rt check` does, `rt` proves each crate and keeps its proof, which takes four times the disk and a quarter
@@ -213,15 +213,6 @@ count_working() {
     echo "$working"
 }
 
-# Whether a crate works in several processes.
-are_two_at_work() {
-    local name
-    for name in "${names[@]}"; do
-        [ "${state[$name]}" != running ] || [ "${share[$name]}" -le 1 ] || return 0
-    done
-    return 1
-}
-
 # Begins the crates that are ready, as far as there are processors.
 start_ready() {
     local ready name longest running spare waiting
@@ -235,7 +226,6 @@ start_ready() {
         running=$(longest_running)
         [ "$running" -le "$longest" ] || longest=$running
         [ $((chain[$name] * 100)) -lt $((longest * 80)) ] || way[$name]=0
-        [ "${chain[$name]}" -lt "$longest" ] || are_two_at_work || share[$name]=$((slots < 2 ? slots : 2))
         [ "$(count_working "${way[$name]}")" -le "$slots" ] || return 0
         spare=$((slots - $(count_working 10) - waiting + 1))
         spare=$((spare < 4 ? spare : 4))
