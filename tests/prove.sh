@@ -8,8 +8,8 @@
 # do it no sooner.
 #
 # A crate is proved from nothing over the statements of those below it, by tests/prove-crate.py. With KEEP=1, or if a crate has
-# kept a proof, as `rt check` does, `rt` proves each crate and keeps its proof, which takes four times the disk and a quarter
-# more time; after a change it takes up what stays, and so does `rt check`.
+# kept a proof, as `rt check` does, `rt` proves each crate and keeps its proof, which takes four times the disk, and more time
+# for the programs; after a change it takes up what stays, and so does `rt check`.
 #
 # `rt` lets one command at a time work in a crate's folder or in one below it. So where it proves a crate it does so in a room
 # of its own: a folder with links to its files and to the libraries below it, which has its out/ meanwhile. The crates'
