@@ -1,6 +1,6 @@
 -- Parts of a list, made row by row.
 use Rattle.std.proofs.Common.{◌≡◌, ℕ, suc, ◌≤◌, ◌<◌, ◌+◌, ◌*◌, true, false, cond, List, [], ◌∷◌, ◌++◌, length, take, drop, Option, Some, None, refl, sym, ap, ◌∙◌, append_assoc, length-append, arith}
-use Rattle.std.specs.Prelude.{◌==◌}
+use Rattle.std.specs.Prelude.{◌==◌, ◌-◌}
 use Rattle.std.proofs.Math.Seq.{take-length, take-append_seam, drop-append_seam}
 use Rattle.std.proofs.lemmas.Map.Entries.{length-values_of}
 use Rattle.rb_xdr.specs.Xdr.{boolean}
@@ -36,7 +36,7 @@ pub record Filling (sought : Option Version) (kept : Registry) (old now : ListRe
   pub out_tie : out.tie ≡ began.tie
   pub tie : meter.tie ≡ first.tie
   pub rises : first.steps ≤ meter.steps
-  pub steps : meter.steps + steps_left sought kept now.cursor + left kept now.stamp now.cursor ≤ first.steps + 3 * length (slots_of kept) + length out.bytes + 4
+  pub steps : meter.steps + steps_left sought kept now.cursor ≤ first.steps + 2 * length (slots_of kept) + length out.bytes + 4
 
 -- ---- how many slots and rows are still to come
 
@@ -80,7 +80,7 @@ filling_begins sought kept r most base began out first meter place is head cap o
   out_tie = out_tie;
   tie = cost.tie;
   rises = cost.rises;
-  steps = omega (arith, cost.steps, few_steps r.list kept r.stamp sought is r.cursor (slots_left_fit kept r.cursor), sought_few r.list kept r.stamp sought is, rows_left_fit kept r.stamp r.cursor);
+  steps = omega (arith, cost.steps, few_steps r.list kept r.stamp sought is r.cursor (slots_left_fit kept r.cursor), sought_few r.list kept r.stamp sought is);
 }
 
 module _ (sought : Option Version) (kept : Registry) (old now : ListReply) (most base : ℕ) (began out : Kept) (first meter : Meter) (f : Filling sought kept old now most base began out first meter) where
@@ -103,31 +103,29 @@ module _ (sought : Option Version) (kept : Registry) (old now : ListReply) (most
     longer = ap (λ (k : Kept). length k.bytes) added ∙ length-append out.bytes (row_bytes now.list row)
 
     -- the row is within this many bytes, and the cursor goes on
-    pub row_passed : (asked wrote paid : Meter) (len cost : ℕ) → PaysAtMost meter asked cost → asked.steps + steps_left sought kept next ≤ meter.steps + steps_left sought kept now.cursor → PaysAtMost asked wrote (length (row_bytes now.list row))
-        → len ≡ length more.bytes → len ≤ most → paid ≡ record wrote { steps = wrote.steps + 1 } → Filling sought kept old (record now { cursor = next }) most len began more first paid
-    row_passed asked wrote paid len cost looked passed writes len_is within pays =
-        let one_paid : paid.steps ≡ wrote.steps + 1 = ap (λ (m : Meter). m.steps) pays in
-        record {
-          moved = ap (λ (r : ListReply). record r { cursor = next }) f.moved;
-          place = passes.place;
-          is = f.is;
-          shows = shows_row;
-          base_is = len_is;
-          before = within;
-          cap = ap (λ (k : Kept). k.cap) added ∙ f.cap;
-          out_tie = ap (λ (k : Kept). k.tie) added ∙ f.out_tie;
-          tie = ap (λ (m : Meter). m.tie) pays ∙ writes.tie ∙ looked.tie ∙ f.tie;
-          rises = omega (arith, f.rises, looked.rises, writes.rises, one_paid);
-          steps = omega (arith, f.steps, passed, writes.steps, one_paid, longer, passes.passed, passes.within);
-        }
+    pub row_passed : (asked wrote : Meter) (count cost : ℕ) → PaysAtMost meter asked cost → asked.steps + steps_left sought kept next ≤ meter.steps + steps_left sought kept now.cursor → PaysAtMost asked wrote (length (row_bytes now.list row))
+        → count ≡ length (row_bytes now.list row) → count ≤ most - base → Filling sought kept old (record now { cursor = next }) most (base + count) began more first wrote
+    row_passed asked wrote count cost looked passed writes count_is within = record {
+      moved = ap (λ (r : ListReply). record r { cursor = next }) f.moved;
+      place = passes.place;
+      is = f.is;
+      shows = shows_row;
+      base_is = omega (arith, f.base_is, count_is, longer);
+      before = omega (arith, f.before, within);
+      cap = ap (λ (k : Kept). k.cap) added ∙ f.cap;
+      out_tie = ap (λ (k : Kept). k.tie) added ∙ f.out_tie;
+      tie = writes.tie ∙ looked.tie ∙ f.tie;
+      rises = omega (arith, f.rises, looked.rises, writes.rises);
+      steps = omega (arith, f.steps, passed, writes.steps, longer);
+    }
 
     -- the row goes past this many bytes
-    pub row_crosses : IsShort (row_bytes now.list row) → most < length more.bytes → Fills kept old now most more.bytes base
-    row_crosses short past = record {
+    pub row_crosses : IsShort (row_bytes now.list row) → (count : ℕ) → count ≡ length (row_bytes now.list row) → most - base < count → Fills kept old now most more.bytes base
+    row_crosses short count count_is past = record {
       moved = f.moved;
       place = f.place;
       front = sym (ap (λ (bytes : List ℕ). take (length more.bytes) bytes) (sym shows_row) ∙ take-append_seam more.bytes (rows_bytes (rows_behind kept now.stamp next) now.list));
-      all = λ within. absurd (omega (arith, within, past));
+      all = λ within. absurd (omega (arith, within, f.base_is, longer, count_is, past));
       behind = at_cursor;
       before = f.before;
       within = omega (arith, f.base_is, longer);

@@ -1,5 +1,5 @@
 -- Replies that list rows, part by part.
-use Rattle.std.proofs.Common.{◌≡◌, ℕ, List, length, false, Option, refl, ap, arith}
+use Rattle.std.proofs.Common.{◌≡◌, ℕ, length, false, Option, refl, arith}
 use Rattle.rb_xdr.specs.Xdr.{number, opaque}
 use Rattle.rb_rpc.specs.Replies.{reply_head}
 use Rattle.rb_rpc.specs.declared.reply.ReplyStatus.TheVariants.{Success}

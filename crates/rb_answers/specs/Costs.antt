@@ -29,10 +29,10 @@ zero_cost = 2 * most_keys + 1
 abbrev pub write_cost : Option Version → Registry → Kept → Kept → ℕ
 write_cost sought kept old new = walk_cost sought kept + 2 + (length new.bytes - length old.bytes)
 
--- a walk over the rows, with a look at how much is written after each, and what is written in the room of a part
+-- a walk over the rows, and what is written in the room of a part
 abbrev pub part_cost : Registry → ℕ
-part_cost kept = 3 * length (slots_of kept) + part_room + 6
+part_cost kept = 2 * length (slots_of kept) + part_room + 6
 
--- a walk over the rows, with a look at how much is written after each, and what is written
+-- a walk over the rows, and what is written
 abbrev pub fill_cost : Registry → Kept → ℕ
-fill_cost kept out = 3 * length (slots_of kept) + length out.bytes + 5
+fill_cost kept out = 2 * length (slots_of kept) + length out.bytes + 5

@@ -5,12 +5,10 @@ use Rattle.rb_xdr.specs.Xdr.{number, boolean, opaque, linked_list}
 use Rattle.rb_uaddr.specs.declared.address.Hosts.{Hosts}
 use Rattle.rb_registry.specs.declared.row.Row.{Row}
 use Rattle.rb_registry.specs.declared.row.Which.TheVariants.{Inet}
-use Rattle.rb_registry.specs.Registry.{rows_of}
 use Rattle.rb_registry.specs.Rows.{is_among, is_of_version}
 use Rattle.rb_registry.specs.Items.{owner_text}
 use Rattle.rb_address.specs.Netids.{netid_text}
 use Rattle.rb_stats.specs.Statistics.{statistics}
-use Rattle.rb_stats.specs.Counting.{spelling}
 use Rattle.rb_arguments.specs.declared.mapping.Mapping.{Mapping}
 use Rattle.rb_arguments.specs.declared.rpcb.Rpcb.{Rpcb}
 use Rattle.rb_arguments.specs.declared.entry.Entry.{Entry}

@@ -133,8 +133,37 @@ impl ListReply {
     /// Writes what stands at the cursor and after it into the buffer, whose bytes are cleared before: as far as the first
     /// row that goes past this many bytes, or to the end. The cursor moves on to that row, or after all.
     ///
-    /// It says how many bytes stand before the new cursor.
+    /// It says how many bytes stand before the new cursor. The lists of all rows have each a walk of their own, in which it
+    /// is known what is listed.
     fn fill(&mut self, registry: &Registry, most: usize, out: &mut Kept, meter: &mut Meter) -> usize
+        requires registry { meter.old.tie ≡ registry.now.tie }
+        requires tie { meter.old.tie ≡ out.old.tie }
+        requires most { fragment_size ≤ most }
+        requires room { most + longest_row ≤ out.old.cap }
+        requires place { StandsIn registry.now self.old.stamp self.old.cursor }
+        ensures fills { Fills registry.now self.old self.new most out.new.bytes result }
+        ensures cap { out.new.cap ≡ out.old.cap }
+        ensures tie { out.new.tie ≡ out.old.tie }
+        ensures cost { PaysAtMost meter.old meter.new (fill_cost registry.now out.new) }
+    {
+        match self.list {
+            Listing::Rpcbs => self.fill_with(Listing::Rpcbs, registry, most, out, meter),
+            Listing::Mappings => self.fill_with(Listing::Mappings, registry, most, out, meter),
+            list => self.fill_with(list, registry, most, out, meter),
+        }
+    }
+
+    /// The same with what it lists.
+    #[inline(always)]
+    fn fill_with(
+        &mut self,
+        list: Listing,
+        registry: &Registry,
+        most: usize,
+        out: &mut Kept,
+        meter: &mut Meter,
+    ) -> usize
+        requires list { list ≡ self.old.list }
         requires registry { meter.old.tie ≡ registry.now.tie }
         requires tie { meter.old.tie ≡ out.old.tie }
         requires most { fragment_size ≤ most }
@@ -149,15 +178,14 @@ impl ListReply {
         self.put_head(out, meter);
         let mut base = out.len(meter);
         let mut sought = None;
-        seek_version(self.list, registry, self.stamp, &mut sought, meter);
+        seek_version(list, registry, self.stamp, &mut sought, meter);
         'rows: while let Some(found) = next_row(&sought, registry, self.stamp, self.cursor, meter) {
             let (next, row) = found;
-            write_row(self.list, row, out, meter);
-            let len = out.len(meter);
-            if most < len {
+            let more = write_row(list, row, out, meter);
+            if most - base < more {
                 return base;
             }
-            base = len;
+            base += more;
             self.cursor = next;
         }
         false.write(out, meter);

@@ -22,6 +22,9 @@ use rb_xdr::{Kept, Meter, Xdr, residue};
 /// TRUE and a mapping, in bytes.
 const MAPPING_ITEM: usize = 20;
 
+/// TRUE and the length of an address, in bytes.
+const ENTRY_HEAD: usize = 8;
+
 /// Whether the list shows the row.
 fn is_shown(list: Listing, row: &Row) -> bool
     ensures { result ≡ is_shown list row.now }
@@ -44,7 +47,7 @@ fn room_after_row(list: Listing, listed: &ListedRow, room: usize) -> Option<usiz
     }
     match list {
         Listing::Mappings => room.checked_sub(MAPPING_ITEM),
-        Listing::Rpcbs => room.checked_sub(listed.item().len()),
+        Listing::Rpcbs => room.checked_sub(listed.item_len()),
         Listing::Entries(_, _, hosts) => (true, entry_of(&hosts, row)).room_after(room),
     }
 }
@@ -66,53 +69,60 @@ fn mapping_item(row: &Row) -> [u8; MAPPING_ITEM]
 
 /// TRUE, and how many bytes the address of an entry has.
 #[tactic(auto, unfolding(rb_xdr::specs::Xdr::number, rb_xdr::specs::Xdr::boolean))]
-fn entry_head(count: usize) -> [u8; 8]
+fn entry_head(count: usize) -> [u8; ENTRY_HEAD]
     requires { count ≤ 128 }
     ensures { result ≡ boolean true ++ number count }
 {
-    let mut head = [0; 8];
+    let mut head = [0; ENTRY_HEAD];
     head[..4].copy_from_slice(&u32::from(true).to_be_bytes());
     head[4..].copy_from_slice(&(count as u32).to_be_bytes());
     head
 }
 
-/// Writes TRUE and the entry of a row. They are short, and the buffer has room for them if they are.
-fn write_entry(hosts: &Hosts, row: &Row, out: &mut Kept, meter: &mut Meter)
+/// Writes TRUE and the entry of a row, and returns how many bytes they have. They are short, and the buffer has room for
+/// them if they are.
+fn write_entry(hosts: &Hosts, row: &Row, out: &mut Kept, meter: &mut Meter) -> usize
     requires tie { meter.old.tie ≡ out.old.tie }
     requires room { FitsIfShort (entry_item hosts.now row.now) out.old }
     ensures short { IsShort (entry_item hosts.now row.now) }
     ensures written { Appends (entry_item hosts.now row.now) out.old out.new }
+    ensures count { result ≡ length (entry_item hosts.now row.now) }
     ensures cost { Pays meter.old meter.new (length (entry_item hosts.now row.now)) }
 {
     let maddr = shown_text(hosts, row);
     let content = maddr.as_slice();
     let count = content.len();
+    let end = entry_end(row.netid, residue(count));
     let _ = out.extend(&entry_head(count), meter);
     let _ = out.extend(content, meter);
-    let _ = out.extend(entry_end(row.netid, residue(count)), meter);
+    let _ = out.extend(end, meter);
+    ENTRY_HEAD + count + end.len()
 }
 
 /// Writes what a row adds to a list: TRUE and the item, or nothing if the list doesn't show the row. It is short, and
-/// the buffer has room for it if it is. It is inlined, as `next_row`.
+/// the buffer has room for it if it is. It returns how many bytes that is. It is inlined, as `next_row`.
 #[inline(always)]
 #[tactic(auto, unfolding(crate::specs::Results::row_bytes))]
-pub fn write_row(list: Listing, listed: &ListedRow, out: &mut Kept, meter: &mut Meter)
+pub fn write_row(list: Listing, listed: &ListedRow, out: &mut Kept, meter: &mut Meter) -> usize
     requires tie { meter.old.tie ≡ out.old.tie }
     requires room { FitsIfShort (row_bytes list listed.now) out.old }
     ensures short { IsShort (row_bytes list listed.now) }
     ensures written { Appends (row_bytes list listed.now) out.old out.new }
+    ensures count { result ≡ length (row_bytes list listed.now) }
     ensures cost { PaysAtMost meter.old meter.new (length (row_bytes list listed.now)) }
 {
     let row = listed.as_row();
     if !is_shown(list, row) {
-        return;
+        return 0;
     }
     match list {
         Listing::Mappings => {
             let _ = out.extend(&mapping_item(row), meter);
+            MAPPING_ITEM
         }
         Listing::Rpcbs => {
-            let _ = out.extend(listed.item(), meter);
+            let _ = listed.put_item(out, meter);
+            listed.item_len()
         }
         Listing::Entries(_, _, hosts) => write_entry(&hosts, row, out, meter),
     }

@@ -127,7 +127,8 @@ enum Next {
 }
 
 /// Writes the fragment with this data to `room`, or else puts it in the window. `rest` is after it, if it is not
-/// the last one and has 1,024 bytes of data.
+/// the last one and has 1,024 bytes of data. It is inlined, so that `rest` is not copied for each fragment.
+#[inline(always)]
 fn write_part(
     part: &[u8],
     last: bool,

@@ -21,7 +21,7 @@ use rb_connections::{Connections, EndedRecord, Received, write_whole};
 use rb_model::{CoreFault, Message, Response, Served, Standing};
 use rb_proto::{Books, Context, Refusal};
 use rb_rpc::{FRAGMENT_HEADER, Verdict, read_call};
-use rb_serving::{Seen, kept_arguments, procedure_of, seen_of, serve, serve_null};
+use rb_serving::{Seen, kept_arguments, null_called, procedure_of, seen_of, serve, serve_null};
 use rb_xdr::{Kept, Meter};
 
 /// What came of a piece of bytes. The arguments of the record that ended with it lie in the piece if the record
@@ -106,12 +106,53 @@ pub fn lend_arguments<'a>(piece: Option<&'a [u8]>, buffer: &'a Kept, meter: &mut
 
 /// Serves the message on which this is the verdict, once there is room for the row that it adds; `arguments` are the
 /// bytes after its head. The reply is written into `out`, which is empty before, unless it is a list that is
-/// streamed.
+/// streamed. `seen` is left as it was if there is nothing to tell of the message.
 ///
 /// A call of NULL is served by itself: it has no arguments, adds no row, and its reply is a head alone (RFC 1833
-/// sections 2.2 and 3.2). `seen` is left as it was if there is nothing to tell of the message.
+/// sections 2.2 and 3.2). It is inlined, and what serves the others is not, so that NULL takes no room for what they need.
 #[tactic(auto, unfolding(rb_model::specs::Calls::longest_reply))]
+#[inline(always)]
 pub fn serve_verdict(
+    connections: &mut Connections,
+    books: &mut Books,
+    context: &Context,
+    verdict: &Verdict,
+    arguments: &[u8],
+    seen: &mut Option<Seen>,
+    out: &mut Kept,
+    meter: &mut Meter,
+) -> Served
+    requires tie { meter.old.tie ≡ connections.old.tie }
+    requires can { CanServe meter.old.tie context.now books.old }
+    requires out { IsEmptyReply meter.old.tie out.old }
+    requires lists { CanContinueAll books.old.registry connections.old }
+    ensures acts { ServesVerdict context.now verdict.now arguments.now connections.old books.old
+        connections.new books.new result out.new }
+    ensures leaves { LeavesBooks context.now books.old books.new result out.old out.new }
+    ensures lists { CanContinueAll books.new.registry connections.new }
+    ensures open { StayOpen connections.old connections.new }
+    ensures listed { ListsIfAsked (message_with verdict.now arguments.now) result }
+    ensures cost { PaysInRoom context.now verdict.now
+        connections.old books.old books.new arguments.now out.new meter.old meter.new }
+{
+    if let Some(head) = null_called(verdict) {
+        return serve_null(books, head, out, meter);
+    }
+    serve_message(
+        connections,
+        books,
+        context,
+        verdict,
+        arguments,
+        seen,
+        out,
+        meter,
+    )
+}
+
+/// The same for each message.
+#[inline(never)]
+fn serve_message(
     connections: &mut Connections,
     books: &mut Books,
     context: &Context,
@@ -141,9 +182,6 @@ pub fn serve_verdict(
             return serve(books, context, &message, arguments, out, meter);
         }
     };
-    if called.is_null() {
-        return serve_null(books, called.head, out, meter);
-    }
     let message = &called.message(arguments);
     make_room(connections, books, context, message, meter);
     let served = serve(books, context, message, arguments, out, meter);

@@ -101,7 +101,7 @@ show_cost = 2054
 
 -- the same of a list, whose fragment is made from this many rows and emptied from where it was made
 abbrev pub listed_cost : ℕ → ℕ
-listed_cost rows = 3 * rows + part_room + 6 + show_cost
+listed_cost rows = 2 * rows + part_room + 6 + show_cost
 
 -- what it costs to look at what is pending: at its length, and at its bytes
 abbrev pub pending_cost : ℕ

@@ -8,7 +8,7 @@ use crate::row::Row;
 use arrayvec::ArrayVec;
 use itoa::Buffer;
 use rb_address::{Netid, Owner};
-use rb_xdr::residue;
+use rb_xdr::{Full, Kept, Meter, residue};
 use std::marker::Model;
 
 /// The most bytes of an item: TRUE, the program and the version, 12 of the netid, 132 of the address, 16 of the owner.
@@ -18,15 +18,16 @@ type Item = ArrayVec<u8, LONGEST_ITEM>;
 
 /// A row, and its item of a list, which is made once.
 ///
-/// The item stands before the row, so that what a walk for a list looks at is together.
+/// The item stands before the row, and its length before it, so that what a walk for a list looks at is together.
 #[derive(Drop)]
 pub struct ListedRow {
-    item: Item,
+    len: u8,
+    item: [u8; LONGEST_ITEM],
     row: Row,
 }
 
 impl Model for ListedRow {
-    ghost use Rattle.std.specs.Prelude.{◌≡◌};
+    ghost use Rattle.std.specs.Prelude.{◌≡◌, ◌≤◌, length, take};
     ghost use Rattle.rb_registry.specs.declared.row.Row.{Row as Plain};
     ghost use Rattle.rb_registry.specs.Items.{rpcb_item};
 
@@ -34,27 +35,38 @@ impl Model for ListedRow {
 
     ghost view = { λ listed. listed.row };
 
-    ghost invariant = { λ listed. listed.item.items ≡ rpcb_item listed.row };
+    ghost invariant = { λ listed.
+        (listed.len ≤ 172) × (listed.len ≡ length (rpcb_item listed.row))
+        × (take listed.len listed.item ≡ rpcb_item listed.row) };
 }
 
 /// Names each field, so that a further one does not compile until it stands here. It belongs in the table of
 /// charges of crates/rb_core/README.md first.
 fn layout(listed: &ListedRow) {
-    let ListedRow { item, row } = listed;
-    let _: &Item = item;
+    let ListedRow { len, item, row } = listed;
+    let _: u8 = *len;
+    let _: &[u8; LONGEST_ITEM] = item;
     let _: &Row = row;
 }
 
 impl ListedRow {
     ghost use Rattle.std.specs.Prelude.{◌≡◌, ◌≤◌, length};
+    ghost use Rattle.rb_xdr.specs.Meter.{Pays};
+    ghost use Rattle.rb_xdr.specs.Puts.{Puts};
     ghost use Rattle.rb_registry.specs.Items.{rpcb_item};
 
     /// The row beside its item.
     pub(crate) fn new(row: Row) -> ListedRow
         ensures { result ≡ row }
     {
-        let item = item_of(&row);
-        ListedRow { item, row }
+        let made = item_of(&row);
+        let mut item = [0; LONGEST_ITEM];
+        item[..made.len()].copy_from_slice(made.as_slice());
+        ListedRow {
+            len: made.len() as u8,
+            item,
+            row,
+        }
     }
 
     /// The row.
@@ -64,14 +76,25 @@ impl ListedRow {
         &self.row
     }
 
+    /// How many bytes its item of a list has.
+    pub fn item_len(&self) -> usize
+        ensures len { result ≡ length (rpcb_item self.now) }
+        ensures short { result ≤ 172 }
+    {
+        usize::from(self.len)
+    }
+
     // DUMP-1
     // DUMP-2
-    /// TRUE and the rpcb of the row (RFC 1833 section 2.1), as XDR spells them: at most 172 bytes.
-    pub fn item(&self) -> &[u8]
-        ensures item { result.now ≡ rpcb_item self.now }
-        ensures short { length result.now ≤ 172 }
+    /// Adds TRUE and the rpcb of the row (RFC 1833 section 2.1), as XDR spells them, at the end of a buffer, or nothing:
+    /// `Full` if they do not fit. It costs a step for each byte, in both cases.
+    #[inline(always)]
+    pub fn put_item(&self, out: &mut Kept, meter: &mut Meter) -> Result<(), Full>
+        requires { meter.old.tie ≡ out.old.tie }
+        ensures puts { Puts (rpcb_item self.now) out.old.cap out.old out.new result }
+        ensures cost { Pays meter.old meter.new (length (rpcb_item self.now)) }
     {
-        self.item.as_slice()
+        out.extend_front(&self.item, self.item_len(), meter)
     }
 }
 

@@ -1,7 +1,9 @@
 -- What a message says by its verdict, and that what is kept of a record says enough.
-use Rattle.std.specs.Prelude.{◌≡◌, ⊤, ℕ, List, Option, Some, None}
+use Rattle.std.specs.Prelude.{◌≡◌, ⊤, ℕ, Bool, List, Option, Some, None, ◌==◌, ◌&&◌, if◌then◌else◌}
 use Rattle.rb_rpc.specs.declared.call.CallHead.{CallHead}
 use Rattle.rb_rpc.specs.declared.call.Verdict.{Verdict}
+use Rattle.rb_rpc.specs.declared.call.Verdict.TheVariants as verdicts
+use Rattle.rb_registry.specs.Rows.{rpcb_prog}
 use Rattle.rb_rpc.specs.Verdict.{verdict}
 use Rattle.rb_rpc.specs.Feeds.{arguments_of}
 use Rattle.rb_answers.specs.declared.context.Context.{Context}
@@ -14,7 +16,7 @@ use Rattle.rb_answers.specs.Ledger.{Ledger}
 use Rattle.rb_model.specs.declared.message.Message.{Message}
 use Rattle.rb_serving.specs.declared.message.Called.{Called}
 use Rattle.rb_model.specs.declared.message.Message.TheVariants as says
-use Rattle.rb_model.specs.Calls.{kept_of, message_with, message_of, outcome}
+use Rattle.rb_model.specs.Calls.{is_served, kept_of, message_with, message_of, outcome}
 
 -- ---- what is called
 
@@ -44,6 +46,17 @@ AsksNothing (says.Asked call) = ⊥
 AsksNothing says.NoCall = ⊤
 AsksNothing (says.Refused head) = ⊤
 AsksNothing (says.Garbage head) = ⊤
+
+-- whether a call is one of NULL, procedure 0 of each version (RFC 1833 sections 2.2 and 3.2)
+abbrev pub is_null : CallHead → Bool
+is_null head = head.prog == rpcb_prog && is_served head.vers && head.proc == 0
+
+-- the head of a call of NULL, None if the verdict is another
+abbrev pub null_called : Verdict → Option CallHead
+null_called (verdicts.Call head place) = if is_null head then Some head else None
+null_called verdicts.NoCall = None
+null_called (verdicts.RpcMismatch xid) = None
+null_called (verdicts.AuthError xid stat) = None
 
 -- a call of NULL
 abbrev pub null_message : CallHead → Message

@@ -1,11 +1,12 @@
 //! What the data of a record, or a datagram, says: the order of refusals.
 ghost use Rattle.std.specs.Prelude.{◌≡◌, ◌≤◌, length, IfOk, IfErr};
+ghost use Rattle.std.specs.Option.{option_map};
 ghost use Rattle.rb_rpc.specs.Verdict.{verdict as verdict_of, EndsWithin};
 ghost use Rattle.rb_rpc.specs.Feeds.{arguments_of};
 ghost use Rattle.rb_model.specs.Calls.{is_served, kept_of};
-ghost use Rattle.rb_serving.specs.Messages.{AsksNothing, IsCalledBy, IsMessageOf};
+ghost use Rattle.rb_serving.specs.Messages.{AsksNothing, IsCalledBy, IsMessageOf, is_null, null_called};
 
-use rb_arguments::{Procedure, VoidProcedure};
+use rb_arguments::Procedure;
 use rb_model::{LONGEST_KEPT, Message};
 use rb_proto::Call;
 use rb_registry::RPCB_PROG;
@@ -32,16 +33,9 @@ pub struct Called<'a> {
 }
 
 impl Called<'_> {
-    ghost use Rattle.std.specs.Prelude.{◌≡◌, ◌↔◌, IsTrue};
+    ghost use Rattle.std.specs.Prelude.{◌≡◌};
     ghost use Rattle.rb_model.specs.Grammar.{HasArgsIn};
     ghost use Rattle.rb_serving.specs.Messages.{said_by};
-
-    /// Whether it is a call of NULL, which has neither arguments nor results (RFC 1833 sections 2.2 and 3.2).
-    pub fn is_null(&self) -> bool
-        ensures { IsTrue result ↔ self.now.procedure ≡ Procedure.Void VoidProcedure.Null }
-    {
-        matches!(self.procedure, Procedure::Void(VoidProcedure::Null))
-    }
 
     /// What the call says; `arguments` are the bytes after its head.
     pub fn message<'a>(&self, arguments: &'a [u8]) -> Message<'a>
@@ -55,6 +49,23 @@ impl Called<'_> {
             }),
             None => Message::Garbage(*self.head),
         }
+    }
+}
+
+/// Whether a call is one of NULL, which has neither arguments nor results (RFC 1833 sections 2.2 and 3.2).
+fn is_null(head: &CallHead) -> bool
+    ensures { result ≡ is_null head.now }
+{
+    head.prog == RPCB_PROG && is_served(head.vers) && head.proc == 0
+}
+
+/// The head of a call of NULL; none if the message is another.
+pub fn null_called(verdict: &Verdict) -> Option<&CallHead>
+    ensures { option_map (λ head. head.now) result ≡ null_called verdict.now }
+{
+    match verdict {
+        Verdict::Call(head, _) if is_null(head) => Some(head),
+        _ => None,
     }
 }
 

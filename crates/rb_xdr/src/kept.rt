@@ -1,5 +1,5 @@
 //! A byte buffer of fixed capacity, whose calls are counted.
-ghost use Rattle.std.specs.Prelude.{◌≡◌, ◌+◌, ◌-◌, ◌<◌, ◌≤◌, [], ◌∷◌, length, IfOk, slice_range, vec_len, vec_capacity};
+ghost use Rattle.std.specs.Prelude.{◌≡◌, ◌+◌, ◌-◌, ◌<◌, ◌≤◌, [], ◌∷◌, length, take, IfOk, slice_range, vec_len, vec_capacity};
 ghost use Rattle.rb_xdr.specs.Puts.{Puts, Appends, HasRoom};
 ghost use Rattle.rb_xdr.specs.Meter.{Pays};
 
@@ -10,6 +10,9 @@ use std::alloc::Global;
 use std::marker::Model;
 use std::ops::Range;
 use std::snapshot::Snapshot;
+
+/// How many bytes are copied at once of those that are no more and may be followed by others.
+const BLOCK: usize = 64;
 
 /// A buffer of at most `cap` bytes. `new` takes and writes all of its memory, and no later call changes how much it
 /// has.
@@ -94,6 +97,50 @@ impl Kept {
         }
         self.append(bytes);
         Ok(())
+    }
+
+    /// Adds the first `len` of these bytes at the end, or none of them: `Full` if they do not fit. It costs a step for each
+    /// byte that is added, in both cases. It is inlined, as each row of a list comes by here.
+    #[inline(always)]
+    pub fn extend_front(&mut self, bytes: &[u8], len: usize, meter: &mut Meter) -> Result<(), Full>
+        requires tie { meter.old.tie ≡ self.old.tie }
+        requires len { len ≤ length bytes.now }
+        ensures puts { Puts (take len bytes.now) self.old.cap self.old self.new result }
+        ensures cost { Pays meter.old meter.new len }
+    {
+        meter.pay(len as u64);
+        let room = self.memory.len() - self.len;
+        if room < len {
+            return Err(Full { value: () });
+        }
+        if len <= BLOCK && BLOCK <= bytes.len() && BLOCK <= room {
+            self.append_block(bytes, len);
+        } else {
+            self.append(&bytes[..len]);
+        }
+        Ok(())
+    }
+
+    /// Adds the first `len` of these bytes at the end, where a block has room. A whole block is copied, which takes fewer
+    /// instructions than to copy just these.
+    #[inline(always)]
+    fn append_block(&mut self, bytes: &[u8], len: usize)
+        requires len { len ≤ BLOCK }
+        requires block { BLOCK ≤ length bytes.now }
+        requires room { length self.old.bytes + BLOCK ≤ self.old.cap }
+        ensures { Appends (take len bytes.now) self.old self.new }
+    {
+        let end = self.len + len;
+        self.append(&bytes[..BLOCK]);
+        self.truncate(end);
+    }
+
+    /// Removes the bytes after the first `len`.
+    fn truncate(&mut self, len: usize)
+        requires { len ≤ length self.old.bytes }
+        ensures { self.new ≡ record self.old { bytes = take len self.old.bytes } }
+    {
+        self.len = len;
     }
 
     /// Adds these bytes at the end, which have room there. Their steps are for the caller to pay.

@@ -1,4 +1,4 @@
-use Rattle.std.proofs.Common.{ℕ, List, length, sym, ap}
+use Rattle.std.proofs.Common.{sym}
 use Rattle.rb_answers.specs.Results.{row_bytes, mapping_of}
 use Rattle.rb_answers.proofs.MappingItems.{mapping_item_length, leaves_by_length}
 use Rattle.rb_answers.proofs.rows.room_after_row.Goals as goal
@@ -11,4 +11,4 @@ returns-in-Mappings c =
 pub returns-in-Rpcbs : goal.returns-in-Rpcbs
 unfolding row_bytes
 returns-in-Rpcbs c =
-    rw c.in-Rpcbs.is (leaves_by_length _ (length c.item.result.now) c.args.room c.checked_sub-in-Rpcbs.result (sym (ap (λ (bytes : List ℕ). length bytes) c.item.ensures.item)) c.checked_sub-in-Rpcbs.ensures)
+    rw c.in-Rpcbs.is (leaves_by_length _ c.item_len.result c.args.room c.checked_sub-in-Rpcbs.result (sym c.item_len.ensures.len) c.checked_sub-in-Rpcbs.ensures)

@@ -1,6 +1,6 @@
 use Rattle.rb_answers.proofs.Lists.{left}
 use Rattle.rb_answers.proofs.Filling.{Filling}
-use Rattle.rb_answers.proofs.list_reply.ListReply.fill.Given as goal
+use Rattle.rb_answers.proofs.list_reply.ListReply.fill_with.Given as goal
 
 abbrev pub invariant-rows : goal.invariant-rows
 invariant-rows l = Filling l.sought l.registry l.fn.self l.self l.most l.base l.fn.out l.out l.fn.meter l.meter
