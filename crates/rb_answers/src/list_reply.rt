@@ -179,14 +179,16 @@ impl ListReply {
         let mut base = out.len(meter);
         let mut sought = None;
         seek_version(list, registry, self.stamp, &mut sought, meter);
-        'rows: while let Some(found) = next_row(&sought, registry, self.stamp, self.cursor, meter) {
-            let (next, row) = found;
+        let mut found = next_row(&sought, registry, self.stamp, self.cursor, meter);
+        'rows: while let Some(passed) = found {
+            let (next, row) = passed;
             let more = write_row(list, row, out, meter);
             if most - base < more {
                 return base;
             }
             base += more;
             self.cursor = next;
+            found = next_row(&sought, registry, self.stamp, next, meter);
         }
         false.write(out, meter);
         base

@@ -1,9 +1,9 @@
 use Rattle.rb_answers.proofs.Lists.{left}
-use Rattle.rb_answers.proofs.Filling.{Filling}
+use Rattle.rb_answers.proofs.Filling.{Looking}
 use Rattle.rb_answers.proofs.list_reply.ListReply.fill_with.Given as goal
 
 abbrev pub invariant-rows : goal.invariant-rows
-invariant-rows l = Filling l.sought l.registry l.fn.self l.self l.most l.base l.fn.out l.out l.fn.meter l.meter
+invariant-rows l = Looking l.sought l.registry l.fn.self l.self l.most l.base l.fn.out l.out l.fn.meter l.meter l.found
 
 abbrev pub decreases-rows : goal.decreases-rows
 decreases-rows l = left l.registry l.self.stamp l.self.cursor
