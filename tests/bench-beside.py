@@ -3,7 +3,7 @@
 
 A line of a load has the calls a second and the processor time of a call as ratios to the least server's, the microseconds of
 both, and the instructions of a call of the daemon's by callgrind, which is the steady measure. The servers take turns in
-slices of 60 ms, and of each one of its best slices counts. At most some three minutes. Needs a C compiler; without valgrind
+slices of 40 ms, and of each one of its best slices counts. At most some three minutes. Needs a C compiler; without valgrind
 the instructions are left out.
 """
 import os

@@ -14,9 +14,9 @@ from row import Encoder
 
 COMPILER = os.environ.get("CC", "cc")
 HOST = "127.0.0.1"
-SLICES, LEAST_SLICES = 40, 10
+SLICES, LEAST_SLICES = 100, 10
 MILLISECONDS = 40
-LONGEST = 8.0  # seconds for a load, after its least slices
+LONGEST = 12.0  # seconds for a load, after its least slices
 DEEP = 16
 AT_ONCE = 100
 
