@@ -14,7 +14,7 @@ ghost use Rattle.rb_answers.specs.Results.{mapping_item, entry_item, is_shown, r
 use crate::answers::Listing;
 use crate::items::{entry_of, mapping_of};
 use crate::netids::entry_end;
-use crate::shown::shown_text;
+use crate::shown::{text_anew, text_or_own};
 use rb_registry::{Cursor, ListedRow, Registry, Row, Version, Which};
 use rb_uaddr::Hosts;
 use rb_xdr::{Kept, Meter, Xdr, residue};
@@ -89,8 +89,8 @@ fn write_entry(hosts: &Hosts, row: &Row, out: &mut Kept, meter: &mut Meter) -> u
     ensures count { result ≡ length (entry_item hosts.now row.now) }
     ensures cost { Pays meter.old meter.new (length (entry_item hosts.now row.now)) }
 {
-    let maddr = shown_text(hosts, row);
-    let content = maddr.as_slice();
+    let anew = text_anew(hosts, row);
+    let content = text_or_own(&anew, row);
     let count = content.len();
     let end = entry_end(row.netid, residue(count));
     let _ = out.extend(&entry_head(count), meter);

@@ -99,33 +99,41 @@ pub record ShowsInstead (registry : Registry) (buffer : List ℕ) (rest : Rest) 
   pub long : length room < length (take longest_fragment (marked_reply (rest_in registry buffer rest)))
   pub shows : ShowsNext registry buffer rest before shown giving
 
--- One of these came of the next fragment of a reply; if that was written, the window stays as it was.
-abbrev pub WritesNext : Registry → List ℕ → Rest → List ℕ → Kept → Kept → Next → Type 0
-WritesNext registry buffer rest room before after (nexts.Ended n) = WritesLast (rest_in registry buffer rest) room n × (after ≡ before)
-WritesNext registry buffer rest room before after (nexts.Behind behind) = WritesFull registry buffer rest room behind × (after ≡ before)
-WritesNext registry buffer rest room before after (nexts.Shown giving) = ShowsInstead registry buffer rest room before after giving
+-- how a reply goes on whose fragment is shown, if this is behind it
+abbrev pub shown_before : Rest → Bool → Giving
+shown_before behind last = record { rest = behind; place = 0; last = last }
+
+-- One of these came of the next fragment of a reply, and `behind` is what follows it; if it was written, the window stays as
+-- it was.
+abbrev pub WritesNext : Registry → List ℕ → Rest → Rest → List ℕ → Kept → Kept → Next → Type 0
+WritesNext registry buffer rest behind room before after (nexts.Ended n) = WritesLast (rest_in registry buffer rest) room n × (after ≡ before)
+WritesNext registry buffer rest behind room before after nexts.Behind = WritesFull registry buffer rest room behind × (after ≡ before)
+WritesNext registry buffer rest behind room before after (nexts.Shown last) =
+    ShowsInstead registry buffer rest room before after (shown_before behind last)
 
 -- the same of a reply in a buffer, from this place on, wherever rows of lists come from
-abbrev pub WritesHeld : ℕ → List ℕ → List ℕ → Kept → Kept → Next → Type 0
-WritesHeld start buffer room before after next = (registry : Registry) → WritesNext registry buffer (rests.Held start) room before after next
+abbrev pub WritesHeld : ℕ → ℕ → List ℕ → List ℕ → Kept → Kept → Next → Type 0
+WritesHeld start behind buffer room before after next =
+    (registry : Registry) → WritesNext registry buffer (rests.Held start) (rests.Held behind) room before after next
 
 -- and of a list, whatever the buffer holds
-abbrev pub WritesList : Registry → ListReply → List ℕ → Kept → Kept → Next → Type 0
-WritesList registry list room before after next = (buffer : List ℕ) → WritesNext registry buffer (rests.Listed list) room before after next
+abbrev pub WritesList : Registry → ListReply → ListReply → List ℕ → Kept → Kept → Next → Type 0
+WritesList registry list behind room before after next =
+    (buffer : List ℕ) → WritesNext registry buffer (rests.Listed list) (rests.Listed behind) room before after next
 
 -- The first n bytes in the room, if there are some, are the fragment with this data.
 abbrev pub WritesFragment : List ℕ → Bool → ℕ → List ℕ → Type 0
 WritesFragment part last n room = 0 < n → take n room ≡ fragment_header (length part) last ++ part
 
 -- The part of a reply with this data was written, or is shown.
-abbrev pub WritesPart : List ℕ → Bool → Rest → List ℕ → Kept → Kept → Next → Type 0
-WritesPart part last rest room before after (nexts.Ended n) =
+abbrev pub WritesPart : List ℕ → Bool → List ℕ → Kept → Kept → Next → Type 0
+WritesPart part last room before after (nexts.Ended n) =
     (last ≡ true) × (n ≤ length room) × (take n room ≡ fragment_header (length part) last ++ part) × (after ≡ before)
-WritesPart part last rest room before after (nexts.Behind behind) =
+WritesPart part last room before after nexts.Behind =
     (last ≡ false) × (4 + length part ≤ length room) × (take (4 + length part) room ≡ fragment_header (length part) last ++ part)
-    × (behind ≡ rest) × (after ≡ before)
-WritesPart part last rest room before after (nexts.Shown giving) =
-    (length room < 4 + length part) × (after ≡ with_fragment part last before) × (giving ≡ record { rest = rest; place = 0; last = last })
+    × (after ≡ before)
+WritesPart part last room before after (nexts.Shown shown) =
+    (length room < 4 + length part) × (after ≡ with_fragment part last before) × (shown ≡ last)
 
 -- the fragments that fit into this much room, of a reply of which nothing was given
 abbrev pub fitting_front : ℕ → List ℕ → List ℕ

@@ -120,19 +120,18 @@ fn write_fragment(part: &[u8], last: bool, room: &mut [u8]) -> usize
 enum Next {
     /// It was written and is the last one. The number of its bytes.
     Ended(usize),
-    /// It was written and has 1,028 bytes. This is after it.
-    Behind(Rest),
-    /// It did not fit and is shown.
-    Shown(Giving),
+    /// It was written, has 1,028 bytes, and is not the last one.
+    Behind,
+    /// It did not fit and is shown. Whether it is the last one.
+    Shown(bool),
 }
 
-/// Writes the fragment with this data to `room`, or else puts it in the window. `rest` is after it, if it is not
-/// the last one and has 1,024 bytes of data. It is inlined, so that `rest` is not copied for each fragment.
+/// Writes the fragment with this data to `room`, or else puts it in the window. It has 1,024 bytes of data, if it is not the
+/// last one.
 #[inline(always)]
 fn write_part(
     part: &[u8],
     last: bool,
-    rest: Rest,
     room: &mut [u8],
     window: &mut Kept,
     meter: &mut Meter,
@@ -141,27 +140,24 @@ fn write_part(
     requires some { 0 < length part.now }
     requires few { length part.now ≤ fragment_size }
     requires cap { window.old.cap ≡ longest_fragment }
-    ensures writes { WritesPart part.now last rest room.new window.old window.new result }
+    ensures writes { WritesPart part.now last room.new window.old window.new result }
     ensures cost { PaysAtMost meter.old meter.new (5 + length part.now) }
 {
     let count = write_fragment(part, last, room);
     if count == 0 {
         frame(part, last, window, meter);
-        Next::Shown(Giving {
-            rest,
-            place: 0,
-            last,
-        })
+        Next::Shown(last)
     } else if last {
         Next::Ended(count)
     } else {
-        Next::Behind(rest)
+        Next::Behind
     }
 }
 
-/// Writes the fragment of a reply that begins at this place of the buffer to `room`, or else puts it in the window.
+/// Writes the fragment of a reply that begins at this place of the buffer to `room`, or else puts it in the window. The
+/// place is then the one behind it.
 fn write_held(
-    start: usize,
+    start: &mut usize,
     buffer: &Kept,
     room: &mut [u8],
     window: &mut Kept,
@@ -169,24 +165,26 @@ fn write_held(
 ) -> Next
     requires buffer_tie { meter.old.tie ≡ buffer.now.tie }
     requires window_tie { meter.old.tie ≡ window.old.tie }
-    requires start { start < length buffer.now.bytes }
+    requires start { start.old < length buffer.now.bytes }
     requires cap { window.old.cap ≡ longest_fragment }
-    ensures writes { WritesHeld start buffer.now.bytes room.new window.old window.new result }
+    ensures writes { WritesHeld start.old start.new buffer.now.bytes room.new
+        window.old window.new result }
     ensures cost { PaysAtMost meter.old meter.new show_cost }
 {
-    let left = buffer.len(meter) - start;
-    let end = start + left.min(FRAGMENT_SIZE);
+    let left = buffer.len(meter) - *start;
+    let end = *start + left.min(FRAGMENT_SIZE);
     let last = left <= FRAGMENT_SIZE;
-    let data = buffer.lend(start..end, meter);
-    write_part(data, last, Rest::Held(end), room, window, meter)
+    let data = buffer.lend(*start..end, meter);
+    *start = end;
+    write_part(data, last, room, window, meter)
 }
 
 // LIST-5
 /// Writes the next fragment of a list to `room`, or else puts it in the window. It is made in `draft`, empty before
-/// and after.
+/// and after. The list is then what is behind it.
 #[tactic(auto, unfolding(rb_model::specs::Connections::longest_fragment, rb_model::specs::Calls::longest_kept, crate::specs::StandsFor::buffer_size, rb_model::specs::Calls::longest_reply))]
 fn write_list(
-    mut list: ListReply,
+    list: &mut ListReply,
     registry: &Registry,
     room: &mut [u8],
     window: &mut Kept,
@@ -197,23 +195,25 @@ fn write_list(
     requires window_tie { meter.old.tie ≡ window.old.tie }
     requires draft { IsDraft meter.old.tie draft.old }
     requires cap { window.old.cap ≡ longest_fragment }
-    requires made { CanMake registry.now (Listed list) }
-    requires some { 0 < length (rest_in registry.now [] (Listed list)) }
-    ensures writes { WritesList registry.now list room.new window.old window.new result }
+    requires made { CanMake registry.now (Listed list.old) }
+    requires some { 0 < length (rest_in registry.now [] (Listed list.old)) }
+    ensures writes { WritesList registry.now list.old list.new room.new
+        window.old window.new result }
     ensures draft { IsEmptyDraft meter.old.tie draft.new }
     ensures cost { PaysAtMost meter.old meter.new (listed_cost (row_count registry.now)) }
 {
     let part = list.next_part(registry, draft, meter);
     let data = draft.lend(part.start..part.end, meter);
-    let next = write_part(data, part.last, Rest::Listed(list), room, window, meter);
+    let next = write_part(data, part.last, room, window, meter);
     draft.clear(meter);
     next
 }
 
 /// Writes the next fragment of a reply, of which `rest` was not shown yet, to `room`, or else puts it in the window:
-/// from `buffer`, or of a list, whose fragment is made in `draft`, which is empty before and after.
+/// from `buffer`, or of a list, whose fragment is made in `draft`, which is empty before and after. `rest` is then what is
+/// behind it, changed where it lies: lists have many fragments.
 fn write_next(
-    rest: Rest,
+    rest: &mut Rest,
     buffer: &Kept,
     registry: &Registry,
     room: &mut [u8],
@@ -226,12 +226,12 @@ fn write_next(
     requires window_tie { meter.old.tie ≡ window.old.tie }
     requires draft { IsEmptyDraft meter.old.tie draft.old }
     requires cap { window.old.cap ≡ longest_fragment }
-    requires made { CanMake registry.now rest }
-    requires some { 0 < length (rest_in registry.now buffer.now.bytes rest) }
-    ensures writes { WritesNext registry.now buffer.now.bytes rest room.new
+    requires made { CanMake registry.now rest.old }
+    requires some { 0 < length (rest_in registry.now buffer.now.bytes rest.old) }
+    ensures writes { WritesNext registry.now buffer.now.bytes rest.old rest.new room.new
         window.old window.new result }
     ensures draft { IsEmptyDraft meter.old.tie draft.new }
-    ensures cost { PaysAtMost meter.old meter.new (next_cost registry.now rest) }
+    ensures cost { PaysAtMost meter.old meter.new (next_cost registry.now rest.old) }
 {
     match rest {
         Rest::Held(start) => write_held(start, buffer, room, window, meter),
@@ -242,7 +242,7 @@ fn write_next(
 /// Puts the next fragment of a reply, of which `rest` was not shown yet, in the window: from `buffer`, or of a list,
 /// whose fragment is made in `draft`, which is empty before and after.
 pub fn frame_next(
-    rest: Rest,
+    mut rest: Rest,
     buffer: &Kept,
     registry: &Registry,
     window: &mut Kept,
@@ -261,9 +261,13 @@ pub fn frame_next(
     ensures draft { IsEmptyDraft meter.old.tie draft.new }
     ensures cost { PaysAtMost meter.old meter.new (next_cost registry.now rest) }
 {
-    match write_next(rest, buffer, registry, &mut [], window, draft, meter) {
-        Next::Shown(giving) => giving,
-        Next::Ended(_) | Next::Behind(_) => unreachable!(),
+    match write_next(&mut rest, buffer, registry, &mut [], window, draft, meter) {
+        Next::Shown(last) => Giving {
+            rest,
+            place: 0,
+            last,
+        },
+        Next::Ended(_) | Next::Behind => unreachable!(),
     }
 }
 
@@ -312,13 +316,17 @@ pub fn write_fragments(
     let mut count = 0;
     'fragments: loop {
         let free = &mut room[count..];
-        match write_next(rest, buffer, registry, free, window, draft, meter) {
+        match write_next(&mut rest, buffer, registry, free, window, draft, meter) {
             Next::Ended(more) => return (count + more, None),
-            Next::Shown(giving) => return (count, Some(giving)),
-            Next::Behind(behind) => {
-                count += LONGEST_FRAGMENT;
-                rest = behind;
+            Next::Shown(last) => {
+                let giving = Giving {
+                    rest,
+                    place: 0,
+                    last,
+                };
+                return (count, Some(giving));
             }
+            Next::Behind => count += LONGEST_FRAGMENT,
         }
     }
 }

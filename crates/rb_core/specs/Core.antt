@@ -28,6 +28,7 @@ use Rattle.rb_connections.specs.Slots.{Acts, TableActs, TableShows, take_piece, 
 use Rattle.rb_connections.specs.Listings.{CanContinueAll}
 use Rattle.rb_model.specs.Served.{outcome_with}
 use Rattle.rb_core.specs.declared.calls.Piece.{Piece}
+use Rattle.rb_core.specs.declared.calls.Surroundings.{Surroundings}
 use Rattle.rb_core.specs.StandsFor.{CoreView, StandsFor}
 use Rattle.rb_core.specs.Awaits.{AreAwaited}
 
@@ -67,6 +68,10 @@ context_at limits listener clock caller = record {
   clock = clock;
   caller = caller;
 }
+
+-- and one that is served in these surroundings
+abbrev pub context_in : Surroundings → Context
+context_in around = context_at around.limits.now around.listener.now around.clock around.caller
 
 abbrev pub context_of : CoreView → Caller → Context
 context_of held caller = context_at held.setting.limits held.setting.listener held.clock caller

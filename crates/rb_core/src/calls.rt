@@ -7,7 +7,7 @@ ghost use Rattle.rb_connections.specs.Giving.{whole_cost};
 ghost use Rattle.rb_core.specs.AtOnce.{IsGivenAtOnce, count_at_once};
 ghost use Rattle.rb_core.specs.CallCosts.{PaysForPiece, PaysInRoom};
 ghost use Rattle.rb_core.specs.Standings.{TellsIfQuiet};
-ghost use Rattle.rb_core.specs.Core.{arguments_in, received_in, HasArguments, TakesPiece};
+ghost use Rattle.rb_core.specs.Core.{arguments_in, context_in, received_in, HasArguments, TakesPiece};
 ghost use Rattle.rb_model.specs.Calls.{message_with};
 ghost use Rattle.rb_model.specs.Standings.{standing_behind};
 ghost use Rattle.rb_serving.specs.Costs.{ListsIfAsked};
@@ -17,9 +17,10 @@ ghost use Rattle.rb_connections.specs.Listings.{CanContinueAll};
 ghost use Rattle.rb_connections.specs.Slots.{IsDraft};
 
 use crate::eviction::make_room;
+use rb_address::Caller;
 use rb_connections::{Connections, EndedRecord, Received, write_whole};
-use rb_model::{CoreFault, Message, Response, Served, Standing};
-use rb_proto::{Books, Context, Refusal};
+use rb_model::{CoreFault, Limits, Message, Response, Served, Standing};
+use rb_proto::{Books, Context, Listener, Refusal};
 use rb_rpc::{FRAGMENT_HEADER, Verdict, read_call};
 use rb_serving::{Seen, kept_arguments, null_called, procedure_of, seen_of, serve, serve_null};
 use rb_xdr::{Kept, Meter};
@@ -32,6 +33,39 @@ pub struct Piece<'a> {
     pub arguments: Option<&'a [u8]>,
     /// Where the connection stands then, if no record ended.
     pub standing: Standing,
+}
+
+/// What a call is served in, of which its context is made.
+#[derive(Clone, Copy)]
+pub struct Surroundings<'a> {
+    pub limits: &'a Limits,
+    pub listener: &'a Listener,
+    /// The moment, in milliseconds since the start of 1970.
+    pub clock: u64,
+    pub caller: Caller,
+}
+
+/// What the answer to a call depends on beside the books.
+#[inline(always)]
+fn context_in(surroundings: Surroundings<'_>) -> Context<'_>
+    requires { surroundings.limits.now.forwards ≤ 64 }
+    ensures { result ≡ context_in surroundings.entry }
+{
+    let Surroundings {
+        limits,
+        listener,
+        clock,
+        caller,
+    } = surroundings;
+    Context {
+        announced: listener.announced,
+        terms: listener.terms,
+        reserved: listener.reserved.lend(),
+        limit: limits.rows,
+        forwards: limits.forwards as u32,
+        clock,
+        caller,
+    }
 }
 
 /// Where a connection that stands so stands after `count` bytes that were taken of a piece: it takes none while it is
@@ -109,13 +143,14 @@ pub fn lend_arguments<'a>(piece: Option<&'a [u8]>, buffer: &'a Kept, meter: &mut
 /// streamed. `seen` is left as it was if there is nothing to tell of the message.
 ///
 /// A call of NULL is served by itself: it has no arguments, adds no row, and its reply is a head alone (RFC 1833
-/// sections 2.2 and 3.2). It is inlined, and what serves the others is not, so that NULL takes no room for what they need.
+/// sections 2.2 and 3.2). It is inlined, and what serves the others is not and gets a verdict and a context of its own, so
+/// that neither is written for NULL.
 #[tactic(auto, unfolding(rb_model::specs::Calls::longest_reply))]
 #[inline(always)]
 pub fn serve_verdict(
     connections: &mut Connections,
     books: &mut Books,
-    context: &Context,
+    surroundings: Surroundings<'_>,
     verdict: &Verdict,
     arguments: &[u8],
     seen: &mut Option<Seen>,
@@ -123,26 +158,29 @@ pub fn serve_verdict(
     meter: &mut Meter,
 ) -> Served
     requires tie { meter.old.tie ≡ connections.old.tie }
-    requires can { CanServe meter.old.tie context.now books.old }
+    requires few { surroundings.limits.now.forwards ≤ 64 }
+    requires can { CanServe meter.old.tie (context_in surroundings) books.old }
     requires out { IsEmptyReply meter.old.tie out.old }
     requires lists { CanContinueAll books.old.registry connections.old }
-    ensures acts { ServesVerdict context.now verdict.now arguments.now connections.old books.old
-        connections.new books.new result out.new }
-    ensures leaves { LeavesBooks context.now books.old books.new result out.old out.new }
+    ensures acts { ServesVerdict (context_in surroundings.entry) verdict.now arguments.now
+        connections.old books.old connections.new books.new result out.new }
+    ensures leaves { LeavesBooks (context_in surroundings.entry)
+        books.old books.new result out.old out.new }
     ensures lists { CanContinueAll books.new.registry connections.new }
     ensures open { StayOpen connections.old connections.new }
     ensures listed { ListsIfAsked (message_with verdict.now arguments.now) result }
-    ensures cost { PaysInRoom context.now verdict.now
+    ensures cost { PaysInRoom (context_in surroundings.entry) verdict.now
         connections.old books.old books.new arguments.now out.new meter.old meter.new }
 {
     if let Some(head) = null_called(verdict) {
         return serve_null(books, head, out, meter);
     }
+    let verdict = *verdict;
     serve_message(
         connections,
         books,
-        context,
-        verdict,
+        &context_in(surroundings),
+        &verdict,
         arguments,
         seen,
         out,

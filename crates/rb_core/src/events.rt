@@ -1,40 +1,15 @@
 //! The calls of a core: each is one event, or says how one went.
-ghost use Rattle.std.specs.Prelude.{◌≡◌, ◌≤◌};
-ghost use Rattle.rb_core.specs.Core.{context_at};
-
 use crate::calls::{
-    Piece, lend_arguments, serve_verdict, standing_behind, take_piece, write_at_once,
+    Piece, Surroundings, lend_arguments, serve_verdict, standing_behind, take_piece, write_at_once,
 };
 use crate::holding::Core;
 use rb_address::{Caller, Peer, Who};
 use rb_connections::{EndedRecord, Received};
 use rb_forward::{Ended, FwdId, sooner};
-use rb_model::{CoreFault, Exchanged, Expired, Limits, Response, Served, Standing, Taken, Told};
-use rb_proto::{Context, Listener};
+use rb_model::{CoreFault, Exchanged, Expired, Response, Served, Standing, Taken, Told};
 use rb_rpc::read_call;
 use rb_serving::{Seen, arguments_behind, forget, longest_to, put_end};
 use rb_xdr::Meter;
-
-/// What the answer to a call of this caller depends on beside the books.
-fn context_at<'a>(
-    limits: &Limits,
-    listener: &'a Listener,
-    clock: u64,
-    caller: Caller,
-) -> Context<'a>
-    requires { limits.now.forwards ≤ 64 }
-    ensures { result ≡ context_at limits.now listener.now clock caller }
-{
-    Context {
-        announced: listener.announced,
-        terms: listener.terms,
-        reserved: listener.reserved.lend(),
-        limit: limits.rows,
-        forwards: limits.forwards as u32,
-        clock,
-        caller,
-    }
-}
 
 impl Core {
     ghost use Rattle.std.specs.Prelude.{◌≡◌, ◌≤◌, [], false, length, IfOk, OnErr};
@@ -76,15 +51,19 @@ impl Core {
         forget(&mut self.seen);
         self.clock = self.clock.max(now);
         let longest = longest_to(&self.listener.terms, &who, content.len());
-        let caller = Caller::Udp(who, longest);
-        let context = context_at(&self.limits, &self.listener, self.clock, caller);
         self.reply.clear(meter);
         let verdict = read_call(content);
         let arguments = arguments_behind(verdict, content);
+        let surroundings = Surroundings {
+            limits: &self.limits,
+            listener: &self.listener,
+            clock: self.clock,
+            caller: Caller::Udp(who, longest),
+        };
         let served = serve_verdict(
             &mut self.connections,
             &mut self.books,
-            &context,
+            surroundings,
             &verdict,
             arguments,
             &mut self.seen,
@@ -197,13 +176,17 @@ impl Core {
         ensures cost { PaysToAnswer ended
             self.old self.new lent.entry room.old result.1 meter.old meter.new }
     {
-        let caller = Caller::Tcp(id, ended.who);
-        let context = context_at(&self.limits, &self.listener, self.clock, caller);
+        let surroundings = Surroundings {
+            limits: &self.limits,
+            listener: &self.listener,
+            clock: self.clock,
+            caller: Caller::Tcp(id, ended.who),
+        };
         let arguments = lend_arguments(lent, &self.arguments, meter);
         let served = serve_verdict(
             &mut self.connections,
             &mut self.books,
-            &context,
+            surroundings,
             &ended.verdict,
             arguments,
             &mut self.seen,

@@ -327,10 +327,12 @@ impl<H: Files, C: Serves<H>> Serving<H, C> {
             (is_due deadline self.old.turn.moment)
             (is_behind is_fresh shown most (leaves_some self.old.places self.old.sockets)) }
     {
-        let is_due = is_due(deadline, self.turn.moment);
+        if !is_due(deadline, self.turn.moment) {
+            return self.deadlines.ask(false, false);
+        }
         let are_left = self.places.are_left() || self.sockets.are_datagrams_left();
         let is_behind = is_behind(is_fresh, shown, most, are_left);
-        self.deadlines.ask(is_due, is_behind)
+        self.deadlines.ask(true, is_behind)
     }
 
     /// Closes the connections whose sockets take nothing of what waits for them.

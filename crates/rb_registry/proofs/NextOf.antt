@@ -364,6 +364,31 @@ module _ (prog vers : ℕ) where
       let later = no_own_from (number_after e.1.added) rest (omega (arith, some, more)) order.1 in
       rw (first, no) later
 
+  no_own_behind : (key : ℕ) (slot : Slot) (least : ℕ) (entries : List (ℕ × Slot)) → AreInOrder least entries → value_at entries key ≡ Some slot → 0 < slot.added
+      → list_any (is_own_version prog vers) (values_of (behind entries key)) ≡ false
+  no_own_behind key slot least [] h there some = absurd (cc)
+  no_own_behind key slot least (e ∷ rest) h there some = by_test (eqb e.0 key) there (no_own_behind key slot (number_after e.1.added) rest h.1)
+    where
+      by_test : (b : Bool) → cond b (Some e.1) (value_at rest key) ≡ Some slot
+          → (value_at rest key ≡ Some slot → 0 < slot.added → list_any (is_own_version prog vers) (values_of (behind rest key)) ≡ false)
+          → list_any (is_own_version prog vers) (values_of (cond b rest (behind rest key))) ≡ false
+      by_test true is further =
+          let same : e.1 ≡ slot = cc in
+          let number : e.1.added ≡ slot.added = ap (λ (s : Slot). s.added) same in
+          let more = after_more e.1.added in
+          no_own_from (number_after e.1.added) rest (omega (arith, some, number, more)) h.1
+      by_test false is further = further is some
+
+  -- nor behind a place, if the row there was set
+  pub no_own_to_come : (entries : List (ℕ × Slot)) (start : Option ℕ) (after : ℕ) → AreInOrder 0 entries → Some after ≡ added_at entries start → 0 < after
+      → list_any (is_own_version prog vers) (values_of (to_come entries start)) ≡ false
+  no_own_to_come entries None after h added some = let same : after ≡ 0 = cc in absurd (omega (arith, some, same))
+  no_own_to_come entries (Some key) after h added some = by_value (value_at entries key) refl added
+    where
+      by_value : (o : Option Slot) → value_at entries key ≡ o → Some after ≡ option_map (λ (slot : Slot). slot.added) o → list_any (is_own_version prog vers) (values_of (behind entries key)) ≡ false
+      by_value None is added = absurd (cc)
+      by_value (Some slot) is added = let same : after ≡ slot.added = cc in no_own_behind key slot 0 entries h is (omega (arith, some, same))
+
 -- ---- the next one
 
 module _ {T : Type 0} where

@@ -78,10 +78,11 @@ impl Registry {
         ensures next { IsNextOf version.now.prog version.now.vers self.now.entries start result }
         ensures cost { PaysAtMost meter.old meter.new next_cost }
     {
-        if let Some(found) = own_after(&self.slots, version.prog, version.vers, start, meter) {
+        let after = added_at(&self.slots, start, meter)?;
+        let (prog, vers) = (version.prog, version.vers);
+        if let Some(found) = own_after(&self.slots, prog, vers, start, after, meter) {
             return Some(found);
         }
-        let after = added_at(&self.slots, start, meter)?;
         let key = self.earliest_after(version, after)?;
         let slot = self.slots.get(key, meter)?;
         Some((key, &slot.row))
@@ -106,21 +107,27 @@ impl Registry {
     }
 }
 
-/// The next own row of the version after the place, with its key.
+/// The next own row of the version after the place, with its key; the row before the place was added by this change. After a
+/// row that a change added there is none.
 fn own_after<'a>(
     slots: &'a Pool<Slot>,
     prog: u32,
     vers: u32,
     start: Option<usize>,
+    after: u64,
     meter: &mut Meter,
 ) -> Option<(usize, &'a ListedRow)>
     requires tie { meter.old.tie ≡ slots.now.tie }
+    requires added { Some after ≡ added_at slots.now.entries start }
     requires ordered { AreInOrder 0 slots.now.entries }
     requires few { count_own slots.now.entries ≤ 12 }
     ensures next { IfSome result (λ n. IsNextOf prog vers slots.now.entries start (Some n)) }
     ensures none { IfNone result (HasNoOwn prog vers slots.now.entries start) }
     ensures cost { PaysAtMost meter.old meter.new 26 }
 {
+    if after > 0 {
+        return None;
+    }
     let mut place = start;
     'rows: while let Some((key, slot)) = slots.entry_after(place, meter) {
         if slot.added > 0 {

@@ -8,11 +8,11 @@ use Rattle.rb_answers.proofs.RowLengths.{entry_is_short, entry_written, pieces_s
 use Rattle.rb_answers.proofs.rows.write_entry.Goals as goal
 use Rattle.rb_answers.proofs.rows.write_entry.Goals.{After-extend-3}
 
-text_is : (c : After-extend-3) → c.as_slice-content.result.now ≡ shown_text c.args.hosts.now c.args.row.now
-text_is c = c.as_slice-content.ensures.bytes ∙ c.shown_text-maddr.ensures
+text_is : (c : After-extend-3) → c.text_or_own-content.result.now ≡ shown_text c.args.hosts.now c.args.row.now
+text_is c = c.text_or_own-content.ensures.text ∙ c.text_anew-anew.ensures
 
 content_of : (c : After-extend-3) → IsContent 128 (shown_text c.args.hosts.now c.args.row.now)
-content_of c = rw c.shown_text-maddr.ensures at c.as_slice-content.ensures.content
+content_of c = rw (text_is c) at c.text_or_own-content.ensures.content
 
 pub returns-clause-short : goal.returns-clause-short
 returns-clause-short c = entry_is_short c.args.hosts.now c.args.row.now (content_of c)
@@ -30,7 +30,7 @@ returns-clause-cost c =
     let size = pieces_size c.args.hosts.now c.args.row.now in
     c.extend-3.ensures.cost
     ∙ ap (λ (m : Meter). record m { steps = m.steps + length c.entry_end-end.result.now })
-    (c.extend-2.ensures.cost ∙ ap (λ (m : Meter). record m { steps = m.steps + length c.as_slice-content.result.now }) c.extend.ensures.cost)
+    (c.extend-2.ensures.cost ∙ ap (λ (m : Meter). record m { steps = m.steps + length c.text_or_own-content.result.now }) c.extend.ensures.cost)
     ∙ ap (λ (n : ℕ). record c.args.meter.now { steps = n }) (omega (arith, before, address, behind, size))
 
 pub returns-clause-count : goal.returns-clause-count

@@ -1,7 +1,7 @@
 use Rattle.std.proofs.Common.{Some, refl, sym, ◌∙◌, arith}
 use Rattle.rb_xdr.specs.Places.{to_come}
 use Rattle.rb_registry.proofs.InOrder.{in_order_to_come, own_to_come}
-use Rattle.rb_registry.proofs.NextOf.{no_own_left}
+use Rattle.rb_registry.proofs.NextOf.{no_own_left, no_own_to_come}
 use Rattle.rb_registry.proofs.versions.own_after.Goals as goal
 
 pub rows-init : goal.rows-init
@@ -13,6 +13,10 @@ rows-init c = record {
   rises = omega arith;
   steps = omega (arith, own_to_come c.args.start c.args.slots.now.entries, c.requires.few);
 }
+
+pub returns-then-after-gt0-clause-none : goal.returns-then-after-gt0-clause-none
+returns-then-after-gt0-clause-none c =
+    no_own_to_come c.args.prog c.args.vers c.args.slots.now.entries c.args.start c.args.after c.requires.ordered c.requires.added (omega (arith, c.if-after-gt0.true))
 
 pub returns-then-slot-gt0-clause-none : goal.returns-then-slot-gt0-clause-none
 returns-then-slot-gt0-clause-none c =

@@ -6,7 +6,6 @@ use Rattle.rb_xdr.specs.Kept.{Kept}
 use Rattle.rb_address.specs.declared.who.Who.{Who}
 use Rattle.rb_address.specs.declared.caller.Caller.TheVariants.{Tcp}
 use Rattle.rb_proto.specs.declared.books.Books.{Books}
-use Rattle.rb_answers.specs.declared.context.Context.{Context}
 use Rattle.rb_proto.specs.Books.{SameFrame}
 use Rattle.rb_model.specs.declared.message.Message.{Message}
 use Rattle.rb_model.specs.Connections.{settle, changed_at}
@@ -25,7 +24,7 @@ use Rattle.rb_connections.proofs.Standing.{idle_standing}
 use Rattle.rb_core.specs.contracts.holding.Core.{the_view}
 use Rattle.rb_core.specs.StandsFor.{CoreView, StandsFor}
 use Rattle.rb_core.specs.Core.{arguments_in, serve_ended, context_of, without_arguments}
-use Rattle.rb_core.specs.Eviction.{ServesInRoom, ServesVerdict}
+use Rattle.rb_core.specs.Eviction.{ServesInRoom}
 use Rattle.rb_core.specs.AtOnce.{AnswersGiving, GivesAtOnce, IsGivenAtOnce, answer_and_give, count_when_answered}
 use Rattle.rb_xdr.specs.Meter.{Meter, PaysAtMost}
 use Rattle.rb_connections.specs.Giving.{whole_cost}
@@ -76,10 +75,7 @@ module _ (c : goal.Then-given-gt0) where
 
   acts_then : ServesInRoom (context_of view_then (Tcp c.args.id c.args.ended.who)) (message_with c.args.ended.verdict lent_then) lent_then c.self.inside.connections c.self.inside.books c.serve_verdict-served.new.connections c.serve_verdict-served.new.books
       (served_in c.serve_verdict-served.new.books.registry c.serve_verdict-served.result c.serve_verdict-served.new.out.bytes)
-  acts_then =
-      let seen : c.context_at-context.result ≡ context_of view_then (Tcp c.args.id c.args.ended.who) = c.context_at-context.ensures in
-      subst (λ (x : Context). ServesVerdict x c.args.ended.verdict lent_then c.self.inside.connections c.self.inside.books c.serve_verdict-served.new.connections c.serve_verdict-served.new.books c.serve_verdict-served.result c.serve_verdict-served.new.out)
-      seen c.serve_verdict-served.ensures.acts
+  acts_then = c.serve_verdict-served.ensures.acts
 
   idle_then : IsIdleSince c.args.id c.self.inside.clock c.self.inside.connections
   idle_then = subst (λ (held : CoreView). IsIdleSince c.args.id held.clock held.connections) (sym c.self.view_is) c.requires.idle
@@ -123,10 +119,7 @@ module _ (c : goal.After-is_no_call) where
 
   acts_else : ServesInRoom (context_of view_else (Tcp c.args.id c.args.ended.who)) (message_with c.args.ended.verdict lent_else) lent_else c.self.inside.connections c.self.inside.books c.serve_verdict-served.new.connections c.serve_verdict-served.new.books
       (served_in c.serve_verdict-served.new.books.registry c.serve_verdict-served.result c.serve_verdict-served.new.out.bytes)
-  acts_else =
-      let seen : c.context_at-context.result ≡ context_of view_else (Tcp c.args.id c.args.ended.who) = c.context_at-context.ensures in
-      subst (λ (x : Context). ServesVerdict x c.args.ended.verdict lent_else c.self.inside.connections c.self.inside.books c.serve_verdict-served.new.connections c.serve_verdict-served.new.books c.serve_verdict-served.result c.serve_verdict-served.new.out)
-      seen c.serve_verdict-served.ensures.acts
+  acts_else = c.serve_verdict-served.ensures.acts
 
   idle_else : has_idle c.args.id c.self.inside.connections ≡ true
   idle_else = subst (λ (held : CoreView). has_idle c.args.id held.connections ≡ true) (sym c.self.view_is) c.requires.idle.is_idle
@@ -177,7 +170,7 @@ returns-then-given-gt0-clause-cost c =
     let v = c.serve_verdict-served in
     let once = c.write_at_once-given in
     cost_from c.args.ended c.args.lent lend.result.now (the_view c.self.inside) c.args.self.now lend.ensures.value c.self.view_is v.new.books (whole_cost (length c.args.room.now) once.result) c.args.meter.now once.new.meter
-    (pays_at_once c.context_at-context.result _ (registers_as c.context_at-context.result (the_view c.self.inside) _ c.context_at-context.ensures) c.args.ended.verdict c.self.inside.connections c.self.inside.books v.new.books lend.result.now v.new.out c.args.room.now once.result v.ensures.leaves.reply.short
+    (pays_at_once (context_of (the_view c.self.inside) (Tcp c.args.id c.args.ended.who)) _ (registers_as _ (the_view c.self.inside) (Tcp c.args.id c.args.ended.who) refl) c.args.ended.verdict c.self.inside.connections c.self.inside.books v.new.books lend.result.now v.new.out c.args.room.now once.result v.ensures.leaves.reply.short
     c.args.meter.now lend.new.meter v.new.meter c.clear.new.meter once.new.meter lend.ensures.cost v.ensures.cost c.clear.ensures.cost once.ensures.cost)
 
 pub returns-clause-cost : goal.returns-clause-cost
@@ -188,5 +181,5 @@ returns-clause-cost c =
     let left = c.settle-standing in
     let given : PaysAtMost c.clear.new.meter once.new.meter (whole_cost (length c.args.room.now) 0) = rw (none_given c) at once.ensures.cost in
     cost_from c.args.ended c.args.lent lend.result.now (the_view c.self.inside) c.args.self.now lend.ensures.value c.self.view_is v.new.books (whole_cost (length c.args.room.now) 0) c.args.meter.now left.new.meter
-    (pays_and_begins c.context_at-context.result _ (registers_as c.context_at-context.result (the_view c.self.inside) _ c.context_at-context.ensures) c.args.ended.verdict c.self.inside.connections c.self.inside.books v.new.books lend.result.now v.new.out c.args.room.now 0 v.ensures.leaves.reply.short
+    (pays_and_begins (context_of (the_view c.self.inside) (Tcp c.args.id c.args.ended.who)) _ (registers_as _ (the_view c.self.inside) (Tcp c.args.id c.args.ended.who) refl) c.args.ended.verdict c.self.inside.connections c.self.inside.books v.new.books lend.result.now v.new.out c.args.room.now 0 v.ensures.leaves.reply.short
     c.args.meter.now lend.new.meter v.new.meter c.clear.new.meter once.new.meter lend.ensures.cost v.ensures.cost c.clear.ensures.cost given v.result v.new.connections left.new.meter v.ensures.listed v.ensures.open.as_many left.ensures.cost)

@@ -1,4 +1,4 @@
-use Rattle.std.proofs.Common.{◌≡◌, List, ℕ, length, refl, subst, rules}
+use Rattle.std.proofs.Common.{◌≡◌, List, ℕ, length, refl, ap, subst, rules}
 use Rattle.rb_rpc.specs.declared.call.Verdict.{Verdict}
 use Rattle.rb_rpc.specs.Verdict.{verdict}
 use Rattle.rb_address.specs.declared.caller.Caller.TheVariants.{Udp}
@@ -60,14 +60,14 @@ returns-clause-acts c =
     let reply = c.serve_verdict-served.new.out.bytes in
     let given : Outcome = outcome_with c.in-Answered.outcome reply in
     let longest : ℕ = longest_to old.setting.listener.terms c.args.who (length content) in
-    let is_context : c.context_at-context.result ≡ context_of old (Udp c.args.who longest) =
-    subst (λ (n : ℕ). c.context_at-context.result ≡ context_of old (Udp c.args.who n)) c.longest_to-longest.ensures c.context_at-context.ensures in
-    let acts : ServesInRoom c.context_at-context.result (message_with v arguments) arguments old.connections old.books table books given = rw c.in-Answered.is at c.serve_verdict-served.ensures.acts in
+    let context : Context = context_of old (Udp c.args.who c.longest_to-longest.result) in
+    let is_context : context ≡ context_of old (Udp c.args.who longest) = ap (λ (n : ℕ). context_of old (Udp c.args.who n)) c.longest_to-longest.ensures in
+    let acts : ServesInRoom context (message_with v arguments) arguments old.connections old.books table books given = rw c.in-Answered.is at c.serve_verdict-served.ensures.acts in
     acts_begun _ (the_view c.self.inside) c.args.self.now _ c.count-self-inside.result _ c.self.view_is
     (datagram_acts (with_steps_before (the_view c.self.inside) c.count-self-inside.result) c.args.now c.max-self-inside.result c.args.who content table books reply c.serve_verdict-served.new.out.tie c.max-self-inside.ensures c.serve_verdict-served.ensures.leaves.reply.short
     given
-    (served_by old (Udp c.args.who longest) c.context_at-context.result is_context (message_of content) (arguments_of content) table books given
-    (of_content c.context_at-context.result (message_with v arguments) arguments content old.connections table old.books books given says c.arguments_behind-arguments.ensures.arguments acts)
+    (served_by old (Udp c.args.who longest) context is_context (message_of content) (arguments_of content) table books given
+    (of_content context (message_with v arguments) arguments content old.connections table old.books books given says c.arguments_behind-arguments.ensures.arguments acts)
     c.serve_verdict-served.ensures.leaves.frame c.serve_verdict-served.ensures.open.stays)
     (written_is c.in-Answered.outcome reply (rw c.in-Answered.is at c.serve_verdict-served.ensures.leaves.written)))
 
@@ -80,7 +80,7 @@ returns-clause-cost c =
     let old : CoreView = record (with_steps_before (the_view c.self.inside) c.count-self-inside.result) { clock = c.max-self-inside.result } in
     let says = says_so v lent.result.now content c.read_call-verdict.ensures.verdict lent.ensures.arguments in
     subst (λ (held : CoreView). PaysAtMost c.args.meter.now c.len.new.meter (datagram_cost (sizes_for (may_register_in held c.args.who) (message_of content) (sizes held.connections held.books served.new.books)) (length content) (length served.new.out.bytes))) c.self.view_is
-    (datagram_pays c.context_at-context.result _ (registers_as c.context_at-context.result old _ c.context_at-context.ensures) c.self.inside.connections c.self.inside.books served.new.books v lent.result.now content served.new.out c.args.meter.now c.clear.new.meter served.new.meter c.len.new.meter says lent.ensures.few
+    (datagram_pays (context_of old (Udp c.args.who c.longest_to-longest.result)) _ (registers_as _ old (Udp c.args.who c.longest_to-longest.result) refl) c.self.inside.connections c.self.inside.books served.new.books v lent.result.now content served.new.out c.args.meter.now c.clear.new.meter served.new.meter c.len.new.meter says lent.ensures.few
     c.clear.ensures.cost served.ensures.cost c.len.ensures.cost)
 
 pub invariant_of-self : goal.invariant_of-self
@@ -89,8 +89,7 @@ invariant_of-self c =
     let table = c.serve_verdict-served.new.connections in
     let books = c.serve_verdict-served.new.books in
     let awaited : AreAwaited old.books.forwards table = λ number waits. c.serve_verdict-served.ensures.open.free number (c.self.invariant.awaited number waits) in
-    let anew : OnlyWaitsAnew (Udp c.args.who c.longest_to-longest.result) (slots_of old.books.forwards) (slots_of books.forwards) =
-    subst (λ (x : Context). OnlyWaitsAnew x.caller (slots_of old.books.forwards) (slots_of books.forwards)) c.context_at-context.ensures c.serve_verdict-served.ensures.leaves.waiting in
+    let anew : OnlyWaitsAnew (Udp c.args.who c.longest_to-longest.result) (slots_of old.books.forwards) (slots_of books.forwards) = c.serve_verdict-served.ensures.leaves.waiting in
     core_changed _ _ _ _ _ _ _ _ _ _ _ _ _ c.self.invariant c.serve_verdict-served.ensures.open.stays
     c.serve_verdict-served.ensures.leaves.frame (search rules) (search rules) c.len.ensures.len c.serve_verdict-served.ensures.leaves.reply.short
     (awaited_by_udp old.books.forwards books.forwards c.args.who c.longest_to-longest.result table awaited anew)

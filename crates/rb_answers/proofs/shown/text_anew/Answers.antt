@@ -1,7 +1,7 @@
 use Rattle.std.proofs.Common.{sym, ◌∙◌}
 use Rattle.rb_answers.proofs.Addresses.{shown_anew, shown_as_set, shown_name}
-use Rattle.rb_answers.proofs.shown.shown_text.Goals as goal
-use Rattle.rb_answers.proofs.shown.shown_text.Goals.{in_default-via-in-Some+else-is_told_anew, in_default-via-in_default}
+use Rattle.rb_answers.proofs.shown.text_anew.Goals as goal
+use Rattle.rb_answers.proofs.shown.text_anew.Goals.{in_default-via-in-Some+else-is_told_anew, in_default-via-in_default}
 
 pub returns-in-Some : goal.returns-in-Some
 returns-in-Some c =
@@ -9,8 +9,7 @@ returns-in-Some c =
 
 pub returns-in_default : goal.returns-in_default
 returns-in_default c =
-    c.new.ensures ∙ c.as_slice.ensures.value
-    ∙ sym (elim c.in_default.branch [
+    sym (elim c.in_default.branch [
       | in_default-via-in-Some+else-is_told_anew w ↦ shown_as_set c.args.hosts.now c.args.row.now w.in-Some.address (sym c.address_in.ensures ∙ w.in-Some.is) (sym w.is_told_anew.ensures ∙ w.if-is_told_anew.false)
       | in_default-via-in_default w ↦ shown_name c.args.hosts.now c.args.row.now (sym c.address_in.ensures ∙ w.in_default.is)
     ])
