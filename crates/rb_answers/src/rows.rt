@@ -9,11 +9,11 @@ ghost use Rattle.rb_xdr.specs.Puts.{Appends, HasRoom, Leaves};
 ghost use Rattle.rb_answers.specs.ListParts.{IsShort, FitsIfShort};
 ghost use Rattle.rb_answers.specs.Searching.{IsSought, rows_left, steps_left, sought_cost, walk_cost, PassesRow};
 ghost use Rattle.rb_answers.specs.Costs.{write_cost};
-ghost use Rattle.rb_answers.specs.Results.{mapping_item, entry_item, is_shown, row_bytes, rows_bytes};
+ghost use Rattle.rb_answers.specs.Results.{is_inet, mapping_item, entry_item, is_shown, row_bytes, rows_bytes};
 
 use crate::answers::Listing;
-use crate::items::{entry_of, mapping_of};
-use crate::netids::entry_end;
+use crate::items::entry_of;
+use crate::netids::{entry_end, prot_on};
 use crate::shown::{text_anew, text_or_own};
 use rb_registry::{Cursor, ListedRow, Registry, Row, Version, Which};
 use rb_uaddr::Hosts;
@@ -26,13 +26,16 @@ const MAPPING_ITEM: usize = 20;
 const ENTRY_HEAD: usize = 8;
 
 /// Whether the list shows the row.
-fn is_shown(list: Listing, row: &Row) -> bool
-    ensures { result ≡ is_shown list row.now }
+fn is_shown(list: Listing, listed: &ListedRow) -> bool
+    ensures { result ≡ is_shown list listed.now }
 {
     match list {
-        Listing::Mappings => Which::Inet.includes(row.netid),
+        Listing::Mappings => Which::Inet.includes(listed.netid()),
         Listing::Rpcbs => true,
-        Listing::Entries(prog, vers, _) => row.prog == prog && row.vers == vers,
+        Listing::Entries(prog, vers, _) => {
+            let row = listed.as_row();
+            row.prog == prog && row.vers == vers
+        }
     }
 }
 
@@ -41,29 +44,29 @@ fn is_shown(list: Listing, row: &Row) -> bool
 fn room_after_row(list: Listing, listed: &ListedRow, room: usize) -> Option<usize>
     ensures { Leaves (row_bytes list listed.now) room result }
 {
-    let row = listed.as_row();
-    if !is_shown(list, row) {
+    if !is_shown(list, listed) {
         return Some(room);
     }
     match list {
         Listing::Mappings => room.checked_sub(MAPPING_ITEM),
         Listing::Rpcbs => room.checked_sub(listed.item_len()),
-        Listing::Entries(_, _, hosts) => (true, entry_of(&hosts, row)).room_after(room),
+        Listing::Entries(_, _, hosts) => {
+            (true, entry_of(&hosts, listed.as_row())).room_after(room)
+        }
     }
 }
 
-/// TRUE and the mapping of a row, which are written at once.
-#[tactic(auto, unfolding(rb_xdr::specs::Xdr::number, rb_xdr::specs::Xdr::boolean))]
-fn mapping_item(row: &Row) -> [u8; MAPPING_ITEM]
-    ensures { result ≡ mapping_item row.now }
+// DUMP-3
+/// TRUE and the mapping of a row of tcp or udp, which are written at once.
+#[tactic(auto, using(crate::proofs::MappingItems::inet_port_shown), unfolding(rb_xdr::specs::Xdr::number, rb_xdr::specs::Xdr::boolean))]
+fn mapping_item(listed: &ListedRow) -> [u8; MAPPING_ITEM]
+    requires { is_inet listed.now ≡ true }
+    ensures { result ≡ mapping_item listed.now }
 {
-    let mapping = mapping_of(row);
     let mut item = [0; MAPPING_ITEM];
-    item[..4].copy_from_slice(&u32::from(true).to_be_bytes());
-    item[4..8].copy_from_slice(&mapping.prog.to_be_bytes());
-    item[8..12].copy_from_slice(&mapping.vers.to_be_bytes());
-    item[12..16].copy_from_slice(&mapping.prot.to_be_bytes());
-    item[16..].copy_from_slice(&mapping.port.to_be_bytes());
+    item[..12].copy_from_slice(listed.head());
+    item[12..16].copy_from_slice(&prot_on(listed.netid()).to_be_bytes());
+    item[16..].copy_from_slice(&u32::from(listed.inet_port()).to_be_bytes());
     item
 }
 
@@ -111,20 +114,19 @@ pub fn write_row(list: Listing, listed: &ListedRow, out: &mut Kept, meter: &mut 
     ensures count { result ≡ length (row_bytes list listed.now) }
     ensures cost { PaysAtMost meter.old meter.new (length (row_bytes list listed.now)) }
 {
-    let row = listed.as_row();
-    if !is_shown(list, row) {
+    if !is_shown(list, listed) {
         return 0;
     }
     match list {
         Listing::Mappings => {
-            let _ = out.extend(&mapping_item(row), meter);
+            let _ = out.extend(&mapping_item(listed), meter);
             MAPPING_ITEM
         }
         Listing::Rpcbs => {
             let _ = listed.put_item(out, meter);
             listed.item_len()
         }
-        Listing::Entries(_, _, hosts) => write_entry(&hosts, row, out, meter),
+        Listing::Entries(_, _, hosts) => write_entry(&hosts, listed.as_row(), out, meter),
     }
 }
 

@@ -6,7 +6,7 @@ use Rattle.rb_answers.proofs.rows.room_after_row.Goals as goal
 pub returns-in-Mappings : goal.returns-in-Mappings
 unfolding row_bytes
 returns-in-Mappings c =
-    rw (c.in-Mappings.is, ← (rw (c.in-Mappings.is, c.as_row-row.ensures) at c.if-not-is_shown.ensures)) (leaves_by_length _ 20 c.args.room c.checked_sub.result (mapping_item_length (mapping_of c.args.listed.now)) c.checked_sub.ensures)
+    rw (c.in-Mappings.is, ← (rw c.in-Mappings.is at c.if-not-is_shown.ensures)) (leaves_by_length _ 20 c.args.room c.checked_sub.result (mapping_item_length (mapping_of c.args.listed.now)) c.checked_sub.ensures)
 
 pub returns-in-Rpcbs : goal.returns-in-Rpcbs
 unfolding row_bytes
