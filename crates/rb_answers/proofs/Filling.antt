@@ -1,7 +1,6 @@
 -- Parts of a list, made row by row.
 use Rattle.std.proofs.Common.{◌≡◌, ℕ, suc, ◌≤◌, ◌<◌, ◌+◌, ◌*◌, true, false, cond, List, [], ◌∷◌, ◌++◌, length, take, drop, Option, Some, None, refl, sym, ap, ◌∙◌, append_assoc, length-append, arith}
 use Rattle.std.specs.Prelude.{◌==◌, ◌-◌, IfSome, IfNone}
-use Rattle.std.specs.Borrow.{Bor}
 use Rattle.std.proofs.Math.Seq.{take-length, take-append_seam, drop-append_seam}
 use Rattle.std.proofs.lemmas.Map.Entries.{length-values_of}
 use Rattle.rb_xdr.specs.Xdr.{boolean}
@@ -39,12 +38,12 @@ pub record Filling (sought : Option Version) (kept : Registry) (old now : ListRe
   pub rises : first.steps ≤ meter.steps
   pub steps : meter.steps + steps_left sought kept now.cursor ≤ first.steps + 2 * length (slots_of kept) + length out.bytes + 4
 
--- That was so before this look for the next row.
-pub record Looking (sought : Option Version) (kept : Registry) (old now : ListReply) (most base : ℕ) (began out : Kept) (first meter : Meter) (found : Option (Option ℕ × Bor Row)) : Type 0 where
+-- That was so before this look for the next row, whatever of it is given.
+pub record Looking {X : Type 0} (row_of : X → Row) (sought : Option Version) (kept : Registry) (old now : ListReply) (most base : ℕ) (began out : Kept) (first meter : Meter) (found : Option (Option ℕ × X)) : Type 0 where
   pub before : Meter
   pub filling : Filling sought kept old now most base began out first before
   pub cost : PaysAtMost before meter (steps_left sought kept now.cursor + 1)
-  pub row : IfSome found (λ n. PassesRow sought kept now.stamp now.cursor n.1.now n.0)
+  pub row : IfSome found (λ n. PassesRow sought kept now.stamp now.cursor (row_of n.1) n.0)
   pub end : IfNone found (rows_left sought kept now.stamp now.cursor ≡ [])
   pub cost_row : IfSome found (λ n. meter.steps + steps_left sought kept n.0 ≤ before.steps + steps_left sought kept now.cursor)
 

@@ -1,5 +1,5 @@
 -- How long a mapping's item of a list is.
-use Rattle.std.proofs.Common.{◌≡◌, ◌++◌, ◌≤◌, ◌-◌, ℕ, true, List, length, Option, Some, None, refl, arith}
+use Rattle.std.proofs.Common.{◌≡◌, ◌++◌, ◌≤◌, ◌-◌, ℕ, true, List, length, Option, Some, None, refl, ap, arith}
 use Rattle.std.specs.Option.{SomeIff}
 use Rattle.std.proofs.lemmas.List.{length-append}
 use Rattle.rb_xdr.specs.Xdr.{number, boolean}
@@ -16,10 +16,10 @@ use Rattle.rb_registry.specs.declared.row.Row.{Row}
 use Rattle.rb_registry.specs.declared.row.Which.TheVariants.{Inet}
 use Rattle.rb_address.specs.Netids.{is_netid}
 use Rattle.rb_registry.specs.Rows.{is_among}
-use Rattle.rb_registry.specs.Items.{inet_port}
+use Rattle.rb_registry.specs.Items.{prot_on, inet_port, inet_item}
 use Rattle.rb_answers.specs.Netids.{address_in}
 use Rattle.rb_answers.specs.Answers.{shown_port}
-use Rattle.rb_answers.specs.Results.{is_inet}
+use Rattle.rb_answers.specs.Results.{is_inet, mapping_item}
 
 pub mapping_item_length : (m : Mapping) → length (boolean true ++ mapping_spelling m) ≡ 20
 mapping_item_length m =
@@ -40,6 +40,10 @@ inet_port_shown row inet = by_netid row.netid inet refl
     by_netid Tcp6 inet is = absurd (cc)
     by_netid Udp6 inet is = absurd (cc)
     by_netid Local inet is = absurd (cc)
+
+pub inet_item_shown : (row : Row) → is_inet row ≡ true → inet_item row ≡ mapping_item row
+inet_item_shown row inet =
+    ap (λ (port : ℕ). boolean true ++ (number row.prog ++ (number row.vers ++ (number (prot_on row.netid) ++ number port)))) (inet_port_shown row inet)
 
 -- the room that is left after bytes of a known length
 pub leaves_by_length : (bytes : List ℕ) (n room : ℕ) (result : Option ℕ) → length bytes ≡ n → SomeIff result (n ≤ room) (room - n) → Leaves bytes room result

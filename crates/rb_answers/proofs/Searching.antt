@@ -80,13 +80,15 @@ found_most kept version cursor old new paid =
 
 -- ---- the step that is taken, if there is one
 
-pub walked_row : (kept : Registry) (stamp : ℕ) (cursor : Option ℕ) (result : Option (Option ℕ × Bor Row)) → IfSome result (λ n. slice_get (rows_at kept stamp) (rows_passed kept stamp cursor) ≡ Some n.1.now)
-    → IfSome result (λ n. StandsIn kept stamp n.0) → IfSome result (λ n. rows_passed kept stamp n.0 ≡ rows_passed kept stamp cursor + 1) → IfSome result (λ n. rows_passed kept stamp n.0 ≤ length (rows_at kept stamp))
-    → IfSome result (λ n. PassesRow None kept stamp cursor n.1.now n.0)
-walked_row kept stamp cursor None here place passed within = tt
-walked_row kept stamp cursor (Some n) here place passed within = walked kept stamp cursor n.1.now n.0 here place passed within
+-- whatever of the row is given
+module _ {X : Type 0} (row_of : X → Row) where
+  pub walked_row : (kept : Registry) (stamp : ℕ) (cursor : Option ℕ) (result : Option (Option ℕ × X)) → IfSome result (λ n. slice_get (rows_at kept stamp) (rows_passed kept stamp cursor) ≡ Some (row_of n.1))
+      → IfSome result (λ n. StandsIn kept stamp n.0) → IfSome result (λ n. rows_passed kept stamp n.0 ≡ rows_passed kept stamp cursor + 1) → IfSome result (λ n. rows_passed kept stamp n.0 ≤ length (rows_at kept stamp))
+      → IfSome result (λ n. PassesRow None kept stamp cursor (row_of n.1) n.0)
+  walked_row kept stamp cursor None here place passed within = tt
+  walked_row kept stamp cursor (Some n) here place passed within = walked kept stamp cursor (row_of n.1) n.0 here place passed within
 
-pub walked_costs : (kept : Registry) (cursor : Option ℕ) (result : Option (Option ℕ × Bor Row)) (old new : Meter) → IfSome result (λ n. PaysFor kept.entries cursor n.0 old new)
+pub walked_costs : {X : Type 0} (kept : Registry) (cursor : Option ℕ) (result : Option (Option ℕ × X)) (old new : Meter) → IfSome result (λ n. PaysFor kept.entries cursor n.0 old new)
     → IfSome result (λ n. new.steps + steps_left None kept n.0 ≤ old.steps + steps_left None kept cursor)
 walked_costs kept cursor None old new paid = tt
 walked_costs kept cursor (Some n) old new paid = walked_cost kept cursor n.0 old new paid

@@ -3,28 +3,17 @@ use Rattle.std.specs.Prelude.{ℕ, ◌==◌, Bool, false, not, List, [], ◌∷�
 use Rattle.std.specs.Option.{option_map_or}
 use Rattle.rb_uaddr.specs.declared.address.Uaddr.{Uaddr}
 use Rattle.rb_uaddr.specs.Uaddr.{port_of, parse_ipv4, parse_ipv6, is_local_text}
-use Rattle.rb_address.specs.declared.netid.Transport.TheVariants as transports
 use Rattle.rb_address.specs.declared.netid.Netid.{Netid}
 use Rattle.rb_address.specs.declared.netid.Netid.TheVariants.{Tcp, Udp, Tcp6, Udp6, Local}
 use Rattle.rb_registry.specs.declared.row.Which.{Which}
 use Rattle.rb_registry.specs.declared.row.Which.TheVariants.{All, One}
-use Rattle.rb_address.specs.Netids.{netid_named, netid_text, protocol_of}
+use Rattle.rb_address.specs.Netids.{netid_named, netid_text}
 use Rattle.rb_xdr.specs.Xdr.{number, opaque}
 
 -- UNSET-4: UNSET with an empty netid means every netid; with an unknown one it is FALSE.
 unfoldable pub which_of : List ℕ → Option Which
 which_of [] = Some All
 which_of (c ∷ text) = option_map One (netid_named (c ∷ text))
-
--- ---- version 2
-
--- The protocol of a row of tcp or udp. Version 2 shows no row of another netid.
-abbrev pub prot_on : Netid → ℕ
-prot_on Tcp = protocol_of transports.Tcp
-prot_on Udp = protocol_of transports.Udp
-prot_on Tcp6 = 0
-prot_on Udp6 = 0
-prot_on Local = 0
 
 -- ---- versions 3 and 4
 

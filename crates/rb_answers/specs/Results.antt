@@ -6,7 +6,7 @@ use Rattle.rb_uaddr.specs.declared.address.Hosts.{Hosts}
 use Rattle.rb_registry.specs.declared.row.Row.{Row}
 use Rattle.rb_registry.specs.declared.row.Which.TheVariants.{Inet}
 use Rattle.rb_registry.specs.Rows.{is_among, is_of_version}
-use Rattle.rb_registry.specs.Items.{owner_text}
+use Rattle.rb_registry.specs.Items.{owner_text, prot_on}
 use Rattle.rb_address.specs.Netids.{netid_text}
 use Rattle.rb_stats.specs.Statistics.{statistics}
 use Rattle.rb_arguments.specs.declared.mapping.Mapping.{Mapping}
@@ -18,7 +18,7 @@ use Rattle.rb_answers.specs.declared.answers.Listing.TheVariants.{Mappings, Rpcb
 use Rattle.rb_answers.specs.declared.answers.Value.{Value}
 use Rattle.rb_answers.specs.declared.answers.Value.TheVariants as values
 use Rattle.rb_arguments.specs.Types.{mapping_spelling, rpcb_spelling, netbuf_spelling, entry_spelling}
-use Rattle.rb_answers.specs.Netids.{prot_on, semantics_of, family_text, proto_text}
+use Rattle.rb_answers.specs.Netids.{semantics_of, family_text, proto_text}
 use Rattle.rb_answers.specs.Ledger.{Ledger, rows_in}
 use Rattle.rb_answers.specs.Answers.{shown_text, shown_port, Results}
 

@@ -5,12 +5,13 @@ ghost use Rattle.rb_xdr.specs.Puts.{Appends};
 ghost use Rattle.rb_registry.specs.Registry.{slots_of};
 ghost use Rattle.rb_registry.specs.Cursors.{StandsIn};
 ghost use Rattle.rb_rpc.specs.Records.{fragment_size};
+ghost use Rattle.rb_answers.specs.declared.answers.Listing.TheVariants.{Mappings};
 ghost use Rattle.rb_answers.specs.ListReplies.{longest_row, part_room, head_unless, rest_of};
 ghost use Rattle.rb_answers.specs.ListParts.{ListsRows, IsNextPart, IsBehindPart, CanBeContinued, Fills};
 ghost use Rattle.rb_answers.specs.Costs.{fill_cost, part_cost};
 
 use crate::answers::Listing;
-use crate::rows::{next_row, seek_version, write_row};
+use crate::rows::{next_mapped, next_row, seek_version, write_mapping, write_row};
 use rb_registry::{Cursor, Registry};
 use rb_rpc::{FRAGMENT_SIZE, ReplyHead, ReplyStatus, put_reply};
 use rb_xdr::{Kept, Meter, Xdr};
@@ -147,8 +148,8 @@ impl ListReply {
         ensures cost { PaysAtMost meter.old meter.new (fill_cost registry.now out.new) }
     {
         match self.list {
+            Listing::Mappings => self.fill_mappings(registry, most, out, meter),
             Listing::Rpcbs => self.fill_with(Listing::Rpcbs, registry, most, out, meter),
-            Listing::Mappings => self.fill_with(Listing::Mappings, registry, most, out, meter),
             list => self.fill_with(list, registry, most, out, meter),
         }
     }
@@ -189,6 +190,43 @@ impl ListReply {
             base += more;
             self.cursor = next;
             found = next_row(&sought, registry, self.stamp, next, meter);
+        }
+        false.write(out, meter);
+        base
+    }
+
+    /// The same of a list of version 2, which reads of the rows only what it shows.
+    fn fill_mappings(
+        &mut self,
+        registry: &Registry,
+        most: usize,
+        out: &mut Kept,
+        meter: &mut Meter,
+    ) -> usize
+        requires list { self.old.list ≡ Mappings }
+        requires registry { meter.old.tie ≡ registry.now.tie }
+        requires tie { meter.old.tie ≡ out.old.tie }
+        requires most { fragment_size ≤ most }
+        requires room { most + longest_row ≤ out.old.cap }
+        requires place { StandsIn registry.now self.old.stamp self.old.cursor }
+        ensures fills { Fills registry.now self.old self.new most out.new.bytes result }
+        ensures cap { out.new.cap ≡ out.old.cap }
+        ensures tie { out.new.tie ≡ out.old.tie }
+        ensures cost { PaysAtMost meter.old meter.new (fill_cost registry.now out.new) }
+    {
+        out.clear(meter);
+        self.put_head(out, meter);
+        let mut base = out.len(meter);
+        let mut found = next_mapped(registry, self.stamp, self.cursor, meter);
+        'rows: while let Some(passed) = found {
+            let (next, mapped) = passed;
+            let more = write_mapping(mapped, out, meter);
+            if most - base < more {
+                return base;
+            }
+            base += more;
+            self.cursor = next;
+            found = next_mapped(registry, self.stamp, next, meter);
         }
         false.write(out, meter);
         base

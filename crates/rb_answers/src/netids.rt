@@ -1,8 +1,8 @@
 //! What is known of each netid.
 ghost use Rattle.std.specs.Prelude.{◌≡◌, ◌≤◌, ◌∷◌, ◌++◌, length, replicate};
-ghost use Rattle.rb_answers.specs.Netids.{which_of, prot_on, semantics_of, family_text, proto_text, entry_end, address_in, is_address};
+ghost use Rattle.rb_answers.specs.Netids.{which_of, semantics_of, family_text, proto_text, entry_end, address_in, is_address};
 
-use rb_address::{Netid, Transport};
+use rb_address::Netid;
 use rb_registry::Which;
 use rb_uaddr::{AddressText, Uaddr};
 
@@ -15,17 +15,6 @@ pub fn which_of(text: &[u8]) -> Option<Which>
         return Some(Which::All);
     }
     Some(Which::One(Netid::named(text)?))
-}
-
-/// The protocol of a row of tcp or udp; 0 for another netid, whose rows version 2 does not show.
-pub fn prot_on(netid: Netid) -> u32
-    ensures { result ≡ prot_on netid }
-{
-    match netid {
-        Netid::Tcp => Transport::Tcp.protocol(),
-        Netid::Udp => Transport::Udp.protocol(),
-        Netid::Tcp6 | Netid::Udp6 | Netid::Local => 0,
-    }
 }
 
 /// Whether calls come in datagrams, 1, or on connections that end in order, 3.

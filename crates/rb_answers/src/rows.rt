@@ -9,18 +9,18 @@ ghost use Rattle.rb_xdr.specs.Puts.{Appends, HasRoom, Leaves};
 ghost use Rattle.rb_answers.specs.ListParts.{IsShort, FitsIfShort};
 ghost use Rattle.rb_answers.specs.Searching.{IsSought, rows_left, steps_left, sought_cost, walk_cost, PassesRow};
 ghost use Rattle.rb_answers.specs.Costs.{write_cost};
+ghost use Rattle.rb_answers.specs.declared.answers.Listing.TheVariants.{Mappings};
 ghost use Rattle.rb_answers.specs.Results.{is_inet, mapping_item, entry_item, is_shown, row_bytes, rows_bytes};
 
 use crate::answers::Listing;
 use crate::items::entry_of;
-use crate::netids::{entry_end, prot_on};
+use crate::netids::entry_end;
 use crate::shown::{text_anew, text_or_own};
-use rb_registry::{Cursor, ListedRow, Registry, Row, Version, Which};
+use rb_registry::{
+    Cursor, ListedRow, MAPPING_ITEM, MappedRow, Registry, Row, Version, Which, inet_item,
+};
 use rb_uaddr::Hosts;
 use rb_xdr::{Kept, Meter, Xdr, residue};
-
-/// TRUE and a mapping, in bytes.
-const MAPPING_ITEM: usize = 20;
 
 /// TRUE and the length of an address, in bytes.
 const ENTRY_HEAD: usize = 8;
@@ -30,7 +30,7 @@ fn is_shown(list: Listing, listed: &ListedRow) -> bool
     ensures { result ≡ is_shown list listed.now }
 {
     match list {
-        Listing::Mappings => Which::Inet.includes(listed.netid()),
+        Listing::Mappings => Which::Inet.includes(listed.as_row().netid),
         Listing::Rpcbs => true,
         Listing::Entries(prog, vers, _) => {
             let row = listed.as_row();
@@ -56,18 +56,20 @@ fn room_after_row(list: Listing, listed: &ListedRow, room: usize) -> Option<usiz
     }
 }
 
-// DUMP-3
-/// TRUE and the mapping of a row of tcp or udp, which are written at once.
-#[tactic(auto, using(crate::proofs::MappingItems::inet_port_shown), unfolding(rb_xdr::specs::Xdr::number, rb_xdr::specs::Xdr::boolean))]
-fn mapping_item(listed: &ListedRow) -> [u8; MAPPING_ITEM]
-    requires { is_inet listed.now ≡ true }
-    ensures { result ≡ mapping_item listed.now }
+/// TRUE and the mapping of a row of tcp or udp.
+fn mapping_item(row: &Row) -> [u8; MAPPING_ITEM]
+    requires { is_inet row.now ≡ true }
+    ensures { result ≡ mapping_item row.now }
 {
-    let mut item = [0; MAPPING_ITEM];
-    item[..12].copy_from_slice(listed.head());
-    item[12..16].copy_from_slice(&prot_on(listed.netid()).to_be_bytes());
-    item[16..].copy_from_slice(&u32::from(listed.inet_port()).to_be_bytes());
-    item
+    inet_item(row)
+}
+
+/// The same, as it was made.
+fn mapped_item(mapped: &MappedRow) -> &[u8; MAPPING_ITEM]
+    requires { is_inet mapped.now.row ≡ true }
+    ensures { result.now ≡ mapping_item mapped.now.row }
+{
+    mapped.item()
 }
 
 /// TRUE, and how many bytes the address of an entry has.
@@ -119,7 +121,7 @@ pub fn write_row(list: Listing, listed: &ListedRow, out: &mut Kept, meter: &mut 
     }
     match list {
         Listing::Mappings => {
-            let _ = out.extend(&mapping_item(listed), meter);
+            let _ = out.extend(&mapping_item(listed.as_row()), meter);
             MAPPING_ITEM
         }
         Listing::Rpcbs => {
@@ -128,6 +130,25 @@ pub fn write_row(list: Listing, listed: &ListedRow, out: &mut Kept, meter: &mut 
         }
         Listing::Entries(_, _, hosts) => write_entry(&hosts, listed.as_row(), out, meter),
     }
+}
+
+// DUMP-3
+/// The same for a list of version 2, of a row as such a list sees it.
+#[inline(always)]
+#[tactic(auto, unfolding(crate::specs::Results::row_bytes))]
+pub fn write_mapping(mapped: &MappedRow, out: &mut Kept, meter: &mut Meter) -> usize
+    requires tie { meter.old.tie ≡ out.old.tie }
+    requires room { FitsIfShort (row_bytes Mappings mapped.now.row) out.old }
+    ensures short { IsShort (row_bytes Mappings mapped.now.row) }
+    ensures written { Appends (row_bytes Mappings mapped.now.row) out.old out.new }
+    ensures count { result ≡ length (row_bytes Mappings mapped.now.row) }
+    ensures cost { PaysAtMost meter.old meter.new (length (row_bytes Mappings mapped.now.row)) }
+{
+    if !mapped.is_inet() {
+        return 0;
+    }
+    let _ = out.extend(mapped_item(mapped), meter);
+    MAPPING_ITEM
 }
 
 // LOOKUP-4
@@ -179,6 +200,26 @@ pub fn next_row<'a>(
         Some(version) => registry.next_of(version, cursor, meter),
         None => registry.next_row(stamp, cursor, meter),
     }
+}
+
+/// The next row after the cursor as a list of version 2 sees it, and the cursor after it. It is inlined likewise.
+#[inline(always)]
+pub fn next_mapped<'a>(
+    registry: &'a Registry,
+    stamp: u64,
+    cursor: Cursor,
+    meter: &mut Meter,
+) -> Option<(Cursor, &'a MappedRow)>
+    requires tie { meter.old.tie ≡ registry.now.tie }
+    requires place { StandsIn registry.now stamp cursor }
+    ensures row { IfSome result
+        (λ n. PassesRow None registry.now stamp cursor n.1.now.row n.0) }
+    ensures end { IfNone result (rows_left None registry.now stamp cursor ≡ []) }
+    ensures cost { PaysAtMost meter.old meter.new (steps_left None registry.now cursor + 1) }
+    ensures cost_row { IfSome result (λ n. meter.new.steps + steps_left None registry.now n.0
+        ≤ meter.old.steps + steps_left None registry.now cursor) }
+{
+    registry.next_mapped(stamp, cursor, meter)
 }
 
 /// The room that is left of this much after all rows that a list shows, as they were after this many changes, and its

@@ -38,10 +38,13 @@ pub struct Piece<'a> {
 /// What a call is served in, of which its context is made.
 #[derive(Clone, Copy)]
 pub struct Surroundings<'a> {
+    /// The limits of the core.
     pub limits: &'a Limits,
+    /// Where it listens, and what it does for whom.
     pub listener: &'a Listener,
     /// The moment, in milliseconds since the start of 1970.
     pub clock: u64,
+    /// Who calls.
     pub caller: Caller,
 }
 

@@ -39,7 +39,8 @@ use Rattle.rb_answers.specs.declared.listener.Listener.{Listener}
 use Rattle.rb_registry.specs.Items.{owner_text}
 use Rattle.rb_answers.specs.Ledger.{rows_in, with_call_noted}
 use Rattle.rb_answers.specs.Results.{is_inet, mapping_of, rpcb_of, result_bytes}
-use Rattle.rb_answers.specs.Netids.{prot_on, address_in}
+use Rattle.rb_registry.specs.Items.{prot_on}
+use Rattle.rb_answers.specs.Netids.{address_in}
 use Rattle.rb_answers.specs.Answers.{answer, can_be_set, shown_port}
 use Rattle.rb_model.specs.declared.message.Message.{Message}
 use Rattle.rb_model.specs.declared.message.Message.TheVariants as says

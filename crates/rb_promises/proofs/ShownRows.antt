@@ -19,7 +19,8 @@ use Rattle.rb_answers.specs.declared.context.Context.{Context}
 use Rattle.rb_registry.specs.Items.{owner_text}
 use Rattle.rb_answers.specs.Callers.{hosts_in}
 use Rattle.rb_answers.specs.Ledger.{rows_in}
-use Rattle.rb_answers.specs.Netids.{prot_on, semantics_of, family_text, proto_text, address_in}
+use Rattle.rb_registry.specs.Items.{prot_on}
+use Rattle.rb_answers.specs.Netids.{semantics_of, family_text, proto_text, address_in}
 use Rattle.rb_answers.specs.Answers.{told_text, shown_text}
 use Rattle.rb_registry.specs.Rows.{is_of_version}
 use Rattle.rb_answers.specs.Results.{is_inet, mapping_of, rpcb_of, entry_of, result_bytes}

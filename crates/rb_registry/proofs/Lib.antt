@@ -1,5 +1,6 @@
 pub mod Removing
 pub mod Marking
+pub mod MappedRows
 pub mod Marked
 pub mod Tables
 pub mod Changes

@@ -1,13 +1,14 @@
 -- A removal, netid by netid.
 use Rattle.std.proofs.Common.{◌≡◌, ℕ, ◌+◌, ◌<◌, ◌≤◌, Bool, true, false, cond, eqb, not, ◌&&◌, ◌||◌, List, [], ◌∷◌, ◌++◌, ◌*◌, length, take, get_or, Option, Some, None, is_some, refl, sym, ap, ◌∙◌, eq-eqb, arith}
-use Rattle.std.specs.Prelude.{is_none, ◌^◌}
+use Rattle.std.specs.Prelude.{is_none, nat_le, ◌^◌}
 use Rattle.std.specs.List.{list_any, cons_option, count_by}
 use Rattle.std.proofs.lemmas.List.Sums.{count_by_more_yes, count_by_more_no}
 use Rattle.std.proofs.lemmas.Bool.{eqb-true}
+use Rattle.std.proofs.lemmas.Bool.Decides.{nat_tests}
 use Rattle.rb_xdr.specs.Pool.{value_at, without, with_value, HasDistinctKeys}
-use Rattle.rb_xdr.specs.Ordered.{IsRising, looks, moves}
+use Rattle.rb_xdr.specs.Ordered.{IsRising, IsRisingFrom, count_upto, looks, moves}
 use Rattle.rb_xdr.proofs.PoolLemmas.{value_at-without, distinct-without, length-without}
-use Rattle.rb_xdr.proofs.Ordering.{distinct_rising, looks_more}
+use Rattle.rb_xdr.proofs.Ordering.{count_within, distinct_rising, looks_more}
 use Rattle.rb_address.specs.declared.netid.Netid.{Netid}
 use Rattle.rb_address.specs.declared.netid.Netid.TheVariants.{Tcp, Udp, Tcp6, Udp6, Local}
 use Rattle.rb_address.specs.declared.who.Owner.{Owner}
@@ -421,3 +422,27 @@ own_cost entries index number indexed few =
     let whole = ranks_and_retained entries in
     let more = looks_more (length index) 11 (omega (arith, whole, indexed.count, few)) in
     omega (arith, whole, indexed.count, few, more)
+
+-- ---- a number that was found
+
+found_from : (low number key : ℕ) (es : List (ℕ × ℕ)) → IsRisingFrom low es → value_at es number ≡ Some key → low ≤ number
+found_from low number key [] rising found = absurd cc
+found_from low number key (e ∷ rest) rising found = by_test (eqb e.0 number) refl (found_from (e.0 + 1) number key rest rising.1)
+  where
+    by_test : (b : Bool) → eqb e.0 number ≡ b → (value_at rest number ≡ Some key → e.0 + 1 ≤ number) → low ≤ number
+    by_test true same further = let is = eqb-true e.0 number same in omega (arith, is, rising.0)
+    by_test false differ further = let later = further (rw differ at found) in omega (arith, later, rising.0)
+
+found_counts : (number key : ℕ) (es : List (ℕ × ℕ)) → IsRising es → value_at es number ≡ Some key → 1 ≤ count_upto number es
+found_counts number key [] rising found = absurd cc
+found_counts number key (e ∷ rest) rising found =
+    let least : e.0 ≤ number = found_from e.0 number key (e ∷ rest) (omega arith, rising.1) found in
+    let upto : nat_le e.0 number ≡ true = grind (arith, nat_tests) in
+    rw upto (omega arith)
+
+-- to take it out moves no more than there is
+pub found_moves : (number key : ℕ) (es : List (ℕ × ℕ)) → IsRising es → value_at es number ≡ Some key → moves number es ≤ length es
+found_moves number key es rising found =
+    let one = found_counts number key es rising found in
+    let within = count_within number es in
+    omega (arith, one, within)

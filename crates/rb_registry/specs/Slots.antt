@@ -1,5 +1,5 @@
 -- Rows with the changes that added and removed them.
-use Rattle.std.specs.Prelude.{ℕ, ◌+◌, nat_le, nat_lt, Bool, true, false, not, ◌&&◌, if◌then◌else◌, List, [], ◌∷◌, ◌++◌, length, map, filter, Option, Some, None}
+use Rattle.std.specs.Prelude.{◌≡◌, ◌<◌, ℕ, ◌+◌, ◌^◌, nat_le, nat_lt, Bool, true, false, not, ◌&&◌, if◌then◌else◌, List, [], ◌∷◌, ◌++◌, length, map, filter, Option, Some, None}
 use Rattle.std.specs.List.{sum_by}
 use Rattle.rb_registry.specs.declared.slot.Slot.{Slot}
 use Rattle.rb_registry.specs.declared.row.Row.{Row}
@@ -16,6 +16,10 @@ stays_at n (Some removed) = nat_lt n removed
 -- live after n changes: added by then, and not yet removed
 unfoldable pub is_live_at : ℕ → Slot → Bool
 is_live_at n slot = nat_le slot.added n && stays_at n slot.removed
+
+-- a row that goes by this number of a change is live up to that number of changes
+abbrev pub IsLastLive : Option ℕ → ℕ → Type 0
+IsLastLive removed last = (n : ℕ) → n < 2 ^ 64 → nat_le n last ≡ stays_at n removed
 
 -- a row that this change adds
 abbrev pub slot_of : ℕ → Row → Slot

@@ -1,8 +1,8 @@
 -- What calls make of the table of rows with their changes.
-use Rattle.std.specs.Prelude.{◌≡◌, ◌<◌, ◌≤◌, ℕ, ◌+◌, ◌*◌, ◌^◌, nat_lt, min, max, Bool, not, ◌&&◌, if◌then◌else◌, List, [], ◌∷◌, ◌++◌, length, filter, fold, All, Contains, Option, Some, None, unwrap_or, IfSome}
+use Rattle.std.specs.Prelude.{◌≡◌, ◌<◌, ◌≤◌, ℕ, ◌+◌, ◌*◌, ◌^◌, nat_lt, min, max, Bool, not, ◌&&◌, if◌then◌else◌, List, [], ◌∷◌, ◌++◌, length, filter, fold, All, Contains, Option, Some, None, unwrap_or, IfSome, slice_get}
 use Rattle.std.specs.Map.{values_of}
 use Rattle.std.specs.Borrow.{Bor}
-use Rattle.rb_xdr.specs.Pool.{HasDistinctKeys}
+use Rattle.rb_xdr.specs.Pool.{value_at, HasDistinctKeys}
 use Rattle.rb_xdr.specs.Places.{to_come}
 use Rattle.rb_xdr.specs.Meter.{Meter}
 use Rattle.rb_xdr.specs.Ordered.{Ordered}
@@ -49,6 +49,10 @@ pub record IsTable (stamp floor limit held retained : ℕ) (entries : List (ℕ 
   pub ordered : AreInOrder 0 entries
   pub few_own : count_own entries ≤ 12
 
+-- what stands under the key of each row is what a list of version 2 sees of it
+abbrev pub AreMapped : List (ℕ × Slot) → List Slot → Type 0
+AreMapped entries mapped = (key : ℕ) (slot : Slot) → value_at entries key ≡ Some slot → slice_get mapped key ≡ Some slot
+
 -- ---- what a trim drops
 
 abbrev pub entries_left : Option ℕ → List (ℕ × Slot) → List (ℕ × Slot)
@@ -60,6 +64,11 @@ entries_left oldest entries = filter (λ e. not (is_dropped oldest e.1)) entries
 abbrev pub IsNextLive : ℕ → List (ℕ × Slot) → Option ℕ → Option (ℕ × Bor Row) → Type 0
 IsNextLive n entries place None = table_at n (to_come entries place) ≡ []
 IsNextLive n entries place (Some next) = table_at n (to_come entries place) ≡ (next.0, next.1.now) ∷ table_at n (to_come entries (Some next.0))
+
+-- the same of what a list of version 2 sees of it
+abbrev pub IsNextMapped : ℕ → List (ℕ × Slot) → Option ℕ → Option (ℕ × Bor Slot) → Type 0
+IsNextMapped n entries place None = table_at n (to_come entries place) ≡ []
+IsNextMapped n entries place (Some next) = table_at n (to_come entries place) ≡ (next.0, next.1.now.row) ∷ table_at n (to_come entries (Some next.0))
 
 -- how many rows, live or retained, are after a place
 abbrev pub count_left : List (ℕ × Slot) → Option ℕ → ℕ

@@ -2,33 +2,27 @@
 ghost use Rattle.std.specs.Prelude.{◌≡◌, ◌+◌, ◌≤◌, ◌++◌, true, length, replicate};
 ghost use Rattle.rb_xdr.specs.Xdr.{number, boolean, opaque, residue};
 ghost use Rattle.rb_address.specs.Netids.{netid_text};
-ghost use Rattle.rb_registry.specs.Items.{owner_text, rpcb_item, inet_port};
+ghost use Rattle.rb_registry.specs.Items.{owner_text, rpcb_item};
 
 use crate::row::Row;
 use arrayvec::ArrayVec;
 use itoa::Buffer;
 use rb_address::{Netid, Owner};
-use rb_uaddr::AddressText;
 use rb_xdr::{Full, Kept, Meter, residue};
 use std::marker::Model;
 
 /// The most bytes of an item: TRUE, the program and the version, 12 of the netid, 132 of the address, 16 of the owner.
 const LONGEST_ITEM: usize = 172;
 
-/// TRUE, the program and the version, in bytes.
-const HEAD: usize = 12;
+/// TRUE, the program and the version, with which each item of a list begins, in bytes.
+pub(crate) const HEAD: usize = 12;
 
 type Item = ArrayVec<u8, LONGEST_ITEM>;
 
-/// A row, and its item of a list, which is made once.
-///
-/// What a walk for a list looks at stands together before the row: what version 2 shows of the address, and then the item
-/// with its length before it.
+/// A row, and its item of a list, which is made once. The item has its length before it, and stands before the row, so that
+/// what a walk for a list looks at is together.
 #[derive(Drop)]
 pub struct ListedRow {
-    /// The port of the IPv4 address, or 0.
-    port: u16,
-    netid: Netid,
     len: u8,
     item: [u8; LONGEST_ITEM],
     row: Row,
@@ -37,7 +31,7 @@ pub struct ListedRow {
 impl Model for ListedRow {
     ghost use Rattle.std.specs.Prelude.{◌≡◌, ◌≤◌, length, take};
     ghost use Rattle.rb_registry.specs.declared.row.Row.{Row as Plain};
-    ghost use Rattle.rb_registry.specs.Items.{rpcb_item, inet_port};
+    ghost use Rattle.rb_registry.specs.Items.{rpcb_item};
 
     ghost Value = { Plain };
 
@@ -45,21 +39,14 @@ impl Model for ListedRow {
 
     ghost invariant = { λ listed.
         (listed.len ≤ 172) × (listed.len ≡ length (rpcb_item listed.row))
-        × (take listed.len listed.item ≡ rpcb_item listed.row)
-        × (listed.netid ≡ listed.row.netid) × (listed.port ≡ inet_port listed.row.addr) };
+        × (take listed.len listed.item ≡ rpcb_item listed.row) };
 }
 
 /// Names each field, so that a further one does not compile until it stands here. It belongs in the table of
 /// charges of crates/rb_core/README.md first.
 fn layout(listed: &ListedRow) {
-    let ListedRow {
-        port,
-        netid,
-        len,
-        item,
-        row,
-    } = listed;
-    let _: (u16, Netid, u8) = (*port, *netid, *len);
+    let ListedRow { len, item, row } = listed;
+    let _: u8 = *len;
     let _: &[u8; LONGEST_ITEM] = item;
     let _: &Row = row;
 }
@@ -68,7 +55,7 @@ impl ListedRow {
     ghost use Rattle.std.specs.Prelude.{◌≡◌, ◌≤◌, length};
     ghost use Rattle.rb_xdr.specs.Meter.{Pays};
     ghost use Rattle.rb_xdr.specs.Puts.{Puts};
-    ghost use Rattle.rb_registry.specs.Items.{rpcb_item, inet_port, item_head};
+    ghost use Rattle.rb_registry.specs.Items.{rpcb_item};
 
     /// The row beside its item.
     pub(crate) fn new(row: Row) -> ListedRow
@@ -78,8 +65,6 @@ impl ListedRow {
         let mut item = [0; LONGEST_ITEM];
         item[..made.len()].copy_from_slice(made.as_slice());
         ListedRow {
-            port: inet_port(&row.addr),
-            netid: row.netid,
             len: made.len() as u8,
             item,
             row,
@@ -91,27 +76,6 @@ impl ListedRow {
         ensures { result.now ≡ self.now }
     {
         &self.row
-    }
-
-    /// Its netid.
-    pub fn netid(&self) -> Netid
-        ensures { result ≡ self.now.netid }
-    {
-        self.netid
-    }
-
-    /// The port of its address, if that is of IPv4, else 0.
-    pub fn inet_port(&self) -> u16
-        ensures { result ≡ inet_port self.now.addr }
-    {
-        self.port
-    }
-
-    /// TRUE, the program and the version, with which its item of each list begins.
-    pub fn head(&self) -> &[u8]
-        ensures { result.now ≡ item_head self.now }
-    {
-        &self.item[..HEAD]
     }
 
     /// How many bytes its item of a list has.
@@ -198,19 +162,9 @@ fn put_text(item: &mut Item, text: &[u8])
     put_residue(item, count);
 }
 
-/// The port of the IPv4 address that the text spells, or 0.
-fn inet_port(text: &AddressText) -> u16
-    ensures { result ≡ inet_port text.now }
-{
-    match text.ipv4() {
-        Some(address) => address.port(),
-        None => 0,
-    }
-}
-
 /// TRUE, the program and the version.
 #[tactic(auto, unfolding(rb_xdr::specs::Xdr::boolean, rb_xdr::specs::Xdr::number))]
-fn head_of(row: &Row) -> [u8; HEAD]
+pub(crate) fn head_of(row: &Row) -> [u8; HEAD]
     ensures { result ≡ boolean true ++ (number row.now.prog ++ number row.now.vers) }
 {
     let mut head = [0; HEAD];

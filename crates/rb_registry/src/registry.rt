@@ -5,16 +5,19 @@ ghost use Rattle.rb_registry.specs.Rows.{is_change_left};
 use crate::cursor::Cursor;
 use crate::fault::RegistryFault;
 use crate::listed::ListedRow;
+use crate::mapped::MappedRow;
 use crate::removal::Removal;
 use crate::row::{Row, Which, rank};
 use crate::slot::Slot;
+use crate::table::Table;
 use crate::versions::Version;
 use crate::walk::{
-    NETIDS, drop_retained, has_key, key_of, least_removal, live_after, mark_on, row_under,
+    NETIDS, drop_retained, has_key, key_of, least_removal, live_after, live_mapped_after, mark_on,
+    row_under,
 };
 use arrayvec::ArrayVec;
 use rb_address::{Netid, Owner};
-use rb_xdr::{Meter, NoMemory, Ordered, Pool};
+use rb_xdr::{Meter, NoMemory, Ordered};
 use std::alloc::Global;
 use std::marker::Model;
 
@@ -33,7 +36,7 @@ const TOO_MANY: usize = 1 << 55;
 /// changes from the floor on.
 #[derive(Drop)]
 pub struct Registry {
-    pub(crate) slots: Pool<Slot>,
+    pub(crate) slots: Table,
     /// The keys of the live rows, by rank.
     pub(crate) index: Ordered,
     changes: u64,
@@ -53,7 +56,7 @@ fn layout(registry: &Registry) {
         held,
         retained,
     } = registry;
-    let _: &Pool<Slot> = slots;
+    let _: &Table = slots;
     let _: &Ordered = index;
     let _: [u64; 3] = [*changes, *floor, *held];
     let _: usize = *retained;
@@ -127,7 +130,7 @@ impl Registry {
         if cap < own_rows.len() {
             return Err(RegistryFault::BadLimits);
         }
-        let mut slots = Pool::written(alloc, cap, || Ok(Slot::blank()), meter)?;
+        let mut slots = Table::new(alloc, cap, meter)?;
         if cap >= TOO_MANY {
             // Not reached: that much memory is refused.
             return Err(RegistryFault::NoMemory);
@@ -377,6 +380,32 @@ impl Registry {
     {
         match live_after(&self.slots, stamp, cursor.key(), meter) {
             Some((key, row)) => Some((Cursor::behind(key), row)),
+            None => None,
+        }
+    }
+
+    /// The same row as a list of version 2 sees it. It is inlined likewise.
+    #[inline(always)]
+    pub fn next_mapped(
+        &self,
+        stamp: u64,
+        cursor: Cursor,
+        meter: &mut Meter,
+    ) -> Option<(Cursor, &MappedRow)>
+        requires tie { meter.old.tie ≡ self.now.tie }
+        requires place { StandsIn self.now stamp cursor }
+        ensures row { IfSome result
+            (λ next. row_behind self.now stamp cursor ≡ Some next.1.now.row) }
+        ensures place { IfSome result (λ next. StandsIn self.now stamp next.0) }
+        ensures passed { IfSome result (λ next. PassesOne self.now stamp cursor next.0) }
+        ensures within { IfSome result (λ next. IsWithin self.now stamp next.0) }
+        ensures end { IfNone result (IsAtEnd self.now stamp cursor) }
+        ensures cost { PaysAtMost meter.old meter.new (2 * slots_left self.now cursor + 1) }
+        ensures cost_row { IfSome result
+            (λ n. PaysFor self.now.entries cursor n.0 meter.old meter.new) }
+    {
+        match live_mapped_after(&self.slots, stamp, cursor.key(), meter) {
+            Some((key, mapped)) => Some((Cursor::behind(key), mapped)),
             None => None,
         }
     }

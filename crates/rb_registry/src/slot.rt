@@ -1,5 +1,5 @@
 //! A row with the changes that added and removed it.
-ghost use Rattle.std.specs.Prelude.{◌≡◌};
+ghost use Rattle.std.specs.Prelude.{◌≡◌, None};
 ghost use Rattle.rb_registry.specs.Slots.{is_live_at, is_dropped};
 ghost use Rattle.rb_registry.specs.Versions.{is_version_now};
 
@@ -30,7 +30,9 @@ fn layout(slot: &Slot) {
 
 impl Slot {
     /// What is written to a place before any row has it.
-    pub(crate) fn blank() -> Slot {
+    pub(crate) fn blank() -> Slot
+        ensures { result.removed ≡ None }
+    {
         Slot {
             added: 0,
             removed: None,

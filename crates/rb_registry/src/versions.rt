@@ -10,9 +10,9 @@ ghost use Rattle.rb_registry.specs.Versions.{version_cost, next_cost, is_later_v
 use crate::listed::ListedRow;
 use crate::registry::Registry;
 use crate::row::rank;
-use crate::slot::Slot;
+use crate::table::Table;
 use rb_address::Netid;
-use rb_xdr::{Meter, Pool};
+use rb_xdr::Meter;
 
 /// A version of a program, and its rows that changes added, as the index finds them: for each netid the change that added
 /// the row there, and its key.
@@ -110,7 +110,7 @@ impl Registry {
 /// The next own row of the version after the place, with its key; the row before the place was added by this change. After a
 /// row that a change added there is none.
 fn own_after<'a>(
-    slots: &'a Pool<Slot>,
+    slots: &'a Table,
     prog: u32,
     vers: u32,
     start: Option<usize>,
@@ -142,7 +142,7 @@ fn own_after<'a>(
 }
 
 /// The change that added the row before the place, and 0 if the place is before all rows.
-fn added_at(slots: &Pool<Slot>, place: Option<usize>, meter: &mut Meter) -> Option<u64>
+fn added_at(slots: &Table, place: Option<usize>, meter: &mut Meter) -> Option<u64>
     requires tie { meter.old.tie ≡ slots.now.tie }
     ensures added { result ≡ added_at slots.now.entries place }
     ensures cost { PaysAtMost meter.old meter.new 1 }
@@ -157,7 +157,7 @@ fn added_at(slots: &Pool<Slot>, place: Option<usize>, meter: &mut Meter) -> Opti
 }
 
 /// The change that added the row under a key, and the key, if a change did.
-fn place_under(slots: &Pool<Slot>, key: Option<usize>, meter: &mut Meter) -> Option<(u64, usize)>
+fn place_under(slots: &Table, key: Option<usize>, meter: &mut Meter) -> Option<(u64, usize)>
     requires { meter.old.tie ≡ slots.now.tie }
     ensures place { result ≡ later_at 0 slots.now.entries key }
     ensures cost { PaysAtMost meter.old meter.new 1 }

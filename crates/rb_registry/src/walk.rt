@@ -7,18 +7,19 @@ ghost use Rattle.rb_registry.specs.Removals.{change_of};
 ghost use Rattle.rb_registry.specs.Registry.{removals};
 ghost use Rattle.rb_registry.specs.Index.{rank_of, row_under, IsIndexed, IsSameBut, newest_key, found_key, with_marks_on};
 ghost use Rattle.rb_registry.specs.Costs.{mark_cost_on};
-ghost use Rattle.rb_registry.specs.Table.{entries_left, count_retained, count_held, lesser_of, least_of, IsNextLive, count_left, PaysFor};
+ghost use Rattle.rb_registry.specs.Table.{entries_left, count_retained, count_held, lesser_of, least_of, IsNextLive, IsNextMapped, count_left, PaysFor};
 
 use crate::listed::ListedRow;
+use crate::mapped::MappedRow;
 use crate::removal::Removal;
 use crate::row::{Row, rank};
-use crate::slot::Slot;
+use crate::table::Table;
 use rb_address::Netid;
-use rb_xdr::{Meter, Ordered, Pool};
+use rb_xdr::{Meter, Ordered};
 
 /// The row under a key that was found in the index.
 pub(crate) fn row_under<'a>(
-    slots: &'a Pool<Slot>,
+    slots: &'a Table,
     key: Option<usize>,
     meter: &mut Meter,
 ) -> Option<&'a Row>
@@ -83,7 +84,7 @@ pub(crate) const NETIDS: [Netid; 5] = [
 /// Marks the live row on this netid, of which there is one at most, as removed by the next change if the removal covers
 /// it, takes it out of the index, and says whether it was there.
 pub(crate) fn mark_on(
-    slots: &mut Pool<Slot>,
+    slots: &mut Table,
     index: &mut Ordered,
     stamp: u64,
     removal: &Removal,
@@ -110,13 +111,13 @@ pub(crate) fn mark_on(
     let Some(key) = index.find(rank, meter) else {
         return false;
     };
-    let Some(slot) = slots.get_mut(key, meter) else {
+    let Some(slot) = slots.get(key, meter) else {
         unreachable!()
     };
     if !removal.covers(slot.row.as_row()) {
         return false;
     }
-    slot.removed = Some(stamp + 1);
+    slots.mark(key, stamp, meter);
     index.remove(rank, meter);
     true
 }
@@ -131,7 +132,7 @@ pub(crate) struct Dropped {
 /// Drops the rows that were removed by the change of number `oldest` or an earlier one, or all removed rows if it
 /// is `None`. `retained` is how many removed rows there are; if it is 0, no row is looked at.
 pub(crate) fn drop_retained(
-    slots: &mut Pool<Slot>,
+    slots: &mut Table,
     retained: usize,
     oldest: Option<u64>,
     meter: &mut Meter,
@@ -167,7 +168,7 @@ pub(crate) fn drop_retained(
 }
 
 /// The least change that removed a row which is still there, or 0 if there is none.
-pub(crate) fn least_removal(slots: &Pool<Slot>, meter: &mut Meter) -> u64
+pub(crate) fn least_removal(slots: &Table, meter: &mut Meter) -> u64
     requires tie { meter.old.tie ≡ slots.now.tie }
     ensures least { result ≡ least_of (removals slots.now.entries) }
     ensures cost { PaysAtMost meter.old meter.new (2 * length slots.now.entries + 1) }
@@ -196,7 +197,7 @@ fn lesser(least: Option<u64>, number: u64) -> u64
 /// inlined, as `next_row`.
 #[inline(always)]
 pub(crate) fn live_after<'a>(
-    slots: &'a Pool<Slot>,
+    slots: &'a Table,
     stamp: u64,
     start: Option<usize>,
     meter: &mut Meter,
@@ -212,6 +213,31 @@ pub(crate) fn live_after<'a>(
     'rows: while let Some((key, slot)) = slots.entry_next(place, meter) {
         if slot.is_live_at(stamp) {
             return Some((key, &slot.row));
+        }
+        place = Some(key);
+    }
+    None
+}
+
+/// The same of what a list of version 2 sees of it.
+#[inline(always)]
+pub(crate) fn live_mapped_after<'a>(
+    table: &'a Table,
+    stamp: u64,
+    start: Option<usize>,
+    meter: &mut Meter,
+) -> Option<(usize, &'a MappedRow)>
+    requires tie { meter.old.tie ≡ table.now.tie }
+    requires there { IfSome start (λ key. IsSome (value_at table.now.entries key)) }
+    ensures next { IsNextMapped stamp table.now.entries start result }
+    ensures cost { PaysAtMost meter.old meter.new (2 * count_left table.now.entries start + 1) }
+    ensures far { IfSome result
+        (λ n. PaysFor table.now.entries start (Some n.0) meter.old meter.new) }
+{
+    let mut place = start;
+    'rows: while let Some((key, mapped)) = table.mapped_next(place, meter) {
+        if mapped.is_live_at(stamp) {
+            return Some((key, mapped));
         }
         place = Some(key);
     }

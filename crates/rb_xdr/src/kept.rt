@@ -99,8 +99,8 @@ impl Kept {
         Ok(())
     }
 
-    /// Adds the first `len` of these bytes at the end, or none of them: `Full` if they do not fit. It costs a step for each
-    /// byte that is added, in both cases. It is inlined, as each row of a list comes by here.
+    /// Adds the first `len` of these bytes at the end, or none of them: `Full` if they do not fit. It costs `len` steps in
+    /// both cases. It is inlined, as each row of a list comes by here.
     #[inline(always)]
     pub fn extend_front(&mut self, bytes: &[u8], len: usize, meter: &mut Meter) -> Result<(), Full>
         requires tie { meter.old.tie ≡ self.old.tie }

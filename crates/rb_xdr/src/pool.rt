@@ -121,6 +121,7 @@ impl<T> Pool<T> {
         ensures room { IsOk result ↔ (length self.old.entries < self.old.cap) }
         ensures ok { IfOk result (λ key. self.new ≡ with_entry self.old key value) }
         ensures fresh { IfOk result (λ key. value_at self.old.entries key ≡ None) }
+        ensures below { IfOk result (λ key. key < self.old.memory.0) }
         ensures unchanged { OnErr result (self.new ≡ self.old) }
         ensures frame { SameFrame self.old self.new }
         ensures returned { IfErr result (λ full. full.value ≡ value) }
@@ -139,6 +140,7 @@ impl<T> Pool<T> {
         requires room { length self.old.entries < self.old.cap }
         ensures entry { self.new ≡ with_entry self.old result value }
         ensures fresh { value_at self.old.entries result ≡ None }
+        ensures below { result < self.old.memory.0 }
         ensures last { values_of self.new.entries ≡ values_of self.old.entries ++ value ∷ [] }
         ensures more { length self.new.entries ≡ length self.old.entries + 1 }
         ensures distinct { HasDistinctKeys self.new.entries }
@@ -252,6 +254,20 @@ impl<T> Pool<T> {
         found
     }
 
+    /// Their key alone, for the same steps. It is inlined likewise.
+    #[inline(always)]
+    pub fn key_next(&self, place: Option<usize>, meter: &mut Meter) -> Option<usize>
+        requires tie { meter.old.tie ≡ self.now.tie }
+        requires there { IfSome place (λ key. IsSome (value_at self.now.entries key)) }
+        ensures key { result ≡ first_key (to_come self.now.entries place) }
+        ensures distinct { HasDistinctKeys self.now.entries }
+        ensures cost { Pays meter.old meter.new (look_cost result) }
+    {
+        let key = self.key_behind(place);
+        meter.pay(if key.is_some() { 2 } else { 1 });
+        key
+    }
+
     // The same, of which the caller pays.
     fn entry_behind(&self, place: Option<usize>) -> Option<(usize, &T)>
         requires { IfSome place (λ key. IsSome (value_at self.now.entries key)) }
@@ -292,6 +308,13 @@ impl<T> Pool<T> {
         }
         meter.pay(1);
         None
+    }
+
+    /// How many places for values there are. Each key is less.
+    pub fn places(&self) -> usize
+        ensures { result ≡ self.now.memory.0 }
+    {
+        self.values.capacity()
     }
 
     /// How many values there are, in 1 step.

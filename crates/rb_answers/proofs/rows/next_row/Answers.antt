@@ -1,3 +1,5 @@
+use Rattle.std.specs.Borrow.{Bor}
+use Rattle.rb_registry.specs.declared.row.Row.{Row}
 use Rattle.rb_answers.proofs.Searching.{walked_row, walked_costs, walked_most, found_costs, found_most}
 use Rattle.rb_answers.proofs.rows.next_row.Goals as goal
 
@@ -11,7 +13,7 @@ returns-in-Some-clause-cost_row c =
 
 pub returns-in-None-clause-row : goal.returns-in-None-clause-row
 returns-in-None-clause-row c =
-    rw c.in-None.is (walked_row c.args.registry.now c.args.stamp c.args.cursor c.next_row.result c.next_row.ensures.row c.next_row.ensures.place c.next_row.ensures.passed c.next_row.ensures.within)
+    rw c.in-None.is (walked_row (λ (row : Bor Row). row.now) c.args.registry.now c.args.stamp c.args.cursor c.next_row.result c.next_row.ensures.row c.next_row.ensures.place c.next_row.ensures.passed c.next_row.ensures.within)
 
 pub returns-in-None-clause-cost : goal.returns-in-None-clause-cost
 returns-in-None-clause-cost c = rw c.in-None.is (walked_most c.args.registry.now c.args.cursor c.args.meter.now c.next_row.new.meter c.next_row.ensures.cost)

@@ -1,0 +1,6 @@
+use Rattle.std.proofs.Common.{◌∙◌}
+use Rattle.rb_answers.proofs.MappingItems.{inet_item_shown}
+use Rattle.rb_answers.proofs.rows.mapped_item.Goals as goal
+
+pub returns : goal.returns
+returns c = c.item.ensures ∙ inet_item_shown c.args.mapped.now.row c.requires
