@@ -47,6 +47,36 @@ pub record Looking {X : Type 0} (row_of : X → Row) (sought : Option Version) (
   pub end : IfNone found (rows_left sought kept now.stamp now.cursor ≡ [])
   pub cost_row : IfSome found (λ n. meter.steps + steps_left sought kept n.0 ≤ before.steps + steps_left sought kept now.cursor)
 
+-- ---- bytes that the buffer has later, and that are paid for then
+
+-- the buffer once it has the first of these bytes
+abbrev pub with_made : Kept → List ℕ → ℕ → Kept
+with_made out made count = record out { bytes = out.bytes ++ take count made }
+
+-- the meter once this many are paid for
+abbrev pub paid_later : Meter → ℕ → Meter
+paid_later meter count = record meter { steps = meter.steps + count }
+
+pub later : (count : ℕ) (old new : Meter) (cost : ℕ) → PaysAtMost old new cost → PaysAtMost (paid_later old count) (paid_later new count) cost
+later count old new cost paid = record { rises = omega (arith, paid.rises); steps = omega (arith, paid.steps); tie = paid.tie }
+
+pub later_row : {X : Type 0} (count : ℕ) (kept : Registry) (cursor : Option ℕ) (old new : Meter) (found : Option (Option ℕ × X)) → IfSome found (λ n. new.steps + steps_left None kept n.0 ≤ old.steps + steps_left None kept cursor)
+    → IfSome found (λ n. new.steps + count + steps_left None kept n.0 ≤ old.steps + count + steps_left None kept cursor)
+later_row count kept cursor old new None paid = tt
+later_row count kept cursor old new (Some n) paid = omega (arith, paid)
+
+-- a part that begins was paid for, and a row's bytes will be
+pub paid_first : (first meter : Meter) (bytes made : List ℕ) → bytes ≡ made → PaysAtMost first meter (length made + 3) → PaysAtMost first (paid_later meter 0) (length bytes + 0 + 4)
+paid_first first meter bytes made is paid = let size = ap length is in record { rises = omega (arith, paid.rises); steps = omega (arith, paid.steps, size); tie = paid.tie }
+
+pub paid_row : (meter : Meter) (count more : ℕ) (row : List ℕ) → more ≡ length row → PaysAtMost (paid_later meter count) (paid_later meter (count + more)) (length row)
+paid_row meter count more row is = record { rises = omega arith; steps = omega (arith, is); tie = refl }
+
+-- a row's bytes come behind it
+pub made_longer : (out : Kept) (made now : List ℕ) (count more : ℕ) (row : List ℕ) → take (count + more) now ≡ take count made ++ row → with_made out now (count + more) ≡ record (with_made out made count) { bytes = (with_made out made count).bytes ++ row }
+made_longer out made now count more row put =
+    ap (λ (bytes : List ℕ). record out { bytes = bytes }) (ap (λ (bytes : List ℕ). out.bytes ++ bytes) put ∙ sym (append_assoc out.bytes (take count made) row))
+
 -- ---- how many slots and rows are still to come
 
 module _ {T : Type 0} where

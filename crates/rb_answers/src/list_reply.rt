@@ -1,7 +1,7 @@
 //! Replies that list rows and are given in parts: a list of any length is shown as it was at its call.
 ghost use Rattle.std.specs.Prelude.{◌≡◌, ◌+◌, ◌*◌, ◌≤◌, [], length, nat_le};
-ghost use Rattle.rb_xdr.specs.Meter.{PaysAtMost};
-ghost use Rattle.rb_xdr.specs.Puts.{Appends};
+ghost use Rattle.rb_xdr.specs.Meter.{Pays, PaysAtMost};
+ghost use Rattle.rb_xdr.specs.Puts.{Appends, HasRoom};
 ghost use Rattle.rb_registry.specs.Registry.{slots_of};
 ghost use Rattle.rb_registry.specs.Cursors.{StandsIn};
 ghost use Rattle.rb_rpc.specs.Records.{fragment_size};
@@ -11,7 +11,7 @@ ghost use Rattle.rb_answers.specs.ListParts.{ListsRows, IsNextPart, IsBehindPart
 ghost use Rattle.rb_answers.specs.Costs.{fill_cost, part_cost};
 
 use crate::answers::Listing;
-use crate::rows::{next_mapped, next_row, seek_version, write_mapping, write_row};
+use crate::rows::{MAPPINGS, next_mapped, next_row, put_mapping, seek_version, write_row};
 use rb_registry::{Cursor, Registry};
 use rb_rpc::{FRAGMENT_SIZE, ReplyHead, ReplyStatus, put_reply};
 use rb_xdr::{Kept, Meter, Xdr};
@@ -52,6 +52,18 @@ pub struct ListPart {
     pub end: usize,
     /// Whether the reply ends with it.
     pub last: bool,
+}
+
+/// Adds bytes for which there is room.
+fn put(bytes: &[u8], out: &mut Kept, meter: &mut Meter)
+    requires tie { meter.old.tie ≡ out.old.tie }
+    requires room { HasRoom bytes.now out.old }
+    ensures written { Appends bytes.now out.old out.new }
+    ensures cost { Pays meter.old meter.new (length bytes.now) }
+{
+    let Ok(()) = out.extend(bytes, meter) else {
+        unreachable!()
+    };
 }
 
 impl ListReply {
@@ -140,6 +152,7 @@ impl ListReply {
         requires registry { meter.old.tie ≡ registry.now.tie }
         requires tie { meter.old.tie ≡ out.old.tie }
         requires most { fragment_size ≤ most }
+        requires few { most ≤ fragment_size + longest_row }
         requires room { most + longest_row ≤ out.old.cap }
         requires place { StandsIn registry.now self.old.stamp self.old.cursor }
         ensures fills { Fills registry.now self.old self.new most out.new.bytes result }
@@ -195,7 +208,8 @@ impl ListReply {
         base
     }
 
-    /// The same of a list of version 2, which reads of the rows only what it shows.
+    /// The same of a list of version 2, which reads of the rows only what it shows. Its mappings come together on the stack, and
+    /// go to the buffer at once.
     fn fill_mappings(
         &mut self,
         registry: &Registry,
@@ -207,6 +221,7 @@ impl ListReply {
         requires registry { meter.old.tie ≡ registry.now.tie }
         requires tie { meter.old.tie ≡ out.old.tie }
         requires most { fragment_size ≤ most }
+        requires few { most ≤ fragment_size + longest_row }
         requires room { most + longest_row ≤ out.old.cap }
         requires place { StandsIn registry.now self.old.stamp self.old.cursor }
         ensures fills { Fills registry.now self.old self.new most out.new.bytes result }
@@ -217,17 +232,22 @@ impl ListReply {
         out.clear(meter);
         self.put_head(out, meter);
         let mut base = out.len(meter);
+        let mut made = [0; MAPPINGS];
+        let mut count = 0;
         let mut found = next_mapped(registry, self.stamp, self.cursor, meter);
         'rows: while let Some(passed) = found {
             let (next, mapped) = passed;
-            let more = write_mapping(mapped, out, meter);
+            let more = put_mapping(mapped, count, &mut made);
+            count += more;
             if most - base < more {
+                put(&made[..count], out, meter);
                 return base;
             }
             base += more;
             self.cursor = next;
             found = next_mapped(registry, self.stamp, next, meter);
         }
+        put(&made[..count], out, meter);
         false.write(out, meter);
         base
     }

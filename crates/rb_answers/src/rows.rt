@@ -1,11 +1,13 @@
 //! Rows as a list shows them: the room that they need, and their bytes.
-ghost use Rattle.std.specs.Prelude.{◌≡◌, ◌+◌, ◌≤◌, ◌++◌, [], true, length, None, IfSome, IfNone};
+ghost use Rattle.std.specs.Prelude.{◌≡◌, ◌+◌, ◌≤◌, ◌++◌, [], true, length, take, None, IfSome, IfNone};
 ghost use Rattle.rb_xdr.specs.Xdr.{number, boolean};
 ghost use Rattle.rb_xdr.specs.Meter.{Pays, PaysAtMost};
 ghost use Rattle.rb_registry.specs.Registry.{Reaches, rows_at};
 ghost use Rattle.rb_registry.specs.Versions.{IsFoundIn};
 ghost use Rattle.rb_registry.specs.Cursors.{StandsIn};
 ghost use Rattle.rb_xdr.specs.Puts.{Appends, HasRoom, Leaves};
+ghost use Rattle.rb_rpc.specs.Records.{fragment_size};
+ghost use Rattle.rb_answers.specs.ListReplies.{longest_row};
 ghost use Rattle.rb_answers.specs.ListParts.{IsShort, FitsIfShort};
 ghost use Rattle.rb_answers.specs.Searching.{IsSought, rows_left, steps_left, sought_cost, walk_cost, PassesRow};
 ghost use Rattle.rb_answers.specs.Costs.{write_cost};
@@ -24,6 +26,9 @@ use rb_xdr::{Kept, Meter, Xdr, residue};
 
 /// TRUE and the length of an address, in bytes.
 const ENTRY_HEAD: usize = 8;
+
+/// The most bytes of mappings that a part of a list is made of: what was given of a row before it, the part, and a mapping.
+pub const MAPPINGS: usize = 1_360;
 
 /// Whether the list shows the row.
 fn is_shown(list: Listing, listed: &ListedRow) -> bool
@@ -65,11 +70,11 @@ fn mapping_item(row: &Row) -> [u8; MAPPING_ITEM]
 }
 
 /// The same, as it was made.
-fn mapped_item(mapped: &MappedRow) -> &[u8; MAPPING_ITEM]
+fn mapped_item(mapped: &MappedRow) -> [u8; MAPPING_ITEM]
     requires { is_inet mapped.now.row ≡ true }
-    ensures { result.now ≡ mapping_item mapped.now.row }
+    ensures { result ≡ mapping_item mapped.now.row }
 {
-    mapped.item()
+    *mapped.item()
 }
 
 /// TRUE, and how many bytes the address of an entry has.
@@ -133,21 +138,21 @@ pub fn write_row(list: Listing, listed: &ListedRow, out: &mut Kept, meter: &mut 
 }
 
 // DUMP-3
-/// The same for a list of version 2, of a row as such a list sees it.
+/// Puts what a row adds to a list of version 2 behind this many bytes that were put there, and returns how many bytes that is.
 #[inline(always)]
 #[tactic(auto, unfolding(crate::specs::Results::row_bytes))]
-pub fn write_mapping(mapped: &MappedRow, out: &mut Kept, meter: &mut Meter) -> usize
-    requires tie { meter.old.tie ≡ out.old.tie }
-    requires room { FitsIfShort (row_bytes Mappings mapped.now.row) out.old }
+pub fn put_mapping(mapped: &MappedRow, count: usize, made: &mut [u8; MAPPINGS]) -> usize
+    requires { count ≤ fragment_size + longest_row }
     ensures short { IsShort (row_bytes Mappings mapped.now.row) }
-    ensures written { Appends (row_bytes Mappings mapped.now.row) out.old out.new }
+    ensures written { take (count + result) made.new
+        ≡ take count made.old ++ row_bytes Mappings mapped.now.row }
     ensures count { result ≡ length (row_bytes Mappings mapped.now.row) }
-    ensures cost { PaysAtMost meter.old meter.new (length (row_bytes Mappings mapped.now.row)) }
+    ensures few { result ≤ 20 }
 {
     if !mapped.is_inet() {
         return 0;
     }
-    let _ = out.extend(mapped_item(mapped), meter);
+    made[count..count + MAPPING_ITEM].copy_from_slice(&mapped_item(mapped));
     MAPPING_ITEM
 }
 
