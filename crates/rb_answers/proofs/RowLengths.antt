@@ -9,11 +9,8 @@ use Rattle.rb_xdr.proofs.Types.{length-boolean, opaque_bounded}
 use Rattle.rb_address.specs.declared.netid.Netid.{Netid}
 use Rattle.rb_address.specs.declared.netid.Netid.TheVariants.{Tcp, Udp, Tcp6, Udp6, Local}
 use Rattle.rb_address.specs.Netids.{netid_text}
-use Rattle.rb_uaddr.specs.declared.address.Hosts.{Hosts}
-use Rattle.rb_registry.specs.declared.row.Row.{Row}
-use Rattle.rb_answers.specs.Answers.{shown_text}
 use Rattle.rb_answers.specs.Netids.{entry_end}
-use Rattle.rb_answers.specs.Results.{entry_item}
+use Rattle.rb_answers.specs.Results.{entry_told}
 use Rattle.rb_answers.specs.ListParts.{IsShort}
 
 entry_end_is_short : (netid : Netid) → length (entry_end netid) ≤ 36
@@ -24,13 +21,13 @@ entry_end_is_short Tcp6 = omega arith
 entry_end_is_short Udp6 = omega arith
 entry_end_is_short Local = omega arith
 
-pub entry_item_length : (hosts : Hosts) (row : Row) → length (entry_item hosts row) ≡ 4 + length (opaque (shown_text hosts row)) + length (entry_end row.netid)
-entry_item_length hosts row =
-    omega (arith, length-append (boolean true) (opaque (shown_text hosts row) ++ entry_end row.netid), length-append (opaque (shown_text hosts row)) (entry_end row.netid), length-boolean true)
+pub entry_told_length : (text : List ℕ) (netid : Netid) → length (entry_told text netid) ≡ 4 + length (opaque text) + length (entry_end netid)
+entry_told_length text netid =
+    omega (arith, length-append (boolean true) (opaque text ++ entry_end netid), length-append (opaque text) (entry_end netid), length-boolean true)
 
-pub entry_is_short : (hosts : Hosts) (row : Row) → IsContent 128 (shown_text hosts row) → IsShort (entry_item hosts row)
-entry_is_short hosts row content =
-    omega (arith, entry_item_length hosts row, opaque_bounded 128 (shown_text hosts row) content, entry_end_is_short row.netid)
+pub entry_is_short : (text : List ℕ) (netid : Netid) → IsContent 128 text → IsShort (entry_told text netid)
+entry_is_short text netid content =
+    omega (arith, entry_told_length text netid, opaque_bounded 128 text content, entry_end_is_short netid)
 
 -- what fits is put
 put_whole : {A E : Type 0} (bytes : List ℕ) (limit : ℕ) (old new : Kept) (result : Result A E) → Puts bytes limit old new result → length old.bytes + length bytes ≤ limit → Appends bytes old new
@@ -41,29 +38,26 @@ joined : (t n x z e : List ℕ) → (t ++ n) ++ (x ++ (z ++ e)) ≡ t ++ (((n ++
 joined t n x z e = append_assoc t n (x ++ (z ++ e)) ∙ ap (λ (xs : List ℕ). t ++ xs) (sym (append_assoc (n ++ x) z e ∙ append_assoc n x (z ++ e)))
 
 -- an entry is written in three pieces: before its address, the address, and after it
-module _ (hosts : Hosts) (row : Row) where
-  abbrev text : List ℕ
-  text = shown_text hosts row
-
+module _ (text : List ℕ) (netid : Netid) where
   abbrev head : List ℕ
   head = boolean true ++ number (length text)
 
   abbrev tail : List ℕ
-  tail = replicate (residue (length text)) 0 ++ entry_end row.netid
+  tail = replicate (residue (length text)) 0 ++ entry_end netid
 
-  pieces : head ++ (text ++ tail) ≡ entry_item hosts row
+  pieces : head ++ (text ++ tail) ≡ entry_told text netid
   unfolding opaque
-  pieces = joined (boolean true) (number (length text)) text (replicate (residue (length text)) 0) (entry_end row.netid)
+  pieces = joined (boolean true) (number (length text)) text (replicate (residue (length text)) 0) (entry_end netid)
 
-  pub pieces_size : length (entry_item hosts row) ≡ length head + length text + length tail
+  pub pieces_size : length (entry_told text netid) ≡ length head + length text + length tail
   pieces_size =
       omega (arith, ap (λ (xs : List ℕ). length xs) pieces, length-append head (text ++ tail), length-append text tail)
 
-  module _ (content : IsContent 128 (shown_text hosts row)) (old : Kept) (fits : IsShort (entry_item hosts row) → HasRoom (entry_item hosts row) old) where
+  module _ (content : IsContent 128 text) (old : Kept) (fits : IsShort (entry_told text netid) → HasRoom (entry_told text netid) old) where
     all_fit : length old.bytes + length head + length text + length tail ≤ old.cap
-    all_fit = omega (arith, fits (entry_is_short hosts row content), pieces_size)
+    all_fit = omega (arith, fits (entry_is_short text netid content), pieces_size)
 
-    pub entry_written : {A E : Type 0} (first second new : Kept) (one two three : Result A E) → Puts head old.cap old first one → Puts text first.cap first second two → Puts tail second.cap second new three → Appends (entry_item hosts row) old new
+    pub entry_written : {A E : Type 0} (first second new : Kept) (one two three : Result A E) → Puts head old.cap old first one → Puts text first.cap first second two → Puts tail second.cap second new three → Appends (entry_told text netid) old new
     entry_written first second new one two three before address behind =
         let put_head = put_whole head old.cap old first one before (omega (arith, all_fit)) in
         let size_head : length first.bytes ≡ length old.bytes + length head = ap (λ (k : Kept). length k.bytes) put_head ∙ length-append old.bytes head in

@@ -185,10 +185,10 @@ told_text hosts row None = row.addr
 unfoldable pub shown_text : Hosts → Row → List ℕ
 shown_text hosts row = told_text hosts row (address_in row.netid row.addr)
 
--- a text that is told anew, or else the row's address as it was set
-abbrev pub text_or_own : Option (List ℕ) → Row → List ℕ
-text_or_own None row = row.addr
-text_or_own (Some text) row = text
+-- the text of an address that is told anew, or else the row's address as it was set
+abbrev pub text_told : Option Uaddr → Row → List ℕ
+text_told None row = row.addr
+text_told (Some address) row = text_of address
 
 -- 0 if there is no port
 -- DUMP-3

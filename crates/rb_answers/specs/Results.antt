@@ -7,6 +7,7 @@ use Rattle.rb_registry.specs.declared.row.Row.{Row}
 use Rattle.rb_registry.specs.declared.row.Which.TheVariants.{Inet}
 use Rattle.rb_registry.specs.Rows.{is_among, is_of_version}
 use Rattle.rb_registry.specs.Items.{owner_text, prot_on}
+use Rattle.rb_address.specs.declared.netid.Netid.{Netid}
 use Rattle.rb_address.specs.Netids.{netid_text}
 use Rattle.rb_stats.specs.Statistics.{statistics}
 use Rattle.rb_arguments.specs.declared.mapping.Mapping.{Mapping}
@@ -18,7 +19,7 @@ use Rattle.rb_answers.specs.declared.answers.Listing.TheVariants.{Mappings, Rpcb
 use Rattle.rb_answers.specs.declared.answers.Value.{Value}
 use Rattle.rb_answers.specs.declared.answers.Value.TheVariants as values
 use Rattle.rb_arguments.specs.Types.{mapping_spelling, rpcb_spelling, netbuf_spelling, entry_spelling}
-use Rattle.rb_answers.specs.Netids.{semantics_of, family_text, proto_text}
+use Rattle.rb_answers.specs.Netids.{semantics_of, family_text, proto_text, entry_end}
 use Rattle.rb_answers.specs.Ledger.{Ledger, rows_in}
 use Rattle.rb_answers.specs.Answers.{shown_text, shown_port, Results}
 
@@ -103,6 +104,10 @@ rows_bytes rows list = flat_map (row_bytes list) rows ++ boolean false
 -- TRUE and the item of one kind
 abbrev pub mapping_item : Row → List ℕ
 mapping_item row = boolean true ++ mapping_spelling (mapping_of row)
+
+-- of an address as it is told, on a netid
+abbrev pub entry_told : List ℕ → Netid → List ℕ
+entry_told text netid = boolean true ++ (opaque text ++ entry_end netid)
 
 abbrev pub entry_item : Hosts → Row → List ℕ
 entry_item hosts row = boolean true ++ entry_spelling (entry_of hosts row)

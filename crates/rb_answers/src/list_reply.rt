@@ -191,19 +191,23 @@ impl ListReply {
         out.clear(meter);
         self.put_head(out, meter);
         let mut base = out.len(meter);
+        let stamp = self.stamp;
+        let mut cursor = self.cursor;
         let mut sought = None;
-        seek_version(list, registry, self.stamp, &mut sought, meter);
-        let mut found = next_row(&sought, registry, self.stamp, self.cursor, meter);
+        seek_version(list, registry, stamp, &mut sought, meter);
+        let mut found = next_row(&sought, registry, stamp, cursor, meter);
         'rows: while let Some(passed) = found {
             let (next, row) = passed;
             let more = write_row(list, row, out, meter);
             if most - base < more {
+                self.cursor = cursor;
                 return base;
             }
             base += more;
-            self.cursor = next;
-            found = next_row(&sought, registry, self.stamp, next, meter);
+            cursor = next;
+            found = next_row(&sought, registry, stamp, next, meter);
         }
+        self.cursor = cursor;
         false.write(out, meter);
         base
     }
@@ -232,21 +236,25 @@ impl ListReply {
         out.clear(meter);
         self.put_head(out, meter);
         let mut base = out.len(meter);
+        let stamp = self.stamp;
+        let mut cursor = self.cursor;
         let mut made = [0; MAPPINGS];
         let mut count = 0;
-        let mut found = next_mapped(registry, self.stamp, self.cursor, meter);
+        let mut found = next_mapped(registry, stamp, cursor, meter);
         'rows: while let Some(passed) = found {
             let (next, mapped) = passed;
             let more = put_mapping(mapped, count, &mut made);
             count += more;
             if most - base < more {
+                self.cursor = cursor;
                 put(&made[..count], out, meter);
                 return base;
             }
             base += more;
-            self.cursor = next;
-            found = next_mapped(registry, self.stamp, next, meter);
+            cursor = next;
+            found = next_mapped(registry, stamp, next, meter);
         }
+        self.cursor = cursor;
         put(&made[..count], out, meter);
         false.write(out, meter);
         base

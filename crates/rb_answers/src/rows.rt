@@ -1,6 +1,6 @@
 //! Rows as a list shows them: the room that they need, and their bytes.
 ghost use Rattle.std.specs.Prelude.{◌≡◌, ◌+◌, ◌≤◌, ◌++◌, [], true, length, take, None, IfSome, IfNone};
-ghost use Rattle.rb_xdr.specs.Xdr.{number, boolean};
+ghost use Rattle.rb_xdr.specs.Xdr.{number, boolean, IsContent};
 ghost use Rattle.rb_xdr.specs.Meter.{Pays, PaysAtMost};
 ghost use Rattle.rb_registry.specs.Registry.{Reaches, rows_at};
 ghost use Rattle.rb_registry.specs.Versions.{IsFoundIn};
@@ -12,12 +12,13 @@ ghost use Rattle.rb_answers.specs.ListParts.{IsShort, FitsIfShort};
 ghost use Rattle.rb_answers.specs.Searching.{IsSought, rows_left, steps_left, sought_cost, walk_cost, PassesRow};
 ghost use Rattle.rb_answers.specs.Costs.{write_cost};
 ghost use Rattle.rb_answers.specs.declared.answers.Listing.TheVariants.{Mappings};
-ghost use Rattle.rb_answers.specs.Results.{is_inet, mapping_item, entry_item, is_shown, row_bytes, rows_bytes};
+ghost use Rattle.rb_answers.specs.Results.{is_inet, mapping_item, entry_told, entry_item, is_shown, row_bytes, rows_bytes};
 
 use crate::answers::Listing;
 use crate::items::entry_of;
 use crate::netids::entry_end;
-use crate::shown::{text_anew, text_or_own};
+use crate::shown::{address_anew, own_text, text_of};
+use rb_address::Netid;
 use rb_registry::{
     Cursor, ListedRow, MAPPING_ITEM, MappedRow, Registry, Row, Version, Which, inet_item,
 };
@@ -70,11 +71,11 @@ fn mapping_item(row: &Row) -> [u8; MAPPING_ITEM]
 }
 
 /// The same, as it was made.
-fn mapped_item(mapped: &MappedRow) -> [u8; MAPPING_ITEM]
+fn mapped_item(mapped: &MappedRow) -> &[u8; MAPPING_ITEM]
     requires { is_inet mapped.now.row ≡ true }
-    ensures { result ≡ mapping_item mapped.now.row }
+    ensures { result.now ≡ mapping_item mapped.now.row }
 {
-    *mapped.item()
+    mapped.item()
 }
 
 /// TRUE, and how many bytes the address of an entry has.
@@ -89,8 +90,26 @@ fn entry_head(count: usize) -> [u8; ENTRY_HEAD]
     head
 }
 
-/// Writes TRUE and the entry of a row, and returns how many bytes they have. They are short, and the buffer has room for
-/// them if they are.
+/// Writes TRUE and the entry of an address on a netid, and returns how many bytes they have. They are short, and the buffer has
+/// room for them if they are.
+fn write_told(text: &[u8], netid: Netid, out: &mut Kept, meter: &mut Meter) -> usize
+    requires content { IsContent 128 text.now }
+    requires tie { meter.old.tie ≡ out.old.tie }
+    requires room { FitsIfShort (entry_told text.now netid) out.old }
+    ensures short { IsShort (entry_told text.now netid) }
+    ensures written { Appends (entry_told text.now netid) out.old out.new }
+    ensures count { result ≡ length (entry_told text.now netid) }
+    ensures cost { Pays meter.old meter.new (length (entry_told text.now netid)) }
+{
+    let count = text.len();
+    let end = entry_end(netid, residue(count));
+    let _ = out.extend(&entry_head(count), meter);
+    let _ = out.extend(text, meter);
+    let _ = out.extend(end, meter);
+    ENTRY_HEAD + count + end.len()
+}
+
+/// Writes TRUE and the entry of a row, as [`write_told`] does.
 fn write_entry(hosts: &Hosts, row: &Row, out: &mut Kept, meter: &mut Meter) -> usize
     requires tie { meter.old.tie ≡ out.old.tie }
     requires room { FitsIfShort (entry_item hosts.now row.now) out.old }
@@ -99,14 +118,10 @@ fn write_entry(hosts: &Hosts, row: &Row, out: &mut Kept, meter: &mut Meter) -> u
     ensures count { result ≡ length (entry_item hosts.now row.now) }
     ensures cost { Pays meter.old meter.new (length (entry_item hosts.now row.now)) }
 {
-    let anew = text_anew(hosts, row);
-    let content = text_or_own(&anew, row);
-    let count = content.len();
-    let end = entry_end(row.netid, residue(count));
-    let _ = out.extend(&entry_head(count), meter);
-    let _ = out.extend(content, meter);
-    let _ = out.extend(end, meter);
-    ENTRY_HEAD + count + end.len()
+    match address_anew(hosts, row) {
+        Some(address) => write_told(text_of(address).as_slice(), row.netid, out, meter),
+        None => write_told(own_text(row), row.netid, out, meter),
+    }
 }
 
 /// Writes what a row adds to a list: TRUE and the item, or nothing if the list doesn't show the row. It is short, and
@@ -152,7 +167,7 @@ pub fn put_mapping(mapped: &MappedRow, count: usize, made: &mut [u8; MAPPINGS]) 
     if !mapped.is_inet() {
         return 0;
     }
-    made[count..count + MAPPING_ITEM].copy_from_slice(&mapped_item(mapped));
+    made[count..count + MAPPING_ITEM].copy_from_slice(mapped_item(mapped));
     MAPPING_ITEM
 }
 

@@ -1,7 +1,7 @@
 //! What is shown of a row's address.
 ghost use Rattle.std.specs.Prelude.{◌≡◌, ◌≤◌, length};
 ghost use Rattle.rb_xdr.specs.Xdr.{IsContent};
-ghost use Rattle.rb_answers.specs.Answers.{shown_text, text_or_own, shown_port, is_replaced, is_told_anew};
+ghost use Rattle.rb_answers.specs.Answers.{shown_text, text_told, shown_port, is_replaced, is_told_anew};
 ghost use Rattle.rb_uaddr.specs.Uaddr.{text_of};
 
 use crate::netids::address_in;
@@ -30,13 +30,13 @@ fn is_told_anew(hosts: &Hosts, address: Uaddr) -> bool
     }
 }
 
-/// The text that a list of addresses has in place of the row's, if a host of its family stands in for 0.0.0.0 or ::.
+/// The address that a list of addresses has in place of the row's, if a host of its family stands in for 0.0.0.0 or ::.
 #[tactic(auto, unfolding(crate::specs::Answers::shown_text))]
-pub fn text_anew(hosts: &Hosts, row: &Row) -> Option<Text<MAX_KEPT>>
-    ensures { text_or_own result row.now ≡ shown_text hosts.now row.now }
+pub fn address_anew(hosts: &Hosts, row: &Row) -> Option<Uaddr>
+    ensures { text_told result row.now ≡ shown_text hosts.now row.now }
 {
     match address_in(row.netid, &row.addr) {
-        Some(address) if is_told_anew(hosts, address) => Some(text_of(address.merge(hosts))),
+        Some(address) if is_told_anew(hosts, address) => Some(address.merge(hosts)),
         _ => None,
     }
 }
@@ -50,24 +50,21 @@ fn as_content(bytes: &[u8]) -> &[u8]
     bytes
 }
 
-/// That text, if there is one, else the row's address as it was set.
-pub fn text_or_own<'a>(anew: &'a Option<Text<MAX_KEPT>>, row: &'a Row) -> &'a [u8]
-    ensures text { result.now ≡ text_or_own anew.now row.now }
+/// The row's address as it was set.
+pub fn own_text(row: &Row) -> &[u8]
+    ensures same { result.now ≡ row.now.addr }
     ensures content { IsContent 128 result.now }
 {
-    match anew {
-        Some(text) => text.as_slice(),
-        None => as_content(row.addr.as_slice()),
-    }
+    as_content(row.addr.as_slice())
 }
 
 /// The text of the row's address as a list of addresses has it.
 pub fn shown_text(hosts: &Hosts, row: &Row) -> Text<MAX_KEPT>
     ensures { result ≡ shown_text hosts.now row.now }
 {
-    match text_anew(hosts, row) {
-        Some(text) => text,
-        None => Text::new(row.addr.as_slice()),
+    match address_anew(hosts, row) {
+        Some(address) => text_of(address),
+        None => Text::new(own_text(row)),
     }
 }
 

@@ -1,6 +1,6 @@
 -- The rows of one version, and how the index leads from one to the next.
 use Rattle.std.proofs.Common.{◌≡◌, ℕ, zero, suc, ◌+◌, ◌≤◌, ◌<◌, Bool, true, false, cond, eqb, ◌&&◌, ◌||◌, List, [], ◌∷◌, ◌++◌, length, get_or, Option, Some, None, refl, sym, ap, ◌∙◌, eq-eqb, arith}
-use Rattle.std.specs.Prelude.{filter, find, map, is_none, nat_lt, option_map, ◌^◌}
+use Rattle.std.specs.Prelude.{filter, find, map, is_none, nat_lt, option_map, ◌^◌, ◌==◌}
 use Rattle.std.specs.List.{list_any}
 use Rattle.std.specs.Map.{values_of}
 use Rattle.std.proofs.lemmas.Bool.{eqb-true}
@@ -15,9 +15,9 @@ use Rattle.rb_address.specs.Netids.{is_netid}
 use Rattle.rb_registry.specs.declared.row.Row.{Row}
 use Rattle.rb_registry.specs.declared.slot.Slot.{Slot}
 use Rattle.rb_registry.specs.declared.versions.Version.{Version}
-use Rattle.rb_registry.specs.Rows.{is_on, is_row, is_of_version}
+use Rattle.rb_registry.specs.Rows.{is_on, is_row, is_of_version, rpcb_prog}
 use Rattle.rb_registry.specs.Registry.{table_at}
-use Rattle.rb_registry.specs.Table.{AreStamped}
+use Rattle.rb_registry.specs.Table.{AreStamped, IsOursIfOwn, OwnAreOurs}
 use Rattle.rb_registry.specs.Index.{rank, rank_of, ranks, AreRanked}
 use Rattle.rb_registry.specs.Order.{number_after, AreInOrder}
 use Rattle.rb_registry.specs.Versions.{is_version_now, versions_in, is_own_version, is_later_version, is_later_on, place_of, first_place, place_on, later_of, later_at, later_than, earlier_of, added_at}
@@ -159,10 +159,10 @@ module _ (prog vers after : ℕ) (netid : Netid) (small : vers < 2 ^ 32) where
       later_found after entries (value_at (ranks entries) (rank prog netid vers)) ∙ sym (later_under entries ranked d keys)
 
 -- the place on a netid, of those that were found
-pub found_on : (version : Version) (entries : List (ℕ × Slot)) (i : ℕ) → version.places ≡ map (place_on version.prog version.vers entries) netids → i < length netids
-    → get_or version.places i None ≡ place_on version.prog version.vers entries (get_or netids i Tcp)
-found_on version entries i found within =
-    ap (λ (places : List (Option (ℕ × ℕ))). get_or places i None) found ∙ get_or-map (place_on version.prog version.vers entries) netids i Tcp None within
+pub found_on : (version : Version) (entries : List (ℕ × Slot)) (i : ℕ) (other : Option (ℕ × ℕ)) → version.places ≡ map (place_on version.prog version.vers entries) netids → i < length netids
+    → get_or version.places i other ≡ place_on version.prog version.vers entries (get_or netids i Tcp)
+found_on version entries i other found within =
+    ap (λ (places : List (Option (ℕ × ℕ))). get_or places i other) found ∙ get_or-map (place_on version.prog version.vers entries) netids i Tcp other within
 
 -- ---- the earlier of two
 
@@ -353,6 +353,32 @@ module _ (prog vers : ℕ) where
       let no : eqb e.1.added 0 ≡ false = grind (arith, nat_tests, some, from) in
       let more = after_more e.1.added in
       rw no (no_own_from (number_after e.1.added) rest (omega (arith, some, from, more)) h.1)
+
+  -- nor is an own row of another program than the portmapper's
+  not_own : (prog == rpcb_prog) ≡ false → (slot : Slot) → IsOursIfOwn slot → is_own_version prog vers slot ≡ false
+  not_own other slot ours = by_number slot.added refl
+    where
+      of_another : (slot.row.prog == rpcb_prog) ≡ true → (slot.row.prog == prog) ≡ false
+      of_another own =
+          let same : slot.row.prog ≡ rpcb_prog = eqb-true slot.row.prog rpcb_prog own in
+          rw same (grind (arith, nat_tests, other))
+
+      by_number : (n : ℕ) → slot.added ≡ n → (eqb n 0 && is_version_now prog vers slot) ≡ false
+      by_number zero e = rw (of_another (ours e)) (and_false (is_none slot.removed))
+      by_number (suc n) e = let set : eqb (suc n) 0 ≡ false = grind (arith, nat_tests) in rw set refl
+
+  no_own_of_others : (prog == rpcb_prog) ≡ false → (entries : List (ℕ × Slot)) → OwnAreOurs entries → list_any (is_own_version prog vers) (values_of entries) ≡ false
+  no_own_of_others other [] ours = refl
+  no_own_of_others other (e ∷ rest) ours = rw (not_own other e.1 ours.0) (no_own_of_others other rest ours.1)
+
+  ours_to_come : (entries : List (ℕ × Slot)) (start : Option ℕ) → OwnAreOurs entries → OwnAreOurs (to_come entries start)
+  ours_to_come entries None ours = ours
+  ours_to_come [] (Some key) ours = tt
+  ours_to_come (e ∷ rest) (Some key) ours =
+      elim (eqb e.0 key) as (λ b. OwnAreOurs (cond b rest (behind rest key))) [ true ↦ ours.1 | false ↦ ours_to_come rest (Some key) ours.1 ]
+
+  pub no_own_elsewhere : (prog == rpcb_prog) ≡ false → (entries : List (ℕ × Slot)) (start : Option ℕ) → OwnAreOurs entries → list_any (is_own_version prog vers) (values_of (to_come entries start)) ≡ false
+  no_own_elsewhere other entries start ours = no_own_of_others other (to_come entries start) (ours_to_come entries start ours)
 
   -- after a row that was set comes no own row
   pub no_own_left : (entries : List (ℕ × Slot)) (e : ℕ × Slot) (rest : List (ℕ × Slot)) → AreInOrder 0 entries → entries ≡ e ∷ rest → 0 < e.1.added

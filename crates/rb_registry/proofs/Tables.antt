@@ -1,7 +1,7 @@
 -- What each call leaves of the tables at earlier moments.
-use Rattle.std.proofs.Common.{◌≡◌, ℕ, suc, ◌+◌, ◌≤◌, ◌<◌, Bool, true, false, not, cond, eqb, ◌&&◌, ◌||◌, List, [], ◌∷◌, ◌++◌, length, Option, Some, None, refl, sym, ap, ◌∙◌, append-nil, inl, inr, ◌⊎◌, arith}
-use Rattle.std.specs.Prelude.{filter, nat_le, nat_lt, unwrap_or, option_map, IsSome, IfSome, is_none, Contains, All, fold, min}
-use Rattle.std.specs.List.{list_any, cons_option}
+use Rattle.std.proofs.Common.{◌≡◌, ℕ, suc, ◌+◌, ◌≤◌, ◌<◌, Bool, true, false, not, cond, eqb, ◌&&◌, ◌||◌, List, [], ◌∷◌, ◌++◌, length, Option, Some, None, refl, sym, ap, ◌∙◌, append-nil, inl, inr, ◌⊎◌, subst, arith}
+use Rattle.std.specs.Prelude.{filter, nat_le, nat_lt, unwrap_or, option_map, IsSome, IfSome, is_none, Contains, All, fold, min, ◌==◌}
+use Rattle.std.specs.List.{list_any, list_all, cons_option}
 use Rattle.std.specs.Map.{values_of}
 use Rattle.std.proofs.lemmas.Bool.{cases_eq}
 use Rattle.std.proofs.lemmas.List.Elements.{Contains-append_right, All-nil, All-cons}
@@ -10,11 +10,11 @@ use Rattle.rb_xdr.specs.Pool.{value_at, HasDistinctKeys}
 use Rattle.rb_xdr.specs.Places.{behind, count_to, to_come, count_passed}
 use Rattle.rb_registry.specs.declared.row.Row.{Row}
 use Rattle.rb_registry.specs.declared.slot.Slot.{Slot}
-use Rattle.rb_registry.specs.Rows.{Change, covers}
+use Rattle.rb_registry.specs.Rows.{Change, covers, rpcb_prog}
 use Rattle.rb_registry.specs.Slots.{is_live_at, stays_at, slot_of, removed_by, is_dropped}
-use Rattle.rb_registry.specs.Table.{IsStamped, AreStamped, lesser_of, least_of, IsLeast}
+use Rattle.rb_registry.specs.Table.{IsStamped, AreStamped, OwnAreOurs, lesser_of, least_of, IsLeast}
 use Rattle.rb_registry.proofs.Marked.{goes, with_mark, entries_with_marks}
-use Rattle.rb_registry.specs.Registry.{table_at, live_at, removals}
+use Rattle.rb_registry.specs.Registry.{table_at, live_at, removals, AreOwn}
 
 -- ---- one slot
 
@@ -50,7 +50,7 @@ removed_later stamp None p = tt
 removed_later stamp (Some r) p = omega (arith, p)
 
 IsStamped-later : (stamp : ℕ) (slot : Slot) → IsStamped stamp slot → IsStamped (stamp + 1) slot
-IsStamped-later stamp slot h = record { added = omega (arith, h.added); removed = removed_later stamp slot.removed h.removed; addr = h.addr }
+IsStamped-later stamp slot h = record { added = omega (arith, h.added); removed = removed_later stamp slot.removed h.removed; addr = h.addr; ours = h.ours }
 
 both : (a b : Bool) → (a && b) ≡ true → (a ≡ true) × (b ≡ true)
 both true b e = (refl, e)
@@ -101,7 +101,7 @@ module _ (stamp : ℕ) (change : Change) (slot : Slot) (h : IsStamped stamp slot
 
   pub IsStamped-marked : IsStamped (stamp + 1) (with_mark stamp change slot)
   IsStamped-marked = elim (goes stamp change slot) as (λ b. IsStamped (stamp + 1) (cond b removed_next slot)) [
-    | true ↦ record { added = omega (arith, h.added); removed = omega arith; addr = h.addr }
+    | true ↦ record { added = omega (arith, h.added); removed = omega arith; addr = h.addr; ours = h.ours }
     | false ↦ IsStamped-later stamp slot h
   ]
 
@@ -185,7 +185,7 @@ trimmed_table stamp n oldest (e ∷ rest) h le = by_test (is_dropped oldest e.1)
 -- ---- stamps
 
 pub AreStamped-push : (stamp key : ℕ) (row : Row) (entries : List (ℕ × Slot)) → length row.addr ≤ 128 → AreStamped stamp entries → AreStamped (stamp + 1) (entries ++ (key, slot_of (stamp + 1) row) ∷ [])
-AreStamped-push stamp key row [] few h = (record { added = omega arith; removed = tt; addr = few }, tt)
+AreStamped-push stamp key row [] few h = (record { added = omega arith; removed = tt; addr = few; ours = λ own. absurd (omega (arith, own)) }, tt)
 AreStamped-push stamp key row (e ∷ rest) few h = (IsStamped-later stamp e.1 h.0, AreStamped-push stamp key row rest few h.1)
 
 pub AreStamped-marked : (stamp : ℕ) (change : Change) (entries : List (ℕ × Slot)) → AreStamped stamp entries → AreStamped (stamp + 1) (entries_with_marks stamp change entries)
@@ -285,9 +285,30 @@ set_now stamp key row entries stamped =
 pub own_now : (key : ℕ) (row : Row) (entries : List (ℕ × Slot)) → table_at 0 (entries ++ (key, slot_of 0 row) ∷ []) ≡ table_at 0 entries ++ (key, row) ∷ []
 own_now key row entries = table_at-push 0 key (slot_of 0 row) entries ∙ rw (at_once 0 row) refl
 
-pub AreStamped-own : (key : ℕ) (row : Row) (entries : List (ℕ × Slot)) → length row.addr ≤ 128 → AreStamped 0 entries → AreStamped 0 (entries ++ (key, slot_of 0 row) ∷ [])
-AreStamped-own key row [] few h = (record { added = omega arith; removed = tt; addr = few }, tt)
-AreStamped-own key row (e ∷ rest) few h = (h.0, AreStamped-own key row rest few h.1)
+pub AreStamped-own : (key : ℕ) (row : Row) (entries : List (ℕ × Slot)) → length row.addr ≤ 128 → (row.prog == rpcb_prog) ≡ true → AreStamped 0 entries → AreStamped 0 (entries ++ (key, slot_of 0 row) ∷ [])
+AreStamped-own key row [] few own h = (record { added = omega arith; removed = tt; addr = few; ours = λ none. own }, tt)
+AreStamped-own key row (e ∷ rest) few own h = (h.0, AreStamped-own key row rest few own h.1)
+
+pub ours_if_own : (stamp : ℕ) (entries : List (ℕ × Slot)) → AreStamped stamp entries → OwnAreOurs entries
+ours_if_own stamp [] h = tt
+ours_if_own stamp (e ∷ rest) h = (h.0.ours, ours_if_own stamp rest h.1)
+
+-- among the own rows is the one between these
+pub own_among : (before : List Row) (row : Row) (later own : List Row) → before ++ (row ∷ later) ≡ own → AreOwn own → (row.prog == rpcb_prog) ≡ true
+own_among before row later own stood are =
+    all_pass before (subst (λ (rows : List Row). list_all (λ (r : Row). r.prog == rpcb_prog) rows ≡ true) (sym stood) are)
+  where
+    first : (a b : Bool) → (a && b) ≡ true → a ≡ true
+    first true b e = refl
+    first false b e = absurd cc
+
+    second : (a b : Bool) → (a && b) ≡ true → b ≡ true
+    second true b e = e
+    second false b e = absurd cc
+
+    all_pass : (rows : List Row) → list_all (λ (r : Row). r.prog == rpcb_prog) (rows ++ (row ∷ later)) ≡ true → (row.prog == rpcb_prog) ≡ true
+    all_pass [] e = first _ _ e
+    all_pass (r ∷ rows) e = all_pass rows (second (r.prog == rpcb_prog) _ e)
 
 -- ---- live and retained rows
 

@@ -3,6 +3,7 @@ pub mod Slots
 pub mod Items
 pub mod Index
 pub mod Order
+pub mod Places
 pub mod Registry
 pub mod Table
 pub mod Cursors

@@ -1,5 +1,5 @@
 -- What calls make of the table of rows with their changes.
-use Rattle.std.specs.Prelude.{◌≡◌, ◌<◌, ◌≤◌, ℕ, ◌+◌, ◌*◌, ◌^◌, nat_lt, min, max, Bool, not, ◌&&◌, if◌then◌else◌, List, [], ◌∷◌, ◌++◌, length, filter, fold, All, Contains, Option, Some, None, unwrap_or, IfSome, slice_get}
+use Rattle.std.specs.Prelude.{◌≡◌, ◌<◌, ◌≤◌, ℕ, ◌+◌, ◌*◌, ◌^◌, ◌==◌, nat_lt, min, max, Bool, true, not, ◌&&◌, if◌then◌else◌, List, [], ◌∷◌, ◌++◌, length, filter, fold, All, Contains, Option, Some, None, unwrap_or, IfSome, slice_get}
 use Rattle.std.specs.Map.{values_of}
 use Rattle.std.specs.Borrow.{Bor}
 use Rattle.rb_xdr.specs.Pool.{value_at, HasDistinctKeys}
@@ -10,7 +10,7 @@ use Rattle.rb_registry.specs.declared.slot.Slot.{Slot}
 use Rattle.rb_registry.specs.declared.row.Row.{Row}
 use Rattle.rb_registry.specs.Registry.{table_at, removals, Registry, rows_of, retained_count, StandsForChanges}
 use Rattle.rb_registry.specs.Slots.{removed_by, is_dropped, held_in}
-use Rattle.rb_registry.specs.Rows.{Change, has_place}
+use Rattle.rb_registry.specs.Rows.{Change, rpcb_prog, has_place}
 use Rattle.rb_registry.specs.Index.{IsIndexed}
 use Rattle.rb_registry.specs.Order.{AreInOrder, count_own}
 
@@ -24,15 +24,24 @@ count_retained entries = length (removals entries)
 abbrev pub count_held : List (ℕ × Slot) → ℕ
 count_held entries = held_in (values_of entries)
 
+-- an own row is of the portmapper's program
+abbrev pub IsOursIfOwn : Slot → Type 0
+IsOursIfOwn slot = slot.added ≡ 0 → (slot.row.prog == rpcb_prog) ≡ true
+
 -- both numbers are of changes that were made, and the address text has at most 128 bytes
 pub record IsStamped (stamp : ℕ) (slot : Slot) : Type 0 where
   pub added : slot.added ≤ stamp
   pub removed : IfSome slot.removed (λ removed. removed ≤ stamp)
   pub addr : length slot.row.addr ≤ 128
+  pub ours : IsOursIfOwn slot
 
 abbrev pub AreStamped : ℕ → List (ℕ × Slot) → Type 0
 AreStamped stamp [] = Unit {0}
 AreStamped stamp (e ∷ rest) = IsStamped stamp e.1 × AreStamped stamp rest
+
+abbrev pub OwnAreOurs : List (ℕ × Slot) → Type 0
+OwnAreOurs [] = Unit {0}
+OwnAreOurs (e ∷ rest) = IsOursIfOwn e.1 × OwnAreOurs rest
 
 -- What is true of a registry between two calls, if it counts this many bytes as held, and this many rows as retained.
 pub record IsTable (stamp floor limit held retained : ℕ) (entries : List (ℕ × Slot)) (tie : ℕ) (index : Ordered) : Type 0 where

@@ -5,24 +5,41 @@ ghost use Rattle.rb_xdr.specs.Ordered.{looks};
 ghost use Rattle.rb_xdr.specs.Search.{key_of};
 ghost use Rattle.rb_registry.specs.Registry.{rows_of};
 ghost use Rattle.rb_registry.specs.Order.{AreInOrder, count_own};
+ghost use Rattle.rb_registry.specs.Table.{OwnAreOurs};
 ghost use Rattle.rb_registry.specs.Versions.{version_cost, next_cost, is_later_version, IsNextOf, IsFoundIn, place_on, later_at, later_than, earlier_of, added_at, HasNoOwn};
 
 use crate::listed::ListedRow;
 use crate::registry::Registry;
-use crate::row::rank;
+use crate::row::{RPCB_PROG, rank};
 use crate::table::Table;
 use rb_address::Netid;
 use rb_xdr::Meter;
+use std::marker::Model;
 
-/// A version of a program, and its rows that changes added, as the index finds them: for each netid the change that added
-/// the row there, and its key.
-#[derive(Clone, Copy)]
+/// Where a row was found: the change that added it, and its key. None was found if the change is 0.
+#[derive(Drop)]
+struct Place {
+    added: u64,
+    key: usize,
+}
+
+impl Model for Place {
+    ghost use Rattle.std.specs.Prelude.{ℕ, Option};
+    ghost use Rattle.rb_registry.specs.Places.{place_in};
+
+    ghost Value = { Option (ℕ × ℕ) };
+
+    ghost view = { λ place. place_in place.added place.key };
+}
+
+/// A version of a program, and its rows that changes added, as the index finds them on each netid.
+#[derive(Drop)]
 pub struct Version {
     /// The program.
     pub prog: u32,
     /// The version.
     pub vers: u32,
-    places: [Option<(u64, usize)>; 5],
+    places: [Place; 5],
 }
 
 impl Registry {
@@ -57,7 +74,7 @@ impl Registry {
         netid: Netid,
         likely: &mut usize,
         meter: &mut Meter,
-    ) -> Option<(u64, usize)>
+    ) -> Place
         requires { meter.old.tie ≡ self.now.tie }
         ensures place { result ≡ place_on prog vers self.now.entries netid }
         ensures cost { PaysAtMost meter.old meter.new (looks (length (rows_of self.now)) + 2) }
@@ -96,19 +113,16 @@ impl Registry {
     {
         // The places need what the table is between two calls.
         let _ = &self.slots;
-        let mut best = None;
-        'places: for place in version.places {
-            best = earlier(best, later(place, after));
+        let mut best = Place::none();
+        'places: for place in &version.places {
+            best = best.earlier(place.later(after));
         }
-        match best {
-            Some((_, key)) => Some(key),
-            None => None,
-        }
+        best.key()
     }
 }
 
-/// The next own row of the version after the place, with its key; the row before the place was added by this change. After a
-/// row that a change added there is none.
+/// The next own row of the version after the place, with its key; the row before the place was added by this change. There is none
+/// after a row that a change added, nor of another program than the portmapper's.
 fn own_after<'a>(
     slots: &'a Table,
     prog: u32,
@@ -121,10 +135,14 @@ fn own_after<'a>(
     requires added { Some after ≡ added_at slots.now.entries start }
     requires ordered { AreInOrder 0 slots.now.entries }
     requires few { count_own slots.now.entries ≤ 12 }
+    requires ours { OwnAreOurs slots.now.entries }
     ensures next { IfSome result (λ n. IsNextOf prog vers slots.now.entries start (Some n)) }
     ensures none { IfNone result (HasNoOwn prog vers slots.now.entries start) }
     ensures cost { PaysAtMost meter.old meter.new 26 }
 {
+    if prog != RPCB_PROG {
+        return None;
+    }
     if after > 0 {
         return None;
     }
@@ -156,36 +174,64 @@ fn added_at(slots: &Table, place: Option<usize>, meter: &mut Meter) -> Option<u6
     }
 }
 
-/// The change that added the row under a key, and the key, if a change did.
-fn place_under(slots: &Table, key: Option<usize>, meter: &mut Meter) -> Option<(u64, usize)>
+/// The row under a key, if a change added it.
+fn place_under(slots: &Table, key: Option<usize>, meter: &mut Meter) -> Place
     requires { meter.old.tie ≡ slots.now.tie }
     ensures place { result ≡ later_at 0 slots.now.entries key }
     ensures cost { PaysAtMost meter.old meter.new 1 }
 {
-    let key = key?;
-    let slot = slots.get(key, meter)?;
-    if slot.added == 0 {
-        return None;
-    }
-    Some((slot.added, key))
-}
-
-/// The place, if the row there came after that change.
-fn later(place: Option<(u64, usize)>, after: u64) -> Option<(u64, usize)>
-    ensures { result ≡ later_than after place }
-{
-    match place {
-        Some((added, _)) if after < added => place,
-        _ => None,
+    let Some(key) = key else {
+        return Place::none();
+    };
+    match slots.get(key, meter) {
+        Some(slot) => Place {
+            added: slot.added,
+            key,
+        },
+        None => Place::none(),
     }
 }
 
-fn earlier(best: Option<(u64, usize)>, other: Option<(u64, usize)>) -> Option<(u64, usize)>
-    ensures { result ≡ earlier_of best other }
-{
-    match (best, other) {
-        (None, _) => other,
-        (Some(_), None) => best,
-        (Some(first), Some(second)) => { if second.0 < first.0 { other } else { best } }
+impl Place {
+    ghost use Rattle.std.specs.Prelude.{None, option_map};
+
+    /// None was found.
+    fn none() -> Place
+        ensures { result ≡ None }
+    {
+        Place { added: 0, key: 0 }
+    }
+
+    /// The same, if the row there came after that change.
+    fn later(&self, after: u64) -> Place
+        ensures { result ≡ later_than after self.now }
+    {
+        if after < self.added {
+            Place {
+                added: self.added,
+                key: self.key,
+            }
+        } else {
+            Place::none()
+        }
+    }
+
+    /// That of the row which came first.
+    fn earlier(self, other: Place) -> Place
+        ensures { result ≡ earlier_of self other }
+    {
+        let is_first = self.added != 0 && (other.added == 0 || self.added <= other.added);
+        if is_first { self } else { other }
+    }
+
+    /// Its key, if one was found.
+    fn key(&self) -> Option<usize>
+        ensures { result ≡ option_map (λ place. place.1) self.now }
+    {
+        if self.added == 0 {
+            None
+        } else {
+            Some(self.key)
+        }
     }
 }

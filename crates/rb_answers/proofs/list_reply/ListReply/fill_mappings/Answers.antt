@@ -1,4 +1,4 @@
-use Rattle.std.proofs.Common.{◌≡◌, ◌+◌, None, append-nil, length, length-take-le, ap, sym, ◌∙◌, arith}
+use Rattle.std.proofs.Common.{◌≡◌, ◌+◌, None, refl, append-nil, length, length-take-le, ap, sym, ◌∙◌, arith}
 use Rattle.rb_xdr.specs.Kept.{Kept}
 use Rattle.rb_xdr.specs.Meter.{Meter, PaysAtMost}
 use Rattle.rb_answers.specs.declared.answers.Listing.TheVariants.{Mappings}
@@ -38,6 +38,7 @@ rows-init c =
         cost_row = later_row 0 c.args.registry.now c.args.self.now.cursor c.len-base.new.meter c.next_mapped-found.new.meter _ c.next_mapped-found.ensures.cost_row;
       };
       within = omega arith;
+      stays = refl;
     }
 
 pub rows-preserved : goal.rows-preserved
@@ -58,6 +59,7 @@ rows-preserved c =
         cost_row = later_row (c.rows.count + c.put_mapping-more.result) c.args.registry.now c.in-Some.passed.0 c.rows.meter c.next_mapped-found-in-Some.new.meter _ c.next_mapped-found-in-Some.ensures.cost_row;
       };
       within = let before = c.rows.invariant.within in omega (arith, before);
+      stays = c.rows.invariant.stays;
     }
 
 pub slice_bounds-made-end : goal.slice_bounds-made-end
@@ -76,7 +78,7 @@ pub returns-then-most-base-clause-fills : goal.returns-then-most-base-clause-fil
 returns-then-most-base-clause-fills c =
     let f = c.rows.invariant.looking.filling in
     let same = list_of c.args.self.now _ c.requires.list f.moved in
-    rw c.put.ensures.written
+    rw (c.rows.invariant.stays, c.put.ensures.written)
     (row_crosses _ _ _ _ _ _ _ _ _ _ f c.in-Some.passed.1.now.row c.in-Some.passed.0 (rw c.in-Some.is at c.rows.invariant.looking.row)
     (with_made c.rows.out c.put_mapping-more.new.made (c.rows.count + c.put_mapping-more.result))
     (made_longer c.rows.out c.rows.made c.put_mapping-more.new.made c.rows.count c.put_mapping-more.result _ (rw same at c.put_mapping-more.ensures.written))
@@ -87,4 +89,4 @@ write-requires-clause-room c = rw c.put-2.ensures.written (end_fits _ _ _ _ _ _ 
 
 pub returns-clause-fills : goal.returns-clause-fills
 returns-clause-fills c =
-    list_ends _ _ _ _ _ _ _ _ _ _ c.rows.invariant.looking.filling c.write.new.out (rw c.in_default.is at c.rows.invariant.looking.end) (rw c.put-2.ensures.written at c.write.ensures.written)
+    rw c.rows.invariant.stays (list_ends _ _ _ _ _ _ _ _ _ _ c.rows.invariant.looking.filling c.write.new.out (rw c.in_default.is at c.rows.invariant.looking.end) (rw c.put-2.ensures.written at c.write.ensures.written))

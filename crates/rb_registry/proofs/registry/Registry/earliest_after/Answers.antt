@@ -1,5 +1,4 @@
 use Rattle.std.proofs.Common.{◌≡◌, ℕ, ◌<◌, length, List, Option, take, get_or, sym, ap, ◌∙◌, arith}
-use Rattle.std.specs.Prelude.{option_map}
 use Rattle.std.proofs.lemmas.List.{take_more, take_all}
 use Rattle.rb_address.specs.declared.netid.Netid.{Netid}
 use Rattle.rb_address.specs.declared.netid.Netid.TheVariants.{Tcp}
@@ -11,7 +10,7 @@ use Rattle.rb_registry.proofs.registry.Registry.earliest_after.Goals as goal
 
 pub places-init : goal.places-init
 places-init c = record {
-  best = none_yet c.args.version.now.prog c.args.version.now.vers c.args.after c.args.self.now.entries;
+  best = rw c.none-best.ensures (none_yet c.args.version.now.prog c.args.version.now.vers c.args.after c.args.self.now.entries);
   few = omega arith;
 }
 
@@ -23,7 +22,7 @@ places-preserved c =
     let ordered : AreInOrder 0 c.args.self.now.entries = rw (← c.self.view_is) c.self.invariant.ordered in
     let is_later : later_than c.args.after (place_on c.args.version.now.prog c.args.version.now.vers c.args.self.now.entries netid) ≡ first_place (is_later_on c.args.version.now.prog c.args.version.now.vers c.args.after netid) c.args.self.now.entries =
     rw (← c.self.view_is) (place_later c.args.version.now.prog c.args.version.now.vers c.args.after netid c.requires.small c.self.inside.slots.entries c.self.invariant.indexed.ranked c.self.invariant.distinct c.self.invariant.indexed.distinct) in
-    let found = found_on c.args.version.now c.args.self.now.entries c.places.place-index c.requires.places within in
+    let found = found_on c.args.version.now c.args.self.now.entries c.places.place-index c.place-item.result c.requires.places within in
     let there : c.later.result ≡ first_place (is_later_on c.args.version.now.prog c.args.version.now.vers c.args.after netid) c.args.self.now.entries =
     c.later.ensures ∙ ap (later_than c.args.after) found ∙ is_later in
     let longer = take_more netids c.places.place-index Tcp within in
@@ -35,20 +34,11 @@ places-preserved c =
       few = omega (arith, within);
     }
 
-pub returns-in-Some : goal.returns-in-Some
-returns-in-Some c =
+pub returns : goal.returns
+returns c =
     let size : length c.args.version.now.places ≡ length netids = ap (λ (places : List (Option (ℕ × ℕ))). length places) c.requires.places in
     let whole = take_all c.places.place-index netids (omega (arith, size, c.places-test.false)) in
     record {
-      key = ap (option_map (λ (place : ℕ × ℕ). place.1)) (sym c.in-Some.is)
-          ∙ all_netids c.args.version.now.prog c.args.version.now.vers c.args.after c.args.self.now.entries (take c.places.place-index netids) c.places.best whole c.places.invariant.best;
-    }
-
-pub returns-in-None : goal.returns-in-None
-returns-in-None c =
-    let size : length c.args.version.now.places ≡ length netids = ap (λ (places : List (Option (ℕ × ℕ))). length places) c.requires.places in
-    let whole = take_all c.places.place-index netids (omega (arith, size, c.places-test.false)) in
-    record {
-      key = ap (option_map (λ (place : ℕ × ℕ). place.1)) (sym c.in-None.is)
+      key = c.key.ensures
           ∙ all_netids c.args.version.now.prog c.args.version.now.vers c.args.after c.args.self.now.entries (take c.places.place-index netids) c.places.best whole c.places.invariant.best;
     }

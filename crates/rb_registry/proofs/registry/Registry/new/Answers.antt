@@ -12,7 +12,7 @@ use Rattle.rb_xdr.proofs.Walks.{distinct-push}
 use Rattle.rb_xdr.proofs.PoolLemmas.{values_of-push}
 use Rattle.rb_registry.proofs.History.{slots-new}
 use Rattle.rb_registry.proofs.Holding.{held-push, held_bound}
-use Rattle.rb_registry.proofs.Tables.{own_now, AreStamped-own, live_and_retained, removals-push}
+use Rattle.rb_registry.proofs.Tables.{own_now, own_among, AreStamped-own, live_and_retained, removals-push}
 use Rattle.rb_xdr.specs.Ordered.{looks, moves}
 use Rattle.rb_registry.proofs.Ranks.{IsIndexed-none, IsIndexed-push, own_missing}
 use Rattle.rb_registry.proofs.Marks.{ranks_and_retained, own_cost}
@@ -67,6 +67,7 @@ unreachable-requires-in_default-insert c =
 pub own-preserved : goal.own-preserved
 own-preserved c =
     let stood : c.own.yielded ++ (c.in-Some.row ∷ c.next.new.self) ≡ c.args.own_rows.items = ap (λ (rows : List Row). c.own.yielded ++ rows) (sym c.in-Some.ensures.steps) ∙ c.own.invariant.left in
+    let ours = own_among c.own.yielded c.in-Some.row c.next.new.self c.args.own_rows.items stood c.requires.own in
     let missing = own_missing c.own.yielded c.in-Some.row c.next.new.self c.args.own_rows.items c.own.slots.entries c.own.index.entries c.own.invariant.table.indexed c.own.invariant.table.stamped c.rank-rank.ensures.vers c.own.invariant.rows stood c.requires.distinct in
     let pushed = IsIndexed-push c.in-Ok.key 0 c.in-Some.row c.own.slots.entries c.own.index.entries c.own.invariant.table.indexed c.rank-rank.ensures.vers missing in
     let as_long = length-append c.own.yielded (c.in-Some.row ∷ c.next.new.self) in
@@ -84,9 +85,9 @@ own-preserved c =
       left = append_assoc c.own.yielded (c.in-Some.row ∷ []) _ ∙ stood;
       table = rw (c.in-Ok.ensures.ok, c.new-in-own.ensures, c.in-Ok-insert.ensures.ok, c.rank-rank.ensures.rank) (record {
         distinct = distinct-push c.own.slots.entries c.in-Ok.key (slot_of 0 c.in-Some.row) c.own.invariant.table.distinct c.in-Ok.ensures.fresh;
-        stamped = AreStamped-own c.in-Ok.key c.in-Some.row c.own.slots.entries c.charge-held.ensures.addr c.own.invariant.table.stamped;
+        stamped = AreStamped-own c.in-Ok.key c.in-Some.row c.own.slots.entries c.charge-held.ensures.addr ours c.own.invariant.table.stamped;
         made = c.own.invariant.table.made;
-        ordered = own_in_order _ (AreStamped-own c.in-Ok.key c.in-Some.row c.own.slots.entries c.charge-held.ensures.addr c.own.invariant.table.stamped);
+        ordered = own_in_order _ (AreStamped-own c.in-Ok.key c.in-Some.row c.own.slots.entries c.charge-held.ensures.addr ours c.own.invariant.table.stamped);
         few_own = omega (arith, own_within (c.own.slots.entries ++ (c.in-Ok.key, slot_of 0 c.in-Some.row) ∷ []), more, few);
         few = c.own.invariant.table.few;
         within = room;
@@ -102,7 +103,7 @@ own-preserved c =
           ∙ sym (map-append (slot_of 0) c.own.yielded (c.in-Some.row ∷ []))
           ∙ sym (slots-new 0 (c.own.yielded ++ c.in-Some.row ∷ [])));
       dead = rw (c.in-Ok.ensures.ok, c.new-in-own.ensures) (removals-push c.in-Ok.key 0 c.in-Some.row c.own.slots.entries ∙ c.own.invariant.dead);
-      counted = rw (c.in-Ok.ensures.ok, c.new-in-own.ensures) (live_and_retained 0 _ (AreStamped-own c.in-Ok.key c.in-Some.row c.own.slots.entries c.charge-held.ensures.addr c.own.invariant.table.stamped));
+      counted = rw (c.in-Ok.ensures.ok, c.new-in-own.ensures) (live_and_retained 0 _ (AreStamped-own c.in-Ok.key c.in-Some.row c.own.slots.entries c.charge-held.ensures.addr ours c.own.invariant.table.stamped));
       count = rw (c.in-Ok.ensures.ok, c.new-in-own.ensures) (omega (arith, more, longer, c.own.invariant.count));
       rows = rw (c.in-Ok.ensures.ok, c.new-in-own.ensures)
           (ap (λ (es : List (ℕ × Row)). values_of es) (own_now c.in-Ok.key c.in-Some.row c.own.slots.entries)

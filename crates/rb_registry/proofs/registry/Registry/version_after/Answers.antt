@@ -1,6 +1,10 @@
 use Rattle.std.proofs.Common.{◌≡◌, Some, None, ◌∙◌}
 use Rattle.rb_registry.proofs.NextOf.{nothing_next, none_next, next_is}
+use Rattle.rb_registry.proofs.Tables.{ours_if_own}
 use Rattle.rb_registry.proofs.registry.Registry.version_after.Goals as goal
+
+pub own_after-requires-clause-ours : goal.own_after-requires-clause-ours
+own_after-requires-clause-ours c = ours_if_own c.self.inside.changes c.self.inside.slots.entries c.self.invariant.stamped
 
 pub returns-in_err-after-clause-next : goal.returns-in_err-after-clause-next
 returns-in_err-after-clause-next c =
