@@ -20,9 +20,9 @@ use crate::eviction::make_room;
 use rb_address::Caller;
 use rb_connections::{Connections, EndedRecord, Received, write_whole};
 use rb_model::{CoreFault, Limits, Message, Response, Served, Standing};
-use rb_proto::{Books, Context, Listener, Refusal};
+use rb_proto::{Books, Context, Listener};
 use rb_rpc::{FRAGMENT_HEADER, Verdict, read_call};
-use rb_serving::{Seen, kept_arguments, null_called, procedure_of, seen_of, serve, serve_null};
+use rb_serving::{Seen, kept_arguments, note, null_called, procedure_of, serve, serve_null};
 use rb_xdr::{Kept, Meter};
 
 /// What came of a piece of bytes. The arguments of the record that ended with it lie in the piece if the record
@@ -228,13 +228,6 @@ fn serve_message(
     let served = serve(books, context, message, arguments, out, meter);
     note(seen, context, message, books.refusal);
     served
-}
-
-/// Notes what there is to tell of a message, if anything; `refusal` is why a SET or an UNSET was refused, if it was.
-fn note(seen: &mut Option<Seen>, context: &Context, message: &Message, refusal: Option<Refusal>) {
-    if let Some(told) = seen_of(context, message, refusal) {
-        *seen = Some(told);
-    }
 }
 
 // EXCHANGE-2

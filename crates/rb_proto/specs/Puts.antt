@@ -1,21 +1,17 @@
 -- What answering and putting results costs.
-use Rattle.std.specs.Prelude.{ℕ, ◌+◌, ◌-◌, ◌*◌, Bool, true, false, ◌&&◌, ◌||◌, if◌then◌else◌, IsTrue, List, length, Option, Some, None}
+use Rattle.std.specs.Prelude.{ℕ, ◌+◌, ◌-◌, ◌*◌, Bool, if◌then◌else◌, List, length, Option, Some, None}
 use Rattle.rb_xdr.specs.Kept.{Kept}
 use Rattle.rb_xdr.specs.Meter.{Meter, PaysAtMost}
 use Rattle.rb_xdr.specs.Ordered.{looks}
 use Rattle.rb_registry.specs.declared.row.Which.{Which}
 use Rattle.rb_registry.specs.declared.row.Which.TheVariants.{Inet}
 use Rattle.rb_registry.specs.Registry.{Registry, slots_of}
-use Rattle.rb_registry.specs.declared.versions.Version.{Version}
 use Rattle.rb_registry.specs.Costs.{set_cost, unset_cost}
 use Rattle.rb_forward.specs.Costs.{end_cost, unsent_cost}
-use Rattle.rb_arguments.specs.declared.procedure.VoidProcedure.TheVariants as voids
 use Rattle.rb_arguments.specs.declared.procedure.MappingProcedure.TheVariants as mappings
 use Rattle.rb_arguments.specs.declared.procedure.RpcbProcedure.TheVariants as rpcbs
 use Rattle.rb_arguments.specs.declared.request.Request.{Request}
 use Rattle.rb_arguments.specs.declared.request.Request.TheVariants as requests
-use Rattle.rb_answers.specs.declared.answers.Answer.{Answer}
-use Rattle.rb_answers.specs.declared.answers.Answer.TheVariants as answers
 use Rattle.rb_answers.specs.declared.answers.Results.{Results}
 use Rattle.rb_answers.specs.declared.answers.Results.TheVariants as results
 use Rattle.rb_proto.specs.declared.books.Books.{Books}
@@ -24,8 +20,6 @@ use Rattle.rb_answers.specs.declared.context.Context.{Context}
 use Rattle.rb_answers.specs.Answers.{comes_from_here}
 use Rattle.rb_answers.specs.Netids.{which_of}
 use Rattle.rb_answers.specs.Costs.{note_cost, forward_cost, statistics_cost}
-use Rattle.rb_answers.specs.ListReplies.{part_room}
-use Rattle.rb_answers.specs.Searching.{walk_cost}
 
 -- one step for the length, and one for each byte that was put
 abbrev pub put_cost : Kept → Kept → ℕ

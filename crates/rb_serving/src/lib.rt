@@ -13,4 +13,4 @@ pub use laws::kept_bytes_say_the_record;
 pub use lengths::longest_to;
 pub use message::{Called, arguments_behind, kept_arguments, null_called, procedure_of};
 pub use replies::{put_end, serve, serve_null};
-pub use seen::{ChangeAsked, ChangeKind, RefusedCall, RowNamed, Seen, forget, seen_of};
+pub use seen::{ChangeAsked, ChangeKind, RefusedCall, RowNamed, Seen, forget, note};

@@ -77,28 +77,48 @@ pub fn forget(seen: &mut Option<Seen>) {
     }
 }
 
-/// What there is to tell of a message, if anything; `refusal` is why it was refused, if it is a SET or an UNSET that was.
-pub fn seen_of(context: &Context, message: &Message, refusal: Option<Refusal>) -> Option<Seen> {
-    let status = match message {
-        Message::NoCall => return None,
-        Message::Refused(head) => head.status,
-        Message::Garbage(_) => ReplyStatus::GarbageArgs,
-        Message::Asked(call) => return change_in(context, call, refusal),
-    };
-    let who = who_of(&context.caller);
-    Some(Seen::Refused(RefusedCall { who, status }))
+/// Notes what there is to tell of a message, if anything; `refusal` is why it was refused, if it is a SET or an UNSET that was.
+/// What is told has room for the longest texts, so it is made apart from this: of most messages there is nothing to tell.
+pub fn note(
+    seen: &mut Option<Seen>,
+    context: &Context,
+    message: &Message,
+    refusal: Option<Refusal>,
+) {
+    match message {
+        Message::NoCall => {}
+        Message::Refused(head) => note_refused(seen, context, head.status),
+        Message::Garbage(_) => note_refused(seen, context, ReplyStatus::GarbageArgs),
+        Message::Asked(call) => {
+            if let Some((asked, named)) = change_asked(&call.request) {
+                note_change(seen, context, call, asked, named, refusal);
+            }
+        }
+    }
 }
 
-/// What a call asks to change, if it does.
-fn change_in(context: &Context, call: &Call, refusal: Option<Refusal>) -> Option<Seen> {
-    let (asked, row) = named_by(&call.request)?;
-    Some(Seen::Change(ChangeAsked {
+#[inline(never)]
+fn note_refused(seen: &mut Option<Seen>, context: &Context, status: ReplyStatus) {
+    let who = who_of(&context.caller);
+    *seen = Some(Seen::Refused(RefusedCall { who, status }));
+}
+
+#[inline(never)]
+fn note_change(
+    seen: &mut Option<Seen>,
+    context: &Context,
+    call: &Call,
+    asked: ChangeKind,
+    named: Named<'_>,
+    refusal: Option<Refusal>,
+) {
+    *seen = Some(Seen::Change(ChangeAsked {
         asked,
-        row,
+        row: row_named(asked, named),
         owner: context.owner(&call.head),
         who: who_of(&context.caller),
         refusal,
-    }))
+    }));
 }
 
 fn who_of(caller: &Caller) -> Who {
@@ -107,27 +127,41 @@ fn who_of(caller: &Caller) -> Who {
     }
 }
 
-/// What a SET or an UNSET is about; `None` of any other call.
-fn named_by(request: &Request) -> Option<(ChangeKind, RowNamed)> {
+/// By what a SET or an UNSET names its rows.
+#[derive(Clone, Copy)]
+enum Named<'a> {
+    /// In version 2.
+    Mapping(&'a Mapping),
+    /// In versions 3 and 4.
+    Rpcb(&'a LentRpcb<'a>),
+}
+
+/// Which change a call asks for, and by what it names the rows; `None` of any other call.
+fn change_asked<'a>(request: &'a Request<'a>) -> Option<(ChangeKind, Named<'a>)> {
     match request {
-        Request::Mapping(MappingProcedure::Set, mapping) => Some((
-            ChangeKind::Set,
-            of_mapping(mapping),
-        )),
-        Request::Mapping(MappingProcedure::Unset, mapping) => {
-            let (prog, vers) = (mapping.prog, mapping.vers);
-            let (netid, addr) = (Text::new(&[]), Text::new(&[]));
-            let row = RowNamed {
-                prog,
-                vers,
-                netid,
-                addr,
-            };
-            Some((ChangeKind::Unset, row))
+        Request::Mapping(MappingProcedure::Set, mapping) => {
+            Some((ChangeKind::Set, Named::Mapping(mapping)))
         }
-        Request::Rpcb(RpcbProcedure::Set, rpcb) => Some((ChangeKind::Set, of_rpcb(rpcb))),
-        Request::Rpcb(RpcbProcedure::Unset, rpcb) => Some((ChangeKind::Unset, of_rpcb(rpcb))),
+        Request::Mapping(MappingProcedure::Unset, mapping) => {
+            Some((ChangeKind::Unset, Named::Mapping(mapping)))
+        }
+        Request::Rpcb(RpcbProcedure::Set, rpcb) => Some((ChangeKind::Set, Named::Rpcb(rpcb))),
+        Request::Rpcb(RpcbProcedure::Unset, rpcb) => Some((ChangeKind::Unset, Named::Rpcb(rpcb))),
         _ => None,
+    }
+}
+
+/// What a change is about.
+fn row_named(asked: ChangeKind, named: Named<'_>) -> RowNamed {
+    match (asked, named) {
+        (ChangeKind::Set, Named::Mapping(mapping)) => of_mapping(mapping),
+        (ChangeKind::Unset, Named::Mapping(mapping)) => RowNamed {
+            prog: mapping.prog,
+            vers: mapping.vers,
+            netid: Text::new(&[]),
+            addr: Text::new(&[]),
+        },
+        (_, Named::Rpcb(rpcb)) => of_rpcb(rpcb),
     }
 }
 
