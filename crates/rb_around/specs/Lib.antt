@@ -1,4 +1,3 @@
 pub mod FirstFaults
-pub mod Leaving
 pub mod Turning
 pub mod Records

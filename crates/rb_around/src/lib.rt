@@ -3,8 +3,8 @@
 #![tactic(auto)]
 
 mod around;
+mod faults;
 mod held;
-mod leaving;
 mod room;
 mod secrets;
 mod serves;
@@ -12,8 +12,8 @@ mod tables;
 mod waiting;
 
 pub use around::{Around, open};
+pub use faults::{is_told, note_fault};
 pub use held::{HeldLink, HeldLinks};
-pub use leaving::{is_ready, is_told, leave_calls, leave_listener, leave_of, note_fault};
 pub use room::Room;
 pub use secrets::{Secrets, brake_of, draw, first_xid};
 pub use serves::{Begun, Progress, Serves};

@@ -243,8 +243,7 @@ impl<R: Clock, H: Files, C: Serves<H>> Turns<H> for Daemon<'_, R, H, C> {
 fn serve_events<H: Files, C: Serves<H>>(serving: &mut Serving<H, C>, host: &H, waiting: &Waiting) {
     serving.begin_turn(waiting.moment());
     waiting.note_ready(&mut serving.sockets);
-    serving.answer_calls(host);
-    serving.take_forward_replies(host);
+    serving.serve_datagrams(host);
     serve_shown(serving, host, waiting);
     serving.serve_left(host);
     serving.answer_changes(host);

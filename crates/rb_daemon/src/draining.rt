@@ -1,11 +1,11 @@
 //! The daemon's own sockets, as a turn calls them.
 ghost use Rattle.std.specs.Prelude.{⊤};
-ghost use Rattle.rb_around.specs.Leaving.{IsServedNextAt, IsServedNextOf};
+ghost use Rattle.rb_sockets.specs.Leaving.{IsServedNextAt, IsServedNextOf};
 
 use crate::serving::Serving;
 use mio::Registry;
 use rb_address::Family;
-use rb_around::{Serves, is_ready, is_told, leave_calls, leave_listener, leave_of, note_fault};
+use rb_around::{Serves, is_told, note_fault};
 use rb_arrivals::{Asker, Returned, plain_who};
 use rb_policy::drains::{CallsSoFar, Came, Drains, drain};
 use rb_policy::{Again, Brake, Next, SOCKET_CALLS, after_accept, after_receive, outcome_of};
@@ -35,7 +35,7 @@ impl<H: Files, C: Serves<H>> Drains for Calls<'_, H, C> {
     }
 
     fn leave(&mut self, again: Again) {
-        leave_calls(&mut self.serving.sockets.calls.all, self.number, again);
+        self.serving.sockets.leave_calls(self.number, again);
     }
 }
 
@@ -58,7 +58,7 @@ impl<H: Files, C: Serves<H>> Drains for ForwardReplies<'_, H, C> {
     }
 
     fn leave(&mut self, again: Again) {
-        leave_of(&mut self.serving.sockets.forwards, self.family, again);
+        self.serving.sockets.leave_replies(self.family, again);
     }
 }
 
@@ -84,7 +84,7 @@ impl<H: Files, C: Serves<H>> Drains for Door<'_, H, C> {
     }
 
     fn leave(&mut self, again: Again) {
-        leave_listener(&mut self.serving.sockets.listeners, self.number, again);
+        self.serving.sockets.leave_listener(self.number, again);
     }
 }
 
@@ -99,8 +99,16 @@ fn passes(brake: &mut Option<Brake>, now: u64, asker: Asker) -> bool {
 impl<H: Files, C: Serves<H>> Serving<H, C> {
     ghost use Rattle.std.specs.Prelude.{◌≤◌, length};
 
+    /// Answers datagrams, and takes what comes back for forwarded calls, if one of the sockets may have to be served.
+    pub(crate) fn serve_datagrams(&mut self, host: &H) {
+        if self.sockets.may_want() {
+            self.answer_calls(host);
+            self.take_forward_replies(host);
+        }
+    }
+
     /// Answers datagrams on each socket where calls come in.
-    pub(crate) fn answer_calls(&mut self, host: &H) {
+    fn answer_calls(&mut self, host: &H) {
         for i in 0..self.sockets.calls.all.len() {
             let is_ready = self
                 .sockets
@@ -121,12 +129,9 @@ impl<H: Files, C: Serves<H>> Serving<H, C> {
 
     /// Answers a datagram on the socket of this number, if one comes.
     fn answer_on(&mut self, host: &H, number: usize) -> Came {
+        let sockets = &self.sockets;
         let networks = &self.networks;
-        let Some(came) = self
-            .sockets
-            .calls
-            .receive(number, networks, &mut self.datagram)
-        else {
+        let Some(came) = sockets.calls.receive(number, networks, &mut self.datagram) else {
             return Came::Nothing(Next::AwaitTurn);
         };
         match came {
@@ -157,11 +162,11 @@ impl<H: Files, C: Serves<H>> Serving<H, C> {
     }
 
     /// Takes what comes back for forwarded calls.
-    pub(crate) fn take_forward_replies(&mut self, host: &H) {
-        if is_ready(&self.sockets.forwards.inet) {
+    fn take_forward_replies(&mut self, host: &H) {
+        if self.sockets.forwards.is_ready(Family::Inet) {
             self.take_forward_replies_from(host, Family::Inet);
         }
-        if is_ready(&self.sockets.forwards.inet6) {
+        if self.sockets.forwards.is_ready(Family::Inet6) {
             self.take_forward_replies_from(host, Family::Inet6);
         }
     }
@@ -178,7 +183,8 @@ impl<H: Files, C: Serves<H>> Serving<H, C> {
 
     /// Takes a datagram from a target of a family, if one comes.
     fn take_reply(&mut self, host: &H, family: Family) -> Came {
-        let Some(forwards) = self.sockets.forwards.of(family) else {
+        let sockets = &self.sockets;
+        let Some(forwards) = sockets.forwards.of(family) else {
             return Came::Nothing(Next::AwaitTurn);
         };
         match forwards.socket.receive(&mut self.datagram) {
@@ -244,10 +250,10 @@ impl<H: Files, C: Serves<H>> Serving<H, C> {
         number: usize,
         before: CallsSoFar,
     ) -> Came {
-        let Some(listener) = self.sockets.listeners.get_mut(number) else {
+        let Some(accepted) = self.sockets.accept(host, number, &self.networks) else {
             return Came::Nothing(Next::AwaitTurn);
         };
-        match listener.socket.accept(host, &self.networks) {
+        match accepted {
             Ok(accepted) => {
                 if let Some(accepted) = accepted {
                     self.open(registry, accepted);
@@ -257,7 +263,7 @@ impl<H: Files, C: Serves<H>> Serving<H, C> {
             Err(error) => {
                 let next = after_accept(outcome_of(&error));
                 if is_told(next, before) {
-                    note_fault(&mut self.fault, &mut self.sockets.listeners, number, error);
+                    note_fault(&mut self.fault, &mut self.sockets, number, error);
                 }
                 Came::Nothing(next)
             }

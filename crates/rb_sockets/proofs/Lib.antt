@@ -1,2 +1,4 @@
+pub mod Leavings
 pub mod OnLiterals
 pub mod Slices
+pub mod Unwanted

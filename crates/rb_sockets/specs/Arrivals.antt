@@ -3,6 +3,7 @@ use Rattle.std.specs.Prelude.{◌≡◌, ◌≤◌, ◌+◌, ◌%◌, ◌^◌, �
 use Rattle.rb_address.specs.declared.peer.Peer.{Peer}
 use Rattle.rb_policy.specs.declared.trust.Entrance.{Entrance}
 use Rattle.rb_policy.specs.declared.trust.Entrance.TheVariants.{RootSocket, OpenSocket, Tcp, Udp}
+use Rattle.rb_arrivals.specs.declared.visitor.Accepted.{Accepted}
 use Rattle.rb_arrivals.specs.declared.arrival.Arrival.{Arrival}
 use Rattle.rb_arrivals.specs.declared.arrival.Ends.{Ends}
 use Rattle.rb_arrivals.specs.declared.asker.Asker.{Asker}
@@ -53,6 +54,13 @@ abbrev pub IsLetIn : Listener → Visitor → Type 0
 IsLetIn (listeners.Tcp listener beliefs) visitor = (ends : Ends) × (ends.beliefs ≡ beliefs) × (visitor ≡ visitor_of ends)
 IsLetIn (listeners.Local local) visitor = visitor ≡ Known (local_arrival local)
 IsLetIn listeners.Closed visitor = ⊥
+
+-- So is whoever the one of this number let in.
+-- TRUST-14
+abbrev pub IsLetInAt : {E : Type 0} → List (Watched Listener) → ℕ → Result (Option Accepted) E → Type 0
+IsLetInAt listeners number accepted =
+    (listener : Watched Listener) → slice_get listeners number ≡ Some listener
+    → IfOk accepted (λ came. IfSome came (λ one. IsLetIn listener.socket one.visitor))
 
 abbrev pub is_root_socket : Entrance → Bool
 is_root_socket RootSocket = true

@@ -7,4 +7,6 @@ pub mod Tables
 pub mod Arrivals
 pub mod Handed
 pub mod Watching
+pub mod Wanted
+pub mod Leaving
 pub mod Following

@@ -1,6 +1,5 @@
 -- Whether the sockets have something to tell, or something to do at a moment.
 use Rattle.std.specs.Prelude.{◌≡◌, ℕ, nat_le, Bool, true, false, ◌||◌, if◌then◌else◌, Option, Some, None, is_none, option_map, Result, Ok, Err}
-use Rattle.std.specs.List.{list_any}
 use Rattle.std.specs.Option.{is_some}
 use Rattle.std.specs.declared.io.Error.{Error}
 use Rattle.rb_policy.specs.LocalFile.{next_try}
@@ -10,19 +9,14 @@ use Rattle.rb_sockets.specs.declared.local.AbstractName.{AbstractName}
 use Rattle.rb_sockets.specs.declared.sockets.Sockets.{Sockets}
 use Rattle.rb_sockets.specs.declared.watched.Watched.{Watched}
 use Rattle.rb_sockets.specs.Arrivals.{next_name_try}
+use Rattle.rb_sockets.specs.Wanted.{is_one_changed}
 
 abbrev pub is_due : ℕ → Option ℕ → Bool
 is_due now None = false
 is_due now (Some next) = nat_le next now
 
--- whether it is the local socket, and it is yet to be told that it is root's no longer
-abbrev pub is_changed : Listener → Bool
-is_changed (Tcp listener beliefs) = false
-is_changed (Local local) = local.is_change_untold
-is_changed Closed = false
-
 abbrev pub is_local_changed : Sockets → Bool
-is_local_changed sockets = list_any (λ watched. is_changed watched.socket) sockets.listeners.items
+is_local_changed sockets = is_one_changed sockets.listeners.items
 
 -- why the first try failed is yet to be told, or it is the moment to try again
 abbrev pub has_name_news : ℕ → AbstractName → Bool

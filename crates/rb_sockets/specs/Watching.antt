@@ -13,11 +13,7 @@ use Rattle.rb_arrivals.specs.declared.shown.Shown.{Shown}
 use Rattle.rb_arrivals.specs.declared.shown.Shown.TheVariants.{Connection, Forwards, Calls, Listener}
 use Rattle.rb_sockets.specs.declared.sockets.Sockets.{Sockets}
 use Rattle.rb_sockets.specs.declared.watched.Watched.{Watched}
-
-abbrev pub is_at_event : Again → Bool
-is_at_event AtEvent = true
-is_at_event AtOnce = false
-is_at_event AfterWait = false
+use Rattle.rb_sockets.specs.Wanted.{are_ready, are_wanted}
 
 abbrev pub is_at_once : Again → Bool
 is_at_once AtOnce = true
@@ -58,8 +54,22 @@ abbrev pub of_all : (Again → Bool) → Sockets → Bool
 of_all p sockets = of_datagrams p sockets || of_listeners p sockets
 
 abbrev pub are_listeners_ready : Sockets → Bool
-are_listeners_ready sockets =
-    list_any (λ watched. watched.is_shown || not (is_at_event watched.again)) sockets.listeners.items
+are_listeners_ready sockets = are_ready sockets.listeners.items
+
+-- whether one of all must be served in this turn, or has something to tell
+abbrev pub wants_turn : Sockets → Bool
+wants_turn sockets = are_wanted sockets.forwards sockets.calls sockets.listeners.items
+
+-- The note that one may be wanted is settled: it says whether one is.
+-- TURN-7
+abbrev pub IsSettled : Sockets → Sockets → Type 0
+IsSettled old new = (noted : _) × (new ≡ record old { may_want = wants_turn old; noted = noted })
+
+-- ---- what failed
+
+abbrev pub fails_first : {S : Type 0} → Option (Watched S) → Bool
+fails_first None = false
+fails_first (Some watched) = not watched.has_failed
 
 -- ---- what an event shows
 
@@ -79,6 +89,7 @@ forwards_shown Inet6 forwards = record forwards { inet6 = option_map shown_now f
 -- TURN-7
 abbrev pub NotesShown : Shown → Sockets → Sockets → Type 0
 NotesShown (Connection place) old new = new ≡ old
-NotesShown (Forwards family) old new = new ≡ record old { forwards = forwards_shown family old.forwards }
+NotesShown (Forwards family) old new =
+    (noted : _) × (new ≡ record old { forwards = forwards_shown family old.forwards; may_want = true; noted = noted })
 NotesShown (Calls number) old new = IsShownAt number old.calls.all.items new.calls.all.items
 NotesShown (Listener number) old new = IsShownAt number old.listeners.items new.listeners.items

@@ -3,6 +3,8 @@
 ghost use Rattle.std.specs.Prelude.{IfOk, IfSome, None, is_none, option_map, ◌≡◌, ◌≤◌, length};
 ghost use Rattle.rb_sockets.specs.Arrivals.{datagram_arrival, IsReceived, CameOn};
 ghost use Rattle.rb_sockets.specs.Room.{is_free_beside, IsBoundAt};
+ghost use Rattle.rb_sockets.specs.Leaving.{IsServedNextIf, IsServedNextOf};
+ghost use Rattle.rb_sockets.specs.Wanted.{is_ready_if, are_ready, are_forwards_ready};
 ghost use Rattle.rb_sockets.specs.Watching.{is_at_once, is_after_wait, holds_of, of_calls, of_forwards, shown_now, forwards_shown};
 
 use crate::watched::Watched;
@@ -11,7 +13,7 @@ use mio::{Interest, Registry, Token};
 use rb_address::{Family, Host, Network, Peer};
 use rb_arrivals::{Arrival, Asker, Returned};
 use rb_descriptors::{share, udp_socket};
-use rb_policy::{Beliefs, Entrance, address_of, asker, has_host, ip_of, sender};
+use rb_policy::{Again, Beliefs, Entrance, address_of, asker, has_host, ip_of, sender};
 use rb_settings::{BindFault, Step};
 use std::io;
 use std::io::ErrorKind;
@@ -195,6 +197,13 @@ impl CallSockets {
             .position(|calls| calls.socket.is_free_beside(others))
     }
 
+    /// Whether one of them must be served in this turn.
+    pub(crate) fn are_ready(&self) -> bool
+        ensures { result ≡ are_ready self.now.all.items }
+    {
+        self.all.iter().any(|calls| calls.is_ready())
+    }
+
     pub(crate) fn is_left(&self) -> bool
         ensures { result ≡ of_calls is_at_once self.now }
     {
@@ -264,6 +273,25 @@ fn note_ready(forwards: &mut Option<Watched<ForwardSocket>>)
     }
 }
 
+/// Whether the socket, if there is one, must be served in this turn.
+fn is_ready(forwards: &Option<Watched<ForwardSocket>>) -> bool
+    ensures { result ≡ is_ready_if forwards.now }
+{
+    match forwards {
+        Some(forwards) => forwards.is_ready(),
+        None => false,
+    }
+}
+
+/// The socket, if there is one, is served again then.
+fn leave(forwards: &mut Option<Watched<ForwardSocket>>, again: Again)
+    ensures { IsServedNextIf again forwards.new }
+{
+    if let Some(forwards) = forwards {
+        forwards.leave(again);
+    }
+}
+
 /// Whether the socket, if there is one, must be served at once.
 fn is_left(forwards: &Option<Watched<ForwardSocket>>) -> bool
     ensures { result ≡ holds_of is_at_once forwards.now }
@@ -303,7 +331,7 @@ impl ForwardSockets {
     }
 
     /// The socket for targets of a family.
-    pub fn of_mut(&mut self, family: Family) -> Option<&mut Watched<ForwardSocket>> {
+    pub(crate) fn of_mut(&mut self, family: Family) -> Option<&mut Watched<ForwardSocket>> {
         match family {
             Family::Inet => self.inet.as_mut(),
             Family::Inet6 => self.inet6.as_mut(),
@@ -318,6 +346,31 @@ impl ForwardSockets {
             Family::Inet => note_ready(&mut self.inet),
             Family::Inet6 => note_ready(&mut self.inet6),
         }
+    }
+
+    /// That for targets of a family is served again then, if there is one.
+    pub(crate) fn leave(&mut self, family: Family, again: Again)
+        ensures { IsServedNextOf family again self.new }
+    {
+        match family {
+            Family::Inet => leave(&mut self.inet, again),
+            Family::Inet6 => leave(&mut self.inet6, again),
+        }
+    }
+
+    /// Whether that for targets of a family must be served in this turn.
+    pub fn is_ready(&self, family: Family) -> bool {
+        match family {
+            Family::Inet => is_ready(&self.inet),
+            Family::Inet6 => is_ready(&self.inet6),
+        }
+    }
+
+    /// Whether one of them must be.
+    pub(crate) fn are_ready(&self) -> bool
+        ensures { result ≡ are_forwards_ready self.now }
+    {
+        is_ready(&self.inet) || is_ready(&self.inet6)
     }
 
     pub(crate) fn is_left(&self) -> bool

@@ -14,6 +14,7 @@ mod sockets;
 mod tables;
 mod user_namespace;
 mod watched;
+mod watching;
 
 pub use calls::{CallSocket, CallSockets, ForwardSocket, ForwardSockets};
 pub use environment::{own_notifier, own_watchdog_pause, take_handed};

@@ -1,10 +1,12 @@
 //! Where connections come in, and who comes there.
-ghost use Rattle.std.specs.Prelude.{◌≡◌, Some, IfOk, IfSome};
+ghost use Rattle.std.specs.Prelude.{◌≡◌, Some, IfOk, IfSome, map};
 ghost use Rattle.rb_sockets.specs.Arrivals.{IsLetIn};
-ghost use Rattle.rb_sockets.specs.News.{is_changed, when_told};
-ghost use Rattle.rb_sockets.specs.Room.{is_closed, beliefs_of};
+ghost use Rattle.rb_sockets.specs.News.{when_told, told_of};
+ghost use Rattle.rb_sockets.specs.Room.{is_closed, beliefs_of, closed_door, free_door};
+ghost use Rattle.rb_sockets.specs.Wanted.{is_changed};
 
 use crate::local::LocalListener;
+use crate::watched::Watched;
 use mio::net::TcpListener;
 use mio::{Interest, Registry, Token};
 use rb_address::{Host, Network, Peer};
@@ -142,4 +144,37 @@ impl Listener {
             Listener::Closed => Ok(()),
         }
     }
+}
+
+/// What one of these found is told.
+pub(crate) fn note_all_told(listeners: &mut [Watched<Listener>])
+    ensures { listeners.new ≡ map told_of listeners.old }
+{
+    for listener in listeners.iter_mut() {
+        note_told(listener);
+    }
+}
+
+fn note_told(listener: &mut Watched<Listener>)
+    ensures { listener.new ≡ told_of listener.old }
+{
+    let _ = listener.socket.take_change();
+}
+
+/// The place of a listener whose host is listened on no more, or the next one.
+pub(crate) fn free_door(listeners: &[Watched<Listener>]) -> usize
+    ensures { result ≡ free_door listeners.now }
+{
+    match closed_door(listeners) {
+        Some(door) => door,
+        None => listeners.len(),
+    }
+}
+
+fn closed_door(listeners: &[Watched<Listener>]) -> Option<usize>
+    ensures { result ≡ closed_door listeners.now }
+{
+    listeners
+        .iter()
+        .position(|listener| listener.socket.is_closed())
 }

@@ -1,19 +1,15 @@
 //! The daemon's own sockets. Each kind is a type of its own, so that nothing goes out on the wrong one.
-ghost use Rattle.std.specs.Prelude.{◌≡◌, ⊤, vec_len, map, [], ◌∷◌, ◌++◌, Some, IfOk};
-ghost use Rattle.std.specs.Option.{option_and_then};
-ghost use Rattle.rb_sockets.specs.Arrivals.{nth_of, next_name_try};
+ghost use Rattle.std.specs.Prelude.{◌≡◌, ⊤, false};
 ghost use Rattle.rb_sockets.specs.Events.{shown_by, family_at, MayBeShown};
-ghost use Rattle.rb_sockets.specs.News.{is_local_changed, has_news_of, next_look, has_news, told_of, HasTriedIfAny};
-ghost use Rattle.rb_sockets.specs.Room.{closed_door, free_door, free_place_in, put_in, TakesCallsAt, TakesConnections};
-ghost use Rattle.rb_sockets.specs.Watching.{is_at_once, is_after_wait, of_datagrams, of_listeners, of_all, unserved, are_listeners_ready, NotesShown};
+ghost use Rattle.rb_sockets.specs.Wanted.{are_wanted};
 
 use crate::calls::{CallSocket, CallSockets, ForwardSocket, ForwardSockets};
 use crate::follow::{AddressNews, Follower};
 use crate::handed::Handed;
-use crate::listener::Listener;
+use crate::listener::{Listener, free_door, note_all_told};
 use crate::local::{AbstractName, LocalListener};
 use crate::user_namespace::unmapped;
-use crate::watched::Watched;
+use crate::watched::{Watched, put, put_at};
 use mio::net::UnixListener;
 use mio::{Registry, Token};
 use rb_address::{Family, Host, Peer, Source};
@@ -53,6 +49,8 @@ pub struct Sockets {
     pub forwards: ForwardSockets,
     /// Where connections come in: over TCP one for each host, then the local socket.
     pub listeners: Vec<Watched<Listener>>,
+    /// Whether one of them may have to be served, or have something to tell: if not, no turn looks at them.
+    pub(crate) may_want: bool,
     /// Whether callers are believed what they claim.
     pub are_claims_believed: bool,
     /// The abstract name of the local socket, if it is to be held.
@@ -61,9 +59,16 @@ pub struct Sockets {
     follower: Option<Follower>,
     port: u16,
     beliefs: Beliefs,
+    ghost noted: { may_want ≡ false → are_wanted forwards calls listeners.items ≡ false },
 }
 
 impl Sockets {
+    ghost use Rattle.std.specs.Prelude.{map, Some, IfOk};
+    ghost use Rattle.std.specs.Option.{option_and_then};
+    ghost use Rattle.rb_sockets.specs.Arrivals.{next_name_try};
+    ghost use Rattle.rb_sockets.specs.News.{is_local_changed, has_news_of, next_look, has_news, told_of, HasTriedIfAny};
+    ghost use Rattle.rb_sockets.specs.Room.{free_place_in, TakesCallsAt, TakesConnections};
+
     /// Sockets at all that the settings name: those that were handed over, and others that are bound. Else the first step that
     /// failed: `Memory` if an allocation is refused, else `Socket`. The local socket comes last: a second daemon ends at a port
     /// that is in use, and leaves the file alone.
@@ -87,6 +92,7 @@ impl Sockets {
             calls: CallSockets { all },
             forwards,
             listeners,
+            may_want: true,
             are_claims_believed: beliefs.claims,
             abstract_name,
             follower: None,
@@ -152,6 +158,7 @@ impl Sockets {
     pub fn follow_by(&mut self, follower: Follower) -> Result<(), AllocError>
         ensures { IfOk result (λ done. self.new.follower ≡ Some follower) }
     {
+        self.may_want = true;
         self.calls.all.reserve(2 * MOST)?;
         self.listeners.reserve(MOST)?;
         self.follower = Some(follower);
@@ -211,6 +218,7 @@ impl Sockets {
 
     /// Closes the sockets of a host.
     fn leave<R: Net>(&mut self, rt: &R, registry: &Registry, host: Host) {
+        self.may_want = true;
         for calls in &mut self.calls.all {
             if calls.socket.bound() == host {
                 calls.socket.close();
@@ -228,6 +236,7 @@ impl Sockets {
     /// If calls are forwarded from a host, they are from the loopback from here on. Those that wait for an answer get none.
     fn leave_forwards<R: Net>(&mut self, rt: &R, registry: &Registry, host: Host) {
         let family = host.family();
+        self.may_want = true;
         if let Some(forwards) = self.forwards.of_mut(family) {
             if forwards.socket.is_at(host) {
                 if let Ok(socket) = forwards_from_loopback(rt, registry, family) {
@@ -248,6 +257,7 @@ impl Sockets {
         let door = free_door(&self.listeners);
         check_shown(calls.register(registry, token_of(Shown::Calls(place))))?;
         check_shown(listener.register(registry, token_of(Shown::Listener(door))))?;
+        self.may_want = true;
         put_at(&mut self.calls.all, place, calls)?;
         put_at(&mut self.listeners, door, listener)?;
         Ok(())
@@ -270,6 +280,7 @@ impl Sockets {
         ensures told { self.new.listeners.items ≡ map told_of self.old.listeners.items }
     {
         let is_changed = self.is_local_changed();
+        self.may_want = true;
         note_all_told(self.listeners.as_mut_slice());
         is_changed
     }
@@ -291,16 +302,9 @@ impl Sockets {
         }
     }
 
-    fn is_local_changed(&self) -> bool
-        ensures { result ≡ is_local_changed self.now }
-    {
-        self.listeners
-            .iter()
-            .any(|listener| listener.socket.is_changed())
-    }
-
     /// Their events are shown from here on.
     pub fn register(&mut self, registry: &Registry) -> io::Result<()> {
+        self.may_want = true;
         let ForwardSockets { inet, inet6 } = &mut self.forwards;
         if let Some(inet) = inet {
             let inet_token = token_of(Shown::Forwards(Family::Inet));
@@ -335,84 +339,6 @@ impl Sockets {
         } else {
             Shown::Listener(key - LISTENERS)
         }
-    }
-
-    /// Notes what an event with this token shows, if that is one of these sockets.
-    pub fn note_ready(&mut self, token: Token)
-        ensures { NotesShown (shown_by token.0) self.old self.new }
-    {
-        match Sockets::shown_by(token) {
-            Shown::Connection(_) => {}
-            Shown::Forwards(family) => self.forwards.note_ready(family),
-            Shown::Calls(i) => {
-                if let Some(calls) = self.calls.all.get_mut(i) {
-                    calls.note_ready();
-                }
-            }
-            Shown::Listener(i) => {
-                if let Some(listener) = self.listeners.get_mut(i) {
-                    listener.note_ready();
-                }
-            }
-        }
-    }
-
-    // ACCEPT-4: Each turn begins to accept at another listener.
-    /// The number of the listener that comes at this place in a turn.
-    pub fn nth_listener(&self, turn: u64, place: usize) -> usize
-        ensures { result ≡ nth_of (vec_len self.now.listeners) turn place }
-    {
-        match self.listeners.len() {
-            0 => 0,
-            count => {
-                let first = usize::try_from(turn % count as u64).unwrap_or(0);
-                first.wrapping_add(place) % count
-            }
-        }
-    }
-
-    /// Whether one of the listeners must be served in this turn.
-    pub fn are_listeners_ready(&self) -> bool
-        ensures { result ≡ are_listeners_ready self.now }
-    {
-        self.listeners.iter().any(|listener| listener.is_ready())
-    }
-
-    /// Whether one of them on which datagrams come in must be served at once.
-    pub fn are_datagrams_left(&self) -> bool
-        ensures { result ≡ of_datagrams is_at_once self.now }
-    {
-        self.forwards.is_left() || self.calls.is_left()
-    }
-
-    /// Whether one of them must be served at once.
-    pub fn is_something_left(&self) -> bool
-        ensures { result ≡ of_all is_at_once self.now }
-    {
-        self.are_datagrams_left() || self.are_listeners_left()
-    }
-
-    fn are_listeners_left(&self) -> bool
-        ensures { result ≡ of_listeners is_at_once self.now }
-    {
-        self.listeners.iter().any(|listener| listener.is_left())
-    }
-
-    /// Whether one of them must be served after a wait though no event shows it.
-    pub fn is_tried_again(&self) -> bool
-        ensures { result ≡ of_all is_after_wait self.now }
-    {
-        self.forwards.is_tried_again()
-            || self.calls.is_tried_again()
-            || self.are_listeners_tried_again()
-    }
-
-    fn are_listeners_tried_again(&self) -> bool
-        ensures { result ≡ of_listeners is_after_wait self.now }
-    {
-        self.listeners
-            .iter()
-            .any(|listener| listener.is_tried_again())
     }
 }
 
@@ -637,66 +563,10 @@ fn bind_local<R: Files + Net>(
     }
 }
 
-/// What one of them found is told.
-fn note_all_told(listeners: &mut [Watched<Listener>])
-    ensures { listeners.new ≡ map told_of listeners.old }
-{
-    for listener in listeners.iter_mut() {
-        note_told(listener);
-    }
-}
-
-fn note_told(listener: &mut Watched<Listener>)
-    ensures { listener.new ≡ told_of listener.old }
-{
-    let _ = listener.socket.take_change();
-}
-
-/// The place of a listener whose host is listened on no more, or the next one.
-fn free_door(listeners: &[Watched<Listener>]) -> usize
-    ensures { result ≡ free_door listeners.now }
-{
-    match closed_door(listeners) {
-        Some(door) => door,
-        None => listeners.len(),
-    }
-}
-
-fn closed_door(listeners: &[Watched<Listener>]) -> Option<usize>
-    ensures { result ≡ closed_door listeners.now }
-{
-    listeners
-        .iter()
-        .position(|listener| listener.socket.is_closed())
-}
-
 /// Whether the events of a socket are shown.
 fn check_shown(registered: io::Result<()>) -> Result<(), BindFault> {
     match registered {
         Ok(()) => Ok(()),
         Err(error) => Err(BindFault::Socket(Step::Prepare.failed(error))),
-    }
-}
-
-/// Puts a socket at a place, or after the others.
-fn put_at<S: Drop>(all: &mut Vec<Watched<S>>, place: usize, socket: S) -> Result<(), BindFault>
-    ensures { IfOk result (λ done. all.new.items ≡ put_in place (unserved socket) all.old.items) }
-{
-    match all.get_mut(place) {
-        Some(watched) => {
-            *watched = Watched::new(socket);
-            Ok(())
-        }
-        None => put(all, socket),
-    }
-}
-
-/// Puts a socket after the others.
-fn put<S: Drop>(all: &mut Vec<Watched<S>>, socket: S) -> Result<(), BindFault>
-    ensures { IfOk result (λ done. all.new.items ≡ all.old.items ++ unserved socket ∷ []) }
-{
-    match all.push(Watched::new(socket)) {
-        Ok(()) => Ok(()),
-        Err(error) => Err(BindFault::Memory(AllocError::from(error))),
     }
 }

@@ -1,9 +1,13 @@
 //! When one of the daemon's own sockets is served again.
-ghost use Rattle.std.specs.Prelude.{◌≡◌, true, false, not, ◌||◌};
-ghost use Rattle.rb_sockets.specs.Watching.{is_at_event, is_at_once, is_after_wait, unserved, shown_now};
-ghost use Rattle.rb_policy.specs.declared.turns.Again.TheVariants.{AtEvent};
+ghost use Rattle.std.specs.Prelude.{◌≡◌, true, false, not, IfOk, [], ◌∷◌, ◌++◌};
+ghost use Rattle.rb_sockets.specs.Leaving.{IsServedNextAt};
+ghost use Rattle.rb_sockets.specs.Room.{put_in};
+ghost use Rattle.rb_sockets.specs.Wanted.{is_ready};
+ghost use Rattle.rb_sockets.specs.Watching.{is_at_once, is_after_wait, unserved, shown_now};
 
 use rb_policy::Again;
+use rb_settings::BindFault;
+use std::alloc::AllocError;
 
 /// One of the daemon's own sockets, and when it is served again.
 #[derive(Drop)]
@@ -36,7 +40,7 @@ impl<S> Watched<S> {
 
     /// Whether it must be served in this turn.
     pub fn is_ready(&self) -> bool
-        ensures { result ≡ (self.now.is_shown || not (is_at_event self.now.again)) }
+        ensures { result ≡ is_ready self.now }
     {
         self.is_shown || !matches!(self.again, Again::AtEvent)
     }
@@ -72,5 +76,41 @@ impl<S> Watched<S> {
         ensures { result ≡ is_after_wait self.now.again }
     {
         matches!(self.again, Again::AfterWait)
+    }
+}
+
+/// The socket of this number is served again then, if there is one.
+pub(crate) fn leave_at<S>(sockets: &mut Vec<Watched<S>>, number: usize, again: Again)
+    ensures { IsServedNextAt number again sockets.new.items }
+{
+    if let Some(socket) = sockets.get_mut(number) {
+        socket.leave(again);
+    }
+}
+
+/// Puts a socket at a place, or after the others.
+pub(crate) fn put_at<S: Drop>(
+    all: &mut Vec<Watched<S>>,
+    place: usize,
+    socket: S,
+) -> Result<(), BindFault>
+    ensures { IfOk result (λ done. all.new.items ≡ put_in place (unserved socket) all.old.items) }
+{
+    match all.get_mut(place) {
+        Some(watched) => {
+            *watched = Watched::new(socket);
+            Ok(())
+        }
+        None => put(all, socket),
+    }
+}
+
+/// Puts a socket after the others.
+pub(crate) fn put<S: Drop>(all: &mut Vec<Watched<S>>, socket: S) -> Result<(), BindFault>
+    ensures { IfOk result (λ done. all.new.items ≡ all.old.items ++ unserved socket ∷ []) }
+{
+    match all.push(Watched::new(socket)) {
+        Ok(()) => Ok(()),
+        Err(error) => Err(BindFault::Memory(AllocError::from(error))),
     }
 }

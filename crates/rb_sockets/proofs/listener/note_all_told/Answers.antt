@@ -2,7 +2,7 @@ use Rattle.std.proofs.Common.{arith, ◌∙◌, ap, sym}
 use Rattle.std.specs.Prelude.{slice_set}
 use Rattle.std.proofs.lemmas.List.Edits.{map_over_more}
 use Rattle.rb_sockets.specs.News.{told_of}
-use Rattle.rb_sockets.proofs.sockets.note_all_told.Goals as goal
+use Rattle.rb_sockets.proofs.listener.note_all_told.Goals as goal
 
 pub loop-listener-preserved : goal.loop-listener-preserved
 loop-listener-preserved c =

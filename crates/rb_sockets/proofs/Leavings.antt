@@ -5,10 +5,10 @@ use Rattle.std.proofs.lemmas.List.{length-set, get_or-set_same}
 use Rattle.std.proofs.lemmas.Option.{slice_get_within, get_or_from_slice_get}
 use Rattle.rb_policy.specs.declared.turns.Again.{Again}
 use Rattle.rb_sockets.specs.declared.watched.Watched.{Watched}
-use Rattle.rb_around.specs.Leaving.{IsServedNextAt}
+use Rattle.rb_sockets.specs.Leaving.{IsServedNextAt}
 
 -- the one that is written there is the one that is found
-written : {X : Type 0} (xs : List X) (k : ℕ) (x y : X) → slice_get (set xs k x) k ≡ Some y → y ≡ x
+pub written : {X : Type 0} (xs : List X) (k : ℕ) (x y : X) → slice_get (set xs k x) k ≡ Some y → y ≡ x
 written xs k x y at =
     sym (get_or_from_slice_get (set xs k x) k y x at)
     ∙ get_or-set_same xs k x x (subst (λ (n : ℕ). k < n) (length-set xs k x) (slice_get_within (set xs k x) k y at))

@@ -1,6 +1,6 @@
 use Rattle.std.proofs.Common.{◌≡◌, ◌++◌, map, take, drop}
 use Rattle.rb_sockets.specs.News.{told_of}
-use Rattle.rb_sockets.proofs.sockets.note_all_told.Given as goal
+use Rattle.rb_sockets.proofs.listener.note_all_told.Given as goal
 
 -- what those so far found is told
 abbrev pub invariant-loop-listener : goal.invariant-loop-listener

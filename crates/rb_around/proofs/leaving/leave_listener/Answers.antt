@@ -1,8 +1,0 @@
-use Rattle.rb_around.proofs.Leavings.{left_here, none_here}
-use Rattle.rb_around.proofs.leaving.leave_listener.Goals as goal
-
-pub returns-in-Some : goal.returns-in-Some
-returns-in-Some c = left_here c.args.listeners.now.items c.args.number c.leave.new.self c.args.again c.leave.ensures.again c.leave.ensures.shown
-
-pub returns-in_default : goal.returns-in_default
-returns-in_default c = none_here c.args.listeners.now.items c.args.number c.args.again c.in_default.ensures.item.3
