@@ -104,6 +104,7 @@ impl<H: Files, C: Serves<H>> Serving<H, C> {
         if self.sockets.may_want() {
             self.answer_calls(host);
             self.take_forward_replies(host);
+            self.sockets.settle();
         }
     }
 
@@ -239,6 +240,7 @@ impl<H: Files, C: Serves<H>> Serving<H, C> {
                 left = left.saturating_sub(got);
             }
         }
+        self.sockets.settle();
     }
 
     // LISTENER-1: The first fault of each listener is told, and no later one; each turn tries again.

@@ -280,12 +280,10 @@ impl<H: Files, C: Serves<H>> Serving<H, C> {
     }
 
     /// What a turn does after it served all and ended what is due: closes Lost connections, accepts others, reads a slice of the
-    /// kernel's tables, if nothing else was to be done, and keeps what changed. It settles whether a socket of the daemon must be
-    /// served.
+    /// kernel's tables, if nothing else was to be done, and keeps what changed.
     pub(crate) fn end_turn(&mut self, host: &H, registry: &Registry, is_idle: bool) {
         self.close_lost();
         self.accept_all(host, registry);
-        self.sockets.settle();
         self.look_in_tables(host, is_idle);
         self.core.keep(host);
     }

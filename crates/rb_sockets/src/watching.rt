@@ -23,7 +23,7 @@ impl Sockets {
         self.may_want
     }
 
-    /// Settles at the end of a turn whether one of them must be served, or has something to tell.
+    /// Settles, after some were served, whether one of them must be served, or has something to tell.
     pub fn settle(&mut self)
         ensures { IsSettled self.old self.new }
     {
