@@ -4,7 +4,7 @@ use Rattle.std.specs.Prelude.{◌&&◌, bytes_eq}
 use Rattle.rb_uaddr.specs.declared.address.Hosts.{Hosts}
 use Rattle.rb_uaddr.specs.declared.address.Uaddr.{Uaddr}
 use Rattle.rb_uaddr.specs.declared.address.Uaddr.TheVariants.{V4, V6}
-use Rattle.rb_uaddr.specs.Uaddr.{parse, parse_ipv4, parse_ipv6, ipv4_alone, ipv6_alone, any_host6, merged_host, merged_host6, merged_address, text_of}
+use Rattle.rb_uaddr.specs.Uaddr.{parse, parse_ipv4, parse_ipv6, ipv4_alone, ipv6_alone, is_at_any, any_host6, merged_host, merged_host6, merged_address, text_of}
 use Rattle.rb_uaddr.proofs.Families.{ipv4_is_read, ipv6_is_read}
 use Rattle.rb_uaddr.proofs.GrammarLaws.{one_spelling}
 use Rattle.rb_uaddr.proofs.LocalTexts.{local_is_any_text}
@@ -79,3 +79,29 @@ module _ (hosts : Hosts) (row : Row) where
   pub shown_name : address_in row.netid row.addr ≡ None → shown_text hosts row ≡ row.addr
   unfolding shown_text
   shown_name is = rw is refl
+
+  -- an address that is not at every host is not told anew
+  of_ipv4 : (spelled : Option Uaddr) (address : Uaddr) → is_at_any spelled ≡ false → ipv4_alone spelled ≡ Some address → is_told_anew hosts address ≡ false
+  of_ipv4 None address other is = absurd cc
+  of_ipv4 (Some (V4 own port)) address other is = let same : V4 own port ≡ address = cc in rw (← same) other
+  of_ipv4 (Some (V6 own port)) address other is = absurd cc
+
+  of_ipv6 : (spelled : Option Uaddr) (address : Uaddr) → is_at_any spelled ≡ false → ipv6_alone spelled ≡ Some address → is_told_anew hosts address ≡ false
+  of_ipv6 None address other is = absurd cc
+  of_ipv6 (Some (V4 own port)) address other is = absurd cc
+  of_ipv6 (Some (V6 own port)) address other is = let same : V6 own port ≡ address = cc in rw (← same, other) refl
+
+  stays : (netid : Netid) (text : List ℕ) (address : Uaddr) → is_at_any (parse text) ≡ false → address_in netid text ≡ Some address → is_told_anew hosts address ≡ false
+  unfolding address_in
+  stays Tcp text address other is = of_ipv4 (parse text) address other (ipv4_is_read text ∙ is)
+  stays Udp text address other is = of_ipv4 (parse text) address other (ipv4_is_read text ∙ is)
+  stays Tcp6 text address other is = of_ipv6 (parse text) address other (ipv6_is_read text ∙ is)
+  stays Udp6 text address other is = of_ipv6 (parse text) address other (ipv6_is_read text ∙ is)
+  stays Local text address other is = absurd cc
+
+  pub shown_elsewhere : is_at_any (parse row.addr) ≡ false → shown_text hosts row ≡ row.addr
+  shown_elsewhere other = by_address (address_in row.netid row.addr) refl
+    where
+      by_address : (o : Option Uaddr) → address_in row.netid row.addr ≡ o → shown_text hosts row ≡ row.addr
+      by_address None is = shown_name is
+      by_address (Some address) is = shown_as_set address is (stays row.netid row.addr address other is)

@@ -191,23 +191,19 @@ impl ListReply {
         out.clear(meter);
         self.put_head(out, meter);
         let mut base = out.len(meter);
-        let stamp = self.stamp;
-        let mut cursor = self.cursor;
         let mut sought = None;
-        seek_version(list, registry, stamp, &mut sought, meter);
-        let mut found = next_row(&sought, registry, stamp, cursor, meter);
+        seek_version(list, registry, self.stamp, &mut sought, meter);
+        let mut found = next_row(&sought, registry, self.stamp, self.cursor, meter);
         'rows: while let Some(passed) = found {
             let (next, row) = passed;
             let more = write_row(list, row, out, meter);
             if most - base < more {
-                self.cursor = cursor;
                 return base;
             }
             base += more;
-            cursor = next;
-            found = next_row(&sought, registry, stamp, next, meter);
+            self.cursor = next;
+            found = next_row(&sought, registry, self.stamp, next, meter);
         }
-        self.cursor = cursor;
         false.write(out, meter);
         base
     }

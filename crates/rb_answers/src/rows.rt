@@ -71,11 +71,11 @@ fn mapping_item(row: &Row) -> [u8; MAPPING_ITEM]
 }
 
 /// The same, as it was made.
-fn mapped_item(mapped: &MappedRow) -> &[u8; MAPPING_ITEM]
+fn mapped_item(mapped: &MappedRow) -> [u8; MAPPING_ITEM]
     requires { is_inet mapped.now.row ≡ true }
-    ensures { result.now ≡ mapping_item mapped.now.row }
+    ensures { result ≡ mapping_item mapped.now.row }
 {
-    mapped.item()
+    *mapped.item()
 }
 
 /// TRUE, and how many bytes the address of an entry has.
@@ -109,8 +109,9 @@ fn write_told(text: &[u8], netid: Netid, out: &mut Kept, meter: &mut Meter) -> u
     ENTRY_HEAD + count + end.len()
 }
 
-/// Writes TRUE and the entry of a row, as [`write_told`] does.
-fn write_entry(hosts: &Hosts, row: &Row, out: &mut Kept, meter: &mut Meter) -> usize
+/// Writes TRUE and the entry of a row, as [`write_told`] does. It has room for a text that is spelled anew.
+#[inline(never)]
+fn write_anew(hosts: &Hosts, row: &Row, out: &mut Kept, meter: &mut Meter) -> usize
     requires tie { meter.old.tie ≡ out.old.tie }
     requires room { FitsIfShort (entry_item hosts.now row.now) out.old }
     ensures short { IsShort (entry_item hosts.now row.now) }
@@ -121,6 +122,22 @@ fn write_entry(hosts: &Hosts, row: &Row, out: &mut Kept, meter: &mut Meter) -> u
     match address_anew(hosts, row) {
         Some(address) => write_told(text_of(address).as_slice(), row.netid, out, meter),
         None => write_told(own_text(row), row.netid, out, meter),
+    }
+}
+
+/// The same. Most rows are at a host of their own, and their texts are as they were set.
+fn write_entry(hosts: &Hosts, row: &Row, out: &mut Kept, meter: &mut Meter) -> usize
+    requires tie { meter.old.tie ≡ out.old.tie }
+    requires room { FitsIfShort (entry_item hosts.now row.now) out.old }
+    ensures short { IsShort (entry_item hosts.now row.now) }
+    ensures written { Appends (entry_item hosts.now row.now) out.old out.new }
+    ensures count { result ≡ length (entry_item hosts.now row.now) }
+    ensures cost { Pays meter.old meter.new (length (entry_item hosts.now row.now)) }
+{
+    if row.addr.is_at_any_host() {
+        write_anew(hosts, row, out, meter)
+    } else {
+        write_told(own_text(row), row.netid, out, meter)
     }
 }
 
@@ -167,7 +184,7 @@ pub fn put_mapping(mapped: &MappedRow, count: usize, made: &mut [u8; MAPPINGS]) 
     if !mapped.is_inet() {
         return 0;
     }
-    made[count..count + MAPPING_ITEM].copy_from_slice(mapped_item(mapped));
+    made[count..count + MAPPING_ITEM].copy_from_slice(&mapped_item(mapped));
     MAPPING_ITEM
 }
 

@@ -115,7 +115,7 @@ impl Registry {
         let _ = &self.slots;
         let mut best = Place::none();
         'places: for place in &version.places {
-            best = best.earlier(place.later(after));
+            best = best.earlier_after(place, after);
         }
         best.key()
     }
@@ -202,26 +202,18 @@ impl Place {
         Place { added: 0, key: 0 }
     }
 
-    /// The same, if the row there came after that change.
-    fn later(&self, after: u64) -> Place
-        ensures { result ≡ later_than after self.now }
+    /// That of the row which came first, of this one and of the other, if that came after a change.
+    fn earlier_after(self, other: &Place, after: u64) -> Place
+        ensures { result ≡ earlier_of self (later_than after other.now) }
     {
-        if after < self.added {
+        if after < other.added && (self.added == 0 || other.added < self.added) {
             Place {
-                added: self.added,
-                key: self.key,
+                added: other.added,
+                key: other.key,
             }
         } else {
-            Place::none()
+            self
         }
-    }
-
-    /// That of the row which came first.
-    fn earlier(self, other: Place) -> Place
-        ensures { result ≡ earlier_of self other }
-    {
-        let is_first = self.added != 0 && (other.added == 0 || self.added <= other.added);
-        if is_first { self } else { other }
     }
 
     /// Its key, if one was found.

@@ -117,6 +117,12 @@ merged_host host own = if bytes_eq own any_host then host else own
 unfoldable pub merged_host6 : List ℕ → List ℕ → List ℕ
 merged_host6 host own = if bytes_eq own any_host6 then host else own
 
+-- whether an address has such a host, if it is one
+abbrev pub is_at_any : Option Uaddr → Bool
+is_at_any (Some (V4 own port)) = bytes_eq own any_host
+is_at_any (Some (V6 own port)) = bytes_eq own any_host6
+is_at_any None = false
+
 -- 0.0.0.0 and :: are replaced, and nothing else
 -- MERGE-1
 unfoldable pub merged_address : Hosts → Uaddr → Uaddr

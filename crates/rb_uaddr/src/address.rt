@@ -4,9 +4,9 @@ ghost use Rattle.rb_uaddr.specs.Uaddr.{any_host, any_host6, port_bytes, port_of,
 
 use thiserror::Error;
 
-const ANY_HOST: [u8; 4] = [0; 4];
+pub(crate) const ANY_HOST: [u8; 4] = [0; 4];
 
-const ANY_HOST6: [u8; 16] = [0; 16];
+pub(crate) const ANY_HOST6: [u8; 16] = [0; 16];
 
 /// The bytes or the text are no universal address.
 #[derive(Clone, Copy, Debug, PartialEq, Eq, Error)]

@@ -1,8 +1,8 @@
 //! Texts that are kept as they were given, beside the address that they spell.
 ghost use Rattle.std.specs.Prelude.{◌≡◌, ◌≤◌, length};
-ghost use Rattle.rb_uaddr.specs.Uaddr.{parse, parse_ipv4, parse_ipv6, is_local_text, ipv4_alone, ipv6_alone};
+ghost use Rattle.rb_uaddr.specs.Uaddr.{parse, parse_ipv4, parse_ipv6, is_local_text, ipv4_alone, ipv6_alone, is_at_any};
 
-use crate::address::Uaddr;
+use crate::address::{ANY_HOST, ANY_HOST6, Uaddr};
 use std::alloc::AllocError;
 use std::fmt;
 use std::marker::Model;
@@ -101,6 +101,17 @@ impl AddressText {
         ensures { result ≡ parse_ipv6 self.now }
     {
         ipv6_alone(self.address)
+    }
+
+    /// Whether the text spells an address at 0.0.0.0 or ::.
+    pub fn is_at_any_host(&self) -> bool
+        ensures { result ≡ is_at_any (parse self.now) }
+    {
+        match &self.address {
+            Some(Uaddr::V4(host, _)) => *host == ANY_HOST,
+            Some(Uaddr::V6(host, _)) => *host == ANY_HOST6,
+            None => false,
+        }
     }
 
     /// Whether the text may be the address of a local socket: it has 1 to 128 bytes, and none of them is zero.

@@ -23,12 +23,12 @@ places-preserved c =
     let is_later : later_than c.args.after (place_on c.args.version.now.prog c.args.version.now.vers c.args.self.now.entries netid) ≡ first_place (is_later_on c.args.version.now.prog c.args.version.now.vers c.args.after netid) c.args.self.now.entries =
     rw (← c.self.view_is) (place_later c.args.version.now.prog c.args.version.now.vers c.args.after netid c.requires.small c.self.inside.slots.entries c.self.invariant.indexed.ranked c.self.invariant.distinct c.self.invariant.indexed.distinct) in
     let found = found_on c.args.version.now c.args.self.now.entries c.places.place-index c.place-item.result c.requires.places within in
-    let there : c.later.result ≡ first_place (is_later_on c.args.version.now.prog c.args.version.now.vers c.args.after netid) c.args.self.now.entries =
-    c.later.ensures ∙ ap (later_than c.args.after) found ∙ is_later in
+    let there : later_than c.args.after (get_or c.args.version.now.places c.places.place-index c.place-item.result) ≡ first_place (is_later_on c.args.version.now.prog c.args.version.now.vers c.args.after netid) c.args.self.now.entries =
+    ap (later_than c.args.after) found ∙ is_later in
     let longer = take_more netids c.places.place-index Tcp within in
-    let more = one_netid_more c.args.version.now.prog c.args.version.now.vers c.args.after c.args.self.now.entries (take c.places.place-index netids) netid c.places.best c.later.result ordered c.places.invariant.best there in
+    let more = one_netid_more c.args.version.now.prog c.args.version.now.vers c.args.after c.args.self.now.entries (take c.places.place-index netids) netid c.places.best _ ordered c.places.invariant.best there in
     record {
-      best = c.earlier-best.ensures
+      best = c.earlier_after-best.ensures
           ∙ more
           ∙ ap (λ (ns : List Netid). first_place (on_netids c.args.version.now.prog c.args.version.now.vers c.args.after ns) c.args.self.now.entries) (sym longer);
       few = omega (arith, within);
