@@ -1,8 +1,10 @@
 """What bench-beside.py and bench-debian.py share: servers, loads on them in slices that take turns, and ratios of the best.
 
 Other work on the machine only ever slows a slice. So of the slices of each server one is taken that a tenth are better
-than, and two servers are compared in one run.
+than, and two servers are compared in one run. Where load and server take turns they share a processor: left to the system they
+do so in some slices and not in others, which changes a call by half.
 """
+import math
 import os
 import socket
 import struct
@@ -19,6 +21,7 @@ MILLISECONDS = 40
 LONGEST = 12.0  # seconds for a load, after its least slices
 DEEP = 16
 AT_ONCE = 100
+PROCESSORS = os.sched_getaffinity(0)
 
 ENCODER = Encoder()
 
@@ -46,11 +49,12 @@ def processor_seconds(pid):
 
 class Load:
     """A call again and again: `tcp` with so many at once on one connection, `udp` with so many out, or `connect` with a
-    connection for each, so many at a time."""
+    connection for each, so many at a time. With one call out at a time, and no long list, load and server take turns."""
 
     def __init__(self, name, kind, count, words):
         self.name, self.kind, self.count = name, kind, count
         self.is_stream = kind != "udp"
+        self.takes_turns = kind != "connect" and count == 1 and "dump" not in words
         self.call = as_record(encoded(words)) if self.is_stream else encoded(words)
 
 
@@ -109,11 +113,16 @@ class Server:
 def slice_of(folder, server, load, length, host=HOST, milliseconds=MILLISECONDS):
     """Calls a second, and processor seconds of the server for each."""
     words = [host, server.port, load.kind, load.count, milliseconds, length, load.call.hex()]
+    processors = {max(PROCESSORS)} if load.takes_turns else PROCESSORS
+    os.sched_setaffinity(server.process.pid, processors)
     began = processor_seconds(server.process.pid)
-    run = subprocess.run([f"{folder}/load", *map(str, words)], capture_output=True, text=True)
+    asks = [f"{folder}/load", *map(str, words)]
+    run = subprocess.run(asks, capture_output=True, text=True, preexec_fn=lambda: os.sched_setaffinity(0, processors))
     if run.returncode:
         raise SystemExit(f"{load.name}: {run.stderr}")
     count, nanoseconds = map(int, run.stdout.split())
+    if count == 0:  # the machine stood still
+        return 0.0, math.inf
     return 1e9 * count / nanoseconds, (processor_seconds(server.process.pid) - began) / count
 
 
